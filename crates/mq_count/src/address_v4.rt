@@ -1,0 +1,44 @@
+//! The address of IPv4.
+
+ghost use Rattle.std.specs.Prelude.{◌≡◌};
+ghost use Rattle.std.specs.Int.{w32, to_be_bytes, from_be_bytes};
+
+use std::marker::Model;
+
+/// An IPv4 address, of a host or of a group. A contract sees it as its number, most significant
+/// octet first: 10.0.0.1 is 167772161.
+///
+/// It has neither an order nor an equality of its own, so that no comparison of two addresses can
+/// go uncounted.
+#[derive(Clone, Copy)]
+pub struct Addr4 {
+    number: u32,
+}
+
+impl Model for Addr4 {
+    ghost use Rattle.std.specs.Prelude.{ℕ};
+
+    ghost Value = { ℕ };
+
+    ghost view = { λ a. a.number };
+
+    ghost inverse = { λ n. record { number = n } };
+}
+
+impl Addr4 {
+    /// The address of four octets, as they stand in a header: 10, 0, 0, 1 for 10.0.0.1.
+    pub const fn from_octets(octets: [u8; 4]) -> Addr4
+        ensures { result ≡ from_be_bytes w32 octets }
+    {
+        Addr4 {
+            number: u32::from_be_bytes(octets),
+        }
+    }
+
+    /// The four octets, as they stand in a header.
+    pub const fn octets(self) -> [u8; 4]
+        ensures { result ≡ to_be_bytes w32 self }
+    {
+        self.number.to_be_bytes()
+    }
+}
