@@ -3,6 +3,9 @@
 ghost use Rattle.std.specs.Prelude.{◌≡◌};
 ghost use Rattle.std.specs.Int.{w32, to_be_bytes, from_be_bytes};
 
+use crate::keys::Key;
+use crate::metering::Meter;
+use std::cmp::Ordering;
 use std::marker::Model;
 
 /// An IPv4 address, of a host or of a group. A contract sees it as its number, most significant
@@ -40,5 +43,24 @@ impl Addr4 {
         ensures { result ≡ to_be_bytes w32 self }
     {
         self.number.to_be_bytes()
+    }
+}
+
+impl Default for Addr4 {
+    ghost is_default = { λ a. a ≡ 0 };
+
+    fn default() -> Addr4 {
+        Addr4 { number: 0 }
+    }
+}
+
+impl Key for Addr4 {
+    ghost number = { λ a. a };
+
+    ghost one_value = { λ a b same. same };
+
+    fn order(self, other: Addr4, m: &mut Meter) -> Ordering {
+        m.count_comparison();
+        self.number.cmp(&other.number)
     }
 }

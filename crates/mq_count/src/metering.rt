@@ -1,0 +1,119 @@
+//! The meter that counts comparisons.
+
+ghost use Rattle.std.specs.Prelude.{◌≡◌, ◌≤◌, ◌↔◌, IsTrue, min};
+ghost use Rattle.mq_count.specs.Spending.{Spends, SpendingAddsUp, SpendingIsANumber, SpendingIsGrowth, SpendingStaysInRange};
+
+use crate::moments::Moment;
+use std::marker::Model;
+
+/// How many comparisons have been made: calls of `Key::order`, `Meter::reached` and
+/// `Meter::earlier`, and nothing else. A contract sees it as that number, which stays at the
+/// greatest u64 once it is there.
+#[derive(Drop)]
+pub struct Meter {
+    spent: u64,
+}
+
+impl Model for Meter {
+    ghost use Rattle.std.specs.Prelude.{ℕ};
+
+    ghost Value = { ℕ };
+
+    ghost view = { λ m. m.spent };
+}
+
+impl Meter {
+    /// A meter that has counted nothing.
+    pub const fn new() -> Meter
+        ensures { result ≡ 0 }
+    {
+        Meter { spent: 0 }
+    }
+
+    /// How many comparisons it has counted.
+    pub const fn spent(&self) -> u64
+        ensures { result ≡ self.now }
+    {
+        self.spent
+    }
+
+    /// Whether `due` is at or before `now`.
+    pub fn reached(&mut self, due: Moment, now: Moment) -> bool
+        ensures answer { IsTrue result ↔ (due ≤ now) }
+        ensures spent { Spends 1 1 self.old self.new }
+    {
+        self.count_comparison();
+        due.ms() <= now.ms()
+    }
+
+    /// The earlier of two moments.
+    pub fn earlier(&mut self, a: Moment, b: Moment) -> Moment
+        ensures answer { result ≡ min a b }
+        ensures spent { Spends 1 1 self.old self.new }
+    {
+        self.count_comparison();
+        if b.ms() < a.ms() { b } else { a }
+    }
+
+    pub(crate) fn count_comparison(&mut self)
+        ensures { Spends 1 1 self.old self.new }
+    {
+        self.spent = self.spent.saturating_add(1);
+    }
+}
+
+/// Counts add up: what two calls count, one after the other, is bounded by the sums of their
+/// bounds.
+pub fn counts_add_up()
+    ensures { SpendingAddsUp }
+{}
+
+/// What is counted between two bounds is some one number of comparisons.
+pub fn counts_are_numbers()
+    ensures { SpendingIsANumber }
+{}
+
+/// Below the greatest u64 a meter has grown by what was counted.
+pub fn counts_are_growth()
+    ensures { SpendingIsGrowth }
+{}
+
+/// A meter goes up by what is counted, and no higher than the greatest u64.
+pub fn counts_stay_in_range()
+    ensures { SpendingStaysInRange }
+{}
+
+#[cfg(test)]
+mod tests {
+    use super::*;
+    use std::test::Fail;
+
+    #[test]
+    fn each_comparison_counts_one(rt: HostRuntime) -> Result<(), Fail> {
+        let mut m = Meter::new();
+        let early = Moment::from_ms(1000).ok_or("in range")?;
+        let late = Moment::from_ms(1001).ok_or("in range")?;
+        assert_eq!(rt; m.spent(), 0);
+        assert!(rt; m.reached(early, late));
+        assert!(rt; m.reached(early, early), "at the moment itself");
+        assert!(rt; !m.reached(late, early));
+        assert_eq!(rt; m.spent(), 3);
+        assert_eq!(rt; m.earlier(late, early).ms(), 1000);
+        assert_eq!(rt; m.earlier(early, late).ms(), 1000);
+        assert_eq!(rt; m.spent(), 5);
+        Ok(())
+    }
+
+    #[test]
+    fn stays_at_the_greatest(rt: HostRuntime) -> Result<(), Fail> {
+        let mut m = Meter {
+            spent: u64::MAX - 1,
+        };
+        let now = Moment::from_ms(0).ok_or("in range")?;
+        for _ in 0..3 {
+            assert!(rt; m.reached(now, now));
+            assert_eq!(rt; m.spent(), u64::MAX);
+        }
+        Ok(())
+    }
+}

@@ -1,0 +1,160 @@
+//! Moments and spans of time, in milliseconds.
+
+ghost use Rattle.std.specs.Prelude.{◌≡◌, ◌+◌, ◌^◌, ◌≤◌, ◌↔◌, IsTrue, take, drop, length};
+ghost use Rattle.std.specs.Option.{SomeIff};
+ghost use Rattle.std.specs.Fmt.{decimal};
+
+use std::marker::Model;
+
+/// The latest moment that is in range, in milliseconds: 2^53, some 285000 years.
+const LATEST_MS: u64 = 1 << 53;
+
+/// A moment: how many milliseconds after the start of the caller's clock it is. A contract sees it
+/// as that number.
+///
+/// A moment that is made by `from_ms` is in range, at most 2^53; one that `after` makes may lie
+/// above. Two moments are compared by a `Meter` alone, and nothing hands out the number, so that
+/// no comparison of two moments can go uncounted.
+#[derive(Clone, Copy)]
+pub struct Moment {
+    ms: u64,
+}
+
+impl Model for Moment {
+    ghost use Rattle.std.specs.Prelude.{ℕ};
+
+    ghost Value = { ℕ };
+
+    ghost view = { λ t. t.ms };
+
+    ghost inverse = { λ n. record { ms = n } };
+}
+
+/// A length of time, in milliseconds. A contract sees it as that number.
+#[derive(Clone, Copy)]
+pub struct Span {
+    ms: u32,
+}
+
+impl Model for Span {
+    ghost use Rattle.std.specs.Prelude.{ℕ};
+
+    ghost Value = { ℕ };
+
+    ghost view = { λ s. s.ms };
+
+    ghost inverse = { λ n. record { ms = n } };
+}
+
+impl Span {
+    /// The length of so many milliseconds.
+    pub const fn from_ms(ms: u32) -> Span
+        ensures { result ≡ ms }
+    {
+        Span { ms }
+    }
+}
+
+impl Moment {
+    /// The moment of so many milliseconds, or None above 2^53.
+    pub fn from_ms(ms: u64) -> Option<Moment>
+        ensures { SomeIff result (ms ≤ 2 ^ 53) ms }
+    {
+        if ms <= LATEST_MS {
+            Some(Moment { ms })
+        } else {
+            None
+        }
+    }
+
+    /// Whether the moment is at most 2^53.
+    pub fn in_range(self) -> bool
+        ensures { IsTrue result ↔ (self ≤ 2 ^ 53) }
+    {
+        self.ms <= LATEST_MS
+    }
+
+    /// The moment that lies a span later. It may be above 2^53.
+    pub fn after(self, span: Span) -> Moment
+        requires in_range { self ≤ 2 ^ 53 }
+        ensures later { result ≡ self + span }
+    {
+        Moment {
+            ms: self.ms + u64::from(span.ms),
+        }
+    }
+
+    /// Writes the moment's milliseconds in decimal at the front of `out`, with no leading zero,
+    /// and answers how many bytes that is. The bytes behind the text stay as they were.
+    pub fn digits(self, out: &mut [u8; 20]) -> usize
+        ensures text { take result out.new ≡ decimal self }
+        ensures behind { drop result out.new ≡ drop result out.old }
+        ensures fits { result ≤ 20 }
+    {
+        write_decimal(self.ms, out)
+    }
+
+    pub(crate) fn ms(self) -> u64
+        ensures { result ≡ self }
+    {
+        self.ms
+    }
+}
+
+/// Writes a number in decimal at the front of `out`, and answers how many bytes that is.
+fn write_decimal(number: u64, out: &mut [u8; 20]) -> usize
+    ensures text { take result out.new ≡ decimal number }
+    ensures behind { drop result out.new ≡ drop result out.old }
+    ensures len { result ≡ length (decimal number) }
+    ensures fits { result ≤ 20 }
+{
+    if number < 10 {
+        out[0] = b'0' + number as u8;
+        return 1;
+    }
+    let before_last = write_decimal(number / 10, out);
+    out[before_last] = b'0' + (number % 10) as u8;
+    before_last + 1
+}
+
+#[cfg(test)]
+mod tests {
+    use super::*;
+    use std::test::Fail;
+
+    #[test]
+    fn a_moment_is_at_most_2_to_the_53(rt: HostRuntime) {
+        assert!(rt; Moment::from_ms(9007199254740992).is_some());
+        assert!(rt; Moment::from_ms(9007199254740993).is_none());
+    }
+
+    #[test]
+    fn later_moments_may_be_out_of_range(rt: HostRuntime) -> Result<(), Fail> {
+        let latest = Moment::from_ms(9007199254740992).ok_or("in range")?;
+        assert!(rt; latest.in_range());
+        assert!(rt; latest.after(Span::from_ms(0)).in_range());
+        assert!(rt; !latest.after(Span::from_ms(1)).in_range());
+        Ok(())
+    }
+
+    #[test]
+    fn digits_are_decimal(rt: HostRuntime) -> Result<(), Fail> {
+        for (ms, span, want) in [
+            (0, 0, "0"),
+            (9, 0, "9"),
+            (10, 0, "10"),
+            (1000, 260000, "261000"),
+            (9007199254740992, 4294967295, "9007203549708287"),
+        ] {
+            let mut out = [b'x'; 20];
+            let moment = Moment::from_ms(ms).ok_or("in range")?;
+            assert!(rt; moment.in_range());
+            let len = moment.after(Span::from_ms(span)).digits(&mut out);
+            assert_eq!(rt; &out[..len], want.as_bytes());
+            for byte in &out[len..] {
+                assert_eq!(rt; *byte, b'x');
+            }
+        }
+        Ok(())
+    }
+}
