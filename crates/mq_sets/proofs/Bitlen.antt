@@ -1,0 +1,30 @@
+-- Laws of `bitlen`.
+use Rattle.std.proofs.Common.{ℕ, ◌+◌, ◌/◌, ◌^◌, ◌<◌, ◌≤◌, ◌≡◌, arith, refl, subst}
+use Rattle.std.specs.Int.Digits.{digits_of}
+use Rattle.std.proofs.lemmas.Int.Digits.{length-digits_of_step, length-digits_of-le, number_lt, number_digits_of, all_below_base_digits_of}
+use Rattle.mq_sets.specs.Search.{bitlen}
+
+pub bitlen-zero : bitlen 0 ≡ 0
+unfolding bitlen
+bitlen-zero = refl
+
+-- half of a number has one binary digit less
+pub bitlen-half : (n : ℕ) → 0 < n → bitlen n ≡ bitlen (n / 2) + 1
+unfolding bitlen
+bitlen-half n some = length-digits_of_step 2 n (omega arith) some
+
+-- a number below 2 ^ k has at most k binary digits
+pub bitlen-le : (k n : ℕ) → n < 2 ^ k → bitlen n ≤ k
+unfolding bitlen
+bitlen-le k n small = length-digits_of-le 2 k n (omega arith) small
+
+-- and it is below 2 to the number of its digits
+pub below_power_of_bitlen : (n : ℕ) → n < 2 ^ bitlen n
+unfolding bitlen
+below_power_of_bitlen n =
+    let P : ℕ → Type 0 = λ m. m < 2 ^ bitlen n in
+    subst P (number_digits_of 2 n (omega arith)) (number_lt 2 (digits_of 2 n) (all_below_base_digits_of 2 n (omega arith)))
+
+-- no fewer digits for a greater number
+pub bitlen-mono : (a b : ℕ) → a ≤ b → bitlen a ≤ bitlen b
+bitlen-mono a b le = let small = below_power_of_bitlen b in bitlen-le (bitlen b) a (omega arith)

@@ -1,0 +1,2 @@
+pub mod Bitlen
+pub mod Narrowing

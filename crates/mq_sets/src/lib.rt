@@ -1,0 +1,8 @@
+//! Ascending sets of sources, the search in an ascending slice, and the merge of two.
+#![tactic(auto)]
+
+pub mod items;
+pub mod searching;
+
+pub use items::Keyed;
+pub use searching::find;
