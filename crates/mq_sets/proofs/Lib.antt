@@ -1,2 +1,3 @@
 pub mod Bitlen
 pub mod Narrowing
+pub mod Placing

@@ -1,15 +1,15 @@
 -- The binary search: what its loop keeps.
-use Rattle.std.proofs.Common.{ℕ, ◌+◌, ◌-◌, ◌/◌, ◌<◌, ◌≤◌, ◌≡◌, min, arith, List, length, get_or, subst, sym, ⊎_elim}
+use Rattle.std.proofs.Common.{ℕ, ◌+◌, ◌-◌, ◌/◌, ◌<◌, ◌≤◌, ◌≡◌, min, arith, List, length, get_or, subst, ⊎_elim}
 use Rattle.std.proofs.lemmas.Bool.{cases_lt}
 use Rattle.std.proofs.lemmas.List.Elements.{at_read}
 use Rattle.std.specs.Ordering.{nat_cmp}
 use Rattle.std.specs.Cmp.{ranked}
-use Rattle.std.specs.declared.cmp.Ordering.TheVariants.{Less, Equal, Greater}
+use Rattle.std.specs.declared.cmp.Ordering.TheVariants.{Less, Greater}
 use Rattle.mq_sets.specs.Ascending.{IsAscending}
 use Rattle.std.specs.List.{AllWithin}
 use Rattle.mq_count.specs.Spending.{Spends}
 use Rattle.mq_count.proofs.Spent.{Spends-join_within}
-use Rattle.mq_sets.specs.Search.{bitlen}
+use Rattle.mq_sets.specs.Search.{bitlen, IsPlaceFor}
 use Rattle.mq_sets.proofs.Bitlen.{bitlen-half, bitlen-mono}
 
 -- the item of number n lies from low on and below high, if it is there
@@ -68,3 +68,11 @@ module _ {X : Type 0} (number : X → ℕ) (xs : List X) (n middle : ℕ) (x : X
 pub spent_to_found : {X : Type 0} (number : X → ℕ) (xs : List X) (n : ℕ) {old m new low high : ℕ} → IsNarrowed number xs n old m low high → low < high → Spends 1 1 m new → Spends (min 1 (length xs)) (bitlen (length xs)) old new
 spent_to_found number xs n {low = low} {high = high} known some one =
     Spends-join_within _ _ known.spent one (omega arith) (omega (arith, bitlen-half (high - low) (omega arith), bitlen-mono (high - low) (length xs) (omega (arith, known.within))))
+
+-- the place for an item that was not found
+pub place_left : {X : Type 0} (number : X → ℕ) (xs : List X) (n : ℕ) {old m low high : ℕ} → IsNarrowed number xs n old m low high → high ≤ low → IsPlaceFor number xs n low
+place_left number xs n known none = record {
+  within = omega (arith, known.ordered, known.within);
+  below = known.below;
+  above = λ k d from upto. known.above k d (omega arith) upto;
+}

@@ -3,6 +3,8 @@
 
 pub mod items;
 pub mod searching;
+pub mod source_sets;
 
 pub use items::Keyed;
 pub use searching::find;
+pub use source_sets::{InsertFault, SourceSet};

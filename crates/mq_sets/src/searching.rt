@@ -1,9 +1,9 @@
 //! The search for a key in an ascending slice.
 
-ghost use Rattle.std.specs.Prelude.{◌≡◌, ◌<◌, min, length, IfOk, IfErr};
+ghost use Rattle.std.specs.Prelude.{◌≡◌, ◌<◌, min, length, IfOk, IfErr, is_ok};
 ghost use Rattle.std.specs.List.{HoldsAt};
 ghost use Rattle.mq_count.specs.Spending.{Spends};
-ghost use Rattle.mq_sets.specs.Ascending.{IsAscending};
+ghost use Rattle.mq_sets.specs.Ascending.{IsAscending, set_of};
 ghost use Rattle.mq_sets.specs.Search.{bitlen, IsPlaceFor};
 
 use crate::items::Keyed;
@@ -15,9 +15,13 @@ use std::cmp::Ordering;
 pub fn find<K: Key, T: Keyed<K>>(items: &[T], key: K, m: &mut Meter) -> Result<usize, usize>
     requires ascending { IsAscending T.key_number items.now }
 
+    // It is Ok where some item has the key, and the place is that item's.
+    ensures member { set_of T.key_number items.now (K.number key) ≡ is_ok result }
     ensures found_in { IfOk result (λ i. i < length items.now) }
     ensures found { IfOk result (HoldsAt (λ x. T.key_number x ≡ K.number key) items.now) }
+    // Else it is the place that keeps the slice ascending.
     ensures absent { IfErr result (IsPlaceFor T.key_number items.now (K.number key)) }
+
     ensures spent { Spends (min 1 (length items.now)) (bitlen (length items.now)) m.old m.new }
 {
     let mut low = 0;

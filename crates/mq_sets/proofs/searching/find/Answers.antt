@@ -1,5 +1,6 @@
 use Rattle.std.proofs.Common.{refl, arith}
-use Rattle.mq_sets.proofs.Narrowing.{IsNarrowed-to_above, IsNarrowed-to_below, spent_to_found}
+use Rattle.mq_sets.proofs.Narrowing.{IsNarrowed-to_above, IsNarrowed-to_below, spent_to_found, place_left}
+use Rattle.mq_sets.proofs.Placing.{set_of-absent}
 use Rattle.mq_sets.proofs.searching.find.Goals as goal
 
 pub loop-low-preserved-in-Less : goal.loop-low-preserved-in-Less
@@ -13,3 +14,7 @@ returns-in-Equal-clause-spent g c =
 pub loop-low-preserved : goal.loop-low-preserved
 loop-low-preserved g c =
     IsNarrowed-to_below g.T.Keyed.key_number c.args.items.now _ _ _ c.requires.ascending (omega (arith, c.loop-low.invariant.within)) c.index-items-middle.is c.loop-low.invariant c.loop-low-test.true refl (rw c.key.ensures at c.in-Greater.ensures.answer) c.order.ensures.spent
+
+pub returns-clause-member : goal.returns-clause-member
+returns-clause-member g c =
+    set_of-absent g.T.Keyed.key_number c.args.items.now _ c.loop-low.low (place_left _ _ _ c.loop-low.invariant c.loop-low-test.false)
