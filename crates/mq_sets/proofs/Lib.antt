@@ -1,3 +1,6 @@
+pub mod Ascents
 pub mod Bitlen
+pub mod Merges
 pub mod Narrowing
 pub mod Placing
+pub mod WholeMerge

@@ -1,2 +1,4 @@
 pub mod Ascending
+pub mod Merging
 pub mod Search
+pub mod Sides

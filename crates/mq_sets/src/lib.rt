@@ -2,9 +2,13 @@
 #![tactic(auto)]
 
 pub mod items;
+pub mod merge_state;
+pub mod merging;
 pub mod searching;
 pub mod source_sets;
 
 pub use items::Keyed;
+pub use merge_state::{Merge, Merged};
+pub use merging::merge;
 pub use searching::find;
 pub use source_sets::{InsertFault, SourceSet};

@@ -1,0 +1,46 @@
+-- The merge of two ascending lists, whose items need not have the same type.
+use Rattle.std.specs.Prelude.{ℕ, List, [], ◌∷◌, ◌++◌, Option, Some, None, map, filter, length, min, nat_lt}
+use Rattle.std.specs.Option.{option_map_or, option_to_list}
+use Rattle.mq_sets.specs.Ascending.{item_with}
+use Rattle.mq_sets.specs.Sides.{Sides}
+use Rattle.mq_sets.specs.declared.merge_state.Merged.{Merged}
+use Rattle.mq_sets.specs.declared.merge_state.Merged.TheVariants.{Left, Both, Right}
+
+-- the items of two ascending lists, ascending, those of one number as a pair
+abbrev pub merged_lists : {L R : Type 0} → (L → ℕ) → (R → ℕ) → List L → List R → List (Option L × Option R)
+merged_lists number_l number_r [] right = map (λ y. (None, Some y)) right
+merged_lists number_l number_r (x ∷ left) right =
+    map (λ y. (None, Some y)) (filter (λ y. nat_lt (number_r y) (number_l x)) right)
+    ++ (Some x, item_with number_r right (number_l x)) ∷ merged_lists number_l number_r left (filter (λ y. nat_lt (number_l x) (number_r y)) right)
+
+abbrev pub merged : {L R : Type 0} → (L → ℕ) → (R → ℕ) → Sides L R → List (Option L × Option R)
+merged number_l number_r sides = merged_lists number_l number_r sides.left sides.right
+
+-- what a merge hands out at one call, as what each side has at its number
+abbrev pub pair_of : {L R : Type 0} → Merged L R → Option L × Option R
+pair_of (Left x) = (Some x.now, None)
+pair_of (Both x y) = (Some x.now, Some y.now)
+pair_of (Right y) = (None, Some y.now)
+
+-- what one call takes of the left side, and of the right
+abbrev pub left_of : {L R : Type 0} → Option (Merged L R) → List L
+left_of None = []
+left_of (Some p) = option_to_list (pair_of p).0
+
+abbrev pub right_of : {L R : Type 0} → Option (Merged L R) → List R
+right_of None = []
+right_of (Some p) = option_to_list (pair_of p).1
+
+-- how many comparisons one call makes: one while both sides have an item left
+abbrev pub comparisons_of : {L R : Type 0} → Sides L R → ℕ
+comparisons_of sides = min 1 (min (length sides.left) (length sides.right))
+
+-- the number of a pair
+abbrev pub number_of : {L R : Type 0} → (L → ℕ) → (R → ℕ) → Option L × Option R → ℕ
+number_of number_l number_r p = option_map_or number_l p.0 (option_map_or number_r p.1 0)
+
+-- what two sides have at one number, if either has anything
+abbrev pub paired : {L R : Type 0} → Option L → Option R → Option (Option L × Option R)
+paired None None = None
+paired None (Some y) = Some (None, Some y)
+paired (Some x) there = Some (Some x, there)

@@ -1,0 +1,25 @@
+//! What a whole merge hands out.
+
+ghost use Rattle.std.specs.Prelude.{◌≡◌, ℕ};
+ghost use Rattle.mq_sets.specs.Ascending.{IsAscending, item_with};
+ghost use Rattle.mq_sets.specs.Merging.{merged, number_of, paired};
+
+use crate::items::Keyed;
+use crate::merge_state::Merge;
+use mq_count::Key;
+
+/// The merge of two ascending slices. What it hands out in all is ascending, and at each key it is
+/// what the two slices have there.
+pub fn merge<'a, K: Key, L: Keyed<K>, R: Keyed<K>>(
+    left: &'a [L],
+    right: &'a [R],
+) -> Merge<'a, K, L, R>
+    requires left_ascending { IsAscending L.key_number left.now }
+    requires right_ascending { IsAscending R.key_number right.now }
+
+    ensures sides { result ≡ record { left = left.now; right = right.now } }
+    ensures ascending { IsAscending (number_of L.key_number R.key_number) (merged L.key_number R.key_number result) }
+    ensures at_each_number { (n : ℕ) → item_with (number_of L.key_number R.key_number) (merged L.key_number R.key_number result) n ≡ paired (item_with L.key_number left.now n) (item_with R.key_number right.now n) }
+{
+    Merge::of(left, right)
+}
