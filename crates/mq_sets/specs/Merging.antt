@@ -1,5 +1,6 @@
 -- The merge of two ascending lists, whose items need not have the same type.
-use Rattle.std.specs.Prelude.{ℕ, List, [], ◌∷◌, ◌++◌, Option, Some, None, map, filter, length, min, nat_lt}
+use Rattle.std.specs.Prelude.{ℕ, ◌+◌, Bool, ◌&&◌, is_some, if◌then◌else◌, List, [], ◌∷◌, ◌++◌, Option, Some, None, map, filter, length, min, nat_lt}
+use Rattle.std.specs.List.{list_any}
 use Rattle.std.specs.Option.{option_map_or, option_to_list}
 use Rattle.mq_sets.specs.Ascending.{item_with}
 use Rattle.mq_sets.specs.Sides.{Sides}
@@ -34,6 +35,15 @@ right_of (Some p) = option_to_list (pair_of p).1
 -- how many comparisons one call makes: one while both sides have an item left
 abbrev pub comparisons_of : {L R : Type 0} → Sides L R → ℕ
 comparisons_of sides = min 1 (min (length sides.left) (length sides.right))
+
+-- whether both sides have an item among the pairs
+abbrev pub have_both_sides : {L R : Type 0} → List (Option L × Option R) → Bool
+have_both_sides pairs = list_any (λ p. is_some p.0) pairs && list_any (λ p. is_some p.1) pairs
+
+-- how many of the pairs are handed out while both sides have an item left
+abbrev pub comparisons_along : {L R : Type 0} → List (Option L × Option R) → ℕ
+comparisons_along [] = 0
+comparisons_along (p ∷ pairs) = (if have_both_sides (p ∷ pairs) then 1 else 0) + comparisons_along pairs
 
 -- the number of a pair
 abbrev pub number_of : {L R : Type 0} → (L → ℕ) → (R → ℕ) → Option L × Option R → ℕ

@@ -1,8 +1,8 @@
 //! What a whole merge hands out.
 
-ghost use Rattle.std.specs.Prelude.{◌≡◌, ℕ};
+ghost use Rattle.std.specs.Prelude.{◌≡◌, ℕ, ◌+◌, ◌≤◌, min, length};
 ghost use Rattle.mq_sets.specs.Ascending.{IsAscending, item_with};
-ghost use Rattle.mq_sets.specs.Merging.{merged, number_of, paired};
+ghost use Rattle.mq_sets.specs.Merging.{merged, number_of, paired, comparisons_along};
 
 use crate::items::Keyed;
 use crate::merge_state::Merge;
@@ -20,6 +20,13 @@ pub fn merge<'a, K: Key, L: Keyed<K>, R: Keyed<K>>(
     ensures sides { result ≡ record { left = left.now; right = right.now } }
     ensures ascending { IsAscending (number_of L.key_number R.key_number) (merged L.key_number R.key_number result) }
     ensures at_each_number { (n : ℕ) → item_with (number_of L.key_number R.key_number) (merged L.key_number R.key_number result) n ≡ paired (item_with L.key_number left.now n) (item_with R.key_number right.now n) }
+
+    // The comparisons in all: no fewer than the shorter side has items, no more than both have.
+    ensures compares_at_least { min (length left.now) (length right.now) ≤ comparisons_along (merged L.key_number R.key_number result) }
+    ensures compares_at_most { comparisons_along (merged L.key_number R.key_number result) ≤ length left.now + length right.now }
 {
     Merge::of(left, right)
 }
+
+#[cfg(test)]
+mod tests;
