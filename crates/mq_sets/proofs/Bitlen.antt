@@ -2,7 +2,8 @@
 use Rattle.std.proofs.Common.{ℕ, ◌+◌, ◌/◌, ◌^◌, ◌<◌, ◌≤◌, ◌≡◌, arith, refl, subst}
 use Rattle.std.specs.Int.Digits.{digits_of}
 use Rattle.std.proofs.lemmas.Int.Digits.{length-digits_of_step, length-digits_of-le, number_lt, number_digits_of, all_below_base_digits_of}
-use Rattle.mq_sets.specs.Search.{bitlen}
+use Rattle.std.proofs.Math.Pow.{pow_mono}
+use Rattle.mq_sets.specs.Search.{bitlen, BitlenIsLeast}
 
 pub bitlen-zero : bitlen 0 ≡ 0
 unfolding bitlen
@@ -28,3 +29,25 @@ below_power_of_bitlen n =
 -- no fewer digits for a greater number
 pub bitlen-mono : (a b : ℕ) → a ≤ b → bitlen a ≤ bitlen b
 bitlen-mono a b le = let small = below_power_of_bitlen b in bitlen-le (bitlen b) a (omega arith)
+
+-- a number is below 2 ^ k exactly where it has at most k binary digits
+pub bitlen_is_least : BitlenIsLeast
+bitlen_is_least n k =
+    (bitlen-le k n, λ (few : bitlen n ≤ k). let small = below_power_of_bitlen n in let grows : 2 ^ bitlen n ≤ 2 ^ k = pow_mono few in omega arith)
+
+-- worked examples
+bitlen-1 : bitlen 1 ≡ 1
+unfolding bitlen
+bitlen-1 = refl
+
+bitlen-366 : bitlen 366 ≡ 9
+unfolding bitlen
+bitlen-366 = refl
+
+bitlen-1023 : bitlen 1023 ≡ 10
+unfolding bitlen
+bitlen-1023 = refl
+
+bitlen-1024 : bitlen 1024 ≡ 11
+unfolding bitlen
+bitlen-1024 = refl

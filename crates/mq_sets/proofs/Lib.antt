@@ -1,7 +1,10 @@
 pub mod Ascents
 pub mod Bitlen
+pub mod Examples
+pub mod Found
 pub mod MergeCount
 pub mod Merges
 pub mod Narrowing
 pub mod Placing
+pub mod Rules
 pub mod WholeMerge

@@ -1,4 +1,5 @@
 pub mod Ascending
 pub mod Merging
+pub mod Rules
 pub mod Search
 pub mod Sides

@@ -1,6 +1,7 @@
 //! Items that carry a key.
 
 ghost use Rattle.std.specs.Prelude.{◌≡◌, ℕ};
+ghost use Rattle.mq_sets.specs.Ascending.{FoundWhereMember, FoundHasNumber, MapsEachNumber};
 
 use mq_count::Key;
 
@@ -20,3 +21,12 @@ impl<K: Key> Keyed<K> for K {
         *self
     }
 }
+
+/// What a number finds in a list of items: an item exactly where the number is in the list's set,
+/// and one that has the number. The finite map from the items' numbers to some value of each finds
+/// that item's value.
+pub fn numbers_find_items<K: Key, T: Keyed<K>, V>()
+    ensures member { FoundWhereMember T.key_number }
+    ensures number { FoundHasNumber T.key_number }
+    ensures mapped { MapsEachNumber V T.key_number }
+{}

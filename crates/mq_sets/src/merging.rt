@@ -3,6 +3,7 @@
 ghost use Rattle.std.specs.Prelude.{◌≡◌, ℕ, ◌+◌, ◌≤◌, min, length};
 ghost use Rattle.mq_sets.specs.Ascending.{IsAscending, item_with};
 ghost use Rattle.mq_sets.specs.Merging.{merged, number_of, paired, comparisons_along};
+ghost use Rattle.mq_sets.specs.Rules.{RulesKeepOrder, RulesActAtEachNumber};
 
 use crate::items::Keyed;
 use crate::merge_state::Merge;
@@ -27,6 +28,14 @@ pub fn merge<'a, K: Key, L: Keyed<K>, R: Keyed<K>>(
 {
     Merge::of(left, right)
 }
+
+/// What a rule makes of each pair of a whole merge, item by item, it makes of the two slices at
+/// each key. So a loop over a merge that pushes what a rule makes of each pair gives an ascending
+/// list, known at each key.
+pub fn rules_act_at_each_key<K: Key, L: Keyed<K>, R: Keyed<K>, T: Keyed<K>>()
+    ensures ascending { RulesKeepOrder L.key_number R.key_number T.key_number }
+    ensures at_each_number { RulesActAtEachNumber L.key_number R.key_number T.key_number }
+{}
 
 #[cfg(test)]
 mod tests;

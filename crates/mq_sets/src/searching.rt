@@ -4,7 +4,7 @@ ghost use Rattle.std.specs.Prelude.{◌≡◌, ◌<◌, min, length, IfOk, IfErr
 ghost use Rattle.std.specs.List.{HoldsAt};
 ghost use Rattle.mq_count.specs.Spending.{Spends};
 ghost use Rattle.mq_sets.specs.Ascending.{IsAscending, set_of};
-ghost use Rattle.mq_sets.specs.Search.{bitlen, IsPlaceFor};
+ghost use Rattle.mq_sets.specs.Search.{bitlen, IsPlaceFor, BitlenIsLeast};
 
 use crate::items::Keyed;
 use mq_count::{Key, Meter};
@@ -36,3 +36,8 @@ pub fn find<K: Key, T: Keyed<K>>(items: &[T], key: K, m: &mut Meter) -> Result<u
     }
     Err(low)
 }
+
+/// A number is below 2^k exactly where it has at most k binary digits.
+pub fn binary_digits_bound_a_number()
+    ensures { BitlenIsLeast }
+{}
