@@ -1,5 +1,20 @@
 //! What everything above is made of: addresses, moments, and the meter that counts each comparison
 //! of two of them.
+//!
+//! ```text
+//! let mut m = Meter::new();
+//! let (low, high) = (Addr4::from_octets([10, 0, 0, 1]), Addr4::from_octets([10, 0, 0, 2]));
+//! low.order(high, &mut m)                          // Less
+//! let now = Moment::from_ms(1000)?;
+//! let due = now.after(Span::from_ms(260000));      // 261000
+//! m.reached(due, now)                              // false
+//! m.spent()                                        // 2
+//! ```
+//!
+//! - Addresses: `Addr4`, `Addr6`, and `Key`, by which generic code compares them.
+//! - Time: `Moment` and `Span`, in milliseconds.
+//! - The meter: `Meter`. Its contracts say `Spends low high old new`, and the functions of
+//!   `metering` that do nothing state the laws of that word.
 #![tactic(auto)]
 
 pub mod address_v4;

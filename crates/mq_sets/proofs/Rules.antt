@@ -56,10 +56,10 @@ module _ {X Y : Type 0} (number_x : X → ℕ) (number_y : Y → ℕ) (rule : X 
       item_with-made x xs n (rule x) refl up (item_with-filter_map xs n (IsAscending-tail number_x x xs up))
 
 -- for the pairs of a merge
-pub rules_keep_order : {L R T : Type 0} (number_l : L → ℕ) (number_r : R → ℕ) (number_t : T → ℕ) → RulesKeepOrder number_l number_r number_t
-rules_keep_order number_l number_r number_t rule left right keeps up_l up_r =
-    IsAscending-filter_map (number_of number_l number_r) number_t rule keeps (merged_lists number_l number_r left right) (merged-ascending number_l number_r left right up_l up_r)
+pub rules_keep_order : {L R T : Type 0} (left_number : L → ℕ) (right_number : R → ℕ) (number_t : T → ℕ) → RulesKeepOrder left_number right_number number_t
+rules_keep_order left_number right_number number_t rule left right keeps up_l up_r =
+    IsAscending-filter_map (number_of left_number right_number) number_t rule keeps (merged_lists left_number right_number left right) (merged-ascending left_number right_number left right up_l up_r)
 
-pub rules_act_at_each_number : {L R T : Type 0} (number_l : L → ℕ) (number_r : R → ℕ) (number_t : T → ℕ) → RulesActAtEachNumber number_l number_r number_t
-rules_act_at_each_number number_l number_r number_t rule left right n keeps up_l up_r =
-    item_with-filter_map (number_of number_l number_r) number_t rule keeps (merged_lists number_l number_r left right) n (merged-ascending number_l number_r left right up_l up_r) ∙ ap (option_and_then rule) (merged-at number_l number_r left right n up_l)
+pub rules_act_at_each_number : {L R T : Type 0} (left_number : L → ℕ) (right_number : R → ℕ) (number_t : T → ℕ) → RulesActAtEachNumber left_number right_number number_t
+rules_act_at_each_number left_number right_number number_t rule left right n keeps up_l up_r =
+    item_with-filter_map (number_of left_number right_number) number_t rule keeps (merged_lists left_number right_number left right) n (merged-ascending left_number right_number left right up_l up_r) ∙ ap (option_and_then rule) (merged-at left_number right_number left right n up_l)

@@ -9,13 +9,13 @@ use Rattle.mq_sets.specs.declared.merge_state.Merged.TheVariants.{Left, Both, Ri
 
 -- the items of two ascending lists, ascending, those of one number as a pair
 abbrev pub merged_lists : {L R : Type 0} → (L → ℕ) → (R → ℕ) → List L → List R → List (Option L × Option R)
-merged_lists number_l number_r [] right = map (λ y. (None, Some y)) right
-merged_lists number_l number_r (x ∷ left) right =
-    map (λ y. (None, Some y)) (filter (λ y. nat_lt (number_r y) (number_l x)) right)
-    ++ (Some x, item_with number_r right (number_l x)) ∷ merged_lists number_l number_r left (filter (λ y. nat_lt (number_l x) (number_r y)) right)
+merged_lists left_number right_number [] right = map (λ y. (None, Some y)) right
+merged_lists left_number right_number (x ∷ left) right =
+    map (λ y. (None, Some y)) (filter (λ y. nat_lt (right_number y) (left_number x)) right)
+    ++ (Some x, item_with right_number right (left_number x)) ∷ merged_lists left_number right_number left (filter (λ y. nat_lt (left_number x) (right_number y)) right)
 
 abbrev pub merged : {L R : Type 0} → (L → ℕ) → (R → ℕ) → Sides L R → List (Option L × Option R)
-merged number_l number_r sides = merged_lists number_l number_r sides.left sides.right
+merged left_number right_number sides = merged_lists left_number right_number sides.left sides.right
 
 -- what a merge hands out at one call, as what each side has at its number
 abbrev pub pair_of : {L R : Type 0} → Merged L R → Option L × Option R
@@ -47,7 +47,7 @@ comparisons_along (p ∷ pairs) = (if have_both_sides (p ∷ pairs) then 1 else 
 
 -- the number of a pair
 abbrev pub number_of : {L R : Type 0} → (L → ℕ) → (R → ℕ) → Option L × Option R → ℕ
-number_of number_l number_r p = option_map_or number_l p.0 (option_map_or number_r p.1 0)
+number_of left_number right_number p = option_map_or left_number p.0 (option_map_or right_number p.1 0)
 
 -- what two sides have at one number, if either has anything
 abbrev pub paired : {L R : Type 0} → Option L → Option R → Option (Option L × Option R)

@@ -11,10 +11,10 @@ KeepsNumbers {X} {Y} number_x number_y rule = (x : X) (y : Y) → rule x ≡ Som
 -- a rule that makes an item, or none, of what two ascending lists have at one number makes an
 -- ascending list of their merge
 abbrev pub RulesKeepOrder : {L R T : Type 0} → (L → ℕ) → (R → ℕ) → (T → ℕ) → Type 0
-RulesKeepOrder {L} {R} {T} number_l number_r number_t =
-    (rule : Option L × Option R → Option T) (left : List L) (right : List R) → KeepsNumbers (number_of number_l number_r) number_t rule → IsAscending number_l left → IsAscending number_r right → IsAscending number_t (filter_map rule (merged_lists number_l number_r left right))
+RulesKeepOrder {L} {R} {T} left_number right_number number_t =
+    (rule : Option L × Option R → Option T) (left : List L) (right : List R) → KeepsNumbers (number_of left_number right_number) number_t rule → IsAscending left_number left → IsAscending right_number right → IsAscending number_t (filter_map rule (merged_lists left_number right_number left right))
 
 -- and at each number this list has what the rule makes of what the two lists have there
 abbrev pub RulesActAtEachNumber : {L R T : Type 0} → (L → ℕ) → (R → ℕ) → (T → ℕ) → Type 0
-RulesActAtEachNumber {L} {R} {T} number_l number_r number_t =
-    (rule : Option L × Option R → Option T) (left : List L) (right : List R) (n : ℕ) → KeepsNumbers (number_of number_l number_r) number_t rule → IsAscending number_l left → IsAscending number_r right → item_with number_t (filter_map rule (merged_lists number_l number_r left right)) n ≡ option_and_then rule (paired (item_with number_l left n) (item_with number_r right n))
+RulesActAtEachNumber {L} {R} {T} left_number right_number number_t =
+    (rule : Option L × Option R → Option T) (left : List L) (right : List R) (n : ℕ) → KeepsNumbers (number_of left_number right_number) number_t rule → IsAscending left_number left → IsAscending right_number right → item_with number_t (filter_map rule (merged_lists left_number right_number left right)) n ≡ option_and_then rule (paired (item_with left_number left n) (item_with right_number right n))

@@ -1,4 +1,25 @@
-//! Ascending sets of sources, the search in an ascending slice, and the merge of two.
+//! Ascending sets of sources, the search in an ascending slice, and the merge of two. Each
+//! comparison is counted by the meter that is lent.
+//!
+//! ```text
+//! let mut m = Meter::new();
+//! let mut wanted = SourceSet::empty(alloc);
+//! wanted.insert(Addr4::from_octets([10, 0, 0, 2]), 366, &mut m)?;
+//! let mut merge = merge(held.as_slice(), wanted.as_slice());
+//! while let Some(item) = merge.next(&mut m) {
+//!     match item {
+//!         Merged::Left(held) => ..           // only held
+//!         Merged::Both(held, wanted) => ..   // held and wanted
+//!         Merged::Right(wanted) => ..        // only wanted
+//!     }
+//! }
+//! ```
+//!
+//! - A set: `SourceSet`, with its `InsertFault`.
+//! - Ascending slices of whatever carries a key: `Keyed`, `find`, and `merge` with `Merge::next`,
+//!   which hands out `Merged`.
+//! - Laws for the crates above, functions that do nothing: `numbers_find_items`,
+//!   `binary_digits_bound_a_number`, `rules_act_at_each_key`.
 #![tactic(auto)]
 
 pub mod items;
@@ -7,8 +28,8 @@ pub mod merging;
 pub mod searching;
 pub mod source_sets;
 
-pub use items::Keyed;
+pub use items::{Keyed, numbers_find_items};
 pub use merge_state::{Merge, Merged};
-pub use merging::merge;
-pub use searching::find;
+pub use merging::{merge, rules_act_at_each_key};
+pub use searching::{binary_digits_bound_a_number, find};
 pub use source_sets::{InsertFault, SourceSet};

@@ -19,12 +19,19 @@ pub fn merge<'a, K: Key, L: Keyed<K>, R: Keyed<K>>(
     requires right_ascending { IsAscending R.key_number right.now }
 
     ensures sides { result ≡ record { left = left.now; right = right.now } }
-    ensures ascending { IsAscending (number_of L.key_number R.key_number) (merged L.key_number R.key_number result) }
-    ensures at_each_number { (n : ℕ) → item_with (number_of L.key_number R.key_number) (merged L.key_number R.key_number result) n ≡ paired (item_with L.key_number left.now n) (item_with R.key_number right.now n) }
+
+    // All that it hands out is ascending, and has at each number what the two slices have there.
+    ensures ascending { let ahead = merged L.key_number R.key_number in
+        IsAscending (number_of L.key_number R.key_number) (ahead result) }
+    ensures at_each_number { let ahead = merged L.key_number R.key_number in
+        (n : ℕ) → item_with (number_of L.key_number R.key_number) (ahead result) n
+        ≡ paired (item_with L.key_number left.now n) (item_with R.key_number right.now n) }
 
     // The comparisons in all: no fewer than the shorter side has items, no more than both have.
-    ensures compares_at_least { min (length left.now) (length right.now) ≤ comparisons_along (merged L.key_number R.key_number result) }
-    ensures compares_at_most { comparisons_along (merged L.key_number R.key_number result) ≤ length left.now + length right.now }
+    ensures compares_at_least { let ahead = merged L.key_number R.key_number in
+        min (length left.now) (length right.now) ≤ comparisons_along (ahead result) }
+    ensures compares_at_most { let ahead = merged L.key_number R.key_number in
+        comparisons_along (ahead result) ≤ length left.now + length right.now }
 {
     Merge::of(left, right)
 }
