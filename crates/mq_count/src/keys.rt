@@ -11,6 +11,7 @@ use std::cmp::Ordering;
 /// and equal numbers are equal values. Code that is generic over a `Key` has no other way to
 /// compare two of them.
 pub trait Key: Copy + Default {
+    // The number that an address is compared by.
     ghost number: { Self → ℕ };
 
     /// How the two stand to each other. One comparison.
@@ -18,6 +19,7 @@ pub trait Key: Copy + Default {
         ensures answer { result ≡ nat_cmp (number self) (number other) }
         ensures spent { Spends 1 1 m.old m.new };
 
+    // Equal numbers are equal values.
     ghost one_value: { (a b : Self) → number a ≡ number b → a ≡ b };
 }
 

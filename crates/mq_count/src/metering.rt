@@ -55,6 +55,7 @@ impl Meter {
         if b.ms() < a.ms() { b } else { a }
     }
 
+    /// Counts one comparison. No other crate can call it, so it counts nothing else.
     pub(crate) fn count_comparison(&mut self)
         ensures { Spends 1 1 self.old self.new }
     {

@@ -94,6 +94,7 @@ impl Moment {
         write_decimal(self.ms, out)
     }
 
+    /// The number, for the comparisons of this crate alone.
     pub(crate) fn ms(self) -> u64
         ensures { result ≡ self }
     {

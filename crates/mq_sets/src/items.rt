@@ -7,6 +7,7 @@ use mq_count::Key;
 
 /// An item of an ascending slice: whatever carries a key. A key carries itself.
 pub trait Keyed<K: Key> {
+    // The number of the key that the item carries.
     ghost key_number: { Self → ℕ };
 
     /// The key that the item carries.
