@@ -2,6 +2,7 @@ pub mod Ascents
 pub mod Bitlen
 pub mod Examples
 pub mod Found
+pub mod KnownBySet
 pub mod MergeCount
 pub mod Merges
 pub mod Narrowing

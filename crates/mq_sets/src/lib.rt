@@ -19,7 +19,7 @@
 //! - Ascending slices of whatever carries a key: `Keyed`, `find`, and `merge` with `Merge::next`,
 //!   which hands out `Merged`.
 //! - Laws for the crates above, functions that do nothing: `numbers_find_items`,
-//!   `binary_digits_bound_a_number`, `rules_act_at_each_key`.
+//!   `sets_are_known_by_their_members`, `binary_digits_bound_a_number`, `rules_act_at_each_key`.
 #![tactic(auto)]
 
 pub mod items;
@@ -32,4 +32,4 @@ pub use items::{Keyed, numbers_find_items};
 pub use merge_state::{Merge, Merged};
 pub use merging::{merge, rules_act_at_each_key};
 pub use searching::{binary_digits_bound_a_number, find};
-pub use source_sets::{InsertFault, SourceSet};
+pub use source_sets::{InsertFault, SourceSet, sets_are_known_by_their_members};
