@@ -2,5 +2,7 @@
 #![tactic(auto)]
 
 pub mod address_v4;
+pub mod streams;
 
 pub use address_v4::Addr4;
+pub use streams::Watched;
