@@ -1,5 +1,5 @@
 -- Printing the line of a datagram.
-use Rattle.std.proofs.Common.{◌≡◌, ℕ, Bool, List, ◌++◌, Option, Result, Ok, Err, Some, refl, subst}
+use Rattle.std.proofs.Common.{◌≡◌, ℕ, Bool, List, Option, Ok, Err, refl}
 use Rattle.mquerier.specs.Line.{PrintsLine, IsLineOf}
 use Rattle.mquerier.specs.Printing.{GrowsByBeginning}
 use Rattle.std.specs.Io.KnownBytes.{Appends}

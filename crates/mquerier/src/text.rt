@@ -35,8 +35,7 @@ pub fn message_line(message: Message<Addr4>) -> Line
         }
     };
     put_address(&mut line, group);
-    put(&mut line, b"\n");
-    line
+    ended(line)
 }
 
 /// What a fault is, with its number and its place, and a line feed.
@@ -53,6 +52,14 @@ pub fn fault_line(fault: WireFault) -> Line
         WireFault::UnknownType => put(&mut line, b"fault 3 unknown type"),
         WireFault::QueryLength => put(&mut line, b"fault 4 query length"),
     }
+    ended(line)
+}
+
+/// The line with its line feed.
+fn ended(mut line: Line) -> Line
+    requires { array_vec_len line + 1 ≤ 64 }
+    ensures { result.items ≡ line_of line.items }
+{
     put(&mut line, b"\n");
     line
 }

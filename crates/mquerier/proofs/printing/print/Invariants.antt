@@ -8,7 +8,7 @@ abbrev pub invariant-loop-rest : goal.invariant-loop-rest
 invariant-loop-rest g l =
     record {
       grows : (written : List ℕ) × (l.text ≡ written ++ l.rest)
-      × Appends (g.W.Write.contents (inner_of l.fn.writer)) (g.W.Write.contents (inner_of l.writer)) written;
+          × Appends (g.W.Write.contents (inner_of l.fn.writer)) (g.W.Write.contents (inner_of l.writer)) written;
       same : has_failed l.writer ≡ has_failed l.fn.writer;
     }
 

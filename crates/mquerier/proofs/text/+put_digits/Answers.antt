@@ -1,5 +1,4 @@
-use Rattle.std.proofs.Common.{◌≡◌, ◌++◌, ◌∷◌, [], ◌+◌, ◌%◌, length, arith, ap, sym, ◌∙◌, rules}
-use Rattle.std.specs.Fmt.{decimal}
+use Rattle.std.proofs.Common.{arith, ap, rules}
 use Rattle.arrayvec.specs.ArrayVec.{array_vec_len}
 use Rattle.mquerier.proofs.Decimal.{append-decimal, length-decimal, decimal-one, length-decimal-one}
 use Rattle.mquerier.proofs.text.+put_digits.Goals as goal
@@ -13,21 +12,21 @@ pub push-requires : goal.push-requires
 push-requires t c =
     elim c.if-number-ge10.branch [
       | then-number-ge10 w ↦ (
-        let shorter = length-decimal c.args.number w.if-number-ge10.true c.ranges.number.fits in
-        (omega arith, omega (arith, shorter, c.requires, ap array_vec_len w.line-is, w.put_digits.ensures.room))
-      )
+          let shorter = length-decimal c.args.number w.if-number-ge10.true c.ranges.number.fits in
+          (omega arith, omega (arith, shorter, c.requires, ap array_vec_len w.line-is, w.put_digits.ensures.room))
+          )
       | else-number-ge10 w ↦ (
-        let one = length-decimal-one c.args.number w.if-number-ge10.false in (omega arith, omega (arith, one, c.requires, ap array_vec_len w.line-is))
-      )
+          let one = length-decimal-one c.args.number w.if-number-ge10.false in (omega arith, omega (arith, one, c.requires, ap array_vec_len w.line-is))
+          )
     ]
 
 pub returns-clause-text : goal.returns-clause-text
 returns-clause-text t c =
     elim c.if-number-ge10.branch [
       | then-number-ge10 w ↦ (
-        let longer = append-decimal c.args.line.now.items c.args.number w.if-number-ge10.true c.ranges.number.fits in
-        cc (longer, c.push.ensures.items, w.put_digits.ensures.text)
-      )
+          let longer = append-decimal c.args.line.now.items c.args.number w.if-number-ge10.true c.ranges.number.fits in
+          cc (longer, c.push.ensures.items, w.put_digits.ensures.text)
+          )
       | else-number-ge10 w ↦ (let one = decimal-one c.args.number w.if-number-ge10.false in cc (one, c.push.ensures.items))
     ]
 
@@ -35,10 +34,10 @@ pub returns-clause-room : goal.returns-clause-room
 returns-clause-room t c =
     elim c.if-number-ge10.branch [
       | then-number-ge10 w ↦ (
-        let shorter = length-decimal c.args.number w.if-number-ge10.true c.ranges.number.fits in
-        omega (arith, shorter, c.push.ensures.len, ap array_vec_len w.line-is, w.put_digits.ensures.room)
-      )
+          let shorter = length-decimal c.args.number w.if-number-ge10.true c.ranges.number.fits in
+          omega (arith, shorter, c.push.ensures.len, ap array_vec_len w.line-is, w.put_digits.ensures.room)
+          )
       | else-number-ge10 w ↦ (
-        let one = length-decimal-one c.args.number w.if-number-ge10.false in omega (arith, one, c.push.ensures.len, ap array_vec_len w.line-is)
-      )
+          let one = length-decimal-one c.args.number w.if-number-ge10.false in omega (arith, one, c.push.ensures.len, ap array_vec_len w.line-is)
+          )
     ]
