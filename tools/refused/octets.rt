@@ -1,9 +1,8 @@
-//! What addresses offer. This program compiles.
+// compiles
 #![tactic(auto)]
 
 use mq_count::Addr4;
 
-fn main() {
-    let a = Addr4::from_octets([10, 0, 0, 1]);
-    let _octets = a.octets();
+pub fn first_octet(a: Addr4) -> u8 {
+    a.octets()[0]
 }
