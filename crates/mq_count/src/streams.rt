@@ -1,7 +1,7 @@
 //! A reader or a writer that is watched: it tells afterwards whether a call has failed, and how many
 //! bytes its reads have handed out.
 
-ghost use Rattle.std.specs.Prelude.{◌≡◌, ◌||◌, false, is_err};
+ghost use Rattle.std.specs.Prelude.{◌≡◌, ◌≤◌, ◌||◌, false, is_err, IfOk};
 ghost use Rattle.std.specs.Io.{ReadsAtMost, WritesAtMost};
 ghost use Rattle.std.specs.Io.KnownBytes.{Keeps, ReadConsumes, WriteAppends};
 
@@ -101,5 +101,92 @@ impl<W: Write> Write for Watched<W> {
             self.failed = true;
         }
         answer
+    }
+}
+
+#[cfg(test)]
+mod tests {
+    use super::*;
+    use std::io::ErrorKind;
+
+    /// Takes and hands out one byte a call, counts its flushes, and fails from the third call on.
+    #[derive(Drop)]
+    struct Fake {
+        calls: u8,
+        flushes: u8,
+    }
+
+    impl Fake {
+        fn step(&mut self, len: usize) -> io::Result<usize>
+            ensures { IfOk result (λ n. n ≤ len) }
+        {
+            self.calls = self.calls.saturating_add(1);
+            if self.calls > 2 {
+                return Err(io::Error::from(ErrorKind::BrokenPipe));
+            }
+            Ok(len.min(1))
+        }
+    }
+
+    impl Read for Fake {
+        fn read(&mut self, buf: &mut [u8]) -> io::Result<usize> {
+            self.step(buf.len())
+        }
+    }
+
+    impl Write for Fake {
+        fn write(&mut self, buf: &[u8]) -> io::Result<usize> {
+            self.step(buf.len())
+        }
+
+        fn flush(&mut self) -> io::Result<()> {
+            self.flushes = self.flushes.saturating_add(1);
+            self.step(0)?;
+            Ok(())
+        }
+    }
+
+    fn new_fake() -> Fake {
+        Fake {
+            calls: 0,
+            flushes: 0,
+        }
+    }
+
+    #[test]
+    fn reads_are_counted(rt: HostRuntime) {
+        let mut watched = Watched::new(new_fake());
+        let mut buf = [0; 4];
+        for taken in [1, 2] {
+            assert!(rt; watched.read(&mut buf).is_ok());
+            assert_eq!(rt; watched.taken(), taken);
+            assert!(rt; !watched.failed());
+        }
+        assert!(rt; watched.read(&mut buf).is_err());
+        assert_eq!(rt; watched.taken(), 2);
+        assert!(rt; watched.failed());
+    }
+
+    #[test]
+    fn a_write_that_takes_nothing_has_failed(rt: HostRuntime) {
+        let mut nowhere: &mut [u8] = &mut [];
+        let mut watched = Watched::new(&mut nowhere);
+        assert!(rt; watched.write(b"").is_ok());
+        assert!(rt; !watched.failed());
+        assert!(rt; watched.write(b"a").is_ok());
+        assert!(rt; watched.failed());
+    }
+
+    #[test]
+    fn flushes_are_passed_on(rt: HostRuntime) {
+        let mut inner = new_fake();
+        let mut watched = Watched::new(&mut inner);
+        assert!(rt; watched.flush().is_ok());
+        assert!(rt; watched.write(b"ab").is_ok());
+        assert!(rt; !watched.failed());
+        assert!(rt; watched.flush().is_err());
+        assert!(rt; watched.failed());
+        assert_eq!(rt; watched.taken(), 0);
+        assert_eq!(rt; inner.flushes, 2);
     }
 }
