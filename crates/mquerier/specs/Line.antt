@@ -1,6 +1,7 @@
 -- The line of a message's bytes.
 use Rattle.std.specs.Prelude.{◌≡◌, ℕ, Bool, true, false, List, Option, Some, Result, Ok, Err}
 use Rattle.std.specs.Io.KnownBytes.{Appends}
+use Rattle.hex.specs.Hex.{decode_of}
 use Rattle.mq_wire.specs.declared.message.Message.{Message}
 use Rattle.mq_wire.specs.declared.message.WireFault.{WireFault}
 use Rattle.mq_wire.specs.Spelling.{Spells, fault_of}
@@ -23,3 +24,16 @@ pub record PrintsLine {E : Type 0} (old new : Option (List ℕ)) (bytes : List �
   pub line : List ℕ
   pub is_line : IsLineOf bytes flag line
   pub printed : Answers old new flag line answer
+
+-- the line of the bytes that this text is the hexadecimal of was printed, and it has this flag
+pub record PrintsHexLine (old new : Option (List ℕ)) (text : List ℕ) (flag : Bool) : Type 0 where
+  pub bytes : List ℕ
+  pub line : List ℕ
+  pub decoded : decode_of text ≡ Ok bytes
+  pub is_line : IsLineOf bytes flag line
+  pub grows : Appends old new line
+
+-- the line of a message was printed
+pub record PrintsSomeLine (old new : Option (List ℕ)) : Type 0 where
+  pub text : List ℕ
+  pub printed : PrintsHexLine old new text true

@@ -1,6 +1,9 @@
 //! What the program does with its words and streams.
 
-ghost use Rattle.std.specs.Prelude.{◌≡◌, ◌≤◌, Err};
+ghost use Rattle.std.specs.Prelude.{◌≡◌, ◌≤◌, Err, true, IfOk, IsErr};
+ghost use Rattle.hex.specs.Hex.{decode_of};
+ghost use Rattle.mq_count.specs.Streams.{inner_of, has_failed};
+ghost use Rattle.mquerier.specs.Line.{PrintsHexLine, PrintsSomeLine};
 ghost use Rattle.mquerier.specs.Status.{status_of};
 
 use crate::command::{Request, request_of};
@@ -43,6 +46,8 @@ pub fn run<S: AsStr, R: Read, W: Write, E: Write>(
     errors: &mut Watched<E>,
 ) -> u8
     ensures status { result ≤ 2 }
+    // What is done is a message's line.
+    ensures done { result ≡ 0 → PrintsSomeLine (W.contents (inner_of output.old)) (W.contents (inner_of output.new)) }
     // What is refused leaves the output as it was.
     ensures refused { result ≡ 2 → output.new ≡ output.old }
 {
@@ -65,17 +70,24 @@ pub fn run<S: AsStr, R: Read, W: Write, E: Write>(
 }
 
 /// Prints the line of one message, and answers whether it is that of a message or of a fault.
-fn message<W: Write>(alloc: Global, hex: &str, output: &mut Watched<W>) -> Result<bool, Failure>
-    ensures { result ≡ Err Failure.NotHex → output.new ≡ output.old }
+fn message<W: Write>(
+    alloc: Global,
+    hex: &str,
+    output: &mut Watched<W>,
+) -> Result<bool, Failure>
+    ensures line { IfOk result (PrintsHexLine (W.contents (inner_of output.old)) (W.contents (inner_of output.new)) hex.now) }
+    ensures not_hex { result ≡ Err Failure.NotHex → IsErr (decode_of hex.now) × (output.new ≡ output.old) }
+    ensures write { result ≡ Err Failure.Write → has_failed output.new ≡ true }
 {
     let bytes = match hex::decode(alloc, hex) {
         Ok(bytes) => bytes,
         Err(FromHexError::OutOfMemory) => return Err(Failure::Memory),
         Err(_) => return Err(Failure::NotHex),
     };
-    let is_message = igmp_line(&bytes, output).map_err(|_| Failure::Write)?;
-    output.flush().map_err(|_| Failure::Write)?;
-    Ok(is_message)
+    match igmp_line(&bytes, output) {
+        Ok(is_message) if output.flush().is_ok() => Ok(is_message),
+        _ => Err(Failure::Write),
+    }
 }
 
 /// Says on standard error what failed, and answers the status.
