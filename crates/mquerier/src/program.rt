@@ -70,11 +70,7 @@ pub fn run<S: AsStr, R: Read, W: Write, E: Write>(
 }
 
 /// Prints the line of one message, and answers whether it is that of a message or of a fault.
-fn message<W: Write>(
-    alloc: Global,
-    hex: &str,
-    output: &mut Watched<W>,
-) -> Result<bool, Failure>
+fn message<W: Write>(alloc: Global, hex: &str, output: &mut Watched<W>) -> Result<bool, Failure>
     ensures line { IfOk result (PrintsHexLine (W.contents (inner_of output.old)) (W.contents (inner_of output.new)) hex.now) }
     ensures not_hex { result ≡ Err Failure.NotHex → IsErr (decode_of hex.now) × (output.new ≡ output.old) }
     ensures write { result ≡ Err Failure.Write → has_failed output.new ≡ true }
