@@ -10,9 +10,10 @@ all: bin/mquerier
 
 # Proves the crates, builds the program, and runs it once.
 bin/mquerier: $(SOURCES)
-	cd crates/mquerier && rt run -- $(FIRST_PATH) > out/build.log 2>&1 || { cat out/build.log; exit 1; }
-	mkdir -p bin
-	cp crates/mquerier/out/mquerier $@
+	@mkdir -p bin
+	@echo 'proving and building $@ (bin/build.log)'
+	@cd crates/mquerier && rt run -- $(FIRST_PATH) > ../../bin/build.log 2>&1 || { cat ../../bin/build.log; exit 1; }
+	@cp crates/mquerier/out/mquerier $@
 
 # The line of one message.
 run: bin/mquerier
