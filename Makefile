@@ -11,7 +11,7 @@ all: bin/mquerier
 # Proves the crates, builds the program, and runs it once.
 bin/mquerier: $(SOURCES)
 	@mkdir -p bin
-	@echo 'proving and building $@ (bin/build.log)'
+	@echo 'proving and building $@ (bin/build.log)' >&2
 	@cd crates/mquerier && rt run -- $(FIRST_PATH) > ../../bin/build.log 2>&1 || { cat ../../bin/build.log; exit 1; }
 	@cp crates/mquerier/out/mquerier $@
 
