@@ -1,0 +1,95 @@
+-- What a record makes of its group: the tables of RFC 3376 sections 6.4.1 and 6.4.2, and of
+-- RFC 3810 sections 7.4.1 and 7.4.2.
+use Rattle.std.specs.Prelude.{◌≡◌, ℕ, ◌+◌, Bool, true, false, if◌then◌else◌, Option, None, Some}
+use Rattle.std.specs.Option.{unwrap_or}
+use Rattle.std.specs.Ordering.{nat_cmp}
+use Rattle.std.specs.FinSet as set
+use Rattle.std.specs.FinSet.{FinSet}
+use Rattle.mq_table.specs.declared.kind.Kind.{Kind}
+use Rattle.mq_table.specs.declared.kind.Kind.TheVariants.{IsIn, IsEx, ToIn, ToEx, Allow, Block}
+use Rattle.mq_table.specs.declared.timing.Timing.{Timing}
+use Rattle.mq_table.specs.Sets.{Set, ∅, ◌∪◌, ◌∩◌, ◌∖◌}
+use Rattle.mq_table.specs.Maps.{by_rule}
+use Rattle.mq_table.specs.Group.{GroupState, FilterMode, Include, Exclude, SourceTimer, Stopped, Running, running, stopped, timer_at, deadline_of, left_of}
+use Rattle.mq_table.specs.Timing.{membership_interval}
+
+-- the sources that a record names; how often it names one doesn't matter
+abbrev pub Sources : Type 0
+Sources = FinSet nat_cmp
+
+-- One line of the tables. INCLUDE(x) or EXCLUDE(x,y) is the new state; the timers of `restart` are
+-- set to the group membership interval, those of `copy` to the group timer from before the record;
+-- Q(G,query) is sent, where `query` has a source, and Q(G) where `query_group` says so.
+pub record Line : Type 0 where
+  pub mode : FilterMode
+  pub x : Set
+  pub y : Set
+  pub restart : Set
+  pub copy : Set
+  pub query : Set
+  pub query_group : Bool
+
+-- The twelve lines. `gmi` is the moment that a timer set to the group membership interval runs to,
+-- and `d` the deadline of the group timer. "(B-A)=0" and "delete" are in the new X and Y.
+abbrev pub line : ℕ → FilterMode → Kind → Set → Set → Set → Line
+-- INCLUDE(A), IS_IN(B): INCLUDE(A+B), (B)=GMI
+line gmi Include IsIn A Y B = record { mode = Include; x = A ∪ B; y = ∅; restart = B; copy = ∅; query = ∅; query_group = false }
+-- INCLUDE(A), IS_EX(B): EXCLUDE(A*B,B-A), (B-A)=0, delete (A-B), group timer=GMI
+line gmi Include IsEx A Y B = record { mode = Exclude gmi; x = A ∩ B; y = B ∖ A; restart = ∅; copy = ∅; query = ∅; query_group = false }
+-- INCLUDE(A), ALLOW(B): INCLUDE(A+B), (B)=GMI
+line gmi Include Allow A Y B = record { mode = Include; x = A ∪ B; y = ∅; restart = B; copy = ∅; query = ∅; query_group = false }
+-- INCLUDE(A), BLOCK(B): INCLUDE(A), send Q(G,A*B)
+line gmi Include Block A Y B = record { mode = Include; x = A; y = ∅; restart = ∅; copy = ∅; query = A ∩ B; query_group = false }
+-- INCLUDE(A), TO_EX(B): EXCLUDE(A*B,B-A), (B-A)=0, delete (A-B), send Q(G,A*B), group timer=GMI
+line gmi Include ToEx A Y B = record { mode = Exclude gmi; x = A ∩ B; y = B ∖ A; restart = ∅; copy = ∅; query = A ∩ B; query_group = false }
+-- INCLUDE(A), TO_IN(B): INCLUDE(A+B), (B)=GMI, send Q(G,A-B)
+line gmi Include ToIn A Y B = record { mode = Include; x = A ∪ B; y = ∅; restart = B; copy = ∅; query = A ∖ B; query_group = false }
+-- EXCLUDE(X,Y), IS_IN(A): EXCLUDE(X+A,Y-A), (A)=GMI
+line gmi (Exclude d) IsIn X Y A = record { mode = Exclude d; x = X ∪ A; y = Y ∖ A; restart = A; copy = ∅; query = ∅; query_group = false }
+-- EXCLUDE(X,Y), IS_EX(A): EXCLUDE(A-Y,Y*A), (A-X-Y)=GMI, delete (X-A), delete (Y-A), group timer=GMI
+line gmi (Exclude d) IsEx X Y A = record { mode = Exclude gmi; x = A ∖ Y; y = Y ∩ A; restart = A ∖ X ∖ Y; copy = ∅; query = ∅; query_group = false }
+-- EXCLUDE(X,Y), ALLOW(A): EXCLUDE(X+A,Y-A), (A)=GMI
+line gmi (Exclude d) Allow X Y A = record { mode = Exclude d; x = X ∪ A; y = Y ∖ A; restart = A; copy = ∅; query = ∅; query_group = false }
+-- EXCLUDE(X,Y), BLOCK(A): EXCLUDE(X+(A-Y),Y), (A-X-Y)=group timer, send Q(G,A-Y)
+line gmi (Exclude d) Block X Y A = record { mode = Exclude d; x = X ∪ (A ∖ Y); y = Y; restart = ∅; copy = A ∖ X ∖ Y; query = A ∖ Y; query_group = false }
+-- EXCLUDE(X,Y), TO_EX(A): EXCLUDE(A-Y,Y*A), (A-X-Y)=group timer, delete (X-A), delete (Y-A), send Q(G,A-Y), group timer=GMI
+line gmi (Exclude d) ToEx X Y A = record { mode = Exclude gmi; x = A ∖ Y; y = Y ∩ A; restart = ∅; copy = A ∖ X ∖ Y; query = A ∖ Y; query_group = false }
+-- EXCLUDE(X,Y), TO_IN(A): EXCLUDE(X+A,Y-A), (A)=GMI, send Q(G,X-A), send Q(G)
+line gmi (Exclude d) ToIn X Y A = record { mode = Exclude d; x = X ∪ A; y = Y ∖ A; restart = A; copy = ∅; query = X ∖ A; query_group = true }
+
+-- the deadline of the group timer; INCLUDE has none, and no line of INCLUDE copies it
+abbrev pub group_timer : FilterMode → ℕ
+group_timer Include = 0
+group_timer (Exclude d) = d
+
+-- One rule makes a line into timers, source by source. `before` is the timer before the record. A
+-- source that no action of the line names keeps its deadline; one that was running keeps what is
+-- left to send for it, and every other has nothing left.
+abbrev pub timer_by : Line → ℕ → ℕ → ℕ → Option SourceTimer → Option SourceTimer
+timer_by l gmi group s before =
+    let kept = unwrap_or (deadline_of before) 0 in
+    let deadline = if l.restart s then gmi else (if l.copy s then group else kept) in
+    if l.x s then Some (Running deadline (left_of before)) else (if l.y s then Some Stopped else None)
+
+-- The new group and the queries that go with it. Host-present timers stay.
+pub record Change : Type 0 where
+  pub group : GroupState
+  pub query : Set
+  pub query_group : Bool
+
+abbrev pub line_of : Timing → ℕ → GroupState → Kind → Sources → Line
+line_of timing now g kind named = line (now + membership_interval timing) g.mode kind (running g) (stopped g) (set.contains named)
+
+abbrev pub change_of : Timing → ℕ → GroupState → Kind → Sources → Change
+change_of timing now g kind named =
+    let l = line_of timing now g kind named in
+    let timer = λ (s : ℕ). timer_by l (now + membership_interval timing) (group_timer g.mode) s (timer_at g s) in
+    record {
+      group = record { mode = l.mode; sources = by_rule g.sources named timer; v1 = g.v1; v2 = g.v2 };
+      query = l.query;
+      query_group = l.query_group;
+    }
+
+-- by the tables, this is what the record changes
+abbrev pub Table : Timing → ℕ → GroupState → Kind → Sources → Change → Type 0
+Table timing now g kind named change = change ≡ change_of timing now g kind named
