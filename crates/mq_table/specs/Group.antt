@@ -30,6 +30,11 @@ abbrev pub is_include : FilterMode → Bool
 is_include Include = true
 is_include (Exclude d) = false
 
+-- until when the group timer runs, in EXCLUDE
+abbrev pub group_deadline : FilterMode → Option ℕ
+group_deadline Include = None
+group_deadline (Exclude d) = Some d
+
 abbrev pub is_running : Option SourceTimer → Bool
 is_running None = false
 is_running (Some Stopped) = false

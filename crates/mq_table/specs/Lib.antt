@@ -7,3 +7,4 @@ pub mod OlderHosts
 pub mod Expiry
 pub mod Lowering
 pub mod Examples
+pub mod Laws

@@ -10,7 +10,7 @@ use Rattle.mq_table.specs.declared.kind.Kind.TheVariants.{IsIn, IsEx, ToIn, ToEx
 use Rattle.mq_table.specs.declared.timing.Timing.{Timing}
 use Rattle.mq_table.specs.Sets.{Set, ∅, ◌∪◌, ◌∩◌, ◌∖◌}
 use Rattle.mq_table.specs.Maps.{by_rule}
-use Rattle.mq_table.specs.Group.{GroupState, FilterMode, Include, Exclude, SourceTimer, Stopped, Running, running, stopped, timer_at, deadline_of, left_of}
+use Rattle.mq_table.specs.Group.{GroupState, FilterMode, Include, Exclude, SourceTimer, Stopped, Running, running, stopped, timer_at, group_deadline, deadline_of, left_of}
 use Rattle.mq_table.specs.Timing.{membership_interval}
 
 -- the sources that a record names; how often it names one doesn't matter
@@ -57,16 +57,13 @@ line gmi (Exclude d) ToEx X Y A = record { mode = Exclude gmi; x = A ∖ Y; y = 
 -- EXCLUDE(X,Y), TO_IN(A): EXCLUDE(X+A,Y-A), (A)=GMI, send Q(G,X-A), send Q(G)
 line gmi (Exclude d) ToIn X Y A = record { mode = Exclude d; x = X ∪ A; y = Y ∖ A; restart = A; copy = ∅; query = X ∖ A; query_group = true }
 
--- the deadline of the group timer; INCLUDE has none, and no line of INCLUDE copies it
-abbrev pub group_timer : FilterMode → ℕ
-group_timer Include = 0
-group_timer (Exclude d) = d
-
 -- One rule makes a line into timers, source by source. `before` is the timer before the record. A
 -- source that no action of the line names keeps its deadline; one that was running keeps what is
--- left to send for it, and every other has nothing left.
-abbrev pub timer_by : Line → ℕ → ℕ → ℕ → Option SourceTimer → Option SourceTimer
-timer_by l gmi group s before =
+-- left to send for it, and every other has nothing left. (No line copies the group timer of INCLUDE,
+-- which has none, or keeps the deadline of a source that has none.)
+abbrev pub timer_by : Line → ℕ → FilterMode → ℕ → Option SourceTimer → Option SourceTimer
+timer_by l gmi mode s before =
+    let group = unwrap_or (group_deadline mode) 0 in
     let kept = unwrap_or (deadline_of before) 0 in
     let deadline = if l.restart s then gmi else (if l.copy s then group else kept) in
     if l.x s then Some (Running deadline (left_of before)) else (if l.y s then Some Stopped else None)
@@ -83,7 +80,7 @@ line_of timing now g kind named = line (now + membership_interval timing) g.mode
 abbrev pub change_of : Timing → ℕ → GroupState → Kind → Sources → Change
 change_of timing now g kind named =
     let l = line_of timing now g kind named in
-    let timer = λ (s : ℕ). timer_by l (now + membership_interval timing) (group_timer g.mode) s (timer_at g s) in
+    let timer = λ (s : ℕ). timer_by l (now + membership_interval timing) g.mode s (timer_at g s) in
     record {
       group = record { mode = l.mode; sources = by_rule g.sources named timer; v1 = g.v1; v2 = g.v2 };
       query = l.query;

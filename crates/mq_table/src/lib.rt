@@ -4,6 +4,7 @@
 
 pub mod examples;
 pub mod kind;
+pub mod laws;
 pub mod older_hosts;
 pub mod timing;
 

@@ -1,0 +1,21 @@
+-- Words in which the laws of the definitions are said.
+use Rattle.std.specs.Prelude.{◌≡◌, ℕ, ◌≤◌, Bool, Option, None, Some}
+use Rattle.std.specs.FinSet as set
+use Rattle.mq_table.specs.declared.kind.Kind.{Kind}
+use Rattle.mq_table.specs.declared.timing.Timing.{Timing}
+use Rattle.mq_table.specs.Group.{GroupState, forwards_in}
+use Rattle.mq_table.specs.Table.{Sources, change_of}
+
+-- After a record of this kind a group forwards a source by whether the record names it, and whether
+-- the group forwarded it before.
+abbrev pub ForwardsAfter : Kind → (Bool → Bool → Bool) → Type 0
+ForwardsAfter kind what =
+    (timing : Timing) (now : ℕ) (g : GroupState) (named : Sources) (s : ℕ) →
+    forwards_in (change_of timing now g kind named).group s ≡ what (set.contains named s) (forwards_in g s)
+
+-- a deadline that is still there, and no later than it was
+abbrev pub IsNoLater : Option ℕ → Option ℕ → Type 0
+IsNoLater None None = Unit {0}
+IsNoLater (Some before) (Some after) = after ≤ before
+IsNoLater None (Some after) = ⊥
+IsNoLater (Some before) None = ⊥

@@ -1,0 +1,79 @@
+//! Laws of the definitions. No function here does anything: its contract is the law, for every
+//! group, moment, timing and record.
+
+ghost use Rattle.std.specs.Prelude.{◌≡◌, ℕ, ◌≤◌, false, not, ◌||◌, ◌⊎◌, Some, None, IsSome, IsTrue};
+ghost use Rattle.std.specs.FinSet as set;
+ghost use Rattle.mq_table.specs.declared.kind.Kind.{Kind};
+ghost use Rattle.mq_table.specs.declared.timing.Timing.{Timing};
+ghost use Rattle.mq_table.specs.Sets.{Set};
+ghost use Rattle.mq_table.specs.Group.{GroupState, timer_at, deadline_of, group_deadline, forwards_in, vacant, IsWellFormed, IsAnyGroup};
+ghost use Rattle.mq_table.specs.Table.{Sources, line_of, change_of};
+ghost use Rattle.mq_table.specs.Expiry.{expired};
+ghost use Rattle.mq_table.specs.Lowering.{group_lowered, sources_lowered};
+ghost use Rattle.mq_table.specs.Laws.{ForwardsAfter, IsNoLater};
+
+use crate::kind::Kind;
+
+/// What a group forwards, and every timer of it, doesn't depend on how often one looks: timers that
+/// end at one moment and then at a later one leave what they leave at the later one.
+pub fn expiry_composes()
+    ensures { (g : GroupState) (a b : ℕ) → a ≤ b → expired b (expired a g) ≡ expired b g }
+{}
+
+/// The end of timers leaves a group that is held, or none: INCLUDE({}) is never held, and no source
+/// of INCLUDE is stopped.
+pub fn expiry_keeps_form()
+    ensures { (now : ℕ) (g : GroupState) → IsAnyGroup (expired now g) }
+{}
+
+/// So does each line of the tables, which never ends a group that is held.
+pub fn records_keep_form()
+    ensures any { (timing : Timing) (now : ℕ) (g : GroupState) (kind : Kind) (named : Sources) → IsAnyGroup g → IsAnyGroup (change_of timing now g kind named).group }
+    ensures held { (timing : Timing) (now : ℕ) (g : GroupState) (kind : Kind) (named : Sources) → IsWellFormed g → IsWellFormed (change_of timing now g kind named).group }
+{}
+
+/// A record brings no source that it doesn't name, and changes no deadline but those that its line
+/// sets.
+pub fn records_change_what_they_name()
+    // Each source of the new state was there before, or is in the record.
+    ensures known { (timing : Timing) (now : ℕ) (g : GroupState) (kind : Kind) (named : Sources) (s : ℕ)
+        → IsSome (timer_at (change_of timing now g kind named).group s)
+        → IsSome (timer_at g s) ⊎ IsTrue (set.contains named s) }
+
+    // A deadline that the line doesn't set is the one from before.
+    ensures kept { (timing : Timing) (now : ℕ) (g : GroupState) (kind : Kind) (named : Sources) (s : ℕ)
+        → (line_of timing now g kind named).restart s ≡ false
+        → (line_of timing now g kind named).copy s ≡ false
+        → (deadline : ℕ) → deadline_of (timer_at (change_of timing now g kind named).group s) ≡ Some deadline
+        → deadline_of (timer_at g s) ≡ Some deadline }
+
+    // A source that the record doesn't name is as it was, or gone.
+    ensures unnamed { (timing : Timing) (now : ℕ) (g : GroupState) (kind : Kind) (named : Sources) (s : ℕ)
+        → set.contains named s ≡ false
+        → (timer_at (change_of timing now g kind named).group s ≡ timer_at g s)
+        ⊎ (timer_at (change_of timing now g kind named).group s ≡ None) }
+{}
+
+/// What a group forwards of a source after each kind of record, by whether the record names the
+/// source and whether the group forwarded it before. A group that isn't held forwards nothing.
+pub fn forwards_after_each_kind()
+    // What the record names, and what was forwarded before.
+    ensures is_in { ForwardsAfter Kind.IsIn (λ named before. named || before) }
+    ensures to_in { ForwardsAfter Kind.ToIn (λ named before. named || before) }
+    ensures allow { ForwardsAfter Kind.Allow (λ named before. named || before) }
+
+    // Everything but what the record names and wasn't forwarded before.
+    ensures is_ex { ForwardsAfter Kind.IsEx (λ named before. not named || before) }
+    ensures to_ex { ForwardsAfter Kind.ToEx (λ named before. not named || before) }
+
+    // What was forwarded before.
+    ensures block { ForwardsAfter Kind.Block (λ named before. before) }
+
+    ensures not_held { (s : ℕ) → forwards_in vacant s ≡ false }
+{}
+
+/// Lowering starts and ends no timer, and none runs longer than before.
+pub fn lowering_never_lengthens()
+    ensures group { (timing : Timing) (now : ℕ) (g : GroupState) → IsNoLater (group_deadline g.mode) (group_deadline (group_lowered timing now g).mode) }
+    ensures sources { (timing : Timing) (now : ℕ) (asked : Set) (g : GroupState) (s : ℕ) → IsNoLater (deadline_of (timer_at g s)) (deadline_of (timer_at (sources_lowered timing now asked g) s)) }
+{}
