@@ -33,6 +33,7 @@ any-append p (x ∷ xs) ys = elim (p x) as (λ b. (b || list_any p (xs ++ ys)) �
 
 -- the rule, at the keys of the old map and those named
 pub get-by_rule : {X : Type 0} (old : FinMap nat_cmp X) (named : FinSet nat_cmp) (rule : ℕ → Option X) (q : ℕ) → map.get (by_rule old named rule) q ≡ cond (map.contains_key old q || set.contains named q) (rule q) None
+unfolding by_rule
 get-by_rule old named rule q =
     map.get-from_entries nat_cmp_total _ q
     ∙ find-entries_by rule (map.keys old ++ set.items named) q
@@ -48,4 +49,5 @@ get-by_rule_everywhere old named rule q nothing = get-by_rule old named rule q �
     both (Some x) b r h = refl
 
 pub get-kept : {X : Type 0} (f : ℕ → X → Option X) (old : FinMap nat_cmp X) (q : ℕ) → map.get (kept f old) q ≡ option_and_then (f q) (map.get old q)
+unfolding kept
 get-kept f old q = get-by_rule_everywhere old set.empty (λ k. option_and_then (f k) (map.get old k)) q (λ none _. ap (option_and_then (f q)) none)

@@ -19,9 +19,9 @@ entries_by rule [] = []
 entries_by rule (k ∷ ks) = with_entry k (rule k) (entries_by rule ks)
 
 -- the map that has, at each key of the old map and each key named, what the rule says of that key
-abbrev pub by_rule : {X : Type 0} → FinMap nat_cmp X → FinSet nat_cmp → (ℕ → Option X) → FinMap nat_cmp X
+unfoldable pub by_rule : {X : Type 0} → FinMap nat_cmp X → FinSet nat_cmp → (ℕ → Option X) → FinMap nat_cmp X
 by_rule old named rule = map.from_entries (entries_by rule (map.keys old ++ set.items named))
 
 -- the map with each value replaced, or left out, as f says of it
-abbrev pub kept : {X : Type 0} → (ℕ → X → Option X) → FinMap nat_cmp X → FinMap nat_cmp X
+unfoldable pub kept : {X : Type 0} → (ℕ → X → Option X) → FinMap nat_cmp X → FinMap nat_cmp X
 kept f old = by_rule old set.empty (λ k. option_and_then (f k) (map.get old k))

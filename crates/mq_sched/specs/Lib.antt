@@ -1,0 +1,4 @@
+pub mod Schedule
+pub mod Sending
+pub mod Election
+pub mod Laws
