@@ -1,3 +1,4 @@
 pub mod Rounds
 pub mod Asked
 pub mod Fits
+pub mod Explicit

@@ -2,3 +2,4 @@ pub mod Schedule
 pub mod Sending
 pub mod Election
 pub mod Laws
+pub mod Examples

@@ -3,4 +3,5 @@
 //! 6.6.2, RFC 3810 section 7.6.2).
 #![tactic(auto)]
 
+pub mod examples;
 pub mod laws;

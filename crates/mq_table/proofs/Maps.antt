@@ -1,12 +1,14 @@
 -- What a map that is given key by key answers at each key.
 use Rattle.std.proofs.Common.{◌≡◌, ℕ, Bool, true, false, cond, ◌||◌, List, [], ◌∷◌, ◌++◌, Option, None, Some, refl, sym, ap, ◌∙◌, arith}
+use Rattle.std.specs.Prelude.{map as list_map}
+use lib.Dec.{T}
 use Rattle.std.specs.List.{list_any}
 use Rattle.std.specs.Option.{option_and_then, is_some}
 use Rattle.std.specs.Ordering.{nat_cmp, eq_by_cmp}
 use Rattle.std.specs.Cmp.{nat_cmp_total}
 use Rattle.std.specs.FinMap as map
 use Rattle.std.specs.FinSet as set
-use Rattle.std.specs.FinMap.{FinMap, find}
+use Rattle.std.specs.FinMap.{FinMap, find, is_sorted}
 use Rattle.std.specs.FinSet.{FinSet}
 use Rattle.std.proofs.lemmas.Bool.Decides.{nat_tests}
 use Rattle.mq_table.specs.Maps.{with_entry, entries_by, by_rule, kept}
@@ -51,3 +53,28 @@ get-by_rule_everywhere old named rule q nothing = get-by_rule old named rule q �
 pub get-kept : {X : Type 0} (f : ℕ → X → Option X) (old : FinMap nat_cmp X) (q : ℕ) → map.get (kept f old) q ≡ option_and_then (f q) (map.get old q)
 unfolding kept
 get-kept f old q = get-by_rule_everywhere old set.empty (λ k. option_and_then (f k) (map.get old k)) q (λ none _. ap (option_and_then (f q)) none)
+
+-- The keys of the map of a list whose keys rise are those of the list.
+pub keys-from_entries : {X : Type 0} (es : List (ℕ × X)) → T (is_sorted nat_cmp es) → map.keys (map.from_entries {R = nat_cmp} es) ≡ list_map (λ e. e.0) es
+keys-from_entries es sorted =
+    ap map.keys (map.same_map nat_cmp_total map.nat_cmp-IsAntisymmetric (map.from_entries es) (map.from_sorted es) (λ q. map.get-from_entries nat_cmp_total es q ∙ sym (map.get-from_sorted nat_cmp es q sorted)))
+    ∙ ap (list_map (λ e. e.0)) (map.entries-from_sorted nat_cmp es sorted)
+
+find-replaced : {X : Type 0} (f : ℕ → X → X) (es : List (ℕ × X)) (q : ℕ) → option_and_then (λ x. Some (f q x)) (find nat_cmp q es) ≡ find nat_cmp q (list_map (λ (e : ℕ × X). (e.0, f e.0 e.1)) es)
+find-replaced f [] q = refl
+find-replaced {X = X} f (e ∷ es) q = at_front (eq_by_cmp nat_cmp q e.0) refl (find-replaced f es q)
+  where
+    rest : Option X
+    rest = find nat_cmp q (list_map (λ (e : ℕ × X). (e.0, f e.0 e.1)) es)
+
+    at_front : (b : Bool) → eq_by_cmp nat_cmp q e.0 ≡ b → option_and_then (λ x. Some (f q x)) (find nat_cmp q es) ≡ rest → option_and_then (λ x. Some (f q x)) (cond b (Some e.1) (find nat_cmp q es)) ≡ cond b (Some (f e.0 e.1)) rest
+    at_front true same is = ap (λ k. Some (f k e.1)) (tied q e.0 same)
+    at_front false other is = is
+
+-- A map whose values are replaced, none of them left out, is that of the replaced values.
+pub kept-from_entries : {X : Type 0} (f : ℕ → X → X) (es : List (ℕ × X)) → kept (λ k x. Some (f k x)) (map.from_entries es) ≡ map.from_entries (list_map (λ (e : ℕ × X). (e.0, f e.0 e.1)) es)
+kept-from_entries {X = X} f es = map.same_map nat_cmp_total map.nat_cmp-IsAntisymmetric _ _ (λ q.
+    get-kept (λ k x. Some (f k x)) (map.from_entries es) q
+    ∙ ap (λ t. option_and_then (λ x. Some (f q x)) t) (map.get-from_entries nat_cmp_total es q)
+    ∙ find-replaced f es q
+    ∙ sym (map.get-from_entries nat_cmp_total (list_map (λ (e : ℕ × X). (e.0, f e.0 e.1)) es) q))
