@@ -12,7 +12,7 @@ use Rattle.mq_table.specs.Sets.{Set, ◌∩◌}
 use Rattle.mq_table.specs.Maps.{kept}
 use Rattle.mq_table.specs.Group.{GroupState, FilterMode, Include, Exclude, SourceTimer, Stopped, Running, is_include, is_vacant, vacant, timer_at, deadline_of, left_of}
 use Rattle.mq_table.specs.Timing.{last_member_count}
-use Rattle.mq_table.specs.Table.{Sources, line_of, change_of}
+use Rattle.mq_table.specs.Table.{NamedSources, line_of, change_of}
 use Rattle.mq_table.specs.Expiry.{ahead, mode_expired, at_zero, source_expired, expired}
 use Rattle.mq_table.specs.Lowering.{lowered_to, mode_lowered}
 use Rattle.mq_table.proofs.Maps.{get-kept}
@@ -59,12 +59,12 @@ by_rule_no_gain true y d n e = e
 by_rule_no_gain false true d n e = absurd (false≢true e)
 by_rule_no_gain false false d n e = absurd (false≢true e)
 
-record_no_gain : (timing : Timing) (now : ℕ) (g : GroupState) (kind : Kind) (named : Sources) (s : ℕ) → has_left (change_of timing now g kind named).group s ≡ true → has_left g s ≡ true
+record_no_gain : (timing : Timing) (now : ℕ) (g : GroupState) (kind : Kind) (named : NamedSources) (s : ℕ) → has_left (change_of timing now g kind named).group s ≡ true → has_left g s ≡ true
 record_no_gain timing now g kind named s e =
     let l = line_of timing now g kind named in
     by_rule_no_gain (l.x s) (l.y s) _ (left_of (timer_at g s)) (ap (λ t. ltb 0 (left_of t)) (sym (timer_at-change_of timing now g kind named s)) ∙ e)
 
-pub fits_after_record : (timing : Timing) (now : ℕ) (g : GroupState) (schedule : ScheduleState) (kind : Kind) (named : Sources) → IsScheduleOf g schedule → (let new = (change_of timing now g kind named).group in IsScheduleOf new (settled new schedule))
+pub fits_after_record : (timing : Timing) (now : ℕ) (g : GroupState) (schedule : ScheduleState) (kind : Kind) (named : NamedSources) → IsScheduleOf g schedule → (let new = (change_of timing now g kind named).group in IsScheduleOf new (settled new schedule))
 fits_after_record timing now g schedule kind named fits = fits_settled g (change_of timing now g kind named).group schedule fits (record_no_gain timing now g kind named)
 
 -- nor does the end of timers

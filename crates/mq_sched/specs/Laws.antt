@@ -1,8 +1,10 @@
 -- Words in which the laws of sending are said.
-use Rattle.std.specs.Prelude.{ℕ, ◌<◌, Bool, true, false, ◌||◌, ◌==◌, List, [], ◌∷◌, IfSome}
+use Rattle.std.specs.Prelude.{ℕ, ◌<◌, Bool, true, false, ◌||◌, ◌==◌, List, [], ◌∷◌, length, IfSome}
 use Rattle.std.specs.List.{list_any}
+use Rattle.std.specs.List.Sorted.{IsStrictlyIncreasing}
 use Rattle.mq_table.specs.Sets.{Set}
 use Rattle.mq_sched.specs.Schedule.{ScheduleState}
+use Rattle.mq_sched.specs.Election.{Role, Querier, Other}
 use Rattle.mq_sched.specs.Sending.{SentQuery, GeneralQuery, GroupQuery, SourcesQuery}
 
 -- the sources that some query of a round asks for
@@ -23,3 +25,15 @@ asks_group (SourcesQuery group flag sources ∷ queries) = asks_group queries
 pub record IsQuietAt (now : ℕ) (schedule : ScheduleState) : Type 0 where
   pub group : IfSome schedule.group_query (λ q. now < q.due)
   pub sources : IfSome schedule.sources_due (λ due. now < due)
+
+-- each query for sources has one at least, and they ascend
+abbrev pub AscendIn : List SentQuery → Type 0
+AscendIn [] = Unit {0}
+AscendIn (GeneralQuery ∷ queries) = AscendIn queries
+AscendIn (GroupQuery group flag ∷ queries) = AscendIn queries
+AscendIn (SourcesQuery group flag sources ∷ queries) = (0 < length sources) × IsStrictlyIncreasing sources × AscendIn queries
+
+-- when the election has something to do next: the general query, or the end of the other querier's deadline
+abbrev pub next_moment : Role → ℕ
+next_moment (Querier due startup_left) = due
+next_moment (Other deadline) = deadline

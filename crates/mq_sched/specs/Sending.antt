@@ -7,7 +7,7 @@ use Rattle.mq_table.specs.Sets.{Set, ◌∩◌, ◌∖◌}
 use Rattle.mq_table.specs.Maps.{kept}
 use Rattle.mq_table.specs.Group.{GroupState, SourceTimer, Stopped, Running, is_include, group_deadline, deadline_of, timer_at}
 use Rattle.mq_table.specs.Timing.{last_member_count}
-use Rattle.mq_table.specs.Table.{Change}
+use Rattle.mq_table.specs.Table.{GroupChange}
 use Rattle.mq_table.specs.Lowering.{lowered_to, group_lowered}
 use Rattle.mq_sched.specs.Schedule.{Sendings, ScheduleState, ScheduledGroup, some_source, has_left, settled}
 
@@ -67,7 +67,7 @@ acted false timing now query_group query e = e
 acted true timing now query_group query e = sources_asked timing now query (if query_group then group_asked timing now e else e)
 
 -- what a record leaves of a group and its schedule: the change, what it drops, and what it asks
-abbrev pub after_change : (is_querier : Bool) → Timing → ℕ → Change → ScheduleState → ScheduledGroup
+abbrev pub after_change : (is_querier : Bool) → Timing → ℕ → GroupChange → ScheduleState → ScheduledGroup
 after_change is_querier timing now change schedule =
     acted is_querier timing now change.query_group change.query (record { group = change.group; schedule = settled change.group schedule })
 

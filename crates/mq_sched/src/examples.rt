@@ -61,6 +61,8 @@ pub fn a_round_in_time_and_late()
     // With two sendings left, a late one moves the next on from its own moment.
     ensures late_with_more_to_go { Sends 5500 (with_schedule Include ((1, Running 262500 2) ∷ []) None (Some 3000)) (SourcesQuery the_group true (1 ∷ []) ∷ [])
         (with_schedule Include ((1, Running 262500 1) ∷ []) None (Some 6500)) }
+    ensures late_group { Sends 5500 (state (group_of (Exclude 262500) []) (sendings 2 3000) None) (GroupQuery the_group true ∷ [])
+        (state (group_of (Exclude 262500) []) (sendings 1 6500) None) }
 {}
 
 /// A group of IGMPv2 hosts: a Report at 1000 and a Leave at 2000. Reported again at 2500, it is asked

@@ -6,12 +6,13 @@ ghost use Rattle.mq_table.specs.declared.kind.Kind.{Kind};
 ghost use Rattle.mq_table.specs.declared.timing.Timing.{Timing};
 ghost use Rattle.mq_table.specs.Sets.{Set};
 ghost use Rattle.mq_table.specs.Group.{GroupState, timer_at, deadline_of, left_of, group_deadline};
-ghost use Rattle.mq_table.specs.Table.{Sources, change_of};
+ghost use Rattle.mq_table.specs.Table.{NamedSources, change_of};
 ghost use Rattle.mq_table.specs.Expiry.{expired};
 ghost use Rattle.mq_table.specs.Laws.{IsNoLater};
 ghost use Rattle.mq_sched.specs.Schedule.{sendings_left, ScheduleState, ScheduledGroup, has_left, IsScheduleOf, settled, cleared};
 ghost use Rattle.mq_sched.specs.Sending.{acted, is_due, group_due, messages_due, after_round};
-ghost use Rattle.mq_sched.specs.Laws.{asked_in, asks_group, IsQuietAt};
+ghost use Rattle.mq_sched.specs.Election.{ElectionState, ticked};
+ghost use Rattle.mq_sched.specs.Laws.{asked_in, asks_group, IsQuietAt, AscendIn, next_moment};
 
 /// A round asks for the sources that have a sending left, where they are due. Each of them has
 /// exactly one fewer then, every other timer is as it was, and no deadline moves.
@@ -61,7 +62,7 @@ pub fn asking_never_lengthens()
 /// asks (where the robustness variable isn't 0, as in every configuration), after a round, and after
 /// all is dropped.
 pub fn schedules_keep_form()
-    ensures record_came { (timing : Timing) (now : ℕ) (g : GroupState) (schedule : ScheduleState) (kind : Kind) (named : Sources)
+    ensures record_came { (timing : Timing) (now : ℕ) (g : GroupState) (schedule : ScheduleState) (kind : Kind) (named : NamedSources)
         → IsScheduleOf g schedule
         → (let new = (change_of timing now g kind named).group in IsScheduleOf new (settled new schedule)) }
     ensures timers_ended { (now : ℕ) (g : GroupState) (schedule : ScheduleState)
@@ -72,4 +73,17 @@ pub fn schedules_keep_form()
     ensures round_sent { (timing : Timing) (now : ℕ) (e : ScheduledGroup)
         → IsScheduleOf e.group e.schedule → IsScheduleOf (after_round timing now e).group (after_round timing now e).schedule }
     ensures all_dropped { (e : ScheduledGroup) → IsScheduleOf (cleared e).group (cleared e).schedule }
+{}
+
+/// A round is in order: no query for sources is empty, and the sources of each ascend.
+pub fn a_round_is_in_order()
+    ensures { (timing : Timing) (now group : ℕ) (e : ScheduledGroup) → AscendIn (messages_due timing now group e) }
+{}
+
+/// A tick leaves nothing for the election to do at or before its moment: where the query interval,
+/// configured and in force, isn't 0, as in every configuration.
+pub fn a_tick_leaves_nothing_due()
+    ensures { (configured : Timing) (now : ℕ) (e : ElectionState)
+        → 0 < configured.query_seconds → 0 < e.timing.query_seconds
+        → now < next_moment (ticked configured now e).role }
 {}

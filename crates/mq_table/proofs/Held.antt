@@ -13,7 +13,7 @@ use Rattle.mq_table.specs.declared.kind.Kind.{Kind}
 use Rattle.mq_table.specs.declared.kind.Kind.TheVariants.{IsIn, IsEx, ToIn, ToEx, Allow, Block}
 use Rattle.mq_table.specs.declared.timing.Timing.{Timing}
 use Rattle.mq_table.specs.Group.{GroupState, Include, SourceTimer, Stopped, Running, is_include, is_running, is_stopped, stopped, timer_at, vacant, is_vacant, IsWellFormed, IsAnyGroup}
-use Rattle.mq_table.specs.Table.{Sources, change_of}
+use Rattle.mq_table.specs.Table.{NamedSources, change_of}
 use Rattle.mq_table.specs.Expiry.{mode_expired, source_expired, held_or_vacant, expired}
 use Rattle.mq_table.proofs.Maps.{get-kept}
 use Rattle.mq_table.proofs.Groups.{same_sources}
@@ -52,14 +52,14 @@ held_if_included m v1 v2 none alone = elim (cases_Bool (eqb (map.len m) 0)) [
 ]
 
 -- A record leaves a held group held.
-pub IsWellFormed-change_of : (timing : Timing) (now : ℕ) (g : GroupState) (kind : Kind) (named : Sources) → IsWellFormed g → IsWellFormed (change_of timing now g kind named).group
+pub IsWellFormed-change_of : (timing : Timing) (now : ℕ) (g : GroupState) (kind : Kind) (named : NamedSources) → IsWellFormed g → IsWellFormed (change_of timing now g kind named).group
 IsWellFormed-change_of timing now g kind named held = record {
   has_source = λ e. let k = held.has_source (was_included timing now g kind named e) in (k.0, runs_on timing now g kind named k.0 e k.1);
   none_stopped = none_stopped_of timing now g kind named;
 }
 
 -- and of one that isn't held it makes one that is, or none
-vacant_after : (timing : Timing) (now : ℕ) (kind : Kind) (named : Sources) → IsAnyGroup (change_of timing now vacant kind named).group
+vacant_after : (timing : Timing) (now : ℕ) (kind : Kind) (named : NamedSources) → IsAnyGroup (change_of timing now vacant kind named).group
 vacant_after timing now IsIn named = held_if_included _ None None (none_stopped_of timing now vacant IsIn named refl) (λ _. (refl, refl))
 vacant_after timing now Allow named = held_if_included _ None None (none_stopped_of timing now vacant Allow named refl) (λ _. (refl, refl))
 vacant_after timing now Block named = held_if_included _ None None (none_stopped_of timing now vacant Block named refl) (λ _. (refl, refl))
@@ -67,7 +67,7 @@ vacant_after timing now ToIn named = held_if_included _ None None (none_stopped_
 vacant_after timing now IsEx named = inr (record { has_source = λ e. cc; none_stopped = λ e. cc })
 vacant_after timing now ToEx named = inr (record { has_source = λ e. cc; none_stopped = λ e. cc })
 
-pub IsAnyGroup-change_of : (timing : Timing) (now : ℕ) (g : GroupState) (kind : Kind) (named : Sources) → IsAnyGroup g → IsAnyGroup (change_of timing now g kind named).group
+pub IsAnyGroup-change_of : (timing : Timing) (now : ℕ) (g : GroupState) (kind : Kind) (named : NamedSources) → IsAnyGroup g → IsAnyGroup (change_of timing now g kind named).group
 IsAnyGroup-change_of timing now g kind named any = elim any [
   | inl e ↦ subst (λ (v : GroupState). IsAnyGroup (change_of timing now v kind named).group) (sym e) (vacant_after timing now kind named)
   | inr held ↦ inr (IsWellFormed-change_of timing now g kind named held)

@@ -4,3 +4,4 @@ pub mod Lines
 pub mod Held
 pub mod Composed
 pub mod Lower
+pub mod Ahead

@@ -1,14 +1,14 @@
 -- What a line of the tables does to one source.
-use Rattle.std.proofs.Common.{◌≡◌, ℕ, ◌+◌, Bool, true, false, not, ◌||◌, ◌⊎◌, inl, inr, Option, None, Some, IsSome, IsTrue, refl, sym, ap, ◌∙◌, subst}
+use Rattle.std.proofs.Common.{◌≡◌, ℕ, ◌+◌, Bool, true, false, not, ◌||◌, ◌⊎◌, inl, inr, Option, None, Some, IsSome, IsTrue, refl, sym, ap, ◌∙◌, subst, cond}
 use Rattle.std.proofs.lemmas.Bool.{false≢true}
 use Rattle.std.specs.FinSet as set
 use Rattle.mq_table.specs.declared.kind.Kind.{Kind}
 use Rattle.mq_table.specs.declared.kind.Kind.TheVariants.{IsIn, IsEx, ToIn, ToEx, Allow, Block}
 use Rattle.mq_table.specs.declared.timing.Timing.{Timing}
 use Rattle.mq_table.specs.Sets.{Set}
-use Rattle.mq_table.specs.Group.{GroupState, FilterMode, Include, Exclude, SourceTimer, Stopped, Running, is_running, is_stopped, running, stopped, timer_at, deadline_of, wants, forwards_in}
+use Rattle.mq_table.specs.Group.{GroupState, FilterMode, Include, Exclude, SourceTimer, Stopped, Running, is_running, is_stopped, running, stopped, timer_at, deadline_of, group_deadline, left_of, wants, forwards_in}
 use Rattle.mq_table.specs.Timing.{membership_interval}
-use Rattle.mq_table.specs.Table.{Sources, Line, line, timer_by, line_of, change_of}
+use Rattle.mq_table.specs.Table.{NamedSources, Line, line, timer_by, line_of, change_of}
 use Rattle.mq_table.specs.Laws.{ForwardsAfter}
 use Rattle.mq_table.proofs.Maps.{get-by_rule_everywhere}
 
@@ -45,7 +45,7 @@ timer_by-nothing gmi (Exclude d) ToEx X Y A s x y a = rw (a, y) refl
 timer_by-nothing gmi (Exclude d) ToIn X Y A s x y a = rw (x, a, y) refl
 
 -- what the new group has of a source: what the one rule says of it
-pub timer_at-change_of : (timing : Timing) (now : ℕ) (g : GroupState) (kind : Kind) (named : Sources) (s : ℕ) → timer_at (change_of timing now g kind named).group s ≡ timer_by (line_of timing now g kind named) (now + membership_interval timing) g.mode s (timer_at g s)
+pub timer_at-change_of : (timing : Timing) (now : ℕ) (g : GroupState) (kind : Kind) (named : NamedSources) (s : ℕ) → timer_at (change_of timing now g kind named).group s ≡ timer_by (line_of timing now g kind named) (now + membership_interval timing) g.mode s (timer_at g s)
 timer_at-change_of timing now g kind named s =
     get-by_rule_everywhere g.sources named _ s (λ none unnamed.
     ap (λ t. timer_by (line_of timing now g kind named) (now + membership_interval timing) g.mode s t) none
@@ -69,7 +69,7 @@ at_source P gmi (Exclude d) ToEx g A s p = p
 at_source P gmi (Exclude d) ToIn g A s p = p
 
 -- the same of the new group
-pub at_source_of : (P : Bool → Bool → Bool → FilterMode → Option SourceTimer → Type 0) → (timing : Timing) (now : ℕ) (g : GroupState) (kind : Kind) (named : Sources) (s : ℕ)
+pub at_source_of : (P : Bool → Bool → Bool → FilterMode → Option SourceTimer → Type 0) → (timing : Timing) (now : ℕ) (g : GroupState) (kind : Kind) (named : NamedSources) (s : ℕ)
     → (let gmi = now + membership_interval timing in let l = line_at gmi g.mode kind (timer_at g s) (set.contains named s) in P (l.restart s) (l.copy s) (l.query s) l.mode (timer_by l gmi g.mode s (timer_at g s)))
     → (let l = line_of timing now g kind named in P (l.restart s) (l.copy s) (l.query s) l.mode (timer_at (change_of timing now g kind named).group s))
 at_source_of P timing now g kind named s p =
@@ -199,33 +199,85 @@ included_before gmi (Exclude m) ToEx X Y A e = cc
 included_before gmi (Exclude m) ToIn X Y A e = cc
 
 -- the three facts of the new group, for any source
-pub deadline_kept : (timing : Timing) (now : ℕ) (g : GroupState) (kind : Kind) (named : Sources) (s : ℕ) → (line_of timing now g kind named).restart s ≡ false → (line_of timing now g kind named).copy s ≡ false → (e : ℕ) → deadline_of (timer_at (change_of timing now g kind named).group s) ≡ Some e → deadline_of (timer_at g s) ≡ Some e
+pub deadline_kept : (timing : Timing) (now : ℕ) (g : GroupState) (kind : Kind) (named : NamedSources) (s : ℕ) → (line_of timing now g kind named).restart s ≡ false → (line_of timing now g kind named).copy s ≡ false → (e : ℕ) → deadline_of (timer_at (change_of timing now g kind named).group s) ≡ Some e → deadline_of (timer_at g s) ≡ Some e
 deadline_kept timing now g kind named s =
     at_source_of (λ restart copy _ _ t. restart ≡ false → copy ≡ false → (e : ℕ) → deadline_of t ≡ Some e → deadline_of (timer_at g s) ≡ Some e) timing now g kind named s
     (kept_then (now + membership_interval timing) g.mode kind s (timer_at g s) (set.contains named s))
 
-pub unnamed_as_before : (timing : Timing) (now : ℕ) (g : GroupState) (kind : Kind) (named : Sources) (s : ℕ) → set.contains named s ≡ false → (timer_at (change_of timing now g kind named).group s ≡ timer_at g s) ⊎ (timer_at (change_of timing now g kind named).group s ≡ None)
+pub unnamed_as_before : (timing : Timing) (now : ℕ) (g : GroupState) (kind : Kind) (named : NamedSources) (s : ℕ) → set.contains named s ≡ false → (timer_at (change_of timing now g kind named).group s ≡ timer_at g s) ⊎ (timer_at (change_of timing now g kind named).group s ≡ None)
 unnamed_as_before timing now g kind named s unnamed =
     at_source_of (λ _ _ _ _ t. (t ≡ timer_at g s) ⊎ (t ≡ None)) timing now g kind named s
     (rw unnamed (others_then (now + membership_interval timing) g.mode kind s (timer_at g s)))
 
-pub none_stopped_of : (timing : Timing) (now : ℕ) (g : GroupState) (kind : Kind) (named : Sources) → (change_of timing now g kind named).group.mode ≡ Include → (s : ℕ) → stopped (change_of timing now g kind named).group s ≡ false
+pub none_stopped_of : (timing : Timing) (now : ℕ) (g : GroupState) (kind : Kind) (named : NamedSources) → (change_of timing now g kind named).group.mode ≡ Include → (s : ℕ) → stopped (change_of timing now g kind named).group s ≡ false
 none_stopped_of timing now g kind named e s =
     at_source_of (λ _ _ _ mode t. mode ≡ Include → is_stopped t ≡ false) timing now g kind named s
     (none_stopped_then (now + membership_interval timing) g.mode kind s (timer_at g s) (set.contains named s)) e
 
 -- a source of the new group was in the old one or is named
-pub known : (timing : Timing) (now : ℕ) (g : GroupState) (kind : Kind) (named : Sources) (s : ℕ) → IsSome (timer_at (change_of timing now g kind named).group s) → IsSome (timer_at g s) ⊎ IsTrue (set.contains named s)
+pub known : (timing : Timing) (now : ℕ) (g : GroupState) (kind : Kind) (named : NamedSources) (s : ℕ) → IsSome (timer_at (change_of timing now g kind named).group s) → IsSome (timer_at g s) ⊎ IsTrue (set.contains named s)
 known timing now g kind named s some =
     elim (set.contains named s) as (λ a. set.contains named s ≡ a → IsSome (timer_at g s) ⊎ IsTrue a) [
       | true ↦ λ _. inr refl
       | false ↦ λ unnamed. inl (elim (unnamed_as_before timing now g kind named s unnamed) [ inl same ↦ subst IsSome same some | inr gone ↦ absurd (false≢true (subst IsSome gone some)) ])
     ] refl
 
-pub was_included : (timing : Timing) (now : ℕ) (g : GroupState) (kind : Kind) (named : Sources) → (change_of timing now g kind named).group.mode ≡ Include → g.mode ≡ Include
+pub was_included : (timing : Timing) (now : ℕ) (g : GroupState) (kind : Kind) (named : NamedSources) → (change_of timing now g kind named).group.mode ≡ Include → g.mode ≡ Include
 was_included timing now g kind named = included_before (now + membership_interval timing) g.mode kind (running g) (stopped g) (set.contains named)
 
-pub runs_on : (timing : Timing) (now : ℕ) (g : GroupState) (kind : Kind) (named : Sources) (s : ℕ) → (change_of timing now g kind named).group.mode ≡ Include → running g s ≡ true → running (change_of timing now g kind named).group s ≡ true
+pub runs_on : (timing : Timing) (now : ℕ) (g : GroupState) (kind : Kind) (named : NamedSources) (s : ℕ) → (change_of timing now g kind named).group.mode ≡ Include → running g s ≡ true → running (change_of timing now g kind named).group s ≡ true
 runs_on timing now g kind named s =
     at_source_of (λ _ _ _ mode t. mode ≡ Include → running g s ≡ true → is_running t ≡ true) timing now g kind named s
     (runs_on_then (now + membership_interval timing) g.mode kind s (timer_at g s) (set.contains named s))
+
+-- a source that a line restarts runs for the group membership interval
+restarted_then : (gmi : ℕ) (mode : FilterMode) (kind : Kind) (s : ℕ) (t : Option SourceTimer) (a : Bool) → (line_at gmi mode kind t a).restart s ≡ true → deadline_of (timer_then gmi mode kind s t a) ≡ Some gmi
+restarted_then gmi Include IsIn s t a = each_case (λ t a. (line_at gmi Include IsIn t a).restart s ≡ true → deadline_of (timer_then gmi Include IsIn s t a) ≡ Some gmi) (both _ (λ r. cc) (λ r. cc)) (both _ (λ r. cc) (λ r. cc)) (λ d n. both _ (λ r. cc) (λ r. cc)) t a
+restarted_then gmi Include IsEx s t a = each_case (λ t a. (line_at gmi Include IsEx t a).restart s ≡ true → deadline_of (timer_then gmi Include IsEx s t a) ≡ Some gmi) (both _ (λ r. cc) (λ r. cc)) (both _ (λ r. cc) (λ r. cc)) (λ d n. both _ (λ r. cc) (λ r. cc)) t a
+restarted_then gmi Include Allow s t a = each_case (λ t a. (line_at gmi Include Allow t a).restart s ≡ true → deadline_of (timer_then gmi Include Allow s t a) ≡ Some gmi) (both _ (λ r. cc) (λ r. cc)) (both _ (λ r. cc) (λ r. cc)) (λ d n. both _ (λ r. cc) (λ r. cc)) t a
+restarted_then gmi Include Block s t a = each_case (λ t a. (line_at gmi Include Block t a).restart s ≡ true → deadline_of (timer_then gmi Include Block s t a) ≡ Some gmi) (both _ (λ r. cc) (λ r. cc)) (both _ (λ r. cc) (λ r. cc)) (λ d n. both _ (λ r. cc) (λ r. cc)) t a
+restarted_then gmi Include ToEx s t a = each_case (λ t a. (line_at gmi Include ToEx t a).restart s ≡ true → deadline_of (timer_then gmi Include ToEx s t a) ≡ Some gmi) (both _ (λ r. cc) (λ r. cc)) (both _ (λ r. cc) (λ r. cc)) (λ d n. both _ (λ r. cc) (λ r. cc)) t a
+restarted_then gmi Include ToIn s t a = each_case (λ t a. (line_at gmi Include ToIn t a).restart s ≡ true → deadline_of (timer_then gmi Include ToIn s t a) ≡ Some gmi) (both _ (λ r. cc) (λ r. cc)) (both _ (λ r. cc) (λ r. cc)) (λ d n. both _ (λ r. cc) (λ r. cc)) t a
+restarted_then gmi (Exclude m) IsIn s t a = each_case (λ t a. (line_at gmi (Exclude m) IsIn t a).restart s ≡ true → deadline_of (timer_then gmi (Exclude m) IsIn s t a) ≡ Some gmi) (both _ (λ r. cc) (λ r. cc)) (both _ (λ r. cc) (λ r. cc)) (λ d n. both _ (λ r. cc) (λ r. cc)) t a
+restarted_then gmi (Exclude m) IsEx s t a = each_case (λ t a. (line_at gmi (Exclude m) IsEx t a).restart s ≡ true → deadline_of (timer_then gmi (Exclude m) IsEx s t a) ≡ Some gmi) (both _ (λ r. cc) (λ r. cc)) (both _ (λ r. cc) (λ r. cc)) (λ d n. both _ (λ r. cc) (λ r. cc)) t a
+restarted_then gmi (Exclude m) Allow s t a = each_case (λ t a. (line_at gmi (Exclude m) Allow t a).restart s ≡ true → deadline_of (timer_then gmi (Exclude m) Allow s t a) ≡ Some gmi) (both _ (λ r. cc) (λ r. cc)) (both _ (λ r. cc) (λ r. cc)) (λ d n. both _ (λ r. cc) (λ r. cc)) t a
+restarted_then gmi (Exclude m) Block s t a = each_case (λ t a. (line_at gmi (Exclude m) Block t a).restart s ≡ true → deadline_of (timer_then gmi (Exclude m) Block s t a) ≡ Some gmi) (both _ (λ r. cc) (λ r. cc)) (both _ (λ r. cc) (λ r. cc)) (λ d n. both _ (λ r. cc) (λ r. cc)) t a
+restarted_then gmi (Exclude m) ToEx s t a = each_case (λ t a. (line_at gmi (Exclude m) ToEx t a).restart s ≡ true → deadline_of (timer_then gmi (Exclude m) ToEx s t a) ≡ Some gmi) (both _ (λ r. cc) (λ r. cc)) (both _ (λ r. cc) (λ r. cc)) (λ d n. both _ (λ r. cc) (λ r. cc)) t a
+restarted_then gmi (Exclude m) ToIn s t a = each_case (λ t a. (line_at gmi (Exclude m) ToIn t a).restart s ≡ true → deadline_of (timer_then gmi (Exclude m) ToIn s t a) ≡ Some gmi) (both _ (λ r. cc) (λ r. cc)) (both _ (λ r. cc) (λ r. cc)) (λ d n. both _ (λ r. cc) (λ r. cc)) t a
+
+-- a source that a line gives the group timer runs to its deadline from before
+copied_then : (gmi : ℕ) (mode : FilterMode) (kind : Kind) (s : ℕ) (t : Option SourceTimer) (a : Bool) → (line_at gmi mode kind t a).copy s ≡ true → deadline_of (timer_then gmi mode kind s t a) ≡ group_deadline mode
+copied_then gmi Include IsIn s t a = each_case (λ t a. (line_at gmi Include IsIn t a).copy s ≡ true → deadline_of (timer_then gmi Include IsIn s t a) ≡ group_deadline Include) (both _ (λ r. cc) (λ r. cc)) (both _ (λ r. cc) (λ r. cc)) (λ d n. both _ (λ r. cc) (λ r. cc)) t a
+copied_then gmi Include IsEx s t a = each_case (λ t a. (line_at gmi Include IsEx t a).copy s ≡ true → deadline_of (timer_then gmi Include IsEx s t a) ≡ group_deadline Include) (both _ (λ r. cc) (λ r. cc)) (both _ (λ r. cc) (λ r. cc)) (λ d n. both _ (λ r. cc) (λ r. cc)) t a
+copied_then gmi Include Allow s t a = each_case (λ t a. (line_at gmi Include Allow t a).copy s ≡ true → deadline_of (timer_then gmi Include Allow s t a) ≡ group_deadline Include) (both _ (λ r. cc) (λ r. cc)) (both _ (λ r. cc) (λ r. cc)) (λ d n. both _ (λ r. cc) (λ r. cc)) t a
+copied_then gmi Include Block s t a = each_case (λ t a. (line_at gmi Include Block t a).copy s ≡ true → deadline_of (timer_then gmi Include Block s t a) ≡ group_deadline Include) (both _ (λ r. cc) (λ r. cc)) (both _ (λ r. cc) (λ r. cc)) (λ d n. both _ (λ r. cc) (λ r. cc)) t a
+copied_then gmi Include ToEx s t a = each_case (λ t a. (line_at gmi Include ToEx t a).copy s ≡ true → deadline_of (timer_then gmi Include ToEx s t a) ≡ group_deadline Include) (both _ (λ r. cc) (λ r. cc)) (both _ (λ r. cc) (λ r. cc)) (λ d n. both _ (λ r. cc) (λ r. cc)) t a
+copied_then gmi Include ToIn s t a = each_case (λ t a. (line_at gmi Include ToIn t a).copy s ≡ true → deadline_of (timer_then gmi Include ToIn s t a) ≡ group_deadline Include) (both _ (λ r. cc) (λ r. cc)) (both _ (λ r. cc) (λ r. cc)) (λ d n. both _ (λ r. cc) (λ r. cc)) t a
+copied_then gmi (Exclude m) IsIn s t a = each_case (λ t a. (line_at gmi (Exclude m) IsIn t a).copy s ≡ true → deadline_of (timer_then gmi (Exclude m) IsIn s t a) ≡ group_deadline (Exclude m)) (both _ (λ r. cc) (λ r. cc)) (both _ (λ r. cc) (λ r. cc)) (λ d n. both _ (λ r. cc) (λ r. cc)) t a
+copied_then gmi (Exclude m) IsEx s t a = each_case (λ t a. (line_at gmi (Exclude m) IsEx t a).copy s ≡ true → deadline_of (timer_then gmi (Exclude m) IsEx s t a) ≡ group_deadline (Exclude m)) (both _ (λ r. cc) (λ r. cc)) (both _ (λ r. cc) (λ r. cc)) (λ d n. both _ (λ r. cc) (λ r. cc)) t a
+copied_then gmi (Exclude m) Allow s t a = each_case (λ t a. (line_at gmi (Exclude m) Allow t a).copy s ≡ true → deadline_of (timer_then gmi (Exclude m) Allow s t a) ≡ group_deadline (Exclude m)) (both _ (λ r. cc) (λ r. cc)) (both _ (λ r. cc) (λ r. cc)) (λ d n. both _ (λ r. cc) (λ r. cc)) t a
+copied_then gmi (Exclude m) Block s t a = each_case (λ t a. (line_at gmi (Exclude m) Block t a).copy s ≡ true → deadline_of (timer_then gmi (Exclude m) Block s t a) ≡ group_deadline (Exclude m)) (both _ (λ r. cc) (λ r. cc)) (both _ (λ r. cc) (λ r. cc)) (λ d n. both _ (λ r. cc) (λ r. cc)) t a
+copied_then gmi (Exclude m) ToEx s t a = each_case (λ t a. (line_at gmi (Exclude m) ToEx t a).copy s ≡ true → deadline_of (timer_then gmi (Exclude m) ToEx s t a) ≡ group_deadline (Exclude m)) (both _ (λ r. cc) (λ r. cc)) (both _ (λ r. cc) (λ r. cc)) (λ d n. both _ (λ r. cc) (λ r. cc)) t a
+copied_then gmi (Exclude m) ToIn s t a = each_case (λ t a. (line_at gmi (Exclude m) ToIn t a).copy s ≡ true → deadline_of (timer_then gmi (Exclude m) ToIn s t a) ≡ group_deadline (Exclude m)) (both _ (λ r. cc) (λ r. cc)) (both _ (λ r. cc) (λ r. cc)) (λ d n. both _ (λ r. cc) (λ r. cc)) t a
+
+pub restarted : (timing : Timing) (now : ℕ) (g : GroupState) (kind : Kind) (named : NamedSources) (s : ℕ) → (line_of timing now g kind named).restart s ≡ true → deadline_of (timer_at (change_of timing now g kind named).group s) ≡ Some (now + membership_interval timing)
+restarted timing now g kind named s =
+    at_source_of (λ restart _ _ _ t. restart ≡ true → deadline_of t ≡ Some (now + membership_interval timing)) timing now g kind named s
+    (restarted_then (now + membership_interval timing) g.mode kind s (timer_at g s) (set.contains named s))
+
+pub copied : (timing : Timing) (now : ℕ) (g : GroupState) (kind : Kind) (named : NamedSources) (s : ℕ) → (line_of timing now g kind named).copy s ≡ true → deadline_of (timer_at (change_of timing now g kind named).group s) ≡ group_deadline g.mode
+copied timing now g kind named s =
+    at_source_of (λ _ copy _ _ t. copy ≡ true → deadline_of t ≡ group_deadline g.mode) timing now g kind named s
+    (copied_then (now + membership_interval timing) g.mode kind s (timer_at g s) (set.contains named s))
+
+-- a source that runs on keeps what is left to send for it
+pub sendings_kept : (timing : Timing) (now : ℕ) (g : GroupState) (kind : Kind) (named : NamedSources) (s : ℕ) → running (change_of timing now g kind named).group s ≡ true → left_of (timer_at (change_of timing now g kind named).group s) ≡ left_of (timer_at g s)
+sendings_kept timing now g kind named s runs =
+    let l = line_of timing now g kind named in
+    let same = timer_at-change_of timing now g kind named s in
+    ap left_of same ∙ by_rule (l.x s) (l.y s) _ (left_of (timer_at g s)) (sym (ap is_running same) ∙ runs)
+  where
+    by_rule : (x y : Bool) (d n : ℕ) → is_running (cond x (Some (Running d n)) (cond y (Some Stopped) None)) ≡ true → left_of (cond x (Some (Running d n)) (cond y (Some Stopped) None)) ≡ n
+    by_rule true y d n e = refl
+    by_rule false true d n e = absurd (false≢true e)
+    by_rule false false d n e = absurd (false≢true e)

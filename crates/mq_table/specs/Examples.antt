@@ -6,7 +6,7 @@ use Rattle.std.specs.FinSet as set
 use Rattle.mq_table.specs.declared.kind.Kind.{Kind}
 use Rattle.mq_table.specs.declared.timing.Timing.{Timing}
 use Rattle.mq_table.specs.Group.{GroupState, FilterMode, Include, Exclude, SourceTimer, Stopped, Running}
-use Rattle.mq_table.specs.Table.{Sources, Change, change_of}
+use Rattle.mq_table.specs.Table.{NamedSources, GroupChange, change_of}
 
 -- the defaults of RFC 3376 section 8 and RFC 3810 section 9
 abbrev pub default_timing : Timing
@@ -23,7 +23,7 @@ group_with mode sources v1 v2 = record { mode = mode; sources = map.from_entries
 abbrev pub group_of : FilterMode → List (ℕ × SourceTimer) → GroupState
 group_of mode sources = group_with mode sources None None
 
-abbrev pub these : List ℕ → Sources
+abbrev pub these : List ℕ → NamedSources
 these named = set.from_list named
 
 -- after ALLOW {1, 2} at 0
@@ -35,13 +35,13 @@ abbrev pub excluded : GroupState
 excluded = group_of (Exclude 260000) ((1, until 260500) ∷ (2, Stopped) ∷ (4, until 260500) ∷ [])
 
 -- a change leaves this group, with Q(G) where it says so, and Q(G,asked)
-pub record Leaves (change : Change) (after : GroupState) (asks_group : Bool) (asked : List ℕ) : Type 0 where
+pub record Leaves (change : GroupChange) (after : GroupState) (asks_group : Bool) (asked : List ℕ) : Type 0 where
   pub group : change.group ≡ after
   pub query_group : change.query_group ≡ asks_group
   pub query : (s : ℕ) → change.query s ≡ set.contains (these asked) s
 
 -- what a record changes in a group at 1000
-abbrev pub at_1000 : GroupState → Kind → List ℕ → Change
+abbrev pub at_1000 : GroupState → Kind → List ℕ → GroupChange
 at_1000 g kind named = change_of default_timing 1000 g kind (these named)
 
 -- after an IGMPv2 Report at 1000; after an IGMPv1 or MLDv1 Report at 1000

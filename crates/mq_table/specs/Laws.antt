@@ -1,16 +1,16 @@
 -- Words in which the laws of the definitions are said.
-use Rattle.std.specs.Prelude.{◌≡◌, ℕ, ◌≤◌, Bool, Option, None, Some}
+use Rattle.std.specs.Prelude.{◌≡◌, ℕ, ◌<◌, ◌≤◌, Bool, Option, None, Some, IfSome}
 use Rattle.std.specs.FinSet as set
 use Rattle.mq_table.specs.declared.kind.Kind.{Kind}
 use Rattle.mq_table.specs.declared.timing.Timing.{Timing}
-use Rattle.mq_table.specs.Group.{GroupState, forwards_in}
-use Rattle.mq_table.specs.Table.{Sources, change_of}
+use Rattle.mq_table.specs.Group.{GroupState, group_deadline, timer_at, deadline_of, forwards_in}
+use Rattle.mq_table.specs.Table.{NamedSources, change_of}
 
 -- After a record of this kind a group forwards a source by whether the record names it, and whether
 -- the group forwarded it before.
 abbrev pub ForwardsAfter : Kind → (Bool → Bool → Bool) → Type 0
 ForwardsAfter kind what =
-    (timing : Timing) (now : ℕ) (g : GroupState) (named : Sources) (s : ℕ) →
+    (timing : Timing) (now : ℕ) (g : GroupState) (named : NamedSources) (s : ℕ) →
     forwards_in (change_of timing now g kind named).group s ≡ what (set.contains named s) (forwards_in g s)
 
 -- a deadline that is still there, and no later than it was
@@ -19,3 +19,10 @@ IsNoLater None None = Unit {0}
 IsNoLater (Some before) (Some after) = after ≤ before
 IsNoLater None (Some after) = ⊥
 IsNoLater (Some before) None = ⊥
+
+-- every timer of the group runs beyond a moment
+pub record AllAhead (now : ℕ) (g : GroupState) : Type 0 where
+  pub group : IfSome (group_deadline g.mode) (λ deadline. now < deadline)
+  pub sources : (s : ℕ) → IfSome (deadline_of (timer_at g s)) (λ deadline. now < deadline)
+  pub v1 : IfSome g.v1 (λ deadline. now < deadline)
+  pub v2 : IfSome g.v2 (λ deadline. now < deadline)

@@ -10,7 +10,7 @@ use Rattle.mq_table.specs.declared.older_hosts.OlderVersion.TheVariants.{V1, V2}
 use Rattle.mq_table.specs.declared.timing.Timing.{Timing}
 use Rattle.mq_table.specs.Group.{GroupState}
 use Rattle.mq_table.specs.Timing.{older_host_present}
-use Rattle.mq_table.specs.Table.{Sources, Change, change_of}
+use Rattle.mq_table.specs.Table.{NamedSources, GroupChange, change_of}
 
 -- whether a host-present timer runs
 abbrev pub is_ahead : ℕ → Option ℕ → Bool
@@ -25,7 +25,7 @@ hosts_of g now = record { v1 = is_ahead now g.v1; v2 = is_ahead now g.v2 }
 -- can't leave single sources out, so BLOCK and the sources of TO_EX don't count. In IGMP nobody asks
 -- after a Leave while a host of version 1 is there, since such a host wouldn't answer in time: there
 -- `v1_mutes_leave` is true, and TO_IN, with which a Leave is one, is ignored too. MLD has no such rule.
-abbrev pub translated : (v1_mutes_leave : Bool) → Hosts → Kind → Sources → Option (Kind × Sources)
+abbrev pub translated : (v1_mutes_leave : Bool) → Hosts → Kind → NamedSources → Option (Kind × NamedSources)
 translated mutes hosts Block named = if hosts.v1 || hosts.v2 then None else Some (Block, named)
 translated mutes hosts ToEx named = if hosts.v1 || hosts.v2 then Some (ToEx, set.empty) else Some (ToEx, named)
 translated mutes hosts ToIn named = if mutes && hosts.v1 then None else Some (ToIn, named)
@@ -34,9 +34,9 @@ translated mutes hosts IsEx named = Some (IsEx, named)
 translated mutes hosts Allow named = Some (Allow, named)
 
 -- what a record changes in its group, by the translation and the tables; None where it is ignored
-abbrev pub translated_change : (v1_mutes_leave : Bool) → Timing → ℕ → GroupState → Kind → Sources → Option Change
+abbrev pub translated_change : (v1_mutes_leave : Bool) → Timing → ℕ → GroupState → Kind → NamedSources → Option GroupChange
 translated_change mutes timing now g kind named =
-    option_map (λ (r : Kind × Sources). change_of timing now g r.0 r.1) (translated mutes (hosts_of g now) kind named)
+    option_map (λ (r : Kind × NamedSources). change_of timing now g r.0 r.1) (translated mutes (hosts_of g now) kind named)
 
 -- a Report of version 1 or 2 sets that version's host-present timer
 abbrev pub older_host : OlderVersion → Timing → ℕ → GroupState → GroupState
@@ -50,5 +50,5 @@ older_report version timing now g =
     older_host version timing now change.group
 
 -- a Leave of IGMPv2 or a Done of MLDv1 acts as TO_IN({})
-abbrev pub older_leave : (v1_mutes_leave : Bool) → Timing → ℕ → GroupState → Option Change
+abbrev pub older_leave : (v1_mutes_leave : Bool) → Timing → ℕ → GroupState → Option GroupChange
 older_leave mutes timing now g = translated_change mutes timing now g ToIn set.empty

@@ -14,8 +14,8 @@ use Rattle.mq_table.specs.Group.{GroupState, FilterMode, Include, Exclude, Sourc
 use Rattle.mq_table.specs.Timing.{membership_interval}
 
 -- the sources that a record names; how often it names one doesn't matter
-abbrev pub Sources : Type 0
-Sources = FinSet nat_cmp
+abbrev pub NamedSources : Type 0
+NamedSources = FinSet nat_cmp
 
 -- One line of the tables. INCLUDE(x) or EXCLUDE(x,y) is the new state; the timers of `restart` are
 -- set to the group membership interval, those of `copy` to the group timer from before the record;
@@ -69,15 +69,15 @@ timer_by l gmi mode s before =
     if l.x s then Some (Running deadline (left_of before)) else (if l.y s then Some Stopped else None)
 
 -- The new group and the queries that go with it. Host-present timers stay.
-pub record Change : Type 0 where
+pub record GroupChange : Type 0 where
   pub group : GroupState
   pub query : Set
   pub query_group : Bool
 
-abbrev pub line_of : Timing → ℕ → GroupState → Kind → Sources → Line
+abbrev pub line_of : Timing → ℕ → GroupState → Kind → NamedSources → Line
 line_of timing now g kind named = line (now + membership_interval timing) g.mode kind (running g) (stopped g) (set.contains named)
 
-abbrev pub change_of : Timing → ℕ → GroupState → Kind → Sources → Change
+abbrev pub change_of : Timing → ℕ → GroupState → Kind → NamedSources → GroupChange
 change_of timing now g kind named =
     let l = line_of timing now g kind named in
     let timer = λ (s : ℕ). timer_by l (now + membership_interval timing) g.mode s (timer_at g s) in
@@ -88,5 +88,5 @@ change_of timing now g kind named =
     }
 
 -- by the tables, this is what the record changes
-abbrev pub Table : Timing → ℕ → GroupState → Kind → Sources → Change → Type 0
+abbrev pub Table : Timing → ℕ → GroupState → Kind → NamedSources → GroupChange → Type 0
 Table timing now g kind named change = change ≡ change_of timing now g kind named

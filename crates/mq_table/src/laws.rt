@@ -1,16 +1,17 @@
 //! Laws of the definitions. No function here does anything: its contract is the law, for every
 //! group, moment, timing and record.
 
-ghost use Rattle.std.specs.Prelude.{◌≡◌, ℕ, ◌≤◌, false, not, ◌||◌, ◌⊎◌, Some, None, IsSome, IsTrue};
+ghost use Rattle.std.specs.Prelude.{◌≡◌, ℕ, ◌+◌, ◌≤◌, true, false, not, ◌||◌, ◌⊎◌, Some, None, IsSome, IsTrue};
 ghost use Rattle.std.specs.FinSet as set;
 ghost use Rattle.mq_table.specs.declared.kind.Kind.{Kind};
 ghost use Rattle.mq_table.specs.declared.timing.Timing.{Timing};
 ghost use Rattle.mq_table.specs.Sets.{Set};
-ghost use Rattle.mq_table.specs.Group.{GroupState, timer_at, deadline_of, group_deadline, forwards_in, vacant, IsWellFormed, IsAnyGroup};
-ghost use Rattle.mq_table.specs.Table.{Sources, line_of, change_of};
+ghost use Rattle.mq_table.specs.Group.{GroupState, running, timer_at, deadline_of, left_of, group_deadline, forwards_in, vacant, IsWellFormed, IsAnyGroup};
+ghost use Rattle.mq_table.specs.Timing.{membership_interval};
+ghost use Rattle.mq_table.specs.Table.{NamedSources, line_of, change_of};
 ghost use Rattle.mq_table.specs.Expiry.{expired};
 ghost use Rattle.mq_table.specs.Lowering.{group_lowered, sources_lowered};
-ghost use Rattle.mq_table.specs.Laws.{ForwardsAfter, IsNoLater};
+ghost use Rattle.mq_table.specs.Laws.{ForwardsAfter, IsNoLater, AllAhead};
 
 use crate::kind::Kind;
 
@@ -21,34 +22,48 @@ pub fn expiry_composes()
 {}
 
 /// The end of timers leaves a group that is held, or none: INCLUDE({}) is never held, and no source
-/// of INCLUDE is stopped.
+/// of INCLUDE is stopped. What still runs then runs beyond that moment.
 pub fn expiry_keeps_form()
-    ensures { (now : ℕ) (g : GroupState) → IsAnyGroup (expired now g) }
+    ensures form { (now : ℕ) (g : GroupState) → IsAnyGroup (expired now g) }
+    ensures ahead { (now : ℕ) (g : GroupState) → AllAhead now (expired now g) }
 {}
 
 /// So does each line of the tables, which never ends a group that is held.
 pub fn records_keep_form()
-    ensures any { (timing : Timing) (now : ℕ) (g : GroupState) (kind : Kind) (named : Sources) → IsAnyGroup g → IsAnyGroup (change_of timing now g kind named).group }
-    ensures held { (timing : Timing) (now : ℕ) (g : GroupState) (kind : Kind) (named : Sources) → IsWellFormed g → IsWellFormed (change_of timing now g kind named).group }
+    ensures any { (timing : Timing) (now : ℕ) (g : GroupState) (kind : Kind) (named : NamedSources) → IsAnyGroup g → IsAnyGroup (change_of timing now g kind named).group }
+    ensures held { (timing : Timing) (now : ℕ) (g : GroupState) (kind : Kind) (named : NamedSources) → IsWellFormed g → IsWellFormed (change_of timing now g kind named).group }
 {}
 
 /// A record brings no source that it doesn't name, and changes no deadline but those that its line
 /// sets.
 pub fn records_change_what_they_name()
     // Each source of the new state was there before, or is in the record.
-    ensures known { (timing : Timing) (now : ℕ) (g : GroupState) (kind : Kind) (named : Sources) (s : ℕ)
+    ensures known { (timing : Timing) (now : ℕ) (g : GroupState) (kind : Kind) (named : NamedSources) (s : ℕ)
         → IsSome (timer_at (change_of timing now g kind named).group s)
         → IsSome (timer_at g s) ⊎ IsTrue (set.contains named s) }
 
     // A deadline that the line doesn't set is the one from before.
-    ensures kept { (timing : Timing) (now : ℕ) (g : GroupState) (kind : Kind) (named : Sources) (s : ℕ)
+    ensures kept { (timing : Timing) (now : ℕ) (g : GroupState) (kind : Kind) (named : NamedSources) (s : ℕ)
         → (line_of timing now g kind named).restart s ≡ false
         → (line_of timing now g kind named).copy s ≡ false
         → (deadline : ℕ) → deadline_of (timer_at (change_of timing now g kind named).group s) ≡ Some deadline
         → deadline_of (timer_at g s) ≡ Some deadline }
 
+    // The deadlines that it sets: to the group membership interval, or to the group timer from before.
+    ensures restarted { (timing : Timing) (now : ℕ) (g : GroupState) (kind : Kind) (named : NamedSources) (s : ℕ)
+        → (line_of timing now g kind named).restart s ≡ true
+        → deadline_of (timer_at (change_of timing now g kind named).group s) ≡ Some (now + membership_interval timing) }
+    ensures copied { (timing : Timing) (now : ℕ) (g : GroupState) (kind : Kind) (named : NamedSources) (s : ℕ)
+        → (line_of timing now g kind named).copy s ≡ true
+        → deadline_of (timer_at (change_of timing now g kind named).group s) ≡ group_deadline g.mode }
+
+    // A source that runs has as much left to send as before, and nothing where it didn't run.
+    ensures sendings { (timing : Timing) (now : ℕ) (g : GroupState) (kind : Kind) (named : NamedSources) (s : ℕ)
+        → running (change_of timing now g kind named).group s ≡ true
+        → left_of (timer_at (change_of timing now g kind named).group s) ≡ left_of (timer_at g s) }
+
     // A source that the record doesn't name is as it was, or gone.
-    ensures unnamed { (timing : Timing) (now : ℕ) (g : GroupState) (kind : Kind) (named : Sources) (s : ℕ)
+    ensures unnamed { (timing : Timing) (now : ℕ) (g : GroupState) (kind : Kind) (named : NamedSources) (s : ℕ)
         → set.contains named s ≡ false
         → (timer_at (change_of timing now g kind named).group s ≡ timer_at g s)
         ⊎ (timer_at (change_of timing now g kind named).group s ≡ None) }
