@@ -22,7 +22,8 @@ is_querier (Other deadline) = false
 
 -- at its start a router is querier, and all queries of startup are to go (RFC 3376 section 8.7)
 abbrev pub election_at : Timing → ℕ → ElectionState
-election_at configured start = record { role = Querier start (startup_count configured); timing = configured }
+election_at configured start =
+    record { role = Querier start (startup_count configured); timing = configured }
 
 -- what a query of the current version says of its querier: QRV, and QQIC in seconds
 pub record Announced : Type 0 where
@@ -37,9 +38,10 @@ heard_or configured value = if value == 0 then configured else value
 -- querier, the query interval (RFC 3376 sections 4.1.6 and 4.1.7, RFC 3810 sections 5.1.8 and 5.1.9).
 abbrev pub adopted : Timing → (is_other : Bool) → Option Announced → Timing → Timing
 adopted configured is_other None timing = timing
-adopted configured is_other (Some heard) timing = record {
-  robustness = heard_or configured.robustness heard.robustness;
-  query_seconds = if is_other then heard_or configured.query_seconds heard.query_seconds else timing.query_seconds;
+adopted configured is_other (Some said) timing = record {
+  robustness = heard_or configured.robustness said.robustness;
+  query_seconds =
+      if is_other then heard_or configured.query_seconds said.query_seconds else timing.query_seconds;
   response_interval = timing.response_interval;
   last_member_interval = timing.last_member_interval;
 }
@@ -51,7 +53,8 @@ loses_role own source role = is_querier role && nat_lt source own
 -- What a query that is heard does, in this order: a lower address than the router's own makes it
 -- another than the querier; then the timing is adopted; then a lower address sets the deadline, by the
 -- timing that has been adopted.
-abbrev pub heard : (configured : Timing) → (own now source : ℕ) → Option Announced → ElectionState → ElectionState
+abbrev pub heard : (configured : Timing) → (own now source : ℕ) → Option Announced
+    → ElectionState → ElectionState
 heard configured own now source announced e =
     let lower = nat_lt source own in
     let is_other = lower || not (is_querier e.role) in
@@ -67,7 +70,9 @@ deadline_ended now (Other deadline) = nat_le deadline now
 -- once, and without another startup.
 abbrev pub returned : (configured : Timing) → ℕ → ElectionState → ElectionState
 returned configured now e =
-    if deadline_ended now e.role then record { role = Querier now 0; timing = configured } else e
+    if deadline_ended now e.role
+    then record { role = Querier now 0; timing = configured }
+    else e
 
 abbrev pub general_is_due : ℕ → Role → Bool
 general_is_due now (Querier due startup_left) = nat_le due now
@@ -86,7 +91,9 @@ after_general timing now (Other deadline) = Other deadline
 abbrev pub ticked : (configured : Timing) → ℕ → ElectionState → ElectionState
 ticked configured now e =
     let r = returned configured now e in
-    if general_is_due now r.role then record { role = after_general r.timing now r.role; timing = r.timing } else r
+    if general_is_due now r.role
+    then record { role = after_general r.timing now r.role; timing = r.timing }
+    else r
 
 abbrev pub general_messages : (configured : Timing) → ℕ → ElectionState → List SentQuery
 general_messages configured now e =

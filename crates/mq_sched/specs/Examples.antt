@@ -18,20 +18,26 @@ sendings left due = Some (record { left = left; due = due })
 
 -- a group, and what is due for it
 abbrev pub state : GroupState → Option Sendings → Option ℕ → ScheduledGroup
-state g group_query sources_due = record { group = g; schedule = record { group_query = group_query; sources_due = sources_due } }
+state g group_query sources_due =
+    record { group = g; schedule = record { group_query = group_query; sources_due = sources_due } }
 
 -- the same of a group without older hosts
-abbrev pub with_schedule : FilterMode → List (ℕ × SourceTimer) → Option Sendings → Option ℕ → ScheduledGroup
-with_schedule mode sources group_query sources_due = state (group_of mode sources) group_query sources_due
+abbrev pub with_schedule : FilterMode → List (ℕ × SourceTimer) → Option Sendings → Option ℕ
+    → ScheduledGroup
+with_schedule mode sources group_query sources_due =
+    state (group_of mode sources) group_query sources_due
 
 -- at a moment these queries go, and this is left
-pub record Sends (now : ℕ) (e : ScheduledGroup) (queries : List SentQuery) (after : ScheduledGroup) : Type 0 where
+pub record Sends (now : ℕ) (e : ScheduledGroup) (queries : List SentQuery) (after : ScheduledGroup)
+    : Type 0 where
   pub queries_sent : messages_due default_timing now the_group e ≡ queries
   pub left_then : after_round default_timing now e ≡ after
 
 -- what a record at a moment makes of a group of the querier
 abbrev pub recorded_at : ℕ → ScheduledGroup → Kind → List ℕ → ScheduledGroup
-recorded_at now e kind named = after_change true default_timing now (change_of default_timing now e.group kind (these named)) e.schedule
+recorded_at now e kind named =
+    let change = change_of default_timing now e.group kind (these named) in
+    after_change true default_timing now change e.schedule
 
 -- the same at 1000, where nothing was to go
 abbrev pub recorded : GroupState → Kind → List ℕ → ScheduledGroup
@@ -51,7 +57,8 @@ abbrev pub other : Timing → ℕ → ElectionState
 other timing deadline = record { role = Other deadline; timing = timing }
 
 abbrev pub announced : ℕ → ℕ → Option Announced
-announced robustness query_seconds = Some (record { robustness = robustness; query_seconds = query_seconds })
+announced robustness query_seconds =
+    Some (record { robustness = robustness; query_seconds = query_seconds })
 
 -- INCLUDE({1, 2}) when both have been blocked and asked for at 2000, and then 1 is allowed at 2500
 abbrev pub blocked : ScheduledGroup

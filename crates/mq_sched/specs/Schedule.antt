@@ -59,7 +59,9 @@ source_cleared (Running d n) = Running d 0
 
 -- a router that is no longer querier drops all that was to go, and no timer
 abbrev pub cleared : ScheduledGroup → ScheduledGroup
-cleared e = record {
-  group = record { mode = e.group.mode; sources = kept (λ s timer. Some (source_cleared timer)) e.group.sources; v1 = e.group.v1; v2 = e.group.v2 };
-  schedule = no_schedule;
-}
+cleared e =
+    let g = e.group in
+    record {
+      group = record g { sources = kept (λ s timer. Some (source_cleared timer)) g.sources };
+      schedule = no_schedule;
+    }

@@ -33,7 +33,10 @@ abbrev pub group_asked : Timing → ℕ → ScheduledGroup → ScheduledGroup
 group_asked timing now e = record {
   group = group_lowered timing now e.group;
   schedule = record {
-    group_query = if is_include e.group.mode then e.schedule.group_query else Some (record { left = last_member_count timing; due = now });
+    group_query =
+        if is_include e.group.mode
+        then e.schedule.group_query
+        else Some (record { left = last_member_count timing; due = now });
     sources_due = e.schedule.sources_due;
   };
 }
@@ -48,12 +51,11 @@ source_asked limit count (Running d n) = if nat_lt limit d then Running limit co
 abbrev pub sources_asked : Timing → ℕ → Set → ScheduledGroup → ScheduledGroup
 sources_asked timing now asked e =
     let g = e.group in
+    let limit = lowered_to timing now in
+    let count = last_member_count timing in
     record {
-      group = record {
-        mode = g.mode;
-        sources = kept (λ s timer. Some (if asked s then source_asked (lowered_to timing now) (last_member_count timing) timer else timer)) g.sources;
-        v1 = g.v1;
-        v2 = g.v2;
+      group = record g {
+        sources = kept (λ s timer. Some (if asked s then source_asked limit count timer else timer)) g.sources;
       };
       schedule = record {
         group_query = e.schedule.group_query;
@@ -62,14 +64,17 @@ sources_asked timing now asked e =
     }
 
 -- the queries of a line of the tables are sent by the querier alone
-abbrev pub acted : (is_querier : Bool) → Timing → ℕ → (query_group : Bool) → (query : Set) → ScheduledGroup → ScheduledGroup
+abbrev pub acted : (is_querier : Bool) → Timing → ℕ → (query_group : Bool) → (query : Set)
+    → ScheduledGroup → ScheduledGroup
 acted false timing now query_group query e = e
-acted true timing now query_group query e = sources_asked timing now query (if query_group then group_asked timing now e else e)
+acted true timing now query_group query e =
+    sources_asked timing now query (if query_group then group_asked timing now e else e)
 
 -- what a record leaves of a group and its schedule: the change, what it drops, and what it asks
 abbrev pub after_change : (is_querier : Bool) → Timing → ℕ → GroupChange → ScheduleState → ScheduledGroup
 after_change is_querier timing now change schedule =
-    acted is_querier timing now change.query_group change.query (record { group = change.group; schedule = settled change.group schedule })
+    let e : ScheduledGroup = record { group = change.group; schedule = settled change.group schedule } in
+    acted is_querier timing now change.query_group change.query e
 
 abbrev pub is_due : ℕ → Option ℕ → Bool
 is_due now None = false
@@ -113,7 +118,10 @@ abbrev pub group_counted : Timing → ℕ → Option Sendings → Option Sending
 group_counted timing now None = None
 group_counted timing now (Some q) =
     if nat_le q.due now
-    then (if nat_lt 1 q.left then Some (record { left = q.left - 1; due = now + timing.last_member_interval }) else None)
+    then (
+    if nat_lt 1 q.left
+    then Some (record { left = q.left - 1; due = now + timing.last_member_interval })
+    else None)
     else Some q
 
 abbrev pub source_counted : SourceTimer → SourceTimer
@@ -121,11 +129,12 @@ source_counted Stopped = Stopped
 source_counted (Running d n) = Running d (n - 1)
 
 abbrev pub sources_counted : GroupState → GroupState
-sources_counted g = record { mode = g.mode; sources = kept (λ s timer. Some (source_counted timer)) g.sources; v1 = g.v1; v2 = g.v2 }
+sources_counted g = record g { sources = kept (λ s timer. Some (source_counted timer)) g.sources }
 
 -- when the sources are due next, if one has something left
 abbrev pub sources_due_next : Timing → ℕ → GroupState → Option ℕ
-sources_due_next timing now g = if some_source (has_left g) g then Some (now + timing.last_member_interval) else None
+sources_due_next timing now g =
+    if some_source (has_left g) g then Some (now + timing.last_member_interval) else None
 
 -- What is left after a round, however late it comes: each thing that was sent has one sending fewer.
 abbrev pub after_round : Timing → ℕ → ScheduledGroup → ScheduledGroup

@@ -9,7 +9,7 @@ use Rattle.mq_table.specs.Sets.{Set}
 use Rattle.mq_table.specs.Group.{GroupState, FilterMode, Include, Exclude, SourceTimer, Stopped, Running, is_running, is_stopped, running, stopped, timer_at, deadline_of, group_deadline, left_of, wants, forwards_in}
 use Rattle.mq_table.specs.Timing.{membership_interval}
 use Rattle.mq_table.specs.Table.{NamedSources, Line, line, timer_by, line_of, change_of}
-use Rattle.mq_table.specs.Laws.{ForwardsAfter}
+use Rattle.mq_table.specs.Laws.{ForwardsAfter, group_after}
 use Rattle.mq_table.proofs.Maps.{get-by_rule_everywhere}
 
 -- the line for one source, from its timer before and whether the record names it
@@ -99,10 +99,11 @@ wants_then gmi (Exclude d) Block s t a = each_case (λ t a. wants (line_at gmi (
 wants_then gmi (Exclude d) ToEx s t a = each_case (λ t a. wants (line_at gmi (Exclude d) ToEx t a).mode (timer_then gmi (Exclude d) ToEx s t a) ≡ forwards_then ToEx a (wants (Exclude d) t)) (both _ refl refl) (both _ refl refl) (λ d n. both _ refl refl) t a
 wants_then gmi (Exclude d) ToIn s t a = each_case (λ t a. wants (line_at gmi (Exclude d) ToIn t a).mode (timer_then gmi (Exclude d) ToIn s t a) ≡ forwards_then ToIn a (wants (Exclude d) t)) (both _ refl refl) (both _ refl refl) (λ d n. both _ refl refl) t a
 
-pub forwards_in-change_of : (kind : Kind) → ForwardsAfter kind (forwards_then kind)
-forwards_in-change_of kind timing now g named s =
-    at_source_of (λ _ _ _ mode t. wants mode t ≡ forwards_then kind (set.contains named s) (forwards_in g s)) timing now g kind named s
-    (wants_then (now + membership_interval timing) g.mode kind s (timer_at g s) (set.contains named s))
+pub forwards_in-group_after : (kind : Kind) → ForwardsAfter kind (forwards_then kind)
+forwards_in-group_after kind r s is =
+    subst (λ k. forwards_in (group_after r) s ≡ forwards_then k (set.contains r.named s) (forwards_in r.group s)) is
+    (at_source_of (λ _ _ _ mode t. wants mode t ≡ forwards_then r.kind (set.contains r.named s) (forwards_in r.group s)) r.timing r.now r.group r.kind r.named s
+    (wants_then (r.now + membership_interval r.timing) r.group.mode r.kind s (timer_at r.group s) (set.contains r.named s)))
 
 -- a source that is neither restarted nor copied to keeps its deadline
 kept_then : (gmi : ℕ) (mode : FilterMode) (kind : Kind) (s : ℕ) (t : Option SourceTimer) (a : Bool) → (line_at gmi mode kind t a).restart s ≡ false → (line_at gmi mode kind t a).copy s ≡ false → (e : ℕ) → deadline_of (timer_then gmi mode kind s t a) ≡ Some e → deadline_of t ≡ Some e

@@ -10,7 +10,12 @@ use Rattle.mq_table.specs.Table.{NamedSources, GroupChange, change_of}
 
 -- the defaults of RFC 3376 section 8 and RFC 3810 section 9
 abbrev pub default_timing : Timing
-default_timing = record { robustness = 2; query_seconds = 125; response_interval = 10000; last_member_interval = 1000 }
+default_timing = record {
+  robustness = 2;
+  query_seconds = 125;
+  response_interval = 10000;
+  last_member_interval = 1000;
+}
 
 -- running, with nothing left to send
 abbrev pub until : ℕ → SourceTimer
@@ -18,7 +23,8 @@ until deadline = Running deadline 0
 
 -- a group with these host-present deadlines, and one without any
 abbrev pub group_with : FilterMode → List (ℕ × SourceTimer) → Option ℕ → Option ℕ → GroupState
-group_with mode sources v1 v2 = record { mode = mode; sources = map.from_entries sources; v1 = v1; v2 = v2 }
+group_with mode sources v1 v2 =
+    record { mode = mode; sources = map.from_entries sources; v1 = v1; v2 = v2 }
 
 abbrev pub group_of : FilterMode → List (ℕ × SourceTimer) → GroupState
 group_of mode sources = group_with mode sources None None
@@ -35,7 +41,8 @@ abbrev pub excluded : GroupState
 excluded = group_of (Exclude 260000) ((1, until 260500) ∷ (2, Stopped) ∷ (4, until 260500) ∷ [])
 
 -- a change leaves this group, with Q(G) where it says so, and Q(G,asked)
-pub record Leaves (change : GroupChange) (after : GroupState) (asks_group : Bool) (asked : List ℕ) : Type 0 where
+pub record Leaves (change : GroupChange) (after : GroupState) (asks_group : Bool) (asked : List ℕ)
+    : Type 0 where
   pub group : change.group ≡ after
   pub query_group : change.query_group ≡ asks_group
   pub query : (s : ℕ) → change.query s ≡ set.contains (these asked) s

@@ -23,18 +23,14 @@ source_lowered limit (Running d n) = Running (min d limit) n
 -- Q(G) lowers the group timer, which only EXCLUDE has
 abbrev pub group_lowered : Timing → ℕ → GroupState → GroupState
 group_lowered timing now g =
-    record { mode = mode_lowered (lowered_to timing now) g.mode; sources = g.sources; v1 = g.v1; v2 = g.v2 }
+    record g { mode = mode_lowered (lowered_to timing now) g.mode }
 
 -- Q(G,asked) lowers the running timers of the sources asked for
 abbrev pub sources_lowered : Timing → ℕ → Set → GroupState → GroupState
 sources_lowered timing now asked g =
     let limit = lowered_to timing now in
-    record {
-      mode = g.mode;
-      sources = kept (λ s timer. Some (if asked s then source_lowered limit timer else timer)) g.sources;
-      v1 = g.v1;
-      v2 = g.v2;
-    }
+    let timer_of = λ (s : ℕ) (timer : SourceTimer). Some (if asked s then source_lowered limit timer else timer) in
+    record g { sources = kept timer_of g.sources }
 
 -- What a specific query of another router lowers: with the S flag set nothing; else the group timer,
 -- or, where it asks for sources, their timers. Queries of IGMPv2 and MLDv1 have no S flag and count

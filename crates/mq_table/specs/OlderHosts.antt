@@ -25,23 +25,27 @@ hosts_of g now = record { v1 = is_ahead now g.v1; v2 = is_ahead now g.v2 }
 -- can't leave single sources out, so BLOCK and the sources of TO_EX don't count. In IGMP nobody asks
 -- after a Leave while a host of version 1 is there, since such a host wouldn't answer in time: there
 -- `v1_mutes_leave` is true, and TO_IN, with which a Leave is one, is ignored too. MLD has no such rule.
-abbrev pub translated : (v1_mutes_leave : Bool) → Hosts → Kind → NamedSources → Option (Kind × NamedSources)
+abbrev pub translated : (v1_mutes_leave : Bool) → Hosts → Kind → NamedSources
+    → Option (Kind × NamedSources)
 translated mutes hosts Block named = if hosts.v1 || hosts.v2 then None else Some (Block, named)
-translated mutes hosts ToEx named = if hosts.v1 || hosts.v2 then Some (ToEx, set.empty) else Some (ToEx, named)
+translated mutes hosts ToEx named =
+    if hosts.v1 || hosts.v2 then Some (ToEx, set.empty) else Some (ToEx, named)
 translated mutes hosts ToIn named = if mutes && hosts.v1 then None else Some (ToIn, named)
 translated mutes hosts IsIn named = Some (IsIn, named)
 translated mutes hosts IsEx named = Some (IsEx, named)
 translated mutes hosts Allow named = Some (Allow, named)
 
 -- what a record changes in its group, by the translation and the tables; None where it is ignored
-abbrev pub translated_change : (v1_mutes_leave : Bool) → Timing → ℕ → GroupState → Kind → NamedSources → Option GroupChange
+abbrev pub translated_change : (v1_mutes_leave : Bool) → Timing → ℕ → GroupState → Kind → NamedSources
+    → Option GroupChange
 translated_change mutes timing now g kind named =
-    option_map (λ (r : Kind × NamedSources). change_of timing now g r.0 r.1) (translated mutes (hosts_of g now) kind named)
+    let change = λ (r : Kind × NamedSources). change_of timing now g r.0 r.1 in
+    option_map change (translated mutes (hosts_of g now) kind named)
 
 -- a Report of version 1 or 2 sets that version's host-present timer
 abbrev pub older_host : OlderVersion → Timing → ℕ → GroupState → GroupState
-older_host V1 timing now g = record { mode = g.mode; sources = g.sources; v1 = Some (now + older_host_present timing); v2 = g.v2 }
-older_host V2 timing now g = record { mode = g.mode; sources = g.sources; v1 = g.v1; v2 = Some (now + older_host_present timing) }
+older_host V1 timing now g = record g { v1 = Some (now + older_host_present timing) }
+older_host V2 timing now g = record g { v2 = Some (now + older_host_present timing) }
 
 -- and acts as IS_EX({})
 abbrev pub older_report : OlderVersion → Timing → ℕ → GroupState → GroupState

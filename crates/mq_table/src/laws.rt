@@ -3,15 +3,13 @@
 
 ghost use Rattle.std.specs.Prelude.{◌≡◌, ℕ, ◌+◌, ◌≤◌, true, false, not, ◌||◌, ◌⊎◌, Some, None, IsSome, IsTrue};
 ghost use Rattle.std.specs.FinSet as set;
-ghost use Rattle.mq_table.specs.declared.kind.Kind.{Kind};
 ghost use Rattle.mq_table.specs.declared.timing.Timing.{Timing};
 ghost use Rattle.mq_table.specs.Sets.{Set};
 ghost use Rattle.mq_table.specs.Group.{GroupState, running, timer_at, deadline_of, left_of, group_deadline, forwards_in, vacant, IsWellFormed, IsAnyGroup};
 ghost use Rattle.mq_table.specs.Timing.{membership_interval};
-ghost use Rattle.mq_table.specs.Table.{NamedSources, line_of, change_of};
 ghost use Rattle.mq_table.specs.Expiry.{expired};
 ghost use Rattle.mq_table.specs.Lowering.{group_lowered, sources_lowered};
-ghost use Rattle.mq_table.specs.Laws.{ForwardsAfter, IsNoLater, AllAhead};
+ghost use Rattle.mq_table.specs.Laws.{Arrival, line_for, group_after, ForwardsAfter, IsNoLater, AllAhead};
 
 use crate::kind::Kind;
 
@@ -30,43 +28,41 @@ pub fn expiry_keeps_form()
 
 /// So does each line of the tables, which never ends a group that is held.
 pub fn records_keep_form()
-    ensures any { (timing : Timing) (now : ℕ) (g : GroupState) (kind : Kind) (named : NamedSources) → IsAnyGroup g → IsAnyGroup (change_of timing now g kind named).group }
-    ensures held { (timing : Timing) (now : ℕ) (g : GroupState) (kind : Kind) (named : NamedSources) → IsWellFormed g → IsWellFormed (change_of timing now g kind named).group }
+    ensures any { (r : Arrival) → IsAnyGroup r.group → IsAnyGroup (group_after r) }
+    ensures held { (r : Arrival) → IsWellFormed r.group → IsWellFormed (group_after r) }
 {}
 
 /// A record brings no source that it doesn't name, and changes no deadline but those that its line
 /// sets.
 pub fn records_change_what_they_name()
     // Each source of the new state was there before, or is in the record.
-    ensures known { (timing : Timing) (now : ℕ) (g : GroupState) (kind : Kind) (named : NamedSources) (s : ℕ)
-        → IsSome (timer_at (change_of timing now g kind named).group s)
-        → IsSome (timer_at g s) ⊎ IsTrue (set.contains named s) }
+    ensures known { (r : Arrival) (s : ℕ)
+        → IsSome (timer_at (group_after r) s)
+        → IsSome (timer_at r.group s) ⊎ IsTrue (set.contains r.named s) }
 
     // A deadline that the line doesn't set is the one from before.
-    ensures kept { (timing : Timing) (now : ℕ) (g : GroupState) (kind : Kind) (named : NamedSources) (s : ℕ)
-        → (line_of timing now g kind named).restart s ≡ false
-        → (line_of timing now g kind named).copy s ≡ false
-        → (deadline : ℕ) → deadline_of (timer_at (change_of timing now g kind named).group s) ≡ Some deadline
-        → deadline_of (timer_at g s) ≡ Some deadline }
+    ensures kept { (r : Arrival) (s : ℕ)
+        → (line_for r).restart s ≡ false → (line_for r).copy s ≡ false
+        → (deadline : ℕ) → deadline_of (timer_at (group_after r) s) ≡ Some deadline
+        → deadline_of (timer_at r.group s) ≡ Some deadline }
 
     // The deadlines that it sets: to the group membership interval, or to the group timer from before.
-    ensures restarted { (timing : Timing) (now : ℕ) (g : GroupState) (kind : Kind) (named : NamedSources) (s : ℕ)
-        → (line_of timing now g kind named).restart s ≡ true
-        → deadline_of (timer_at (change_of timing now g kind named).group s) ≡ Some (now + membership_interval timing) }
-    ensures copied { (timing : Timing) (now : ℕ) (g : GroupState) (kind : Kind) (named : NamedSources) (s : ℕ)
-        → (line_of timing now g kind named).copy s ≡ true
-        → deadline_of (timer_at (change_of timing now g kind named).group s) ≡ group_deadline g.mode }
+    ensures restarted { (r : Arrival) (s : ℕ)
+        → (line_for r).restart s ≡ true
+        → deadline_of (timer_at (group_after r) s) ≡ Some (r.now + membership_interval r.timing) }
+    ensures copied { (r : Arrival) (s : ℕ)
+        → (line_for r).copy s ≡ true
+        → deadline_of (timer_at (group_after r) s) ≡ group_deadline r.group.mode }
 
     // A source that runs has as much left to send as before, and nothing where it didn't run.
-    ensures sendings { (timing : Timing) (now : ℕ) (g : GroupState) (kind : Kind) (named : NamedSources) (s : ℕ)
-        → running (change_of timing now g kind named).group s ≡ true
-        → left_of (timer_at (change_of timing now g kind named).group s) ≡ left_of (timer_at g s) }
+    ensures sendings { (r : Arrival) (s : ℕ)
+        → running (group_after r) s ≡ true
+        → left_of (timer_at (group_after r) s) ≡ left_of (timer_at r.group s) }
 
     // A source that the record doesn't name is as it was, or gone.
-    ensures unnamed { (timing : Timing) (now : ℕ) (g : GroupState) (kind : Kind) (named : NamedSources) (s : ℕ)
-        → set.contains named s ≡ false
-        → (timer_at (change_of timing now g kind named).group s ≡ timer_at g s)
-        ⊎ (timer_at (change_of timing now g kind named).group s ≡ None) }
+    ensures unnamed { (r : Arrival) (s : ℕ)
+        → set.contains r.named s ≡ false
+        → (timer_at (group_after r) s ≡ timer_at r.group s) ⊎ (timer_at (group_after r) s ≡ None) }
 {}
 
 /// What a group forwards of a source after each kind of record, by whether the record names the
@@ -89,6 +85,8 @@ pub fn forwards_after_each_kind()
 
 /// Lowering starts and ends no timer, and none runs longer than before.
 pub fn lowering_never_lengthens()
-    ensures group { (timing : Timing) (now : ℕ) (g : GroupState) → IsNoLater (group_deadline g.mode) (group_deadline (group_lowered timing now g).mode) }
-    ensures sources { (timing : Timing) (now : ℕ) (asked : Set) (g : GroupState) (s : ℕ) → IsNoLater (deadline_of (timer_at g s)) (deadline_of (timer_at (sources_lowered timing now asked g) s)) }
+    ensures group { (timing : Timing) (now : ℕ) (g : GroupState)
+        → IsNoLater (group_deadline g.mode) (group_deadline (group_lowered timing now g).mode) }
+    ensures sources { (timing : Timing) (now : ℕ) (asked : Set) (g : GroupState) (s : ℕ)
+        → IsNoLater (deadline_of (timer_at g s)) (deadline_of (timer_at (sources_lowered timing now asked g) s)) }
 {}
