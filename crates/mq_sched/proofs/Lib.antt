@@ -4,3 +4,4 @@ pub mod Fits
 pub mod Explicit
 pub mod Ascending
 pub mod Electing
+pub mod StayHeld

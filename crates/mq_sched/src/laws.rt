@@ -3,7 +3,7 @@
 
 ghost use Rattle.std.specs.Prelude.{◌≡◌, ℕ, ◌+◌, ◌<◌, true, false, ◌&&◌, []};
 ghost use Rattle.mq_table.specs.declared.timing.Timing.{Timing};
-ghost use Rattle.mq_table.specs.Group.{GroupState, timer_at, deadline_of, left_of, group_deadline};
+ghost use Rattle.mq_table.specs.Group.{GroupState, timer_at, deadline_of, left_of, group_deadline, IsWellFormed};
 ghost use Rattle.mq_table.specs.Expiry.{expired};
 ghost use Rattle.mq_table.specs.Laws.{Arrival, group_after, IsNoLater};
 ghost use Rattle.mq_sched.specs.Schedule.{sendings_left, ScheduleState, ScheduledGroup, has_left, IsScheduleOf, settled, cleared};
@@ -73,6 +73,13 @@ pub fn schedules_keep_form()
         → 0 < r.timing.robustness → IsFitting r.state → IsFitting (after_asking r) }
     ensures round_sent { (r : Round) → IsFitting r.state → IsFitting (left_by r) }
     ensures all_dropped { (e : ScheduledGroup) → IsFitting (cleared e) }
+{}
+
+/// A group that is held stays held, whatever is asked, sent or dropped.
+pub fn groups_stay_held()
+    ensures asked { (r : Asking) → IsWellFormed r.state.group → IsWellFormed (after_asking r).group }
+    ensures round_sent { (r : Round) → IsWellFormed r.state.group → IsWellFormed (left_by r).group }
+    ensures all_dropped { (e : ScheduledGroup) → IsWellFormed e.group → IsWellFormed (cleared e).group }
 {}
 
 /// A tick leaves nothing for the election to do at or before its moment: where the query interval,

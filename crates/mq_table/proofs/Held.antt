@@ -1,5 +1,5 @@
 -- When a group is held, and that records and the end of timers leave one that is, or nothing.
-use Rattle.std.proofs.Common.{◌≡◌, ℕ, true, false, cond, not, ◌&&◌, inl, inr, List, [], ◌∷◌, length, Option, None, Some, IsSome, refl, sym, ap, ◌∙◌, subst, arith, eqb, ltb}
+use Rattle.std.proofs.Common.{◌≡◌, ◌≢◌, ℕ, ◌+◌, Bool, true, false, cond, not, ◌&&◌, inl, inr, List, [], ◌∷◌, length, Option, None, Some, IsSome, refl, sym, ap, ◌∙◌, subst, arith, eqb, ltb}
 use Rattle.std.proofs.lemmas.Option.{none-some}
 use Rattle.std.proofs.lemmas.Bool.{not-true, not-false, true_from_ne_false, false≢true, true≢false, eqb-true, cases_Bool, or_left}
 use Rattle.std.proofs.lemmas.Bool.Decides.{nat_tests}
@@ -8,12 +8,20 @@ use Rattle.std.specs.List.{list_any}
 use Rattle.std.specs.Option.{option_and_then}
 use Rattle.std.specs.Ordering.{nat_cmp, eq_by_cmp}
 use Rattle.std.specs.FinMap as map
+use Rattle.std.specs.FinSet as set
 use Rattle.std.specs.FinMap.{FinMap}
 use Rattle.mq_table.specs.declared.kind.Kind.{Kind}
 use Rattle.mq_table.specs.declared.kind.Kind.TheVariants.{IsIn, IsEx, ToIn, ToEx, Allow, Block}
 use Rattle.mq_table.specs.declared.timing.Timing.{Timing}
-use Rattle.mq_table.specs.Group.{GroupState, Include, SourceTimer, Stopped, Running, is_include, is_running, is_stopped, stopped, timer_at, vacant, is_vacant, IsWellFormed, IsAnyGroup}
-use Rattle.mq_table.specs.Table.{NamedSources, change_of}
+use Rattle.mq_table.specs.Group.{GroupState, FilterMode, Include, Exclude, running, SourceTimer, Stopped, Running, is_include, is_running, is_stopped, stopped, timer_at, vacant, is_vacant, IsWellFormed, IsAnyGroup}
+use Rattle.mq_table.specs.declared.older_hosts.OlderVersion.{OlderVersion}
+use Rattle.mq_table.specs.declared.older_hosts.OlderVersion.TheVariants.{V1, V2}
+use Rattle.mq_table.specs.Sets.{Set}
+use Rattle.mq_table.specs.Maps.{kept}
+use Rattle.mq_table.specs.Timing.{membership_interval}
+use Rattle.mq_table.specs.Table.{NamedSources, line, change_of}
+use Rattle.mq_table.specs.OlderHosts.{older_report}
+use Rattle.mq_table.specs.Lowering.{lowered_to, mode_lowered, source_lowered, group_lowered, sources_lowered}
 use Rattle.mq_table.specs.Expiry.{mode_expired, source_expired, held_or_vacant, expired}
 use Rattle.mq_table.proofs.Maps.{get-kept}
 use Rattle.mq_table.proofs.Groups.{same_sources}
@@ -107,3 +115,54 @@ held_or_vacant-some m n v1 v2 k t some alike =
 pub held_or_vacant-none : (m : FinMap nat_cmp SourceTimer) (v1 v2 : Option ℕ) → ((s : ℕ) → map.get m s ≡ None) → held_or_vacant (record { mode = Include; sources = m; v1 = v1; v2 = v2 }) ≡ vacant
 held_or_vacant-none m v1 v2 none =
     ap (λ b. cond b vacant (record { mode = Include; sources = m; v1 = v1; v2 = v2 })) (ap (λ n. eqb (map.len n) 0) (nothing_held m none) ∙ ap (λ n. eqb n 0) (map.len-empty nat_cmp _))
+
+-- A group whose mode and whose timers change, but not which of them run, stays held.
+replaced_runs : (f : SourceTimer → SourceTimer) → ((t : SourceTimer) → is_running (Some (f t)) ≡ is_running (Some t)) → (t : Option SourceTimer) → is_running (option_and_then (λ t. Some (f t)) t) ≡ is_running t
+replaced_runs f same None = refl
+replaced_runs f same (Some t) = same t
+
+replaced_stops : (f : SourceTimer → SourceTimer) → ((t : SourceTimer) → is_running (Some (f t)) ≡ is_running (Some t)) → (t : Option SourceTimer) → is_stopped (option_and_then (λ t. Some (f t)) t) ≡ is_stopped t
+replaced_stops f same None = refl
+replaced_stops f same (Some t) = by_sides (f t) t (same t)
+  where
+    by_sides : (u v : SourceTimer) → is_running (Some u) ≡ is_running (Some v) → is_stopped (Some u) ≡ is_stopped (Some v)
+    by_sides Stopped Stopped e = refl
+    by_sides Stopped (Running d n) e = absurd (false≢true e)
+    by_sides (Running d n) Stopped e = absurd (true≢false e)
+    by_sides (Running d n) (Running c m) e = refl
+
+pub IsWellFormed-replaced : (g : GroupState) (mode : FilterMode) (f : ℕ → SourceTimer → SourceTimer) → (mode ≡ Include → g.mode ≡ Include) → ((s : ℕ) (t : SourceTimer) → is_running (Some (f s t)) ≡ is_running (Some t)) → IsWellFormed g → IsWellFormed (record { mode = mode; sources = kept (λ s t. Some (f s t)) g.sources; v1 = g.v1; v2 = g.v2 })
+IsWellFormed-replaced g mode f was same held = record {
+  has_source = λ e.
+      let k = held.has_source (was e) in
+      (k.0, ap is_running (get-kept (λ s t. Some (f s t)) g.sources k.0) ∙ replaced_runs (f k.0) (same k.0) (timer_at g k.0) ∙ k.1);
+  none_stopped = λ e s. ap is_stopped (get-kept (λ s t. Some (f s t)) g.sources s) ∙ replaced_stops (f s) (same s) (timer_at g s) ∙ held.none_stopped (was e) s;
+}
+
+-- so does one whose mode alone changes
+pub IsWellFormed-mode : (g : GroupState) (mode : FilterMode) → (mode ≡ Include → g.mode ≡ Include) → IsWellFormed g → IsWellFormed (record { mode = mode; sources = g.sources; v1 = g.v1; v2 = g.v2 })
+IsWellFormed-mode g mode was held = record { has_source = λ e. held.has_source (was e); none_stopped = λ e. held.none_stopped (was e) }
+
+pub was_include : (limit : ℕ) (mode : FilterMode) → mode_lowered limit mode ≡ Include → mode ≡ Include
+was_include limit Include e = refl
+was_include limit (Exclude d) e = cc
+
+lowered_runs : (limit : ℕ) (b : Bool) (t : SourceTimer) → is_running (Some (cond b (source_lowered limit t) t)) ≡ is_running (Some t)
+lowered_runs limit true Stopped = refl
+lowered_runs limit true (Running d n) = refl
+lowered_runs limit false t = refl
+
+pub IsWellFormed-group_lowered : (timing : Timing) (now : ℕ) (g : GroupState) → IsWellFormed g → IsWellFormed (group_lowered timing now g)
+IsWellFormed-group_lowered timing now g = IsWellFormed-mode g (mode_lowered (lowered_to timing now) g.mode) (was_include (lowered_to timing now) g.mode)
+
+pub IsWellFormed-sources_lowered : (timing : Timing) (now : ℕ) (asked : Set) (g : GroupState) → IsWellFormed g → IsWellFormed (sources_lowered timing now asked g)
+IsWellFormed-sources_lowered timing now asked g = IsWellFormed-replaced g g.mode (λ s t. cond (asked s) (source_lowered (lowered_to timing now) t) t) (λ e. e) (λ s t. lowered_runs (lowered_to timing now) (asked s) t)
+
+-- an older Report leaves an EXCLUDE group, which is held
+excluded_by : (gmi : ℕ) (mode : FilterMode) (X Y A : Set) → (line gmi mode IsEx X Y A).mode ≢ Include
+excluded_by gmi Include X Y A e = cc
+excluded_by gmi (Exclude d) X Y A e = cc
+
+pub IsWellFormed-older_report : (version : OlderVersion) (timing : Timing) (now : ℕ) (g : GroupState) → IsWellFormed (older_report version timing now g)
+IsWellFormed-older_report V1 timing now g = let never = excluded_by (now + membership_interval timing) g.mode (running g) (stopped g) (set.contains set.empty) in record { has_source = λ e. absurd (never e); none_stopped = λ e. absurd (never e) }
+IsWellFormed-older_report V2 timing now g = let never = excluded_by (now + membership_interval timing) g.mode (running g) (stopped g) (set.contains set.empty) in record { has_source = λ e. absurd (never e); none_stopped = λ e. absurd (never e) }

@@ -22,9 +22,9 @@ abbrev pub hosts_of : GroupState → ℕ → Hosts
 hosts_of g now = record { v1 = is_ahead now g.v1; v2 = is_ahead now g.v2 }
 
 -- What a record comes to while these older hosts are there; None where it is ignored. An older host
--- can't leave single sources out, so BLOCK and the sources of TO_EX don't count. In IGMP nobody asks
--- after a Leave while a host of version 1 is there, since such a host wouldn't answer in time: there
--- `v1_mutes_leave` is true, and TO_IN, with which a Leave is one, is ignored too. MLD has no such rule.
+-- can't leave single sources out, so BLOCK and the sources of TO_EX don't count. While a host of
+-- version 1 is there, IGMP ignores Leave and TO_IN, as which a Leave acts: there `v1_mutes_leave` is
+-- true. MLD has no such rule.
 abbrev pub translated : (v1_mutes_leave : Bool) → Hosts → Kind → NamedSources
     → Option (Kind × NamedSources)
 translated mutes hosts Block named = if hosts.v1 || hosts.v2 then None else Some (Block, named)

@@ -4,9 +4,11 @@
 ghost use Rattle.std.specs.Prelude.{◌≡◌, ℕ, ◌+◌, ◌≤◌, true, false, not, ◌||◌, ◌⊎◌, Some, None, IsSome, IsTrue};
 ghost use Rattle.std.specs.FinSet as set;
 ghost use Rattle.mq_table.specs.declared.timing.Timing.{Timing};
+ghost use Rattle.mq_table.specs.declared.older_hosts.OlderVersion.{OlderVersion};
 ghost use Rattle.mq_table.specs.Sets.{Set};
 ghost use Rattle.mq_table.specs.Group.{GroupState, running, timer_at, deadline_of, left_of, group_deadline, forwards_in, vacant, IsWellFormed, IsAnyGroup};
 ghost use Rattle.mq_table.specs.Timing.{membership_interval};
+ghost use Rattle.mq_table.specs.OlderHosts.{older_report};
 ghost use Rattle.mq_table.specs.Expiry.{expired};
 ghost use Rattle.mq_table.specs.Lowering.{group_lowered, sources_lowered};
 ghost use Rattle.mq_table.specs.Laws.{Arrival, line_for, group_after, ForwardsAfter, IsNoLater, AllAhead};
@@ -30,6 +32,16 @@ pub fn expiry_keeps_form()
 pub fn records_keep_form()
     ensures any { (r : Arrival) → IsAnyGroup r.group → IsAnyGroup (group_after r) }
     ensures held { (r : Arrival) → IsWellFormed r.group → IsWellFormed (group_after r) }
+{}
+
+/// An older Report leaves a group that is held, and lowering leaves a held group held.
+pub fn reports_and_queries_keep_form()
+    ensures older_reported { (version : OlderVersion) (timing : Timing) (now : ℕ) (g : GroupState)
+        → IsWellFormed (older_report version timing now g) }
+    ensures group { (timing : Timing) (now : ℕ) (g : GroupState)
+        → IsWellFormed g → IsWellFormed (group_lowered timing now g) }
+    ensures sources { (timing : Timing) (now : ℕ) (asked : Set) (g : GroupState)
+        → IsWellFormed g → IsWellFormed (sources_lowered timing now asked g) }
 {}
 
 /// A record brings no source that it doesn't name, and changes no deadline but those that its line
