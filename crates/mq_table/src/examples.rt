@@ -8,6 +8,7 @@ ghost use Rattle.std.specs.Prelude.{◌≡◌, [], ◌∷◌, true, false, Some,
 ghost use Rattle.std.specs.FinSet as set;
 ghost use Rattle.mq_table.specs.Group.{Include, Exclude, Stopped, vacant};
 ghost use Rattle.mq_table.specs.Timing.{membership_interval, older_host_present, other_querier_present, startup_interval, startup_count, last_member_count, last_member_time};
+ghost use Rattle.mq_table.specs.Table.{change_of};
 ghost use Rattle.mq_table.specs.OlderHosts.{translated_change, older_report, older_leave};
 ghost use Rattle.mq_table.specs.Expiry.{expired};
 ghost use Rattle.mq_table.specs.Lowering.{lowered_by_query};
@@ -16,6 +17,22 @@ ghost use Rattle.mq_table.specs.Examples.{default_timing, until, group_of, group
 use crate::kind::Kind;
 use crate::older_hosts::OlderVersion;
 use crate::timing::Timing;
+
+/// How the two groups of the next examples come to be: ALLOW {1, 2} at 0; and TO_EX {1, 2} at 0 with
+/// ALLOW {1, 4} at 500.
+pub fn first_records()
+    ensures allowed { Leaves (change_of default_timing 0 vacant Kind.Allow (these (1 ∷ 2 ∷ []))) included false [] }
+    ensures excluded { Leaves (change_of default_timing 0 vacant Kind.ToEx (these (1 ∷ 2 ∷ [])))
+        (group_of (Exclude 260000) ((1, Stopped) ∷ (2, Stopped) ∷ [])) false [] }
+    ensures allowed_then { Leaves
+        (change_of default_timing 500 (group_of (Exclude 260000) ((1, Stopped) ∷ (2, Stopped) ∷ [])) Kind.Allow (these (1 ∷ 4 ∷ [])))
+        excluded false [] }
+    // BLOCK and TO_IN of nothing, and BLOCK of a source, start no group.
+    ensures nothing_blocked { Leaves (change_of default_timing 0 vacant Kind.Block (these (1 ∷ []))) vacant false [] }
+    ensures nothing_included { Leaves (change_of default_timing 0 vacant Kind.ToIn (these [])) vacant false [] }
+    // How often and in which order a record names its sources doesn't matter.
+    ensures repeated { these (2 ∷ 1 ∷ 2 ∷ []) ≡ these (1 ∷ 2 ∷ []) }
+{}
 
 /// A group INCLUDE({1, 2}), both until 260000, at each kind of record with the sources {2, 3}.
 pub fn lines_of_include()
