@@ -1,5 +1,5 @@
-//! What everything above is made of: addresses, moments, and the meter that counts each comparison
-//! of two of them.
+//! What everything above is made of: addresses, moments, the meter that counts each comparison of
+//! two of them, and readers and writers that are watched.
 //!
 //! ```text
 //! let mut m = Meter::new();
@@ -15,6 +15,7 @@
 //! - Time: `Moment` and `Span`, in milliseconds.
 //! - The meter: `Meter`. Its contracts say `Spends low high old new`, and the functions of
 //!   `metering` that do nothing state the laws of that word.
+//! - Streams: `Watched`.
 #![tactic(auto)]
 
 pub mod address_v4;
@@ -22,9 +23,11 @@ pub mod address_v6;
 pub mod keys;
 pub mod metering;
 pub mod moments;
+pub mod streams;
 
 pub use address_v4::Addr4;
 pub use address_v6::Addr6;
 pub use keys::Key;
 pub use metering::Meter;
 pub use moments::{Moment, Span};
+pub use streams::Watched;

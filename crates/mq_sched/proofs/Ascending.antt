@@ -1,0 +1,63 @@
+-- The sources of a query ascend.
+use Rattle.std.proofs.Common.{ℕ, zero, suc, ◌+◌, ◌<◌, Bool, true, false, cond, ◌&&◌, List, [], ◌∷◌, ◌++◌, length, arith, add-one}
+use Rattle.std.specs.Prelude.{map as list_map}
+use lib.Dec.{T}
+use Rattle.std.proofs.lemmas.List.Kept.{IsStrictlyIncreasing-filter}
+use Rattle.std.proofs.lemmas.Bool.Decides.{nat_tests}
+use Rattle.std.specs.List.Sorted.{IsStrictlyIncreasing}
+use Rattle.std.specs.Ordering.{nat_cmp, is_lt}
+use Rattle.std.specs.FinMap as map
+use Rattle.std.specs.FinMap.{FinMap, is_sorted}
+use Rattle.mq_table.specs.declared.timing.Timing.{Timing}
+use Rattle.mq_table.specs.Sets.{Set, ◌∩◌, ◌∖◌}
+use Rattle.mq_table.specs.Group.{GroupState, group_deadline}
+use Rattle.mq_table.specs.Lowering.{lowered_to}
+use Rattle.mq_sched.specs.Schedule.{ScheduledGroup, has_left}
+use Rattle.mq_sched.specs.Sending.{SentQuery, GeneralQuery, GroupQuery, SourcesQuery, is_above, above, is_due, group_due, sources_where, sources_query, source_messages, group_messages, messages_due}
+use Rattle.mq_sched.specs.Laws.{AscendIn}
+
+first_part : (a b : Bool) → T (a && b) → T a
+first_part true b h = tt
+first_part false b h = h
+
+second_part : (a b : Bool) → T (a && b) → T b
+second_part true b h = h
+second_part false b h = absurd h
+
+below : (x y : ℕ) → T (is_lt (nat_cmp x y)) → x < y
+below x y h = grind (arith, nat_tests)
+
+increasing : {X : Type 0} (es : List (ℕ × X)) → T (is_sorted nat_cmp es) → IsStrictlyIncreasing (list_map (λ e. e.0) es)
+increasing [] h k lt = absurd (omega arith)
+increasing (e ∷ []) h k lt = absurd (omega arith)
+increasing (e ∷ f ∷ es) h zero lt = below e.0 f.0 (first_part _ _ (first_part _ _ h))
+increasing (e ∷ f ∷ es) h (suc k) lt = let shorter : k + 1 < length (list_map (λ e. e.0) (f ∷ es)) = omega arith in rw add-one (rw add-one at (increasing (f ∷ es) (second_part _ _ h) k shorter))
+
+pub keys_ascend : {X : Type 0} (m : FinMap nat_cmp X) → IsStrictlyIncreasing (map.keys m)
+keys_ascend m = increasing (map.entries m) (map.entries_sorted m)
+
+ascend_append : (xs ys : List SentQuery) → AscendIn xs → AscendIn ys → AscendIn (xs ++ ys)
+ascend_append [] ys a b = b
+ascend_append (GeneralQuery ∷ xs) ys a b = ascend_append xs ys a b
+ascend_append (GroupQuery g f ∷ xs) ys a b = ascend_append xs ys a b
+ascend_append (SourcesQuery g f ss ∷ xs) ys a b = (a.0, a.1, ascend_append xs ys a.2 b)
+
+ascend_query : (group : ℕ) (flag : Bool) (xs : List ℕ) → IsStrictlyIncreasing xs → AscendIn (sources_query group flag xs)
+ascend_query group flag [] up = tt
+ascend_query group flag (x ∷ xs) up = (omega arith, up, tt)
+
+-- a round has queries or it has none
+ascend_if : (b : Bool) (queries : List SentQuery) → AscendIn queries → AscendIn (cond b queries [])
+ascend_if true queries a = a
+ascend_if false queries a = tt
+
+ascend_where : (group : ℕ) (flag : Bool) (test : Set) (g : GroupState) → AscendIn (sources_query group flag (sources_where test g))
+ascend_where group flag test g = ascend_query group flag (sources_where test g) (IsStrictlyIncreasing-filter test (map.keys g.sources) (keys_ascend g.sources))
+
+pub messages_ascend : (timing : Timing) (now group : ℕ) (e : ScheduledGroup) → AscendIn (messages_due timing now group e)
+messages_ascend timing now group e =
+    let g = e.group in
+    ascend_append (group_messages timing now group e) (source_messages timing now group e)
+    (ascend_if (is_due now (group_due e.schedule.group_query)) (GroupQuery group (is_above (lowered_to timing now) (group_deadline g.mode)) ∷ []) tt)
+    (ascend_if (is_due now e.schedule.sources_due) _ (ascend_append (sources_query group true (sources_where (has_left g ∩ above timing now g) g)) (sources_query group false (sources_where (has_left g ∖ above timing now g) g))
+    (ascend_where group true (has_left g ∩ above timing now g) g) (ascend_where group false (has_left g ∖ above timing now g) g)))

@@ -1,0 +1,5 @@
+pub mod Schedule
+pub mod Sending
+pub mod Election
+pub mod Laws
+pub mod Examples

@@ -1,0 +1,150 @@
+-- Sending specific queries (RFC 3376 sections 6.6.3.1 and 6.6.3.2, RFC 3810 sections 7.6.3.1 and
+-- 7.6.3.2): what starts them, which go at a moment, and what is left to go then.
+use Rattle.std.specs.Prelude.{ℕ, ◌+◌, ◌-◌, Bool, true, false, if◌then◌else◌, nat_lt, nat_le, List, [], ◌∷◌, ◌++◌, filter, Option, None, Some}
+use Rattle.std.specs.FinMap as map
+use Rattle.mq_table.specs.declared.timing.Timing.{Timing}
+use Rattle.mq_table.specs.Sets.{Set, ◌∩◌, ◌∖◌}
+use Rattle.mq_table.specs.Maps.{kept}
+use Rattle.mq_table.specs.Group.{GroupState, SourceTimer, Stopped, Running, is_include, group_deadline, deadline_of, timer_at}
+use Rattle.mq_table.specs.Timing.{last_member_count}
+use Rattle.mq_table.specs.Table.{GroupChange}
+use Rattle.mq_table.specs.Lowering.{lowered_to, group_lowered}
+use Rattle.mq_sched.specs.Schedule.{Sendings, ScheduleState, ScheduledGroup, some_source, has_left, settled}
+
+-- A query that a router sends: general, to a group, or to a group for some of its sources, which
+-- ascend. `s` is the flag Suppress Router-Side Processing: routers that hear it lower nothing.
+pub data SentQuery : Type 0 where
+  GeneralQuery : SentQuery
+  GroupQuery : (group : ℕ) (s : Bool) → SentQuery
+  SourcesQuery : (group : ℕ) (s : Bool) (sources : List ℕ) → SentQuery
+
+-- a deadline that is after a moment
+abbrev pub is_above : ℕ → Option ℕ → Bool
+is_above moment None = false
+is_above moment (Some deadline) = nat_lt moment deadline
+
+-- the sources whose timer is above the last member query time
+abbrev pub above : Timing → ℕ → GroupState → Set
+above timing now g s = is_above (lowered_to timing now) (deadline_of (timer_at g s))
+
+-- Send Q(G): the group timer is lowered, and as many queries as the last member query count are to
+-- go, the first now. INCLUDE has no group timer, and no line of the tables asks for its group.
+abbrev pub group_asked : Timing → ℕ → ScheduledGroup → ScheduledGroup
+group_asked timing now e = record {
+  group = group_lowered timing now e.group;
+  schedule = record {
+    group_query =
+        if is_include e.group.mode
+        then e.schedule.group_query
+        else Some (record { left = last_member_count timing; due = now });
+    sources_due = e.schedule.sources_due;
+  };
+}
+
+abbrev pub source_asked : ℕ → ℕ → SourceTimer → SourceTimer
+source_asked limit count Stopped = Stopped
+source_asked limit count (Running d n) = if nat_lt limit d then Running limit count else Running d n
+
+-- Send Q(G,asked): each source asked for whose timer is above the last member query time is lowered to
+-- it and gets the last member query count of sendings. If there is one, a sending is due now; else the
+-- schedule stays.
+abbrev pub sources_asked : Timing → ℕ → Set → ScheduledGroup → ScheduledGroup
+sources_asked timing now asked e =
+    let g = e.group in
+    let limit = lowered_to timing now in
+    let count = last_member_count timing in
+    record {
+      group = record g {
+        sources = kept (λ s timer. Some (if asked s then source_asked limit count timer else timer)) g.sources;
+      };
+      schedule = record {
+        group_query = e.schedule.group_query;
+        sources_due = if some_source (asked ∩ above timing now g) g then Some now else e.schedule.sources_due;
+      };
+    }
+
+-- the queries of a line of the tables are sent by the querier alone
+abbrev pub acted : (is_querier : Bool) → Timing → ℕ → (query_group : Bool) → (query : Set)
+    → ScheduledGroup → ScheduledGroup
+acted false timing now query_group query e = e
+acted true timing now query_group query e =
+    sources_asked timing now query (if query_group then group_asked timing now e else e)
+
+-- what a record leaves of a group and its schedule: the change, what it drops, and what it asks
+abbrev pub after_change : (is_querier : Bool) → Timing → ℕ → GroupChange → ScheduleState → ScheduledGroup
+after_change is_querier timing now change schedule =
+    let e : ScheduledGroup = record { group = change.group; schedule = settled change.group schedule } in
+    acted is_querier timing now change.query_group change.query e
+
+abbrev pub is_due : ℕ → Option ℕ → Bool
+is_due now None = false
+is_due now (Some due) = nat_le due now
+
+abbrev pub group_due : Option Sendings → Option ℕ
+group_due None = None
+group_due (Some q) = Some q.due
+
+-- the sources that pass a test, ascending
+abbrev pub sources_where : Set → GroupState → List ℕ
+sources_where test g = filter test (map.keys g.sources)
+
+-- no query has an empty list of sources
+abbrev pub sources_query : ℕ → Bool → List ℕ → List SentQuery
+sources_query group s [] = []
+sources_query group s (x ∷ xs) = SourcesQuery group s (x ∷ xs) ∷ []
+
+abbrev pub group_messages : Timing → ℕ → ℕ → ScheduledGroup → List SentQuery
+group_messages timing now group e =
+    if is_due now (group_due e.schedule.group_query)
+    then GroupQuery group (is_above (lowered_to timing now) (group_deadline e.group.mode)) ∷ []
+    else []
+
+abbrev pub source_messages : Timing → ℕ → ℕ → ScheduledGroup → List SentQuery
+source_messages timing now group e =
+    let g = e.group in
+    if is_due now e.schedule.sources_due
+    then sources_query group true (sources_where (has_left g ∩ above timing now g) g)
+    ++ sources_query group false (sources_where (has_left g ∖ above timing now g) g)
+    else []
+
+-- What a group sends in one round, at or after the moment that is due: its group query, with S set
+-- where the group timer is above the last member query time; then the sources that have something
+-- left, in two queries, with S set those whose timer is above that time, and the others with S clear.
+abbrev pub messages_due : Timing → ℕ → (group : ℕ) → ScheduledGroup → List SentQuery
+messages_due timing now group e = group_messages timing now group e ++ source_messages timing now group e
+
+-- one sending fewer, and the next after the last member query interval, where one is left
+abbrev pub group_counted : Timing → ℕ → Option Sendings → Option Sendings
+group_counted timing now None = None
+group_counted timing now (Some q) =
+    if nat_le q.due now
+    then (
+    if nat_lt 1 q.left
+    then Some (record { left = q.left - 1; due = now + timing.last_member_interval })
+    else None)
+    else Some q
+
+abbrev pub source_counted : SourceTimer → SourceTimer
+source_counted Stopped = Stopped
+source_counted (Running d n) = Running d (n - 1)
+
+abbrev pub sources_counted : GroupState → GroupState
+sources_counted g = record g { sources = kept (λ s timer. Some (source_counted timer)) g.sources }
+
+-- when the sources are due next, if one has something left
+abbrev pub sources_due_next : Timing → ℕ → GroupState → Option ℕ
+sources_due_next timing now g =
+    if some_source (has_left g) g then Some (now + timing.last_member_interval) else None
+
+-- What is left after a round, however late it comes: each thing that was sent has one sending fewer.
+abbrev pub after_round : Timing → ℕ → ScheduledGroup → ScheduledGroup
+after_round timing now e =
+    let due = is_due now e.schedule.sources_due in
+    let g = if due then sources_counted e.group else e.group in
+    record {
+      group = g;
+      schedule = record {
+        group_query = group_counted timing now e.schedule.group_query;
+        sources_due = if due then sources_due_next timing now g else e.schedule.sources_due;
+      };
+    }

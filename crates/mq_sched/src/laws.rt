@@ -1,0 +1,91 @@
+//! Laws of the definitions. No function here does anything: its contract is the law, for every
+//! group with its schedule, every moment and every timing.
+
+ghost use Rattle.std.specs.Prelude.{◌≡◌, ℕ, ◌+◌, ◌<◌, true, false, ◌&&◌, []};
+ghost use Rattle.mq_table.specs.declared.timing.Timing.{Timing};
+ghost use Rattle.mq_table.specs.Group.{GroupState, timer_at, deadline_of, left_of, group_deadline, IsWellFormed};
+ghost use Rattle.mq_table.specs.Expiry.{expired};
+ghost use Rattle.mq_table.specs.Laws.{Arrival, group_after, IsNoLater};
+ghost use Rattle.mq_sched.specs.Schedule.{sendings_left, ScheduleState, ScheduledGroup, has_left, IsScheduleOf, settled, cleared};
+ghost use Rattle.mq_sched.specs.Sending.{is_due, group_due, messages_due};
+ghost use Rattle.mq_sched.specs.Election.{ElectionState, ticked};
+ghost use Rattle.mq_sched.specs.Laws.{Round, queries_of, left_by, Asking, after_asking, IsFitting, asked_in, asks_group, IsQuietAt, AscendIn, next_moment};
+
+/// A round asks for the sources that have a sending left, where they are due. Each of them has
+/// exactly one fewer then, every other timer is as it was, and no deadline moves.
+pub fn a_round_counts_its_sources_down()
+    ensures asked { (r : Round) (s : ℕ)
+        → asked_in (queries_of r) s ≡ (is_due r.now r.state.schedule.sources_due && has_left r.state.group s) }
+    ensures fewer { (r : Round) (s : ℕ)
+        → asked_in (queries_of r) s ≡ true
+        → left_of (timer_at (left_by r).group s) + 1 ≡ left_of (timer_at r.state.group s) }
+    ensures others { (r : Round) (s : ℕ)
+        → asked_in (queries_of r) s ≡ false
+        → timer_at (left_by r).group s ≡ timer_at r.state.group s }
+    ensures deadlines { (r : Round) (s : ℕ)
+        → deadline_of (timer_at (left_by r).group s) ≡ deadline_of (timer_at r.state.group s) }
+{}
+
+/// So does the group query, in a round that has it; it has it where it is due.
+pub fn a_round_counts_its_group_query_down()
+    ensures asked { (r : Round)
+        → asks_group (queries_of r) ≡ is_due r.now (group_due r.state.schedule.group_query) }
+    ensures fewer { (r : Round)
+        → IsFitting r.state → asks_group (queries_of r) ≡ true
+        → sendings_left (left_by r).schedule.group_query + 1 ≡ sendings_left r.state.schedule.group_query }
+    ensures other { (r : Round)
+        → asks_group (queries_of r) ≡ false
+        → (left_by r).schedule.group_query ≡ r.state.schedule.group_query }
+{}
+
+/// A round leaves nothing due at or before its moment, so that another one then sends nothing: where
+/// the last member query interval isn't 0, as in every configuration.
+pub fn a_round_leaves_nothing_due()
+    ensures later { (r : Round)
+        → 0 < r.timing.last_member_interval → IsQuietAt r.now (left_by r).schedule }
+    ensures silent { (r : Round)
+        → 0 < r.timing.last_member_interval → messages_due r.timing r.now r.address (left_by r) ≡ [] }
+{}
+
+/// A round is in order: no query for sources is empty, and the sources of each ascend.
+pub fn a_round_is_in_order()
+    ensures { (r : Round) → AscendIn (queries_of r) }
+{}
+
+/// Asking for a group and its sources starts and ends no timer, and none runs longer than before.
+pub fn asking_never_lengthens()
+    ensures group { (r : Asking)
+        → IsNoLater (group_deadline r.state.group.mode) (group_deadline (after_asking r).group.mode) }
+    ensures sources { (r : Asking) (s : ℕ)
+        → IsNoLater (deadline_of (timer_at r.state.group s)) (deadline_of (timer_at (after_asking r).group s)) }
+{}
+
+/// A schedule goes on fitting its group: after a record, after the end of timers, after what a record
+/// asks (where the robustness variable isn't 0, as in every configuration), after a round, and after
+/// all is dropped.
+pub fn schedules_keep_form()
+    ensures record_came { (r : Arrival) (schedule : ScheduleState)
+        → IsScheduleOf r.group schedule
+        → IsScheduleOf (group_after r) (settled (group_after r) schedule) }
+    ensures timers_ended { (now : ℕ) (g : GroupState) (schedule : ScheduleState)
+        → IsScheduleOf g schedule → IsScheduleOf (expired now g) (settled (expired now g) schedule) }
+    ensures asked { (r : Asking)
+        → 0 < r.timing.robustness → IsFitting r.state → IsFitting (after_asking r) }
+    ensures round_sent { (r : Round) → IsFitting r.state → IsFitting (left_by r) }
+    ensures all_dropped { (e : ScheduledGroup) → IsFitting (cleared e) }
+{}
+
+/// A group that is held stays held, whatever is asked, sent or dropped.
+pub fn groups_stay_held()
+    ensures asked { (r : Asking) → IsWellFormed r.state.group → IsWellFormed (after_asking r).group }
+    ensures round_sent { (r : Round) → IsWellFormed r.state.group → IsWellFormed (left_by r).group }
+    ensures all_dropped { (e : ScheduledGroup) → IsWellFormed e.group → IsWellFormed (cleared e).group }
+{}
+
+/// A tick leaves nothing for the election to do at or before its moment: where the query interval,
+/// configured and in force, isn't 0, as in every configuration.
+pub fn a_tick_leaves_nothing_due()
+    ensures { (configured : Timing) (now : ℕ) (e : ElectionState)
+        → 0 < configured.query_seconds → 0 < e.timing.query_seconds
+        → now < next_moment (ticked configured now e).role }
+{}

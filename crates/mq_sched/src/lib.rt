@@ -1,0 +1,7 @@
+//! When a router asks: the specific queries that are still to go for one group (RFC 3376 section
+//! 6.6.3, RFC 3810 section 7.6.3), general queries, and the election of the querier (RFC 3376 section
+//! 6.6.2, RFC 3810 section 7.6.2).
+#![tactic(auto)]
+
+pub mod examples;
+pub mod laws;

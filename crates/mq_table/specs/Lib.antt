@@ -1,0 +1,10 @@
+pub mod Sets
+pub mod Maps
+pub mod Group
+pub mod Timing
+pub mod Table
+pub mod OlderHosts
+pub mod Expiry
+pub mod Lowering
+pub mod Examples
+pub mod Laws

@@ -1,0 +1,13 @@
+//! The state of one multicast group, as a router keeps it: what a record, an older host's message,
+//! the end of a timer and a query do to it (RFC 3376 sections 6 and 7, RFC 3810 sections 7 and 8).
+#![tactic(auto)]
+
+pub mod examples;
+pub mod kind;
+pub mod laws;
+pub mod older_hosts;
+pub mod timing;
+
+pub use kind::Kind;
+pub use older_hosts::{Hosts, OlderVersion};
+pub use timing::Timing;

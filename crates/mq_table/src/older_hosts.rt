@@ -1,0 +1,14 @@
+/// Which older versions have hosts in a group, as far as the router knows (RFC 3376 section 7.3.2,
+/// RFC 3810 section 8.3.2). MLD has version 1 alone.
+#[derive(Clone, Copy, Debug, PartialEq, Eq)]
+pub struct Hosts {
+    pub v1: bool,
+    pub v2: bool,
+}
+
+/// The version of an older host's Report: IGMPv1, IGMPv2 or MLDv1.
+#[derive(Clone, Copy, Debug, PartialEq, Eq)]
+pub enum OlderVersion {
+    V1,
+    V2,
+}

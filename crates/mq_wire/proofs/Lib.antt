@@ -1,0 +1,4 @@
+pub mod Faults
+pub mod Older
+pub mod Spelled
+pub mod Sums

@@ -1,0 +1,8 @@
+use Rattle.mq_wire.proofs.Spelled.{exact_message, exact_fault}
+use Rattle.mq_wire.proofs.igmp.read_igmp.Goals as goal
+
+pub returns-clause-message : goal.returns-clause-message
+returns-clause-message c = exact_message c.args.bytes.now c.read.result c.read.ensures
+
+pub returns-clause-fault : goal.returns-clause-fault
+returns-clause-fault c = exact_fault c.args.bytes.now c.read.result c.read.ensures

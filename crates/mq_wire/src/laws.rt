@@ -1,0 +1,25 @@
+//! What holds of checksums and of the spelling of messages, whoever reads them. The functions do nothing: each
+//! contract is a law.
+
+ghost use Rattle.mq_wire.specs.Checksum.{RightWithItsChecksum};
+ghost use Rattle.mq_wire.specs.Spelling.{OneMessage, NoFaultWhereSpelled, SpelledWhereNoFault};
+
+/// A message whose checksum field has its checksum is right.
+pub fn right_with_its_checksum()
+    ensures { RightWithItsChecksum }
+{}
+
+/// No bytes spell two messages.
+pub fn one_message()
+    ensures { OneMessage }
+{}
+
+/// Bytes that spell a message have no fault.
+pub fn no_fault_where_spelled()
+    ensures { NoFaultWhereSpelled }
+{}
+
+/// Bytes that have no fault spell a message.
+pub fn spelled_where_no_fault()
+    ensures { SpelledWhereNoFault }
+{}

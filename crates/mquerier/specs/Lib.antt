@@ -1,0 +1,4 @@
+pub mod Line
+pub mod Printing
+pub mod Status
+pub mod Text

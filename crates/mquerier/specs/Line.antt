@@ -1,0 +1,39 @@
+-- The line of a message's bytes.
+use Rattle.std.specs.Prelude.{◌≡◌, ℕ, Bool, true, false, List, Option, Some, Result, Ok, Err}
+use Rattle.std.specs.Io.KnownBytes.{Appends}
+use Rattle.hex.specs.Hex.{decode_of}
+use Rattle.mq_wire.specs.declared.message.Message.{Message}
+use Rattle.mq_wire.specs.declared.message.WireFault.{WireFault}
+use Rattle.mq_wire.specs.Spelling.{Spells, fault_of}
+use Rattle.mquerier.specs.Printing.{GrowsByBeginning}
+use Rattle.mquerier.specs.Text.{message_text, fault_text, line_of}
+
+-- The line of bytes: that of the message that they spell, or else that of their fault. The flag tells which.
+abbrev pub IsLineOf : List ℕ → Bool → List ℕ → Type 0
+IsLineOf bytes true line = (message : Message ℕ) × Spells bytes message × (line ≡ line_of (message_text message))
+IsLineOf bytes false line = (fault : WireFault) × (fault_of bytes ≡ Some fault) × (line ≡ line_of (fault_text fault))
+
+-- the line was printed and its flag is the answer, or a beginning of it was printed and then a fault came
+abbrev pub Answers : {E : Type 0} → Option (List ℕ) → Option (List ℕ) → Bool → List ℕ → Result Bool E → Type 0
+Answers old new flag line (Ok answer) = (answer ≡ flag) × Appends old new line
+Answers old new flag line (Err e) = GrowsByBeginning old new line
+
+-- the same of the line of these bytes
+pub record PrintsLine {E : Type 0} (old new : Option (List ℕ)) (bytes : List ℕ) (answer : Result Bool E) : Type 0 where
+  pub flag : Bool
+  pub line : List ℕ
+  pub is_line : IsLineOf bytes flag line
+  pub printed : Answers old new flag line answer
+
+-- the line of the bytes that this text is the hexadecimal of was printed, and it has this flag
+pub record PrintsHexLine (old new : Option (List ℕ)) (text : List ℕ) (flag : Bool) : Type 0 where
+  pub bytes : List ℕ
+  pub line : List ℕ
+  pub decoded : decode_of text ≡ Ok bytes
+  pub is_line : IsLineOf bytes flag line
+  pub grows : Appends old new line
+
+-- the line of a message was printed
+pub record PrintsSomeLine (old new : Option (List ℕ)) : Type 0 where
+  pub text : List ℕ
+  pub printed : PrintsHexLine old new text true

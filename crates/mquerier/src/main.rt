@@ -1,0 +1,47 @@
+//! `mquerier`: shows what hosts and routers say to each other about multicast groups.
+//!
+//! `igmp_line` writes the line of one message; `run` does what the command line asks for.
+#![tactic(auto)]
+
+mod command;
+mod lines;
+mod printing;
+mod program;
+#[cfg(test)]
+mod tests;
+mod text;
+
+pub use lines::igmp_line;
+use mq_count::Watched;
+pub use printing::LineFault;
+pub use program::run;
+use std::io::{BufWriter, ErrorKind, Write};
+use std::process::ExitCode;
+use std::{env, io};
+
+fn main(rt: HostRuntime) -> ExitCode {
+    let status = run_on_host(&rt).unwrap_or_else(|error| {
+        let (line, status) = match error.kind() {
+            ErrorKind::InvalidData => ("mquerier: the command line isn't UTF-8\n", 2),
+            _ => ("mquerier: out of memory\n", 1),
+        };
+        let _ = rt.stderr().write_all(line.as_bytes());
+        status
+    });
+    ExitCode::from(status)
+}
+
+/// Runs on the program's own words and streams. An error says that a word isn't UTF-8 or that memory
+/// ran out.
+fn run_on_host(rt: &HostRuntime) -> io::Result<u8> {
+    let alloc = rt.alloc();
+    let mut words = Vec::new(alloc);
+    // A `collect` would go on where its first growth is refused.
+    for word in env::args(rt)? {
+        words.push(word)?;
+    }
+    let mut input = Watched::new(rt.stdin());
+    let mut output = Watched::new(BufWriter::new(alloc, rt.stdout())?);
+    let mut errors = Watched::new(rt.stderr());
+    Ok(run(alloc, &words, &mut input, &mut output, &mut errors))
+}

@@ -1,0 +1,100 @@
+//! What the program does with its words and streams.
+
+ghost use Rattle.std.specs.Prelude.{◌≡◌, ◌≤◌, Err, true, IfOk, IsErr};
+ghost use Rattle.hex.specs.Hex.{decode_of};
+ghost use Rattle.mq_count.specs.Streams.{inner_of, has_failed};
+ghost use Rattle.mquerier.specs.Line.{PrintsHexLine, PrintsSomeLine};
+ghost use Rattle.mquerier.specs.Status.{status_of};
+
+use crate::command::{Request, request_of};
+use crate::lines::igmp_line;
+use crate::printing::print;
+use clap::error::ErrorKind;
+use hex::FromHexError;
+use mq_count::Watched;
+use std::alloc::Global;
+use std::convert::AsStr;
+use std::io::{Read, Write};
+
+/// The statuses of the program.
+const DONE: u8 = 0;
+
+const FAULTY: u8 = 1;
+
+const REFUSED: u8 = 2;
+
+/// Why the program did not do what it was asked for.
+#[derive(Clone, Copy, Debug, PartialEq, Eq)]
+pub enum Failure {
+    /// HEX isn't hexadecimal.
+    NotHex,
+    /// A growth was refused.
+    Memory,
+    /// A write to the output failed, or took nothing.
+    Write,
+}
+
+/// Does what the words ask for, the program's name the first of them, and answers the status: 0 where
+/// it is done; 1 where the input is faulty, the output fails or memory runs out; 2 where the command
+/// line is faulty or help is asked for. The input isn't read yet. A write to `errors` that fails
+/// changes no status.
+pub fn run<S: AsStr, R: Read, W: Write, E: Write>(
+    alloc: Global,
+    words: &[S],
+    _input: &mut Watched<R>,
+    output: &mut Watched<W>,
+    errors: &mut Watched<E>,
+) -> u8
+    ensures status { result ≤ 2 }
+    // What is done is a message's line.
+    ensures done { result ≡ 0 → PrintsSomeLine (W.contents (inner_of output.old)) (W.contents (inner_of output.new)) }
+    // What is refused leaves the output as it was.
+    ensures refused { result ≡ 2 → output.new ≡ output.old }
+{
+    let request = match request_of(alloc, words) {
+        Ok(request) => request,
+        Err(error) if error.kind() == ErrorKind::OutOfMemory => {
+            return told(Failure::Memory, errors);
+        }
+        Err(error) => {
+            let _ = write!(errors, "{error}");
+            return REFUSED;
+        }
+    };
+    let Request::Message { hex } = request;
+    match message(alloc, hex, output) {
+        Ok(true) => DONE,
+        Ok(false) => FAULTY,
+        Err(failure) => told(failure, errors),
+    }
+}
+
+/// Prints the line of one message, and answers whether it is that of a message or of a fault.
+fn message<W: Write>(alloc: Global, hex: &str, output: &mut Watched<W>) -> Result<bool, Failure>
+    ensures line { IfOk result (PrintsHexLine (W.contents (inner_of output.old)) (W.contents (inner_of output.new)) hex.now) }
+    ensures not_hex { result ≡ Err Failure.NotHex → IsErr (decode_of hex.now) × (output.new ≡ output.old) }
+    ensures write { result ≡ Err Failure.Write → has_failed output.new ≡ true }
+{
+    let bytes = match hex::decode(alloc, hex) {
+        Ok(bytes) => bytes,
+        Err(FromHexError::OutOfMemory) => return Err(Failure::Memory),
+        Err(_) => return Err(Failure::NotHex),
+    };
+    match igmp_line(&bytes, output) {
+        Ok(is_message) if output.flush().is_ok() => Ok(is_message),
+        _ => Err(Failure::Write),
+    }
+}
+
+/// Says on standard error what failed, and answers the status.
+fn told<E: Write>(failure: Failure, errors: &mut Watched<E>) -> u8
+    ensures { result ≡ status_of failure }
+{
+    let (line, status) = match failure {
+        Failure::NotHex => ("mquerier: not hex\n", REFUSED),
+        Failure::Memory => ("mquerier: out of memory\n", FAULTY),
+        Failure::Write => ("mquerier: write failed\n", FAULTY),
+    };
+    let _ = print(line.as_bytes(), errors);
+    status
+}
