@@ -22,6 +22,7 @@ run: bin/mquerier
 # The whole gate. Its last line counts what passed.
 test:
 	tools/refused/check
+	tools/refuse-growths
 	tools/refuse-allocations $(FIRST_PATH)
 	rt ci
 
