@@ -16,10 +16,12 @@
 //! - The meter: `Meter`. Its contracts say `Spends low high old new`, and the functions of
 //!   `metering` that do nothing state the laws of that word.
 //! - Streams: `Watched`.
+//! - Text: `write_decimal`.
 #![tactic(auto)]
 
 pub mod address_v4;
 pub mod address_v6;
+pub mod decimal;
 pub mod keys;
 pub mod metering;
 pub mod moments;
@@ -27,6 +29,7 @@ pub mod streams;
 
 pub use address_v4::Addr4;
 pub use address_v6::Addr6;
+pub use decimal::write_decimal;
 pub use keys::Key;
 pub use metering::Meter;
 pub use moments::{Moment, Span};

@@ -4,6 +4,7 @@ ghost use Rattle.std.specs.Prelude.{◌≡◌, ◌+◌, ◌^◌, ◌≤◌, ◌�
 ghost use Rattle.std.specs.Option.{SomeIff};
 ghost use Rattle.std.specs.Fmt.{decimal};
 
+use crate::decimal::write_decimal;
 use std::marker::Model;
 
 /// The latest moment that is in range, in milliseconds: 2^53, some 285000 years.
@@ -100,22 +101,6 @@ impl Moment {
     {
         self.ms
     }
-}
-
-/// Writes a number in decimal at the front of `out`, and answers how many bytes that is.
-fn write_decimal(number: u64, out: &mut [u8; 20]) -> usize
-    ensures text { take result out.new ≡ decimal number }
-    ensures behind { drop result out.new ≡ drop result out.old }
-    ensures len { result ≡ length (decimal number) }
-    ensures fits { result ≤ 20 }
-{
-    if number < 10 {
-        out[0] = b'0' + number as u8;
-        return 1;
-    }
-    let before_last = write_decimal(number / 10, out);
-    out[before_last] = b'0' + (number % 10) as u8;
-    before_last + 1
 }
 
 #[cfg(test)]

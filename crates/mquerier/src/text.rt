@@ -6,7 +6,7 @@ ghost use Rattle.arrayvec.specs.ArrayVec.{array_vec_len};
 ghost use Rattle.mquerier.specs.Text.{address_text, message_text, fault_text, line_of};
 
 use arrayvec::ArrayVec;
-use mq_count::Addr4;
+use mq_count::{Addr4, write_decimal};
 use mq_wire::{Message, OlderVersion, WireFault};
 
 /// The most bytes that a line has. The longest is that of a truncated message, with 42.
@@ -98,16 +98,15 @@ fn put_decimal(line: &mut Line, number: u64)
     put_digits(line, number);
 }
 
-/// Puts the digits of a number at the end, the first of them not 0 but for the number 0.
+/// Puts the digits of a number at the end.
 fn put_digits(line: &mut Line, number: u64)
     requires { array_vec_len line.old + length (decimal number) ≤ 64 }
     ensures text { line.new.items ≡ line.old.items ++ decimal number }
     ensures room { array_vec_len line.new ≡ array_vec_len line.old + length (decimal number) }
 {
-    if number >= 10 {
-        put_digits(line, number / 10);
-    }
-    line.push(b'0' + (number % 10) as u8);
+    let mut digits = [0; 20];
+    let len = write_decimal(number, &mut digits);
+    put(line, &digits[..len]);
 }
 
 /// Puts a text at the end.

@@ -1,4 +1,4 @@
-use Rattle.mq_count.proofs.moments.+write_decimal.Given as goal
+use Rattle.mq_count.proofs.decimal.+write_decimal.Given as goal
 
 abbrev pub decreases-write_decimal : goal.decreases-write_decimal
 decreases-write_decimal l = l.number
