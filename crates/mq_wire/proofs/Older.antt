@@ -1,5 +1,5 @@
 -- The fields of a Report of version 1 or 2 and of a Leave, at their places.
-use Rattle.std.proofs.Common.{◌≡◌, ℕ, ◌≤◌, List, [], ◌∷◌, length, drop, arith, refl}
+use Rattle.std.proofs.Common.{◌≡◌, ℕ, ◌≤◌, List, ◌∷◌, length, drop, arith}
 use Rattle.byteorder.specs.Endian.{big_number}
 use Rattle.mq_wire.specs.Fields.{Begins}
 use Rattle.mq_wire.specs.Spelling.{older, type_of}

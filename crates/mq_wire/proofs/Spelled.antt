@@ -1,5 +1,5 @@
 -- Bytes spell one message at the most, and then have no fault.
-use Rattle.std.proofs.Common.{◌≡◌, ◌≤◌, ◌<◌, ◌⊎◌, inl, inr, ℕ, ◌↔◌, List, length, drop, Result, Ok, Err, Some, None, arith, ap, subst, sym, ◌∙◌, refl}
+use Rattle.std.proofs.Common.{◌≡◌, ◌≤◌, ◌<◌, inl, inr, ℕ, ◌↔◌, List, length, drop, Result, Ok, Err, Some, None, arith, ap, subst, sym, ◌∙◌, refl}
 use Rattle.std.proofs.lemmas.Bool.Decides.{leb_tells, eqb_tells}
 use Rattle.byteorder.specs.Endian.{big_number}
 use Rattle.mq_wire.specs.declared.message.Message.{Message}

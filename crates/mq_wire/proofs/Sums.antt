@@ -2,7 +2,6 @@
 use Rattle.std.proofs.Common.{◌≡◌, ◌≤◌, ℕ, ◌+◌, ◌-◌, ◌*◌, ◌/◌, ◌%◌, ◌<◌, inl, inr, List, [], ◌∷◌, length, ap, ◌∙◌, arith, refl}
 use Rattle.std.proofs.Math.Nat.{div-add-mod, mul-mod_right}
 use Rattle.std.proofs.lemmas.Bool.Decides.{nat_tests, eqb_tells}
-use Rattle.std.proofs.lemmas.Grind.{common_steps}
 use Rattle.mq_wire.specs.Checksum.{sum_of_words, ones_complement, with_field, checksum_of, IsRight}
 
 sum_with_field : (high low : ℕ) (bytes : List ℕ) → 4 ≤ length bytes → sum_of_words (with_field high low bytes) ≡ sum_of_words (with_field 0 0 bytes) + (high * 256 + low)
