@@ -10,18 +10,22 @@ use crate::message::{Message, OlderVersion, WireFault};
 use byteorder::{BigEndian, ByteOrder};
 use mq_count::Addr4;
 
-/// The types of messages (RFC 3376 section 4).
+/// The type of a version 1 Report (RFC 1112 appendix I).
 const V1_REPORT: u8 = 0x12;
 
+/// The type of a version 2 Report (RFC 2236 section 2.1).
 const V2_REPORT: u8 = 0x16;
 
+/// The type of a version 2 Leave (RFC 2236 section 2.1).
 const LEAVE: u8 = 0x17;
 
-/// Where the fields of an older message begin that come after its type, and where they end.
+/// Where the checksum of a message begins, behind its type and a byte that is not looked at.
 const CHECKSUM: usize = 2;
 
+/// Where the group of an older message begins, behind the checksum.
 const GROUP: usize = 4;
 
+/// Where the group ends.
 const GROUP_END: usize = 8;
 
 /// The message that the bytes of an IGMP datagram spell, without the IP header, or the first fault.
@@ -33,7 +37,7 @@ pub fn read_igmp(bytes: &[u8]) -> Result<Message<Addr4>, WireFault>
     read(bytes)
 }
 
-/// The same: the tests in their order.
+/// The same, said of the answer as a whole: the tests in their order.
 fn read(bytes: &[u8]) -> Result<Message<Addr4>, WireFault>
     ensures { ReadsAs bytes.now result }
 {

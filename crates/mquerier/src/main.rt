@@ -1,6 +1,12 @@
 //! `mquerier`: shows what hosts and routers say to each other about multicast groups.
 //!
-//! `igmp_line` writes the line of one message; `run` does what the command line asks for.
+//! ```text
+//! $ mquerier message igmp 1600f8faef010203
+//! report v2 group 239.1.2.3
+//! ```
+//!
+//! `igmp_line` writes the line of one message; `run` does what the command line asks for, over any
+//! streams; `main` runs it on the program's own words and streams.
 #![tactic(auto)]
 
 mod command;
