@@ -1,1 +1,2 @@
 pub mod PrintedLine
+pub mod Failures

@@ -4,7 +4,7 @@ ghost use Rattle.std.specs.Prelude.{◌≡◌, ◌≤◌, Err, true, IfOk, IsErr
 ghost use Rattle.hex.specs.Hex.{decode_of};
 ghost use Rattle.mq_count.specs.Streams.{inner_of, has_failed};
 ghost use Rattle.mquerier.specs.Line.{PrintsHexLine, PrintsSomeLine};
-ghost use Rattle.mquerier.specs.Status.{status_of};
+ghost use Rattle.mquerier.specs.Status.{status_of, Told, IsFaulty};
 
 use crate::command::{Request, request_of};
 use crate::lines::igmp_line;
@@ -34,6 +34,30 @@ pub enum Failure {
     Write,
 }
 
+impl Failure {
+    ghost use Rattle.mquerier.specs.Status.{status_of, failure_line};
+
+    /// What standard error is told.
+    fn line(self) -> &'static str
+        ensures { result.now ≡ failure_line self }
+    {
+        match self {
+            Failure::NotHex => "mquerier: not hex\n",
+            Failure::Memory => "mquerier: out of memory\n",
+            Failure::Write => "mquerier: write failed\n",
+        }
+    }
+
+    fn status(self) -> u8
+        ensures { result ≡ status_of self }
+    {
+        match self {
+            Failure::NotHex => REFUSED,
+            Failure::Memory | Failure::Write => FAULTY,
+        }
+    }
+}
+
 /// Does what the words ask for, the program's name the first of them, and answers the status: 0 where
 /// it is done; 1 where the input is faulty, the output fails or memory runs out; 2 where the command
 /// line is faulty or help is asked for. The input isn't read yet. A write to `errors` that fails
@@ -48,6 +72,10 @@ pub fn run<S: AsStr, R: Read, W: Write, E: Write>(
     ensures status { result ≤ 2 }
     // What is done is a message's line.
     ensures done { result ≡ 0 → PrintsSomeLine (W.contents (inner_of output.old)) (W.contents (inner_of output.new)) }
+    // What is faulty is told: the line of a message's fault, or what failed.
+    ensures faulty { result ≡ 1 → IsFaulty
+        (W.contents (inner_of output.old)) (W.contents (inner_of output.new)) (has_failed output.new)
+        (E.contents (inner_of errors.old)) (E.contents (inner_of errors.new)) (has_failed errors.new) }
     // What is refused leaves the output as it was.
     ensures refused { result ≡ 2 → output.new ≡ output.old }
 {
@@ -88,13 +116,9 @@ fn message<W: Write>(alloc: Global, hex: &str, output: &mut Watched<W>) -> Resul
 
 /// Says on standard error what failed, and answers the status.
 fn told<E: Write>(failure: Failure, errors: &mut Watched<E>) -> u8
-    ensures { result ≡ status_of failure }
+    ensures status { result ≡ status_of failure }
+    ensures line { Told (E.contents (inner_of errors.old)) (E.contents (inner_of errors.new)) (has_failed errors.new) failure }
 {
-    let (line, status) = match failure {
-        Failure::NotHex => ("mquerier: not hex\n", REFUSED),
-        Failure::Memory => ("mquerier: out of memory\n", FAULTY),
-        Failure::Write => ("mquerier: write failed\n", FAULTY),
-    };
-    let _ = print(line.as_bytes(), errors);
-    status
+    let _ = print(failure.line().as_bytes(), errors);
+    failure.status()
 }
