@@ -17,6 +17,7 @@
 //!   `metering` that do nothing state the laws of that word.
 //! - Streams: `Watched`.
 //! - Text: `write_decimal`.
+//! - Words that the messages and the group tables share: `OlderVersion`.
 #![tactic(auto)]
 
 pub mod address_v4;
@@ -26,6 +27,7 @@ pub mod keys;
 pub mod metering;
 pub mod moments;
 pub mod streams;
+pub mod versions;
 
 pub use address_v4::Addr4;
 pub use address_v6::Addr6;
@@ -34,3 +36,4 @@ pub use keys::Key;
 pub use metering::Meter;
 pub use moments::{Moment, Span};
 pub use streams::Watched;
+pub use versions::OlderVersion;

@@ -10,10 +10,10 @@ use Rattle.std.specs.FinMap as map
 use Rattle.std.specs.FinMap.{FinMap, is_sorted}
 use Rattle.mq_table.specs.declared.timing.Timing.{Timing}
 use Rattle.mq_table.specs.Sets.{Set, ◌∩◌, ◌∖◌}
-use Rattle.mq_table.specs.Group.{GroupState, group_deadline}
+use Rattle.mq_table.specs.Group.{GroupState, group_deadline, is_ahead}
 use Rattle.mq_table.specs.Lowering.{lowered_to}
-use Rattle.mq_sched.specs.Schedule.{ScheduledGroup, has_left}
-use Rattle.mq_sched.specs.Sending.{SentQuery, GeneralQuery, GroupQuery, SourcesQuery, is_above, above, is_due, group_due, sources_where, sources_query, source_messages, group_messages, messages_due}
+use Rattle.mq_sched.specs.Schedule.{ScheduledGroup, has_sendings}
+use Rattle.mq_sched.specs.Sending.{SentQuery, GeneralQuery, GroupQuery, SourcesQuery, above, is_due, group_due, sources_where, sources_query, source_messages, group_messages, messages_due}
 use Rattle.mq_sched.specs.Laws.{AscendIn}
 
 first_part : (a b : Bool) → T (a && b) → T a
@@ -58,6 +58,6 @@ pub messages_ascend : (timing : Timing) (now group : ℕ) (e : ScheduledGroup) �
 messages_ascend timing now group e =
     let g = e.group in
     ascend_append (group_messages timing now group e) (source_messages timing now group e)
-    (ascend_if (is_due now (group_due e.schedule.group_query)) (GroupQuery group (is_above (lowered_to timing now) (group_deadline g.mode)) ∷ []) tt)
-    (ascend_if (is_due now e.schedule.sources_due) _ (ascend_append (sources_query group true (sources_where (has_left g ∩ above timing now g) g)) (sources_query group false (sources_where (has_left g ∖ above timing now g) g))
-    (ascend_where group true (has_left g ∩ above timing now g) g) (ascend_where group false (has_left g ∖ above timing now g) g)))
+    (ascend_if (is_due now (group_due e.schedule.group_query)) (GroupQuery group (is_ahead (lowered_to timing now) (group_deadline g.mode)) ∷ []) tt)
+    (ascend_if (is_due now e.schedule.sources_due) _ (ascend_append (sources_query group true (sources_where (has_sendings g ∩ above timing now g) g)) (sources_query group false (sources_where (has_sendings g ∖ above timing now g) g))
+    (ascend_where group true (has_sendings g ∩ above timing now g) g) (ascend_where group false (has_sendings g ∖ above timing now g) g)))

@@ -11,11 +11,11 @@ later_general timing now true positive = omega arith
 later_general timing now false positive = omega arith
 
 after_due : (timing : Timing) (now : ℕ) (role : Role) → 0 < timing.query_seconds → general_is_due now role ≡ true → now < next_moment (after_general timing now role)
-after_due timing now (Querier due left) positive e = later_general timing now (ltb 1 left) positive
+after_due timing now (Querier due queries) positive e = later_general timing now (ltb 1 queries) positive
 after_due timing now (Other d) positive e = cc
 
 not_due : (now : ℕ) (role : Role) → deadline_ended now role ≡ false → general_is_due now role ≡ false → now < next_moment role
-not_due now (Querier due left) ended due_now = leb-false due now due_now
+not_due now (Querier due queries) ended due_now = leb-false due now due_now
 not_due now (Other d) ended due_now = leb-false d now ended
 
 sent_or_not : (now : ℕ) (e : ElectionState) → 0 < e.timing.query_seconds → deadline_ended now e.role ≡ false → (b : Bool) → general_is_due now e.role ≡ b → now < next_moment (cond b (record { role = after_general e.timing now e.role; timing = e.timing }) e).role

@@ -10,91 +10,91 @@ use Rattle.mq_table.specs.declared.kind.Kind.{Kind}
 use Rattle.mq_table.specs.declared.timing.Timing.{Timing}
 use Rattle.mq_table.specs.Sets.{Set, ◌∩◌}
 use Rattle.mq_table.specs.Maps.{kept}
-use Rattle.mq_table.specs.Group.{GroupState, FilterMode, Include, Exclude, SourceTimer, Stopped, Running, is_include, is_vacant, vacant, timer_at, deadline_of, left_of}
+use Rattle.mq_table.specs.Group.{GroupState, FilterMode, Include, Exclude, SourceTimer, Stopped, Running, is_include, is_vacant, vacant, timer_at, deadline_of, sendings_of, is_ahead}
 use Rattle.mq_table.specs.Timing.{last_member_count}
-use Rattle.mq_table.specs.Table.{NamedSources, line_of, change_of}
+use Rattle.mq_table.specs.Table.{NamedSources, line_met, change_of}
 use Rattle.mq_table.specs.Expiry.{ahead, mode_expired, at_zero, source_expired, expired}
 use Rattle.mq_table.specs.Lowering.{lowered_to, mode_lowered}
 use Rattle.mq_table.proofs.Maps.{get-kept}
 use Rattle.mq_table.proofs.Groups.{same_sources}
 use Rattle.mq_table.proofs.Lines.{timer_at-change_of}
-use Rattle.mq_sched.specs.Schedule.{Sendings, ScheduleState, ScheduledGroup, some_source, has_left, IsScheduleOf, settled, source_cleared, cleared}
-use Rattle.mq_sched.specs.Sending.{is_above, above, group_asked, source_asked, sources_asked, acted, is_due, group_counted, sources_counted, sources_due_next, after_round}
+use Rattle.mq_sched.specs.Schedule.{QuerySchedule, ScheduleState, ScheduledGroup, some_source, has_sendings, IsScheduleOf, settled, source_cleared, cleared}
+use Rattle.mq_sched.specs.Sending.{above, group_asked, source_asked, sources_asked, acted, is_due, group_counted, sources_counted, sources_due_next, after_round}
 use Rattle.mq_sched.proofs.Asked.{some_source-from, some_source-gives, timer_at-sources_asked}
 
 some_if : {X : Type 0} (b : Bool) (x : X) → is_some (cond b (Some x) None) ≡ b
 some_if true x = refl
 some_if false x = refl
 
--- a source with a sending left is held
-held_if_left : (t : Option SourceTimer) → ltb 0 (left_of t) ≡ true → IsSome t
-held_if_left None e = absurd (false≢true e)
-held_if_left (Some t) e = refl
+-- a source with a sending to go is held
+held_if_sendings : (t : Option SourceTimer) → ltb 0 (sendings_of t) ≡ true → IsSome t
+held_if_sendings None e = absurd (false≢true e)
+held_if_sendings (Some t) e = refl
 
--- where no source gains sendings, one has some left only if one had before
-pub left_before : (old new : GroupState) → ((s : ℕ) → has_left new s ≡ true → has_left old s ≡ true) → some_source (has_left new) new ≡ true → some_source (has_left old) old ≡ true
-left_before old new no_gain some =
-    let q = some_source-gives (has_left new) new some in
+-- where no source gains sendings, one has some only if one had before
+pub sendings_before : (old new : GroupState) → ((s : ℕ) → has_sendings new s ≡ true → has_sendings old s ≡ true) → some_source (has_sendings new) new ≡ true → some_source (has_sendings old) old ≡ true
+sendings_before old new no_gain some =
+    let q = some_source-gives (has_sendings new) new some in
     let had = no_gain q.0 q.2 in
-    some_source-from (has_left old) old q.0 (held_if_left (timer_at old q.0) had) had
+    some_source-from (has_sendings old) old q.0 (held_if_sendings (timer_at old q.0) had) had
 
-pub fits_settled : (old new : GroupState) (schedule : ScheduleState) → IsScheduleOf old schedule → ((s : ℕ) → has_left new s ≡ true → has_left old s ≡ true) → IsScheduleOf new (settled new schedule)
+pub fits_settled : (old new : GroupState) (schedule : ScheduleState) → IsScheduleOf old schedule → ((s : ℕ) → has_sendings new s ≡ true → has_sendings old s ≡ true) → IsScheduleOf new (settled new schedule)
 fits_settled old new schedule fits no_gain = record {
   exclude_only = λ e. ap (λ m. cond (is_include m) None schedule.group_query) e;
-  group_left = by_mode (is_include new.mode);
-  sources_left = by_left (some_source (has_left new) new) refl;
+  group_sendings = by_mode (is_include new.mode);
+  sources_sendings = by_sendings (some_source (has_sendings new) new) refl;
 }
   where
-    by_mode : (b : Bool) → IfSome (cond b None schedule.group_query) (λ q. 0 < q.left)
+    by_mode : (b : Bool) → IfSome (cond b None schedule.group_query) (λ q. 0 < q.sendings)
     by_mode true = tt
-    by_mode false = fits.group_left
+    by_mode false = fits.group_sendings
 
-    by_left : (b : Bool) → some_source (has_left new) new ≡ b → is_some (cond b schedule.sources_due None) ≡ b
-    by_left true e = fits.sources_left ∙ left_before old new no_gain e
-    by_left false e = refl
+    by_sendings : (b : Bool) → some_source (has_sendings new) new ≡ b → is_some (cond b schedule.sources_due None) ≡ b
+    by_sendings true e = fits.sources_sendings ∙ sendings_before old new no_gain e
+    by_sendings false e = refl
 
 -- no line of the tables gives a source more sendings than it had
-by_rule_no_gain : (x y : Bool) (d n : ℕ) → ltb 0 (left_of (cond x (Some (Running d n)) (cond y (Some Stopped) None))) ≡ true → ltb 0 n ≡ true
+by_rule_no_gain : (x y : Bool) (d n : ℕ) → ltb 0 (sendings_of (cond x (Some (Running d n)) (cond y (Some Stopped) None))) ≡ true → ltb 0 n ≡ true
 by_rule_no_gain true y d n e = e
 by_rule_no_gain false true d n e = absurd (false≢true e)
 by_rule_no_gain false false d n e = absurd (false≢true e)
 
-record_no_gain : (timing : Timing) (now : ℕ) (g : GroupState) (kind : Kind) (named : NamedSources) (s : ℕ) → has_left (change_of timing now g kind named).group s ≡ true → has_left g s ≡ true
+record_no_gain : (timing : Timing) (now : ℕ) (g : GroupState) (kind : Kind) (named : NamedSources) (s : ℕ) → has_sendings (change_of timing now g kind named).group s ≡ true → has_sendings g s ≡ true
 record_no_gain timing now g kind named s e =
-    let l = line_of timing now g kind named in
-    by_rule_no_gain (l.x s) (l.y s) _ (left_of (timer_at g s)) (ap (λ t. ltb 0 (left_of t)) (sym (timer_at-change_of timing now g kind named s)) ∙ e)
+    let l = line_met timing now g kind named in
+    by_rule_no_gain (l.x s) (l.y s) _ (sendings_of (timer_at g s)) (ap (λ t. ltb 0 (sendings_of t)) (sym (timer_at-change_of timing now g kind named s)) ∙ e)
 
 pub fits_after_record : (timing : Timing) (now : ℕ) (g : GroupState) (schedule : ScheduleState) (kind : Kind) (named : NamedSources) → IsScheduleOf g schedule → (let new = (change_of timing now g kind named).group in IsScheduleOf new (settled new schedule))
 fits_after_record timing now g schedule kind named fits = fits_settled g (change_of timing now g kind named).group schedule fits (record_no_gain timing now g kind named)
 
 -- nor does the end of timers
-zero_left : (mode : FilterMode) → left_of (at_zero mode) ≡ 0
-zero_left Include = refl
-zero_left (Exclude d) = refl
+zero_sendings : (mode : FilterMode) → sendings_of (at_zero mode) ≡ 0
+zero_sendings Include = refl
+zero_sendings (Exclude d) = refl
 
-expired_no_gain : (mode : FilterMode) (now : ℕ) (t : Option SourceTimer) → ltb 0 (left_of (option_and_then (source_expired mode now) t)) ≡ true → ltb 0 (left_of t) ≡ true
+expired_no_gain : (mode : FilterMode) (now : ℕ) (t : Option SourceTimer) → ltb 0 (sendings_of (option_and_then (source_expired mode now) t)) ≡ true → ltb 0 (sendings_of t) ≡ true
 expired_no_gain mode now None e = e
-expired_no_gain mode now (Some Stopped) e = ap (ltb 0) (sym (zero_left mode)) ∙ e
+expired_no_gain mode now (Some Stopped) e = ap (ltb 0) (sym (zero_sendings mode)) ∙ e
 expired_no_gain mode now (Some (Running d n)) e = by_test (ltb now d) e
   where
-    by_test : (b : Bool) → ltb 0 (left_of (cond b (Some (Running d n)) (at_zero mode))) ≡ true → ltb 0 n ≡ true
+    by_test : (b : Bool) → ltb 0 (sendings_of (cond b (Some (Running d n)) (at_zero mode))) ≡ true → ltb 0 n ≡ true
     by_test true e = e
-    by_test false e = absurd (false≢true (ap (ltb 0) (sym (zero_left mode)) ∙ e))
+    by_test false e = absurd (false≢true (ap (ltb 0) (sym (zero_sendings mode)) ∙ e))
 
-expiry_no_gain : (now : ℕ) (g : GroupState) (s : ℕ) → has_left (expired now g) s ≡ true → has_left g s ≡ true
-expiry_no_gain now g s = by_held (is_vacant left)
+expiry_no_gain : (now : ℕ) (g : GroupState) (s : ℕ) → has_sendings (expired now g) s ≡ true → has_sendings g s ≡ true
+expiry_no_gain now g s = by_held (is_vacant kept_on)
   where
-    left : GroupState
-    left = record {
+    kept_on : GroupState
+    kept_on = record {
       mode = mode_expired now g.mode;
       sources = kept (λ s. source_expired (mode_expired now g.mode) now) g.sources;
       v1 = option_and_then (ahead now) g.v1;
       v2 = option_and_then (ahead now) g.v2;
     }
 
-    by_held : (b : Bool) → has_left (cond b vacant left) s ≡ true → has_left g s ≡ true
-    by_held true e = absurd (false≢true (ap (λ t. ltb 0 (left_of t)) (sym (map.get-empty nat_cmp s)) ∙ e))
-    by_held false e = expired_no_gain (mode_expired now g.mode) now (timer_at g s) (ap (λ t. ltb 0 (left_of t)) (sym (get-kept (λ s. source_expired (mode_expired now g.mode) now) g.sources s)) ∙ e)
+    by_held : (b : Bool) → has_sendings (cond b vacant kept_on) s ≡ true → has_sendings g s ≡ true
+    by_held true e = absurd (false≢true (ap (λ t. ltb 0 (sendings_of t)) (sym (map.get-empty nat_cmp s)) ∙ e))
+    by_held false e = expired_no_gain (mode_expired now g.mode) now (timer_at g s) (ap (λ t. ltb 0 (sendings_of t)) (sym (get-kept (λ s. source_expired (mode_expired now g.mode) now) g.sources s)) ∙ e)
 
 pub fits_after_expiry : (now : ℕ) (g : GroupState) (schedule : ScheduleState) → IsScheduleOf g schedule → IsScheduleOf (expired now g) (settled (expired now g) schedule)
 fits_after_expiry now g schedule fits = fits_settled g (expired now g) schedule fits (expiry_no_gain now g)
@@ -103,33 +103,33 @@ fits_after_expiry now g schedule fits = fits_settled g (expired now g) schedule 
 pub fits_after_round : (timing : Timing) (now : ℕ) (e : ScheduledGroup) → IsScheduleOf e.group e.schedule → IsScheduleOf (after_round timing now e).group (after_round timing now e).schedule
 fits_after_round timing now e fits = record {
   exclude_only = λ m. ap (group_counted timing now) (fits.exclude_only (mode_stays (is_due now e.schedule.sources_due) m));
-  group_left = still_left e.schedule.group_query fits.group_left;
-  sources_left = by_due (is_due now e.schedule.sources_due);
+  group_sendings = still_some e.schedule.group_query fits.group_sendings;
+  sources_sendings = by_due (is_due now e.schedule.sources_due);
 }
   where
     mode_stays : (b : Bool) → (cond b (sources_counted e.group) e.group).mode ≡ Include → e.group.mode ≡ Include
     mode_stays true m = m
     mode_stays false m = m
 
-    still_left : (q : Option Sendings) → IfSome q (λ q. 0 < q.left) → IfSome (group_counted timing now q) (λ q. 0 < q.left)
-    still_left None some = tt
-    still_left (Some q) some = by_tests (leb q.due now) (ltb 1 q.left) refl
+    still_some : (q : Option QuerySchedule) → IfSome q (λ q. 0 < q.sendings) → IfSome (group_counted timing now q) (λ q. 0 < q.sendings)
+    still_some None some = tt
+    still_some (Some q) some = by_tests (leb q.due now) (ltb 1 q.sendings) refl
       where
-        by_tests : (due more : Bool) → ltb 1 q.left ≡ more → IfSome (cond due (cond more (Some (record { left = q.left - 1; due = now + timing.last_member_interval })) None) (Some q)) (λ (q : Sendings). 0 < q.left)
-        by_tests true true e = omega (arith, ltb-true 1 q.left e)
+        by_tests : (due more : Bool) → ltb 1 q.sendings ≡ more → IfSome (cond due (cond more (Some (record { sendings = q.sendings - 1; due = now + timing.last_member_interval })) None) (Some q)) (λ (q : QuerySchedule). 0 < q.sendings)
+        by_tests true true e = omega (arith, ltb-true 1 q.sendings e)
         by_tests true false e = tt
         by_tests false more e = some
 
-    by_due : (b : Bool) → (let g = cond b (sources_counted e.group) e.group in is_some (cond b (sources_due_next timing now g) e.schedule.sources_due) ≡ some_source (has_left g) g)
-    by_due true = some_if (some_source (has_left (sources_counted e.group)) (sources_counted e.group)) (now + timing.last_member_interval)
-    by_due false = fits.sources_left
+    by_due : (b : Bool) → (let g = cond b (sources_counted e.group) e.group in is_some (cond b (sources_due_next timing now g) e.schedule.sources_due) ≡ some_source (has_sendings g) g)
+    by_due true = some_if (some_source (has_sendings (sources_counted e.group)) (sources_counted e.group)) (now + timing.last_member_interval)
+    by_due false = fits.sources_sendings
 
 -- asking for the group
 pub fits_group_asked : (timing : Timing) (now : ℕ) (e : ScheduledGroup) → 0 < timing.robustness → IsScheduleOf e.group e.schedule → IsScheduleOf (group_asked timing now e).group (group_asked timing now e).schedule
 fits_group_asked timing now e positive fits = record {
-  exclude_only = λ m. ap (λ b. cond b e.schedule.group_query (Some (record { left = last_member_count timing; due = now }))) (included e.group.mode m) ∙ fits.exclude_only (is_included e.group.mode (included e.group.mode m));
-  group_left = by_mode (is_include e.group.mode);
-  sources_left = fits.sources_left;
+  exclude_only = λ m. ap (λ b. cond b e.schedule.group_query (Some (record { sendings = last_member_count timing; due = now }))) (included e.group.mode m) ∙ fits.exclude_only (is_included e.group.mode (included e.group.mode m));
+  group_sendings = by_mode (is_include e.group.mode);
+  sources_sendings = fits.sources_sendings;
 }
   where
     included : (mode : FilterMode) → mode_lowered (lowered_to timing now) mode ≡ Include → is_include mode ≡ true
@@ -140,25 +140,25 @@ fits_group_asked timing now e positive fits = record {
     is_included Include m = refl
     is_included (Exclude d) m = absurd (false≢true m)
 
-    by_mode : (b : Bool) → IfSome (cond b e.schedule.group_query (Some (record { left = last_member_count timing; due = now }))) (λ q. 0 < q.left)
-    by_mode true = fits.group_left
+    by_mode : (b : Bool) → IfSome (cond b e.schedule.group_query (Some (record { sendings = last_member_count timing; due = now }))) (λ q. 0 < q.sendings)
+    by_mode true = fits.group_sendings
     by_mode false = positive
 
 -- a source that is asked for and above the limit gets sendings
-gets_sendings : (limit count : ℕ) (b : Bool) (t : Option SourceTimer) → 0 < count → (b && is_above limit (deadline_of t)) ≡ true → (ltb 0 (left_of (cond b (option_map (source_asked limit count) t) t)) ≡ true) × IsSome (cond b (option_map (source_asked limit count) t) t)
+gets_sendings : (limit count : ℕ) (b : Bool) (t : Option SourceTimer) → 0 < count → (b && is_ahead limit (deadline_of t)) ≡ true → (ltb 0 (sendings_of (cond b (option_map (source_asked limit count) t) t)) ≡ true) × IsSome (cond b (option_map (source_asked limit count) t) t)
 gets_sendings limit count false t positive e = absurd (false≢true e)
 gets_sendings limit count true None positive e = absurd (false≢true e)
 gets_sendings limit count true (Some Stopped) positive e = absurd (false≢true e)
-gets_sendings limit count true (Some (Running d n)) positive e = (ap (λ b. ltb 0 (left_of (Some (cond b (Running limit count) (Running d n))))) e ∙ lt-ltb 0 count positive, refl)
+gets_sendings limit count true (Some (Running d n)) positive e = (ap (λ b. ltb 0 (sendings_of (Some (cond b (Running limit count) (Running d n))))) e ∙ lt-ltb 0 count positive, refl)
 
 -- and any other stays as it is
-not_asked : (limit count : ℕ) (b : Bool) (t : Option SourceTimer) → (b && is_above limit (deadline_of t)) ≡ false → cond b (option_map (source_asked limit count) t) t ≡ t
+not_asked : (limit count : ℕ) (b : Bool) (t : Option SourceTimer) → (b && is_ahead limit (deadline_of t)) ≡ false → cond b (option_map (source_asked limit count) t) t ≡ t
 not_asked limit count false t e = refl
 not_asked limit count true None e = refl
 not_asked limit count true (Some Stopped) e = refl
 not_asked limit count true (Some (Running d n)) e = ap (λ b. Some (cond b (Running limit count) (Running d n))) e
 
-held_if_above : (limit : ℕ) (b : Bool) (t : Option SourceTimer) → (b && is_above limit (deadline_of t)) ≡ true → IsSome t
+held_if_above : (limit : ℕ) (b : Bool) (t : Option SourceTimer) → (b && is_ahead limit (deadline_of t)) ≡ true → IsSome t
 held_if_above limit true None e = absurd (false≢true e)
 held_if_above limit false None e = absurd (false≢true e)
 held_if_above limit b (Some t) e = refl
@@ -166,8 +166,8 @@ held_if_above limit b (Some t) e = refl
 pub fits_sources_asked : (timing : Timing) (now : ℕ) (asked : Set) (e : ScheduledGroup) → 0 < timing.robustness → IsScheduleOf e.group e.schedule → IsScheduleOf (sources_asked timing now asked e).group (sources_asked timing now asked e).schedule
 fits_sources_asked timing now asked e positive fits = record {
   exclude_only = fits.exclude_only;
-  group_left = fits.group_left;
-  sources_left = by_some (some_source (asked ∩ above timing now e.group) e.group) refl;
+  group_sendings = fits.group_sendings;
+  sources_sendings = by_some (some_source (asked ∩ above timing now e.group) e.group) refl;
 }
   where
     after : GroupState
@@ -176,12 +176,12 @@ fits_sources_asked timing now asked e positive fits = record {
     limit : ℕ
     limit = lowered_to timing now
 
-    gained : some_source (asked ∩ above timing now e.group) e.group ≡ true → some_source (has_left after) after ≡ true
+    gained : some_source (asked ∩ above timing now e.group) e.group ≡ true → some_source (has_sendings after) after ≡ true
     gained some =
         let q = some_source-gives (asked ∩ above timing now e.group) e.group some in
         let is = timer_at-sources_asked timing now asked e q.0 in
         let gets = gets_sendings limit (last_member_count timing) (asked q.0) (timer_at e.group q.0) positive q.2 in
-        some_source-from (has_left after) after q.0 (ap is_some is ∙ gets.1) (ap (λ t. ltb 0 (left_of t)) is ∙ gets.0)
+        some_source-from (has_sendings after) after q.0 (ap is_some is ∙ gets.1) (ap (λ t. ltb 0 (sendings_of t)) is ∙ gets.0)
 
     none_asked : some_source (asked ∩ above timing now e.group) e.group ≡ false → (s : ℕ) → (asked s && above timing now e.group s) ≡ false
     none_asked none s = false_from_ne_true _ (λ h. true≢false (sym (some_source-from (asked ∩ above timing now e.group) e.group s (held_if_above limit (asked s) (timer_at e.group s) h) h) ∙ none))
@@ -189,9 +189,9 @@ fits_sources_asked timing now asked e positive fits = record {
     same : some_source (asked ∩ above timing now e.group) e.group ≡ false → after.sources ≡ e.group.sources
     same none = same_sources after.sources e.group.sources (λ s. timer_at-sources_asked timing now asked e s ∙ not_asked limit (last_member_count timing) (asked s) (timer_at e.group s) (none_asked none s))
 
-    by_some : (b : Bool) → some_source (asked ∩ above timing now e.group) e.group ≡ b → is_some (cond b (Some now) e.schedule.sources_due) ≡ some_source (has_left after) after
+    by_some : (b : Bool) → some_source (asked ∩ above timing now e.group) e.group ≡ b → is_some (cond b (Some now) e.schedule.sources_due) ≡ some_source (has_sendings after) after
     by_some true some = sym (gained some)
-    by_some false none = fits.sources_left ∙ ap (λ (m : FinMap nat_cmp SourceTimer). list_any (λ s. ltb 0 (left_of (map.get m s))) (map.keys m)) (sym (same none))
+    by_some false none = fits.sources_sendings ∙ ap (λ (m : FinMap nat_cmp SourceTimer). list_any (λ s. ltb 0 (sendings_of (map.get m s))) (map.keys m)) (sym (same none))
 
 pub fits_acted : (is_querier : Bool) (timing : Timing) (now : ℕ) (query_group : Bool) (query : Set) (e : ScheduledGroup) → 0 < timing.robustness → IsScheduleOf e.group e.schedule → (let after = acted is_querier timing now query_group query e in IsScheduleOf after.group after.schedule)
 fits_acted false timing now query_group query e positive fits = fits
@@ -199,16 +199,16 @@ fits_acted true timing now false query e positive fits = fits_sources_asked timi
 fits_acted true timing now true query e positive fits = fits_sources_asked timing now query (group_asked timing now e) positive (fits_group_asked timing now e positive fits)
 
 -- dropping all
-cleared_left : (t : Option SourceTimer) → left_of (option_and_then (λ timer. Some (source_cleared timer)) t) ≡ 0
-cleared_left None = refl
-cleared_left (Some Stopped) = refl
-cleared_left (Some (Running d n)) = refl
+cleared_sendings : (t : Option SourceTimer) → sendings_of (option_and_then (λ timer. Some (source_cleared timer)) t) ≡ 0
+cleared_sendings None = refl
+cleared_sendings (Some Stopped) = refl
+cleared_sendings (Some (Running d n)) = refl
 
 pub fits_cleared : (e : ScheduledGroup) → IsScheduleOf (cleared e).group (cleared e).schedule
 fits_cleared e = record {
   exclude_only = λ m. refl;
-  group_left = tt;
-  sources_left = sym (false_from_ne_true _ (λ some.
-      let q = some_source-gives (has_left (cleared e).group) (cleared e).group some in
-      false≢true (sym (ap (ltb 0) (ap left_of (get-kept (λ s timer. Some (source_cleared timer)) e.group.sources q.0) ∙ cleared_left (timer_at e.group q.0))) ∙ q.2)));
+  group_sendings = tt;
+  sources_sendings = sym (false_from_ne_true _ (λ some.
+      let q = some_source-gives (has_sendings (cleared e).group) (cleared e).group some in
+      false≢true (sym (ap (ltb 0) (ap sendings_of (get-kept (λ s timer. Some (source_cleared timer)) e.group.sources q.0) ∙ cleared_sendings (timer_at e.group q.0))) ∙ q.2)));
 }

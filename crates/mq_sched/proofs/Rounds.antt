@@ -9,11 +9,11 @@ use Rattle.std.specs.FinMap as map
 use Rattle.std.specs.FinMap.{FinMap}
 use Rattle.mq_table.specs.declared.timing.Timing.{Timing}
 use Rattle.mq_table.specs.Sets.{Set, ◌∩◌, ◌∖◌}
-use Rattle.mq_table.specs.Group.{GroupState, SourceTimer, Stopped, Running, timer_at, deadline_of, group_deadline, left_of}
+use Rattle.mq_table.specs.Group.{GroupState, SourceTimer, Stopped, Running, timer_at, deadline_of, group_deadline, sendings_of, is_ahead}
 use Rattle.mq_table.specs.Lowering.{lowered_to}
 use Rattle.mq_table.proofs.Maps.{get-kept}
-use Rattle.mq_sched.specs.Schedule.{Sendings, sendings_left, ScheduledGroup, some_source, has_left, IsScheduleOf}
-use Rattle.mq_sched.specs.Sending.{SentQuery, GeneralQuery, GroupQuery, SourcesQuery, is_above, above, is_due, group_due, sources_where, sources_query, group_messages, source_messages, messages_due, group_counted, source_counted, sources_counted, sources_due_next, after_round}
+use Rattle.mq_sched.specs.Schedule.{QuerySchedule, query_sendings, ScheduledGroup, some_source, has_sendings, IsScheduleOf}
+use Rattle.mq_sched.specs.Sending.{SentQuery, GeneralQuery, GroupQuery, SourcesQuery, above, is_due, group_due, sources_where, sources_query, group_messages, source_messages, messages_due, group_counted, source_counted, sources_counted, sources_due_next, after_round}
 use Rattle.mq_sched.specs.Laws.{asked_in, asks_group, IsQuietAt}
 
 or-false : (b : Bool) → (b || false) ≡ b
@@ -57,17 +57,17 @@ among-filter p (k ∷ ks) s = front (p k) ∙ one_more (eqb s k) _ (p k) (p s) _
 pub among-keys : {X : Type 0} (m : FinMap nat_cmp X) (s : ℕ) → list_any (λ x. eqb s x) (map.keys m) ≡ is_some (map.get m s)
 among-keys m s = (λ i. list_any (λ x. unsigned_ties s x i) (map.keys m)) ∙ sym (map.contains_key-keys m s)
 
--- the sources of both queries of a round together are those that have a sending left
-both_queries : (t : Option SourceTimer) (left up : Bool) → (is_some t ≡ false → left ≡ false) → (((left && up) && is_some t) || ((left && not up) && is_some t)) ≡ left
+-- the sources of both queries of a round together are those that have a sending to go
+both_queries : (t : Option SourceTimer) (some up : Bool) → (is_some t ≡ false → some ≡ false) → (((some && up) && is_some t) || ((some && not up) && is_some t)) ≡ some
 both_queries None true up held = absurd (true≢false (held refl))
 both_queries None false up held = refl
 both_queries (Some t) true true held = refl
 both_queries (Some t) true false held = refl
 both_queries (Some t) false up held = refl
 
-none_left : (t : Option SourceTimer) → is_some t ≡ false → ltb 0 (left_of t) ≡ false
-none_left None e = refl
-none_left (Some t) e = absurd (true≢false e)
+no_sendings : (t : Option SourceTimer) → is_some t ≡ false → ltb 0 (sendings_of t) ≡ false
+no_sendings None e = refl
+no_sendings (Some t) e = absurd (true≢false e)
 
 asked_in-sources_where : (group : ℕ) (flag : Bool) (test : Set) (g : GroupState) (s : ℕ) → asked_in (sources_query group flag (sources_where test g)) s ≡ (test s && is_some (timer_at g s))
 asked_in-sources_where group flag test g s =
@@ -75,18 +75,18 @@ asked_in-sources_where group flag test g s =
     ∙ among-filter test (map.keys g.sources) s
     ∙ ap (λ b. test s && b) (among-keys g.sources s)
 
-asked_in-source_messages : (timing : Timing) (now group : ℕ) (e : ScheduledGroup) (s : ℕ) → asked_in (source_messages timing now group e) s ≡ (is_due now e.schedule.sources_due && has_left e.group s)
+asked_in-source_messages : (timing : Timing) (now group : ℕ) (e : ScheduledGroup) (s : ℕ) → asked_in (source_messages timing now group e) s ≡ (is_due now e.schedule.sources_due && has_sendings e.group s)
 asked_in-source_messages timing now group e s =
     by_due (is_due now e.schedule.sources_due) _
-    (asked_in-append (sources_query group true (sources_where (has_left g ∩ above timing now g) g)) (sources_query group false (sources_where (has_left g ∖ above timing now g) g)) s
-    ∙ (λ i. asked_in-sources_where group true (has_left g ∩ above timing now g) g s i || asked_in-sources_where group false (has_left g ∖ above timing now g) g s i)
-    ∙ both_queries (timer_at g s) (has_left g s) (above timing now g s) (none_left (timer_at g s)))
+    (asked_in-append (sources_query group true (sources_where (has_sendings g ∩ above timing now g) g)) (sources_query group false (sources_where (has_sendings g ∖ above timing now g) g)) s
+    ∙ (λ i. asked_in-sources_where group true (has_sendings g ∩ above timing now g) g s i || asked_in-sources_where group false (has_sendings g ∖ above timing now g) g s i)
+    ∙ both_queries (timer_at g s) (has_sendings g s) (above timing now g s) (no_sendings (timer_at g s)))
   where
     g : GroupState
     g = e.group
 
     queries : List SentQuery
-    queries = sources_query group true (sources_where (has_left g ∩ above timing now g) g) ++ sources_query group false (sources_where (has_left g ∖ above timing now g) g)
+    queries = sources_query group true (sources_where (has_sendings g ∩ above timing now g) g) ++ sources_query group false (sources_where (has_sendings g ∖ above timing now g) g)
 
     by_due : (due b : Bool) → asked_in queries s ≡ b → asked_in (cond due queries []) s ≡ (due && b)
     by_due true b is = is
@@ -95,12 +95,12 @@ asked_in-source_messages timing now group e s =
 asked_in-group_messages : (timing : Timing) (now group : ℕ) (e : ScheduledGroup) (s : ℕ) → asked_in (group_messages timing now group e) s ≡ false
 asked_in-group_messages timing now group e s = by_due (is_due now (group_due e.schedule.group_query))
   where
-    by_due : (b : Bool) → asked_in (cond b (GroupQuery group (is_above (lowered_to timing now) (group_deadline e.group.mode)) ∷ []) []) s ≡ false
+    by_due : (b : Bool) → asked_in (cond b (GroupQuery group (is_ahead (lowered_to timing now) (group_deadline e.group.mode)) ∷ []) []) s ≡ false
     by_due true = refl
     by_due false = refl
 
--- a round asks for the sources that have a sending left, where they are due
-pub asked_in-messages_due : (timing : Timing) (now group : ℕ) (e : ScheduledGroup) (s : ℕ) → asked_in (messages_due timing now group e) s ≡ (is_due now e.schedule.sources_due && has_left e.group s)
+-- a round asks for the sources that have a sending to go, where they are due
+pub asked_in-messages_due : (timing : Timing) (now group : ℕ) (e : ScheduledGroup) (s : ℕ) → asked_in (messages_due timing now group e) s ≡ (is_due now e.schedule.sources_due && has_sendings e.group s)
 asked_in-messages_due timing now group e s =
     asked_in-append (group_messages timing now group e) (source_messages timing now group e) s
     ∙ (λ i. asked_in-group_messages timing now group e s i || asked_in-source_messages timing now group e s i)
@@ -125,12 +125,12 @@ asks_group-messages_due timing now group e =
     g : GroupState
     g = e.group
 
-    first : (b : Bool) → asks_group (cond b (GroupQuery group (is_above (lowered_to timing now) (group_deadline e.group.mode)) ∷ []) []) ≡ b
+    first : (b : Bool) → asks_group (cond b (GroupQuery group (is_ahead (lowered_to timing now) (group_deadline e.group.mode)) ∷ []) []) ≡ b
     first true = refl
     first false = refl
 
-    second : (b : Bool) → asks_group (cond b (sources_query group true (sources_where (has_left g ∩ above timing now g) g) ++ sources_query group false (sources_where (has_left g ∖ above timing now g) g)) []) ≡ false
-    second true = asks_group-append (sources_query group true (sources_where (has_left g ∩ above timing now g) g)) _ ∙ (λ i. no_group_query group true (sources_where (has_left g ∩ above timing now g) g) i || no_group_query group false (sources_where (has_left g ∖ above timing now g) g) i)
+    second : (b : Bool) → asks_group (cond b (sources_query group true (sources_where (has_sendings g ∩ above timing now g) g) ++ sources_query group false (sources_where (has_sendings g ∖ above timing now g) g)) []) ≡ false
+    second true = asks_group-append (sources_query group true (sources_where (has_sendings g ∩ above timing now g) g)) _ ∙ (λ i. no_group_query group true (sources_where (has_sendings g ∩ above timing now g) g) i || no_group_query group false (sources_where (has_sendings g ∖ above timing now g) g) i)
     second false = refl
 
 abbrev group_after : Bool → GroupState → GroupState
@@ -148,12 +148,12 @@ timer_at-after_round timing now e s = by_due (is_due now e.schedule.sources_due)
     by_due true = get-kept (λ s timer. Some (source_counted timer)) e.group.sources s ∙ as_map (timer_at e.group s)
     by_due false = refl
 
-one_fewer : (t : Option SourceTimer) → ltb 0 (left_of t) ≡ true → left_of (option_map source_counted t) + 1 ≡ left_of t
+one_fewer : (t : Option SourceTimer) → ltb 0 (sendings_of t) ≡ true → sendings_of (option_map source_counted t) + 1 ≡ sendings_of t
 one_fewer None e = absurd (false≢true e)
 one_fewer (Some Stopped) e = absurd (false≢true e)
 one_fewer (Some (Running d n)) e = omega (arith, ltb-true 0 n e)
 
-none_fewer : (t : Option SourceTimer) → ltb 0 (left_of t) ≡ false → option_map source_counted t ≡ t
+none_fewer : (t : Option SourceTimer) → ltb 0 (sendings_of t) ≡ false → option_map source_counted t ≡ t
 none_fewer None e = refl
 none_fewer (Some Stopped) e = refl
 none_fewer (Some (Running d n)) e = let zero : n - 1 ≡ n = omega (arith, ltb-false 0 n e) in ap (λ k. Some (Running d k)) zero
@@ -165,10 +165,10 @@ same_deadline true (Some Stopped) = refl
 same_deadline true (Some (Running d n)) = refl
 
 -- a source that a round asks for has one sending fewer
-pub counted_down : (timing : Timing) (now group : ℕ) (e : ScheduledGroup) (s : ℕ) → asked_in (messages_due timing now group e) s ≡ true → left_of (timer_at (after_round timing now e).group s) + 1 ≡ left_of (timer_at e.group s)
+pub counted_down : (timing : Timing) (now group : ℕ) (e : ScheduledGroup) (s : ℕ) → asked_in (messages_due timing now group e) s ≡ true → sendings_of (timer_at (after_round timing now e).group s) + 1 ≡ sendings_of (timer_at e.group s)
 counted_down timing now group e s asked =
     let parts = and_parts _ _ (sym (asked_in-messages_due timing now group e s) ∙ asked) in
-    ap (λ t. left_of t + 1) (timer_at-after_round timing now e s ∙ ap (λ b. cond b (option_map source_counted (timer_at e.group s)) (timer_at e.group s)) parts.0)
+    ap (λ t. sendings_of t + 1) (timer_at-after_round timing now e s ∙ ap (λ b. cond b (option_map source_counted (timer_at e.group s)) (timer_at e.group s)) parts.0)
     ∙ one_fewer (timer_at e.group s) parts.1
 
 -- and any other is as it was
@@ -176,57 +176,57 @@ pub others_stay : (timing : Timing) (now group : ℕ) (e : ScheduledGroup) (s : 
 others_stay timing now group e s unasked =
     timer_at-after_round timing now e s ∙ by_due (is_due now e.schedule.sources_due) (sym (asked_in-messages_due timing now group e s) ∙ unasked)
   where
-    by_due : (b : Bool) → (b && has_left e.group s) ≡ false → cond b (option_map source_counted (timer_at e.group s)) (timer_at e.group s) ≡ timer_at e.group s
+    by_due : (b : Bool) → (b && has_sendings e.group s) ≡ false → cond b (option_map source_counted (timer_at e.group s)) (timer_at e.group s) ≡ timer_at e.group s
     by_due true is = none_fewer (timer_at e.group s) is
     by_due false is = refl
 
 pub deadlines_stay : (timing : Timing) (now : ℕ) (e : ScheduledGroup) (s : ℕ) → deadline_of (timer_at (after_round timing now e).group s) ≡ deadline_of (timer_at e.group s)
 deadlines_stay timing now e s = ap deadline_of (timer_at-after_round timing now e s) ∙ same_deadline (is_due now e.schedule.sources_due) (timer_at e.group s)
 
-group_one_fewer : (timing : Timing) (now : ℕ) (q : Option Sendings) → IfSome q (λ q. 0 < q.left) → is_due now (group_due q) ≡ true → sendings_left (group_counted timing now q) + 1 ≡ sendings_left q
+group_one_fewer : (timing : Timing) (now : ℕ) (q : Option QuerySchedule) → IfSome q (λ q. 0 < q.sendings) → is_due now (group_due q) ≡ true → query_sendings (group_counted timing now q) + 1 ≡ query_sendings q
 group_one_fewer timing now None some due = absurd (false≢true due)
-group_one_fewer timing now (Some q) some due = ap (λ b. sendings_left (cond b (cond (ltb 1 q.left) (Some (record { left = q.left - 1; due = now + timing.last_member_interval })) None) (Some q)) + 1) due ∙ by_left (ltb 1 q.left) refl
+group_one_fewer timing now (Some q) some due = ap (λ b. query_sendings (cond b (cond (ltb 1 q.sendings) (Some (record { sendings = q.sendings - 1; due = now + timing.last_member_interval })) None) (Some q)) + 1) due ∙ by_sendings (ltb 1 q.sendings) refl
   where
-    by_left : (b : Bool) → ltb 1 q.left ≡ b → sendings_left (cond b (Some (record { left = q.left - 1; due = now + timing.last_member_interval })) None) + 1 ≡ q.left
-    by_left true e = omega (arith, ltb-true 1 q.left e, some)
-    by_left false e = omega (arith, ltb-false 1 q.left e, some)
+    by_sendings : (b : Bool) → ltb 1 q.sendings ≡ b → query_sendings (cond b (Some (record { sendings = q.sendings - 1; due = now + timing.last_member_interval })) None) + 1 ≡ q.sendings
+    by_sendings true e = omega (arith, ltb-true 1 q.sendings e, some)
+    by_sendings false e = omega (arith, ltb-false 1 q.sendings e, some)
 
-pub group_counted_down : (timing : Timing) (now group : ℕ) (e : ScheduledGroup) → IsScheduleOf e.group e.schedule → asks_group (messages_due timing now group e) ≡ true → sendings_left (after_round timing now e).schedule.group_query + 1 ≡ sendings_left e.schedule.group_query
-group_counted_down timing now group e fits asked = group_one_fewer timing now e.schedule.group_query fits.group_left (sym (asks_group-messages_due timing now group e) ∙ asked)
+pub group_counted_down : (timing : Timing) (now group : ℕ) (e : ScheduledGroup) → IsScheduleOf e.group e.schedule → asks_group (messages_due timing now group e) ≡ true → query_sendings (after_round timing now e).schedule.group_query + 1 ≡ query_sendings e.schedule.group_query
+group_counted_down timing now group e fits asked = group_one_fewer timing now e.schedule.group_query fits.group_sendings (sym (asks_group-messages_due timing now group e) ∙ asked)
 
 pub group_stays : (timing : Timing) (now group : ℕ) (e : ScheduledGroup) → asks_group (messages_due timing now group e) ≡ false → (after_round timing now e).schedule.group_query ≡ e.schedule.group_query
 group_stays timing now group e unasked = by_query e.schedule.group_query (sym (asks_group-messages_due timing now group e) ∙ unasked)
   where
-    by_query : (q : Option Sendings) → is_due now (group_due q) ≡ false → group_counted timing now q ≡ q
+    by_query : (q : Option QuerySchedule) → is_due now (group_due q) ≡ false → group_counted timing now q ≡ q
     by_query None e = refl
-    by_query (Some q) e = ap (λ b. cond b (cond (ltb 1 q.left) (Some (record { left = q.left - 1; due = now + timing.last_member_interval })) None) (Some q)) e
+    by_query (Some q) e = ap (λ b. cond b (cond (ltb 1 q.sendings) (Some (record { sendings = q.sendings - 1; due = now + timing.last_member_interval })) None) (Some q)) e
 
 -- nothing is due after a round
 pub quiet_after_round : (timing : Timing) (now : ℕ) (e : ScheduledGroup) → 0 < timing.last_member_interval → IsQuietAt now (after_round timing now e).schedule
 quiet_after_round timing now e positive = record { group = of_group e.schedule.group_query; sources = of_sources e.schedule.sources_due }
   where
-    counted_after : (q : Sendings) (b : Bool) → leb q.due now ≡ b → IfSome (cond b (cond (ltb 1 q.left) (Some (record { left = q.left - 1; due = now + timing.last_member_interval })) None) (Some q)) (λ q. now < q.due)
-    counted_after q true e = elim (ltb 1 q.left) as (λ b. IfSome (cond b (Some (record { left = q.left - 1; due = now + timing.last_member_interval })) None) (λ (q : Sendings). now < q.due)) [ true ↦ omega arith | false ↦ tt ]
+    counted_after : (q : QuerySchedule) (b : Bool) → leb q.due now ≡ b → IfSome (cond b (cond (ltb 1 q.sendings) (Some (record { sendings = q.sendings - 1; due = now + timing.last_member_interval })) None) (Some q)) (λ q. now < q.due)
+    counted_after q true e = elim (ltb 1 q.sendings) as (λ b. IfSome (cond b (Some (record { sendings = q.sendings - 1; due = now + timing.last_member_interval })) None) (λ (q : QuerySchedule). now < q.due)) [ true ↦ omega arith | false ↦ tt ]
     counted_after q false e = leb-false q.due now e
 
-    of_group : (q : Option Sendings) → IfSome (group_counted timing now q) (λ q. now < q.due)
+    of_group : (q : Option QuerySchedule) → IfSome (group_counted timing now q) (λ q. now < q.due)
     of_group None = tt
     of_group (Some q) = counted_after q (leb q.due now) refl
 
     of_sources : (due : Option ℕ) → IfSome (cond (is_due now due) (sources_due_next timing now (cond (is_due now due) (sources_counted e.group) e.group)) due) (λ due. now < due)
     of_sources None = tt
     of_sources (Some due) = elim (leb due now) as (λ b. leb due now ≡ b → IfSome (cond b (sources_due_next timing now (cond b (sources_counted e.group) e.group)) (Some due)) (λ due. now < due)) [
-      | true ↦ λ _. elim (some_source (has_left (sources_counted e.group)) (sources_counted e.group)) as (λ b. IfSome (cond b (Some (now + timing.last_member_interval)) None) (λ due. now < due)) [ true ↦ omega arith | false ↦ tt ]
+      | true ↦ λ _. elim (some_source (has_sendings (sources_counted e.group)) (sources_counted e.group)) as (λ b. IfSome (cond b (Some (now + timing.last_member_interval)) None) (λ due. now < due)) [ true ↦ omega arith | false ↦ tt ]
       | false ↦ λ h. leb-false due now h
     ] refl
 
 -- and what is quiet sends nothing
 pub quiet_is_silent : (timing : Timing) (now group : ℕ) (e : ScheduledGroup) → IsQuietAt now e.schedule → messages_due timing now group e ≡ []
 quiet_is_silent timing now group e quiet =
-    (λ i. cond (no_group e.schedule.group_query quiet.group i) (GroupQuery group (is_above (lowered_to timing now) (group_deadline e.group.mode)) ∷ []) [] ++ source_messages timing now group e)
+    (λ i. cond (no_group e.schedule.group_query quiet.group i) (GroupQuery group (is_ahead (lowered_to timing now) (group_deadline e.group.mode)) ∷ []) [] ++ source_messages timing now group e)
     ∙ silent (is_due now e.schedule.sources_due) _ (no_sources e.schedule.sources_due quiet.sources)
   where
-    no_group : (q : Option Sendings) → IfSome q (λ q. now < q.due) → is_due now (group_due q) ≡ false
+    no_group : (q : Option QuerySchedule) → IfSome q (λ q. now < q.due) → is_due now (group_due q) ≡ false
     no_group None h = refl
     no_group (Some q) h = lt-leb q.due now h
 

@@ -8,7 +8,7 @@ use Rattle.mq_sched.specs.Sending.{SentQuery, GeneralQuery}
 -- The querier has the moment at which its general query is due, and how many of the queries at startup
 -- are still to go; any other router has the deadline up to which another querier is taken to be there.
 pub data Role : Type 0 where
-  Querier : (due startup_left : ℕ) → Role
+  Querier : (due startup_queries : ℕ) → Role
   Other : (deadline : ℕ) → Role
 
 -- the role, and the timing in force
@@ -17,7 +17,7 @@ pub record ElectionState : Type 0 where
   pub timing : Timing
 
 abbrev pub is_querier : Role → Bool
-is_querier (Querier due startup_left) = true
+is_querier (Querier due startup_queries) = true
 is_querier (Other deadline) = false
 
 -- at its start a router is querier, and all queries of startup are to go (RFC 3376 section 8.7)
@@ -63,7 +63,7 @@ heard configured own now source announced e =
 
 -- whether the other querier's deadline has come
 abbrev pub deadline_ended : ℕ → Role → Bool
-deadline_ended now (Querier due startup_left) = false
+deadline_ended now (Querier due startup_queries) = false
 deadline_ended now (Other deadline) = nat_le deadline now
 
 -- Then the router is querier again, with the configured timing and a general query that is due at
@@ -75,15 +75,15 @@ returned configured now e =
     else e
 
 abbrev pub general_is_due : ℕ → Role → Bool
-general_is_due now (Querier due startup_left) = nat_le due now
+general_is_due now (Querier due startup_queries) = nat_le due now
 general_is_due now (Other deadline) = false
 
 -- After a general query the next is due after the startup interval, while queries of startup are still
 -- to go, and else after the query interval.
 abbrev pub after_general : Timing → ℕ → Role → Role
-after_general timing now (Querier due startup_left) =
-    let interval = if nat_lt 1 startup_left then startup_interval timing else query_interval timing in
-    Querier (now + interval) (startup_left - 1)
+after_general timing now (Querier due startup_queries) =
+    let interval = if nat_lt 1 startup_queries then startup_interval timing else query_interval timing in
+    Querier (now + interval) (startup_queries - 1)
 after_general timing now (Other deadline) = Other deadline
 
 -- What a tick does to the election: the end of the other querier's deadline, and then the general

@@ -3,9 +3,9 @@ use Rattle.std.specs.Prelude.{◌≡◌, ℕ, true, List, [], ◌∷◌, Option,
 use Rattle.mq_table.specs.declared.kind.Kind.{Kind}
 use Rattle.mq_table.specs.declared.timing.Timing.{Timing}
 use Rattle.mq_table.specs.Group.{GroupState, FilterMode, Include, Exclude, SourceTimer, Running}
-use Rattle.mq_table.specs.Examples.{default_timing, group_of, group_with, these}
+use Rattle.mq_table.specs.Examples.{default_timing, group_in, group_with, naming}
 use Rattle.mq_table.specs.Table.{change_of}
-use Rattle.mq_sched.specs.Schedule.{Sendings, ScheduledGroup}
+use Rattle.mq_sched.specs.Schedule.{QuerySchedule, ScheduledGroup}
 use Rattle.mq_sched.specs.Sending.{SentQuery, after_change, messages_due, after_round}
 use Rattle.mq_sched.specs.Election.{Querier, Other, ElectionState, Announced}
 
@@ -13,35 +13,35 @@ use Rattle.mq_sched.specs.Election.{Querier, Other, ElectionState, Announced}
 abbrev pub the_group : ℕ
 the_group = 3892379905
 
-abbrev pub sendings : ℕ → ℕ → Option Sendings
-sendings left due = Some (record { left = left; due = due })
+abbrev pub scheduled : ℕ → ℕ → Option QuerySchedule
+scheduled sendings due = Some (record { sendings = sendings; due = due })
 
 -- a group, and what is due for it
-abbrev pub state : GroupState → Option Sendings → Option ℕ → ScheduledGroup
-state g group_query sources_due =
+abbrev pub scheduled_group : GroupState → Option QuerySchedule → Option ℕ → ScheduledGroup
+scheduled_group g group_query sources_due =
     record { group = g; schedule = record { group_query = group_query; sources_due = sources_due } }
 
 -- the same of a group without older hosts
-abbrev pub with_schedule : FilterMode → List (ℕ × SourceTimer) → Option Sendings → Option ℕ
+abbrev pub with_schedule : FilterMode → List (ℕ × SourceTimer) → Option QuerySchedule → Option ℕ
     → ScheduledGroup
 with_schedule mode sources group_query sources_due =
-    state (group_of mode sources) group_query sources_due
+    scheduled_group (group_in mode sources) group_query sources_due
 
--- at a moment these queries go, and this is left
+-- at a moment these queries go, and leave this
 pub record Sends (now : ℕ) (e : ScheduledGroup) (queries : List SentQuery) (after : ScheduledGroup)
     : Type 0 where
   pub queries_sent : messages_due default_timing now the_group e ≡ queries
-  pub left_then : after_round default_timing now e ≡ after
+  pub leaves : after_round default_timing now e ≡ after
 
 -- what a record at a moment makes of a group of the querier
 abbrev pub recorded_at : ℕ → ScheduledGroup → Kind → List ℕ → ScheduledGroup
 recorded_at now e kind named =
-    let change = change_of default_timing now e.group kind (these named) in
+    let change = change_of default_timing now e.group kind (naming named) in
     after_change true default_timing now change e.schedule
 
 -- the same at 1000, where nothing was to go
 abbrev pub recorded : GroupState → Kind → List ℕ → ScheduledGroup
-recorded g kind named = recorded_at 1000 (state g None None) kind named
+recorded g kind named = recorded_at 1000 (scheduled_group g None None) kind named
 
 -- the defaults with another robustness variable, and with what a query announces
 abbrev pub robust : ℕ → Timing
@@ -51,10 +51,10 @@ abbrev pub announced_timing : Timing
 announced_timing = record default_timing { robustness = 3; query_seconds = 60 }
 
 abbrev pub querier : Timing → ℕ → ℕ → ElectionState
-querier timing due startup_left = record { role = Querier due startup_left; timing = timing }
+querier timing due startup_queries = record { role = Querier due startup_queries; timing = timing }
 
-abbrev pub other : Timing → ℕ → ElectionState
-other timing deadline = record { role = Other deadline; timing = timing }
+abbrev pub other_until : Timing → ℕ → ElectionState
+other_until timing deadline = record { role = Other deadline; timing = timing }
 
 abbrev pub announced : ℕ → ℕ → Option Announced
 announced robustness query_seconds =
@@ -68,8 +68,8 @@ abbrev pub refreshed : ScheduledGroup
 refreshed = with_schedule Include ((1, Running 262500 1) ∷ (2, Running 4000 1) ∷ []) None (Some 3000)
 
 -- the group of IGMPv2 hosts that is asked after a Leave at 2000, and reported again at 2500
-abbrev pub left_v2 : ScheduledGroup
-left_v2 = state (group_with (Exclude 4000) [] None (Some 261000)) (sendings 1 3000) None
+abbrev pub after_leave : ScheduledGroup
+after_leave = scheduled_group (group_with (Exclude 4000) [] None (Some 261000)) (scheduled 1 3000) None
 
 abbrev pub reported_v2 : ScheduledGroup
-reported_v2 = state (group_with (Exclude 262500) [] None (Some 262500)) (sendings 1 3000) None
+reported_v2 = scheduled_group (group_with (Exclude 262500) [] None (Some 262500)) (scheduled 1 3000) None

@@ -13,13 +13,13 @@ pub record Round : Type 0 where
   pub timing : Timing
   pub now : ℕ
   pub address : ℕ
-  pub state : ScheduledGroup
+  pub before : ScheduledGroup
 
 abbrev pub queries_of : Round → List SentQuery
-queries_of r = messages_due r.timing r.now r.address r.state
+queries_of r = messages_due r.timing r.now r.address r.before
 
-abbrev pub left_by : Round → ScheduledGroup
-left_by r = after_round r.timing r.now r.state
+abbrev pub state_after : Round → ScheduledGroup
+state_after r = after_round r.timing r.now r.before
 
 -- what a record asks of a group, at a moment
 pub record Asking : Type 0 where
@@ -28,10 +28,10 @@ pub record Asking : Type 0 where
   pub now : ℕ
   pub query_group : Bool
   pub query : Set
-  pub state : ScheduledGroup
+  pub before : ScheduledGroup
 
 abbrev pub after_asking : Asking → ScheduledGroup
-after_asking r = acted r.is_querier r.timing r.now r.query_group r.query r.state
+after_asking r = acted r.is_querier r.timing r.now r.query_group r.query r.before
 
 -- a group and its schedule fit each other
 abbrev pub IsFitting : ScheduledGroup → Type 0
@@ -68,5 +68,5 @@ AscendIn (SourcesQuery group flag sources ∷ queries) =
 -- when the election has something to do next: the general query, or the end of the other querier's
 -- deadline
 abbrev pub next_moment : Role → ℕ
-next_moment (Querier due startup_left) = due
+next_moment (Querier due startup_queries) = due
 next_moment (Other deadline) = deadline

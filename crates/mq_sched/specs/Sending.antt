@@ -1,15 +1,15 @@
 -- Sending specific queries (RFC 3376 sections 6.6.3.1 and 6.6.3.2, RFC 3810 sections 7.6.3.1 and
--- 7.6.3.2): what starts them, which go at a moment, and what is left to go then.
+-- 7.6.3.2): what starts them, which go at a moment, and what is still to go then.
 use Rattle.std.specs.Prelude.{ℕ, ◌+◌, ◌-◌, Bool, true, false, if◌then◌else◌, nat_lt, nat_le, List, [], ◌∷◌, ◌++◌, filter, Option, None, Some}
 use Rattle.std.specs.FinMap as map
 use Rattle.mq_table.specs.declared.timing.Timing.{Timing}
 use Rattle.mq_table.specs.Sets.{Set, ◌∩◌, ◌∖◌}
 use Rattle.mq_table.specs.Maps.{kept}
-use Rattle.mq_table.specs.Group.{GroupState, SourceTimer, Stopped, Running, is_include, group_deadline, deadline_of, timer_at}
+use Rattle.mq_table.specs.Group.{GroupState, SourceTimer, Stopped, Running, is_include, is_ahead, group_deadline, deadline_of, timer_at}
 use Rattle.mq_table.specs.Timing.{last_member_count}
 use Rattle.mq_table.specs.Table.{GroupChange}
 use Rattle.mq_table.specs.Lowering.{lowered_to, group_lowered}
-use Rattle.mq_sched.specs.Schedule.{Sendings, ScheduleState, ScheduledGroup, some_source, has_left, settled}
+use Rattle.mq_sched.specs.Schedule.{QuerySchedule, ScheduleState, ScheduledGroup, some_source, has_sendings, settled}
 
 -- A query that a router sends: general, to a group, or to a group for some of its sources, which
 -- ascend. `s` is the flag Suppress Router-Side Processing: routers that hear it lower nothing.
@@ -18,14 +18,9 @@ pub data SentQuery : Type 0 where
   GroupQuery : (group : ℕ) (s : Bool) → SentQuery
   SourcesQuery : (group : ℕ) (s : Bool) (sources : List ℕ) → SentQuery
 
--- a deadline that is after a moment
-abbrev pub is_above : ℕ → Option ℕ → Bool
-is_above moment None = false
-is_above moment (Some deadline) = nat_lt moment deadline
-
 -- the sources whose timer is above the last member query time
 abbrev pub above : Timing → ℕ → GroupState → Set
-above timing now g s = is_above (lowered_to timing now) (deadline_of (timer_at g s))
+above timing now g s = is_ahead (lowered_to timing now) (deadline_of (timer_at g s))
 
 -- Send Q(G): the group timer is lowered, and as many queries as the last member query count are to
 -- go, the first now. INCLUDE has no group timer, and no line of the tables asks for its group.
@@ -36,7 +31,7 @@ group_asked timing now e = record {
     group_query =
         if is_include e.group.mode
         then e.schedule.group_query
-        else Some (record { left = last_member_count timing; due = now });
+        else Some (record { sendings = last_member_count timing; due = now });
     sources_due = e.schedule.sources_due;
   };
 }
@@ -80,7 +75,7 @@ abbrev pub is_due : ℕ → Option ℕ → Bool
 is_due now None = false
 is_due now (Some due) = nat_le due now
 
-abbrev pub group_due : Option Sendings → Option ℕ
+abbrev pub group_due : Option QuerySchedule → Option ℕ
 group_due None = None
 group_due (Some q) = Some q.due
 
@@ -96,31 +91,31 @@ sources_query group s (x ∷ xs) = SourcesQuery group s (x ∷ xs) ∷ []
 abbrev pub group_messages : Timing → ℕ → ℕ → ScheduledGroup → List SentQuery
 group_messages timing now group e =
     if is_due now (group_due e.schedule.group_query)
-    then GroupQuery group (is_above (lowered_to timing now) (group_deadline e.group.mode)) ∷ []
+    then GroupQuery group (is_ahead (lowered_to timing now) (group_deadline e.group.mode)) ∷ []
     else []
 
 abbrev pub source_messages : Timing → ℕ → ℕ → ScheduledGroup → List SentQuery
 source_messages timing now group e =
     let g = e.group in
     if is_due now e.schedule.sources_due
-    then sources_query group true (sources_where (has_left g ∩ above timing now g) g)
-    ++ sources_query group false (sources_where (has_left g ∖ above timing now g) g)
+    then sources_query group true (sources_where (has_sendings g ∩ above timing now g) g)
+    ++ sources_query group false (sources_where (has_sendings g ∖ above timing now g) g)
     else []
 
 -- What a group sends in one round, at or after the moment that is due: its group query, with S set
--- where the group timer is above the last member query time; then the sources that have something
--- left, in two queries, with S set those whose timer is above that time, and the others with S clear.
+-- where the group timer is above the last member query time; then the sources that have sendings to
+-- go, in two queries, with S set those whose timer is above that time, and the others with S clear.
 abbrev pub messages_due : Timing → ℕ → (group : ℕ) → ScheduledGroup → List SentQuery
 messages_due timing now group e = group_messages timing now group e ++ source_messages timing now group e
 
--- one sending fewer, and the next after the last member query interval, where one is left
-abbrev pub group_counted : Timing → ℕ → Option Sendings → Option Sendings
+-- one sending fewer, and the next after the last member query interval, where one is still to go
+abbrev pub group_counted : Timing → ℕ → Option QuerySchedule → Option QuerySchedule
 group_counted timing now None = None
 group_counted timing now (Some q) =
     if nat_le q.due now
     then (
-    if nat_lt 1 q.left
-    then Some (record { left = q.left - 1; due = now + timing.last_member_interval })
+    if nat_lt 1 q.sendings
+    then Some (record { sendings = q.sendings - 1; due = now + timing.last_member_interval })
     else None)
     else Some q
 
@@ -131,12 +126,12 @@ source_counted (Running d n) = Running d (n - 1)
 abbrev pub sources_counted : GroupState → GroupState
 sources_counted g = record g { sources = kept (λ s timer. Some (source_counted timer)) g.sources }
 
--- when the sources are due next, if one has something left
+-- when the sources are due next, if one has a sending to go
 abbrev pub sources_due_next : Timing → ℕ → GroupState → Option ℕ
 sources_due_next timing now g =
-    if some_source (has_left g) g then Some (now + timing.last_member_interval) else None
+    if some_source (has_sendings g) g then Some (now + timing.last_member_interval) else None
 
--- What is left after a round, however late it comes: each thing that was sent has one sending fewer.
+-- The state after a round, however late it comes: each thing that was sent has one sending fewer.
 abbrev pub after_round : Timing → ℕ → ScheduledGroup → ScheduledGroup
 after_round timing now e =
     let due = is_due now e.schedule.sources_due in

@@ -9,11 +9,11 @@ ghost use Rattle.mq_table.specs.Group.{Include, Exclude, Stopped, Running, vacan
 ghost use Rattle.mq_table.specs.Table.{change_of};
 ghost use Rattle.mq_table.specs.OlderHosts.{older_report, older_leave};
 ghost use Rattle.mq_table.specs.Expiry.{expired};
-ghost use Rattle.mq_table.specs.Examples.{default_timing, until, group_of, group_with, these, included, excluded, heard_v2};
+ghost use Rattle.mq_table.specs.Examples.{default_timing, until, group_in, group_with, naming, included, excluded, heard_v2};
 ghost use Rattle.mq_sched.specs.Schedule.{no_schedule, settled, cleared};
 ghost use Rattle.mq_sched.specs.Sending.{GeneralQuery, GroupQuery, SourcesQuery, messages_due, after_change};
 ghost use Rattle.mq_sched.specs.Election.{Querier, Other, election_at, heard, loses_role, ticked, general_messages};
-ghost use Rattle.mq_sched.specs.Examples.{the_group, sendings, state, with_schedule, recorded, recorded_at, Sends, blocked, refreshed, left_v2, reported_v2, robust, announced_timing, querier, other, announced};
+ghost use Rattle.mq_sched.specs.Examples.{the_group, scheduled, scheduled_group, with_schedule, recorded, recorded_at, Sends, blocked, refreshed, after_leave, reported_v2, robust, announced_timing, querier, other_until, announced};
 
 use mq_table::{Kind, OlderVersion, Timing};
 
@@ -69,7 +69,7 @@ pub fn lines_of_exclude()
     ensures to_in { Sends 1000 (recorded excluded Kind.ToIn (2 ∷ 3 ∷ 4 ∷ []))
         (GroupQuery the_group false ∷ SourcesQuery the_group false (1 ∷ []) ∷ [])
         (with_schedule (Exclude 3000) ((1, Running 3000 1) ∷ (2, until 261000) ∷ (3, until 261000)
-        ∷ (4, until 261000) ∷ []) (sendings 1 2000) (Some 2000)) }
+        ∷ (4, until 261000) ∷ []) (scheduled 1 2000) (Some 2000)) }
 {}
 
 /// INCLUDE({1, 2}), both until 261000: both are blocked at 2000, and 1 is allowed again at 2500. So at
@@ -82,8 +82,8 @@ pub fn a_source_refreshed()
     ensures second_sending { Sends 3000 refreshed
         (SourcesQuery the_group true (1 ∷ []) ∷ SourcesQuery the_group false (2 ∷ []) ∷ [])
         (with_schedule Include ((1, until 262500) ∷ (2, until 4000) ∷ []) None None) }
-    ensures end { expired 4000 (group_of Include ((1, until 262500) ∷ (2, until 4000) ∷ []))
-        ≡ group_of Include ((1, until 262500) ∷ []) }
+    ensures end { expired 4000 (group_in Include ((1, until 262500) ∷ (2, until 4000) ∷ []))
+        ≡ group_in Include ((1, until 262500) ∷ []) }
     // To block again what is lowered already asks nothing anew, and leaves what is due.
     ensures blocked_again { recorded_at 2500 blocked Kind.Block (1 ∷ 2 ∷ []) ≡ blocked }
 {}
@@ -95,32 +95,32 @@ pub fn a_round_in_time_and_late()
     ensures late { Sends 3900 refreshed
         (SourcesQuery the_group true (1 ∷ []) ∷ SourcesQuery the_group false (2 ∷ []) ∷ [])
         (with_schedule Include ((1, until 262500) ∷ (2, until 4000) ∷ []) None None) }
-    // With two sendings left, a late one moves the next on from its own moment.
+    // With two sendings to go, a late one moves the next on from its own moment.
     ensures late_with_more_to_go { Sends 5500
         (with_schedule Include ((1, Running 262500 2) ∷ []) None (Some 3000))
         (SourcesQuery the_group true (1 ∷ []) ∷ [])
         (with_schedule Include ((1, Running 262500 1) ∷ []) None (Some 6500)) }
-    ensures late_group { Sends 5500 (state (group_of (Exclude 262500) []) (sendings 2 3000) None)
+    ensures late_group { Sends 5500 (scheduled_group (group_in (Exclude 262500) []) (scheduled 2 3000) None)
         (GroupQuery the_group true ∷ [])
-        (state (group_of (Exclude 262500) []) (sendings 1 6500) None) }
+        (scheduled_group (group_in (Exclude 262500) []) (scheduled 1 6500) None) }
 {}
 
 /// A group of IGMPv2 hosts: a Report at 1000 and a Leave at 2000. Reported again at 2500, it is asked
 /// at 3000 with the S flag set; otherwise with it clear, and it is gone at 4000.
-pub fn a_group_left()
+pub fn a_leave()
     ensures first_sending { IfSome (older_leave true default_timing 2000 heard_v2) (λ change.
         Sends 2000 (after_change true default_timing 2000 change no_schedule)
-        (GroupQuery the_group false ∷ []) left_v2) }
-    ensures second_sending { Sends 3000 left_v2
+        (GroupQuery the_group false ∷ []) after_leave) }
+    ensures second_sending { Sends 3000 after_leave
         (GroupQuery the_group false ∷ [])
-        (state (group_with (Exclude 4000) [] None (Some 261000)) None None) }
+        (scheduled_group (group_with (Exclude 4000) [] None (Some 261000)) None None) }
     ensures gone { expired 4000 (group_with (Exclude 4000) [] None (Some 261000)) ≡ vacant }
-    ensures reported_again { older_report OlderVersion.V2 default_timing 2500 left_v2.group
+    ensures reported_again { older_report OlderVersion.V2 default_timing 2500 after_leave.group
         ≡ reported_v2.group }
-    ensures schedule_stays { settled reported_v2.group left_v2.schedule ≡ reported_v2.schedule }
+    ensures schedule_stays { settled reported_v2.group after_leave.schedule ≡ reported_v2.schedule }
     ensures suppressed { Sends 3000 reported_v2
         (GroupQuery the_group true ∷ [])
-        (state (group_with (Exclude 262500) [] None (Some 262500)) None None) }
+        (scheduled_group (group_with (Exclude 262500) [] None (Some 262500)) None None) }
 {}
 
 /// EXCLUDE({}, {}) until 261000: a source that is blocked at 260000 takes the group timer, which is not
@@ -129,24 +129,24 @@ pub fn a_source_blocked_at_the_end()
     ensures nothing_asked { Sends 260000
         (recorded_at 260000 (with_schedule (Exclude 261000) [] None None) Kind.Block (1 ∷ []))
         [] (with_schedule (Exclude 261000) ((1, until 261000) ∷ []) None None) }
-    ensures gone { expired 261000 (group_of (Exclude 261000) ((1, until 261000) ∷ [])) ≡ vacant }
+    ensures gone { expired 261000 (group_in (Exclude 261000) ((1, until 261000) ∷ [])) ≡ vacant }
 {}
 
 /// What goes no more: for a router that isn't querier, or is it no longer, and for sources and groups
 /// that a record or the end of timers takes away.
 pub fn what_is_dropped()
     ensures not_querier { after_change false default_timing 1000
-        (change_of default_timing 1000 included Kind.Block (these (2 ∷ 3 ∷ []))) no_schedule
+        (change_of default_timing 1000 included Kind.Block (naming (2 ∷ 3 ∷ []))) no_schedule
         ≡ with_schedule Include ((1, until 260000) ∷ (2, until 260000) ∷ []) None None }
     ensures role_lost { cleared
-        (with_schedule (Exclude 9000) ((1, Running 4000 1) ∷ (2, Stopped) ∷ []) (sendings 1 3000) (Some 3000))
+        (with_schedule (Exclude 9000) ((1, Running 4000 1) ∷ (2, Stopped) ∷ []) (scheduled 1 3000) (Some 3000))
         ≡ with_schedule (Exclude 9000) ((1, until 4000) ∷ (2, Stopped) ∷ []) None None }
     // IS_EX removes both sources.
     ensures sources_gone { recorded_at 2500 blocked Kind.IsEx (3 ∷ [])
         ≡ with_schedule (Exclude 262500) ((3, Stopped) ∷ []) None None }
     // The group timer's end leaves the source that is still asked for, and no group query.
-    ensures group_included { settled (group_of Include ((1, Running 9000 1) ∷ []))
-        (record { group_query = sendings 1 5000; sources_due = Some 4500 })
+    ensures group_included { settled (group_in Include ((1, Running 9000 1) ∷ []))
+        (record { group_query = scheduled 1 5000; sources_due = Some 4500 })
         ≡ record { group_query = None; sources_due = Some 4500 } }
 {}
 
@@ -175,25 +175,25 @@ pub fn startup()
 /// 60 s, and until 260000 where it says nothing of them; from the address 200 it doesn't.
 pub fn a_query_heard()
     ensures gives_way { heard default_timing 9 5000 2 (announced 3 60) (querier default_timing 31250 1)
-        ≡ other announced_timing 190000 }
+        ≡ other_until announced_timing 190000 }
     ensures gives_way_to_an_older_one { heard default_timing 9 5000 2 None (querier default_timing 31250 1)
-        ≡ other default_timing 260000 }
+        ≡ other_until default_timing 260000 }
     ensures loses { loses_role 9 2 (Querier 31250 1) ≡ true }
     ensures stays { heard default_timing 9 5000 200 (announced 3 60) (querier default_timing 31250 1)
         ≡ querier (robust 3) 31250 1 }
     ensures keeps { loses_role 9 200 (Querier 31250 1) ≡ false }
     // Zero restores what is configured.
-    ensures zero { heard default_timing 9 6000 2 (announced 0 0) (other announced_timing 190000)
-        ≡ other default_timing 261000 }
+    ensures zero { heard default_timing 9 6000 2 (announced 0 0) (other_until announced_timing 190000)
+        ≡ other_until default_timing 261000 }
     // A higher address than the querier's own moves no deadline of another one.
-    ensures higher { heard default_timing 9 6000 200 (announced 2 60) (other announced_timing 190000)
-        ≡ other (record announced_timing { robustness = 2 }) 190000 }
+    ensures higher { heard default_timing 9 6000 200 (announced 2 60) (other_until announced_timing 190000)
+        ≡ other_until (record announced_timing { robustness = 2 }) 190000 }
     // It sends nothing, until the other querier's deadline: then at once, and again a query interval later.
-    ensures silent { general_messages default_timing 31250 (other announced_timing 190000) ≡ [] }
-    ensures waits { ticked default_timing 189999 (other announced_timing 190000)
-        ≡ other announced_timing 190000 }
-    ensures at_the_end { general_messages default_timing 190000 (other announced_timing 190000)
+    ensures silent { general_messages default_timing 31250 (other_until announced_timing 190000) ≡ [] }
+    ensures waits { ticked default_timing 189999 (other_until announced_timing 190000)
+        ≡ other_until announced_timing 190000 }
+    ensures at_the_end { general_messages default_timing 190000 (other_until announced_timing 190000)
         ≡ GeneralQuery ∷ [] }
-    ensures returns_to_its_own { ticked default_timing 190000 (other announced_timing 190000)
+    ensures returns_to_its_own { ticked default_timing 190000 (other_until announced_timing 190000)
         ≡ querier default_timing 315000 0 }
 {}

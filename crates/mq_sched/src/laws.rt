@@ -3,48 +3,48 @@
 
 ghost use Rattle.std.specs.Prelude.{◌≡◌, ℕ, ◌+◌, ◌<◌, true, false, ◌&&◌, []};
 ghost use Rattle.mq_table.specs.declared.timing.Timing.{Timing};
-ghost use Rattle.mq_table.specs.Group.{GroupState, timer_at, deadline_of, left_of, group_deadline, IsWellFormed};
+ghost use Rattle.mq_table.specs.Group.{GroupState, timer_at, deadline_of, sendings_of, group_deadline, IsWellFormed};
 ghost use Rattle.mq_table.specs.Expiry.{expired};
 ghost use Rattle.mq_table.specs.Laws.{Arrival, group_after, IsNoLater};
-ghost use Rattle.mq_sched.specs.Schedule.{sendings_left, ScheduleState, ScheduledGroup, has_left, IsScheduleOf, settled, cleared};
+ghost use Rattle.mq_sched.specs.Schedule.{query_sendings, ScheduleState, ScheduledGroup, has_sendings, IsScheduleOf, settled, cleared};
 ghost use Rattle.mq_sched.specs.Sending.{is_due, group_due, messages_due};
 ghost use Rattle.mq_sched.specs.Election.{ElectionState, ticked};
-ghost use Rattle.mq_sched.specs.Laws.{Round, queries_of, left_by, Asking, after_asking, IsFitting, asked_in, asks_group, IsQuietAt, AscendIn, next_moment};
+ghost use Rattle.mq_sched.specs.Laws.{Round, queries_of, state_after, Asking, after_asking, IsFitting, asked_in, asks_group, IsQuietAt, AscendIn, next_moment};
 
-/// A round asks for the sources that have a sending left, where they are due. Each of them has
+/// A round asks for the sources that have a sending to go, where they are due. Each of them has
 /// exactly one fewer then, every other timer is as it was, and no deadline moves.
 pub fn a_round_counts_its_sources_down()
     ensures asked { (r : Round) (s : ℕ)
-        → asked_in (queries_of r) s ≡ (is_due r.now r.state.schedule.sources_due && has_left r.state.group s) }
+        → asked_in (queries_of r) s ≡ (is_due r.now r.before.schedule.sources_due && has_sendings r.before.group s) }
     ensures fewer { (r : Round) (s : ℕ)
         → asked_in (queries_of r) s ≡ true
-        → left_of (timer_at (left_by r).group s) + 1 ≡ left_of (timer_at r.state.group s) }
+        → sendings_of (timer_at (state_after r).group s) + 1 ≡ sendings_of (timer_at r.before.group s) }
     ensures others { (r : Round) (s : ℕ)
         → asked_in (queries_of r) s ≡ false
-        → timer_at (left_by r).group s ≡ timer_at r.state.group s }
+        → timer_at (state_after r).group s ≡ timer_at r.before.group s }
     ensures deadlines { (r : Round) (s : ℕ)
-        → deadline_of (timer_at (left_by r).group s) ≡ deadline_of (timer_at r.state.group s) }
+        → deadline_of (timer_at (state_after r).group s) ≡ deadline_of (timer_at r.before.group s) }
 {}
 
 /// So does the group query, in a round that has it; it has it where it is due.
 pub fn a_round_counts_its_group_query_down()
     ensures asked { (r : Round)
-        → asks_group (queries_of r) ≡ is_due r.now (group_due r.state.schedule.group_query) }
+        → asks_group (queries_of r) ≡ is_due r.now (group_due r.before.schedule.group_query) }
     ensures fewer { (r : Round)
-        → IsFitting r.state → asks_group (queries_of r) ≡ true
-        → sendings_left (left_by r).schedule.group_query + 1 ≡ sendings_left r.state.schedule.group_query }
+        → IsFitting r.before → asks_group (queries_of r) ≡ true
+        → query_sendings (state_after r).schedule.group_query + 1 ≡ query_sendings r.before.schedule.group_query }
     ensures other { (r : Round)
         → asks_group (queries_of r) ≡ false
-        → (left_by r).schedule.group_query ≡ r.state.schedule.group_query }
+        → (state_after r).schedule.group_query ≡ r.before.schedule.group_query }
 {}
 
 /// A round leaves nothing due at or before its moment, so that another one then sends nothing: where
 /// the last member query interval isn't 0, as in every configuration.
 pub fn a_round_leaves_nothing_due()
     ensures later { (r : Round)
-        → 0 < r.timing.last_member_interval → IsQuietAt r.now (left_by r).schedule }
+        → 0 < r.timing.last_member_interval → IsQuietAt r.now (state_after r).schedule }
     ensures silent { (r : Round)
-        → 0 < r.timing.last_member_interval → messages_due r.timing r.now r.address (left_by r) ≡ [] }
+        → 0 < r.timing.last_member_interval → messages_due r.timing r.now r.address (state_after r) ≡ [] }
 {}
 
 /// A round is in order: no query for sources is empty, and the sources of each ascend.
@@ -55,9 +55,9 @@ pub fn a_round_is_in_order()
 /// Asking for a group and its sources starts and ends no timer, and none runs longer than before.
 pub fn asking_never_lengthens()
     ensures group { (r : Asking)
-        → IsNoLater (group_deadline r.state.group.mode) (group_deadline (after_asking r).group.mode) }
+        → IsNoLater (group_deadline r.before.group.mode) (group_deadline (after_asking r).group.mode) }
     ensures sources { (r : Asking) (s : ℕ)
-        → IsNoLater (deadline_of (timer_at r.state.group s)) (deadline_of (timer_at (after_asking r).group s)) }
+        → IsNoLater (deadline_of (timer_at r.before.group s)) (deadline_of (timer_at (after_asking r).group s)) }
 {}
 
 /// A schedule goes on fitting its group: after a record, after the end of timers, after what a record
@@ -70,15 +70,15 @@ pub fn schedules_keep_form()
     ensures timers_ended { (now : ℕ) (g : GroupState) (schedule : ScheduleState)
         → IsScheduleOf g schedule → IsScheduleOf (expired now g) (settled (expired now g) schedule) }
     ensures asked { (r : Asking)
-        → 0 < r.timing.robustness → IsFitting r.state → IsFitting (after_asking r) }
-    ensures round_sent { (r : Round) → IsFitting r.state → IsFitting (left_by r) }
+        → 0 < r.timing.robustness → IsFitting r.before → IsFitting (after_asking r) }
+    ensures round_sent { (r : Round) → IsFitting r.before → IsFitting (state_after r) }
     ensures all_dropped { (e : ScheduledGroup) → IsFitting (cleared e) }
 {}
 
 /// A group that is held stays held, whatever is asked, sent or dropped.
 pub fn groups_stay_held()
-    ensures asked { (r : Asking) → IsWellFormed r.state.group → IsWellFormed (after_asking r).group }
-    ensures round_sent { (r : Round) → IsWellFormed r.state.group → IsWellFormed (left_by r).group }
+    ensures asked { (r : Asking) → IsWellFormed r.before.group → IsWellFormed (after_asking r).group }
+    ensures round_sent { (r : Round) → IsWellFormed r.before.group → IsWellFormed (state_after r).group }
     ensures all_dropped { (e : ScheduledGroup) → IsWellFormed e.group → IsWellFormed (cleared e).group }
 {}
 

@@ -8,7 +8,7 @@ use Rattle.mq_table.specs.Group.{GroupState, FilterMode, Include, Exclude, Sourc
 use Rattle.mq_table.specs.Expiry.{ahead, mode_expired, at_zero, source_expired, expired}
 use Rattle.mq_table.specs.Laws.{AllAhead}
 use Rattle.mq_table.proofs.Maps.{get-kept}
-use Rattle.mq_table.proofs.Composed.{left_at}
+use Rattle.mq_table.proofs.Composed.{ended_at}
 
 ahead_of : (now : ℕ) (o : Option ℕ) → IfSome (option_and_then (ahead now) o) (λ d. now < d)
 ahead_of now None = tt
@@ -42,8 +42,8 @@ source_ahead mode now (Some (Running d n)) = by_test (ltb now d) refl
 vacant_ahead : (now : ℕ) → AllAhead now vacant
 vacant_ahead now = record { group = tt; sources = λ s. subst (λ t. IfSome (deadline_of t) (λ d. now < d)) (sym (map.get-empty nat_cmp s)) tt; v1 = tt; v2 = tt }
 
-left_ahead : (now : ℕ) (g : GroupState) → AllAhead now (left_at now g)
-left_ahead now g = record {
+ended_ahead : (now : ℕ) (g : GroupState) → AllAhead now (ended_at now g)
+ended_ahead now g = record {
   group = mode_ahead now g.mode;
   sources = λ s. subst (λ t. IfSome (deadline_of t) (λ d. now < d)) (sym (get-kept (λ s. source_expired (mode_expired now g.mode) now) g.sources s)) (source_ahead (mode_expired now g.mode) now (timer_at g s));
   v1 = ahead_of now g.v1;
@@ -51,8 +51,8 @@ left_ahead now g = record {
 }
 
 pub AllAhead-expired : (now : ℕ) (g : GroupState) → AllAhead now (expired now g)
-AllAhead-expired now g = by_held (is_vacant (left_at now g))
+AllAhead-expired now g = by_held (is_vacant (ended_at now g))
   where
-    by_held : (b : Bool) → AllAhead now (cond b vacant (left_at now g))
+    by_held : (b : Bool) → AllAhead now (cond b vacant (ended_at now g))
     by_held true = vacant_ahead now
-    by_held false = left_ahead now g
+    by_held false = ended_ahead now g

@@ -14,8 +14,8 @@ use Rattle.mq_table.proofs.Groups.{same_sources}
 use Rattle.mq_table.proofs.Held.{nothing_held, get_of_empty}
 
 -- what the end of timers leaves, before it is known whether the group is held
-abbrev pub left_at : ℕ → GroupState → GroupState
-left_at now g = record {
+abbrev pub ended_at : ℕ → GroupState → GroupState
+ended_at now g = record {
   mode = mode_expired now g.mode;
   sources = kept (λ s. source_expired (mode_expired now g.mode) now) g.sources;
   v1 = option_and_then (ahead now) g.v1;
@@ -37,11 +37,11 @@ source_twice a b le Include (Some (Running e n)) = grind (arith, nat_tests)
 source_twice a b le (Exclude d) (Some Stopped) = grind (arith, nat_tests)
 source_twice a b le (Exclude d) (Some (Running e n)) = grind (arith, nat_tests)
 
-left_twice : (a b : ℕ) → a ≤ b → (g : GroupState) → left_at b (left_at a g) ≡ left_at b g
-left_twice a b le g =
+ended_twice : (a b : ℕ) → a ≤ b → (g : GroupState) → ended_at b (ended_at a g) ≡ ended_at b g
+ended_twice a b le g =
     let modes = mode_twice a b le g.mode in
-    let sources = same_sources (left_at b (left_at a g)).sources (left_at b g).sources (λ s.
-    get-kept (λ _. source_expired (mode_expired b (mode_expired a g.mode)) b) (left_at a g).sources s
+    let sources = same_sources (ended_at b (ended_at a g)).sources (ended_at b g).sources (λ s.
+    get-kept (λ _. source_expired (mode_expired b (mode_expired a g.mode)) b) (ended_at a g).sources s
     ∙ ap (λ t. option_and_then (source_expired (mode_expired b (mode_expired a g.mode)) b) t) (get-kept (λ _. source_expired (mode_expired a g.mode) a) g.sources s)
     ∙ ap (λ mode. option_and_then (source_expired mode b) (option_and_then (source_expired (mode_expired a g.mode) a) (map.get g.sources s))) modes
     ∙ source_twice a b le g.mode (map.get g.sources s)
@@ -55,11 +55,11 @@ include_stays b (Exclude d) e = grind (arith, nat_tests)
 empty_has_no_keys : {X : Type 0} (m : FinMap nat_cmp X) → ((s : ℕ) → map.get m s ≡ None) → eqb (map.len m) 0 ≡ true
 empty_has_no_keys m none = ap (λ n. eqb (map.len n) 0) (nothing_held m none) ∙ ap (λ n. eqb n 0) (map.len-empty nat_cmp _)
 
--- what is left of a group that is vacant is vacant
-vacant_stays : (b : ℕ) (g : GroupState) → is_vacant g ≡ true → is_vacant (left_at b g) ≡ true
+-- what the end of timers makes of a group that is vacant is vacant
+vacant_stays : (b : ℕ) (g : GroupState) → is_vacant g ≡ true → is_vacant (ended_at b g) ≡ true
 vacant_stays b g e =
     let parts = and_parts (is_include g.mode) (eqb (map.len g.sources) 0) e in
-    let empty = empty_has_no_keys (left_at b g).sources (λ s.
+    let empty = empty_has_no_keys (ended_at b g).sources (λ s.
     get-kept (λ _. source_expired (mode_expired b g.mode) b) g.sources s
     ∙ ap (λ t. option_and_then (source_expired (mode_expired b g.mode) b) t) (get_of_empty g.sources parts.1 s)) in
     λ i. include_stays b g.mode parts.0 i && empty i
@@ -70,11 +70,11 @@ vacant_is_vacant = ap (λ n. eqb n 0) (map.len-empty nat_cmp SourceTimer)
 held_of_vacant : (g : GroupState) → is_vacant g ≡ true → held_or_vacant g ≡ vacant
 held_of_vacant g e = ap (λ b. cond b vacant g) e
 
--- whether what is left is held at once or only at the later moment
+-- whether the group is vacant at once or only at the later moment
 pub expired-expired : (g : GroupState) (a b : ℕ) → a ≤ b → expired b (expired a g) ≡ expired b g
-expired-expired g a b le = elim (is_vacant (left_at a g)) as (λ v. is_vacant (left_at a g) ≡ v → held_or_vacant (left_at b (cond v vacant (left_at a g))) ≡ expired b g) [
-  | true ↦ λ e. held_of_vacant (left_at b vacant) (vacant_stays b vacant vacant_is_vacant)
-      ∙ sym (held_of_vacant (left_at b (left_at a g)) (vacant_stays b (left_at a g) e))
-      ∙ ap held_or_vacant (left_twice a b le g)
-  | false ↦ λ e. ap held_or_vacant (left_twice a b le g)
+expired-expired g a b le = elim (is_vacant (ended_at a g)) as (λ v. is_vacant (ended_at a g) ≡ v → held_or_vacant (ended_at b (cond v vacant (ended_at a g))) ≡ expired b g) [
+  | true ↦ λ e. held_of_vacant (ended_at b vacant) (vacant_stays b vacant vacant_is_vacant)
+      ∙ sym (held_of_vacant (ended_at b (ended_at a g)) (vacant_stays b (ended_at a g) e))
+      ∙ ap held_or_vacant (ended_twice a b le g)
+  | false ↦ λ e. ap held_or_vacant (ended_twice a b le g)
 ] refl

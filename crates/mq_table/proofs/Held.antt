@@ -14,8 +14,8 @@ use Rattle.mq_table.specs.declared.kind.Kind.{Kind}
 use Rattle.mq_table.specs.declared.kind.Kind.TheVariants.{IsIn, IsEx, ToIn, ToEx, Allow, Block}
 use Rattle.mq_table.specs.declared.timing.Timing.{Timing}
 use Rattle.mq_table.specs.Group.{GroupState, FilterMode, Include, Exclude, running, SourceTimer, Stopped, Running, is_include, is_running, is_stopped, stopped, timer_at, vacant, is_vacant, IsWellFormed, IsAnyGroup}
-use Rattle.mq_table.specs.declared.older_hosts.OlderVersion.{OlderVersion}
-use Rattle.mq_table.specs.declared.older_hosts.OlderVersion.TheVariants.{V1, V2}
+use Rattle.mq_count.specs.declared.versions.OlderVersion.{OlderVersion}
+use Rattle.mq_count.specs.declared.versions.OlderVersion.TheVariants.{V1, V2}
 use Rattle.mq_table.specs.Sets.{Set}
 use Rattle.mq_table.specs.Maps.{kept}
 use Rattle.mq_table.specs.Timing.{membership_interval}

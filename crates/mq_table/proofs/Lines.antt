@@ -6,9 +6,9 @@ use Rattle.mq_table.specs.declared.kind.Kind.{Kind}
 use Rattle.mq_table.specs.declared.kind.Kind.TheVariants.{IsIn, IsEx, ToIn, ToEx, Allow, Block}
 use Rattle.mq_table.specs.declared.timing.Timing.{Timing}
 use Rattle.mq_table.specs.Sets.{Set}
-use Rattle.mq_table.specs.Group.{GroupState, FilterMode, Include, Exclude, SourceTimer, Stopped, Running, is_running, is_stopped, running, stopped, timer_at, deadline_of, group_deadline, left_of, wants, forwards_in}
+use Rattle.mq_table.specs.Group.{GroupState, FilterMode, Include, Exclude, SourceTimer, Stopped, Running, is_running, is_stopped, running, stopped, timer_at, deadline_of, group_deadline, sendings_of, wants, forwards_in}
 use Rattle.mq_table.specs.Timing.{membership_interval}
-use Rattle.mq_table.specs.Table.{NamedSources, Line, line, timer_by, line_of, change_of}
+use Rattle.mq_table.specs.Table.{NamedSources, Line, line, timer_by, line_met, change_of}
 use Rattle.mq_table.specs.Laws.{ForwardsAfter, group_after}
 use Rattle.mq_table.proofs.Maps.{get-by_rule_everywhere}
 
@@ -45,10 +45,10 @@ timer_by-nothing gmi (Exclude d) ToEx X Y A s x y a = rw (a, y) refl
 timer_by-nothing gmi (Exclude d) ToIn X Y A s x y a = rw (x, a, y) refl
 
 -- what the new group has of a source: what the one rule says of it
-pub timer_at-change_of : (timing : Timing) (now : ℕ) (g : GroupState) (kind : Kind) (named : NamedSources) (s : ℕ) → timer_at (change_of timing now g kind named).group s ≡ timer_by (line_of timing now g kind named) (now + membership_interval timing) g.mode s (timer_at g s)
+pub timer_at-change_of : (timing : Timing) (now : ℕ) (g : GroupState) (kind : Kind) (named : NamedSources) (s : ℕ) → timer_at (change_of timing now g kind named).group s ≡ timer_by (line_met timing now g kind named) (now + membership_interval timing) g.mode s (timer_at g s)
 timer_at-change_of timing now g kind named s =
     get-by_rule_everywhere g.sources named _ s (λ none unnamed.
-    ap (λ t. timer_by (line_of timing now g kind named) (now + membership_interval timing) g.mode s t) none
+    ap (λ t. timer_by (line_met timing now g kind named) (now + membership_interval timing) g.mode s t) none
     ∙ timer_by-nothing (now + membership_interval timing) g.mode kind (running g) (stopped g) (set.contains named) s (ap is_running none) (ap is_stopped none) unnamed)
 
 -- What one source sees of a line depends on that source alone: on its timer, and whether it is named.
@@ -71,9 +71,9 @@ at_source P gmi (Exclude d) ToIn g A s p = p
 -- the same of the new group
 pub at_source_of : (P : Bool → Bool → Bool → FilterMode → Option SourceTimer → Type 0) → (timing : Timing) (now : ℕ) (g : GroupState) (kind : Kind) (named : NamedSources) (s : ℕ)
     → (let gmi = now + membership_interval timing in let l = line_at gmi g.mode kind (timer_at g s) (set.contains named s) in P (l.restart s) (l.copy s) (l.query s) l.mode (timer_by l gmi g.mode s (timer_at g s)))
-    → (let l = line_of timing now g kind named in P (l.restart s) (l.copy s) (l.query s) l.mode (timer_at (change_of timing now g kind named).group s))
+    → (let l = line_met timing now g kind named in P (l.restart s) (l.copy s) (l.query s) l.mode (timer_at (change_of timing now g kind named).group s))
 at_source_of P timing now g kind named s p =
-    let l = line_of timing now g kind named in
+    let l = line_met timing now g kind named in
     subst (P (l.restart s) (l.copy s) (l.query s) l.mode) (sym (timer_at-change_of timing now g kind named s)) (at_source P (now + membership_interval timing) g.mode kind g (set.contains named) s p)
 
 -- what a group forwards of a source after a record, by whether it is named and was forwarded before
@@ -200,7 +200,7 @@ included_before gmi (Exclude m) ToEx X Y A e = cc
 included_before gmi (Exclude m) ToIn X Y A e = cc
 
 -- the three facts of the new group, for any source
-pub deadline_kept : (timing : Timing) (now : ℕ) (g : GroupState) (kind : Kind) (named : NamedSources) (s : ℕ) → (line_of timing now g kind named).restart s ≡ false → (line_of timing now g kind named).copy s ≡ false → (e : ℕ) → deadline_of (timer_at (change_of timing now g kind named).group s) ≡ Some e → deadline_of (timer_at g s) ≡ Some e
+pub deadline_kept : (timing : Timing) (now : ℕ) (g : GroupState) (kind : Kind) (named : NamedSources) (s : ℕ) → (line_met timing now g kind named).restart s ≡ false → (line_met timing now g kind named).copy s ≡ false → (e : ℕ) → deadline_of (timer_at (change_of timing now g kind named).group s) ≡ Some e → deadline_of (timer_at g s) ≡ Some e
 deadline_kept timing now g kind named s =
     at_source_of (λ restart copy _ _ t. restart ≡ false → copy ≡ false → (e : ℕ) → deadline_of t ≡ Some e → deadline_of (timer_at g s) ≡ Some e) timing now g kind named s
     (kept_then (now + membership_interval timing) g.mode kind s (timer_at g s) (set.contains named s))
@@ -261,24 +261,24 @@ copied_then gmi (Exclude m) Block s t a = each_case (λ t a. (line_at gmi (Exclu
 copied_then gmi (Exclude m) ToEx s t a = each_case (λ t a. (line_at gmi (Exclude m) ToEx t a).copy s ≡ true → deadline_of (timer_then gmi (Exclude m) ToEx s t a) ≡ group_deadline (Exclude m)) (both _ (λ r. cc) (λ r. cc)) (both _ (λ r. cc) (λ r. cc)) (λ d n. both _ (λ r. cc) (λ r. cc)) t a
 copied_then gmi (Exclude m) ToIn s t a = each_case (λ t a. (line_at gmi (Exclude m) ToIn t a).copy s ≡ true → deadline_of (timer_then gmi (Exclude m) ToIn s t a) ≡ group_deadline (Exclude m)) (both _ (λ r. cc) (λ r. cc)) (both _ (λ r. cc) (λ r. cc)) (λ d n. both _ (λ r. cc) (λ r. cc)) t a
 
-pub restarted : (timing : Timing) (now : ℕ) (g : GroupState) (kind : Kind) (named : NamedSources) (s : ℕ) → (line_of timing now g kind named).restart s ≡ true → deadline_of (timer_at (change_of timing now g kind named).group s) ≡ Some (now + membership_interval timing)
+pub restarted : (timing : Timing) (now : ℕ) (g : GroupState) (kind : Kind) (named : NamedSources) (s : ℕ) → (line_met timing now g kind named).restart s ≡ true → deadline_of (timer_at (change_of timing now g kind named).group s) ≡ Some (now + membership_interval timing)
 restarted timing now g kind named s =
     at_source_of (λ restart _ _ _ t. restart ≡ true → deadline_of t ≡ Some (now + membership_interval timing)) timing now g kind named s
     (restarted_then (now + membership_interval timing) g.mode kind s (timer_at g s) (set.contains named s))
 
-pub copied : (timing : Timing) (now : ℕ) (g : GroupState) (kind : Kind) (named : NamedSources) (s : ℕ) → (line_of timing now g kind named).copy s ≡ true → deadline_of (timer_at (change_of timing now g kind named).group s) ≡ group_deadline g.mode
+pub copied : (timing : Timing) (now : ℕ) (g : GroupState) (kind : Kind) (named : NamedSources) (s : ℕ) → (line_met timing now g kind named).copy s ≡ true → deadline_of (timer_at (change_of timing now g kind named).group s) ≡ group_deadline g.mode
 copied timing now g kind named s =
     at_source_of (λ _ copy _ _ t. copy ≡ true → deadline_of t ≡ group_deadline g.mode) timing now g kind named s
     (copied_then (now + membership_interval timing) g.mode kind s (timer_at g s) (set.contains named s))
 
--- a source that runs on keeps what is left to send for it
-pub sendings_kept : (timing : Timing) (now : ℕ) (g : GroupState) (kind : Kind) (named : NamedSources) (s : ℕ) → running (change_of timing now g kind named).group s ≡ true → left_of (timer_at (change_of timing now g kind named).group s) ≡ left_of (timer_at g s)
+-- a source that runs on keeps its sendings
+pub sendings_kept : (timing : Timing) (now : ℕ) (g : GroupState) (kind : Kind) (named : NamedSources) (s : ℕ) → running (change_of timing now g kind named).group s ≡ true → sendings_of (timer_at (change_of timing now g kind named).group s) ≡ sendings_of (timer_at g s)
 sendings_kept timing now g kind named s runs =
-    let l = line_of timing now g kind named in
+    let l = line_met timing now g kind named in
     let same = timer_at-change_of timing now g kind named s in
-    ap left_of same ∙ by_rule (l.x s) (l.y s) _ (left_of (timer_at g s)) (sym (ap is_running same) ∙ runs)
+    ap sendings_of same ∙ by_rule (l.x s) (l.y s) _ (sendings_of (timer_at g s)) (sym (ap is_running same) ∙ runs)
   where
-    by_rule : (x y : Bool) (d n : ℕ) → is_running (cond x (Some (Running d n)) (cond y (Some Stopped) None)) ≡ true → left_of (cond x (Some (Running d n)) (cond y (Some Stopped) None)) ≡ n
+    by_rule : (x y : Bool) (d n : ℕ) → is_running (cond x (Some (Running d n)) (cond y (Some Stopped) None)) ≡ true → sendings_of (cond x (Some (Running d n)) (cond y (Some Stopped) None)) ≡ n
     by_rule true y d n e = refl
     by_rule false true d n e = absurd (false≢true e)
     by_rule false false d n e = absurd (false≢true e)

@@ -1,5 +1,5 @@
 -- The state of one group, as the router keeps it (RFC 3376 section 6.2, RFC 3810 section 7.2).
-use Rattle.std.specs.Prelude.{◌≡◌, ℕ, Bool, true, false, not, ◌&&◌, ◌==◌, ◌⊎◌, Option, None, Some, IsTrue}
+use Rattle.std.specs.Prelude.{◌≡◌, ℕ, Bool, true, false, not, ◌&&◌, ◌==◌, ◌⊎◌, nat_lt, Option, None, Some, IsTrue}
 use Rattle.std.specs.Ordering.{nat_cmp}
 use Rattle.std.specs.FinMap as map
 use Rattle.std.specs.FinMap.{FinMap}
@@ -10,7 +10,7 @@ use Rattle.mq_table.specs.Sets.{Set}
 -- group-and-source-specific queries that are still to go for it (RFC 3376 section 6.6.3.2).
 pub data SourceTimer : Type 0 where
   Stopped : SourceTimer
-  Running : (deadline left : ℕ) → SourceTimer
+  Running : (deadline sendings : ℕ) → SourceTimer
 
 -- The filter mode; in EXCLUDE with the deadline of the group timer, which RFC 3810 calls the filter
 -- timer (RFC 3376 sections 6.2.1 and 6.2.2, RFC 3810 sections 7.2.1 and 7.2.2).
@@ -51,11 +51,16 @@ deadline_of None = None
 deadline_of (Some Stopped) = None
 deadline_of (Some (Running d n)) = Some d
 
--- how many sendings are left for a source
-abbrev pub left_of : Option SourceTimer → ℕ
-left_of None = 0
-left_of (Some Stopped) = 0
-left_of (Some (Running d n)) = n
+-- whether there is a deadline that lies after a moment: whether a timer runs on then
+abbrev pub is_ahead : ℕ → Option ℕ → Bool
+is_ahead moment None = false
+is_ahead moment (Some deadline) = nat_lt moment deadline
+
+-- how many sendings are still to go for a source
+abbrev pub sendings_of : Option SourceTimer → ℕ
+sendings_of None = 0
+sendings_of (Some Stopped) = 0
+sendings_of (Some (Running d n)) = n
 
 -- the timer of source s, if the group holds it
 abbrev pub timer_at : GroupState → ℕ → Option SourceTimer

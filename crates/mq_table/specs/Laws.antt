@@ -4,7 +4,7 @@ use Rattle.std.specs.FinSet as set
 use Rattle.mq_table.specs.declared.kind.Kind.{Kind}
 use Rattle.mq_table.specs.declared.timing.Timing.{Timing}
 use Rattle.mq_table.specs.Group.{GroupState, group_deadline, timer_at, deadline_of, forwards_in}
-use Rattle.mq_table.specs.Table.{NamedSources, Line, line_of, change_of}
+use Rattle.mq_table.specs.Table.{NamedSources, Line, line_met, change_of}
 
 -- a record that comes for a group, at a moment
 pub record Arrival : Type 0 where
@@ -15,7 +15,7 @@ pub record Arrival : Type 0 where
   pub named : NamedSources
 
 abbrev pub line_for : Arrival → Line
-line_for r = line_of r.timing r.now r.group r.kind r.named
+line_for r = line_met r.timing r.now r.group r.kind r.named
 
 -- what it leaves of the group
 abbrev pub group_after : Arrival → GroupState

@@ -1,21 +1,16 @@
 -- Hosts of older versions (RFC 3376 section 7.3.2, RFC 3810 section 8.3.2).
-use Rattle.std.specs.Prelude.{ℕ, ◌+◌, Bool, false, ◌&&◌, ◌||◌, if◌then◌else◌, nat_lt, Option, None, Some}
+use Rattle.std.specs.Prelude.{ℕ, ◌+◌, Bool, ◌&&◌, ◌||◌, if◌then◌else◌, Option, None, Some}
 use Rattle.std.specs.Option.{option_map}
 use Rattle.std.specs.FinSet as set
 use Rattle.mq_table.specs.declared.kind.Kind.{Kind}
 use Rattle.mq_table.specs.declared.kind.Kind.TheVariants.{IsIn, IsEx, ToIn, ToEx, Allow, Block}
 use Rattle.mq_table.specs.declared.older_hosts.Hosts.{Hosts}
-use Rattle.mq_table.specs.declared.older_hosts.OlderVersion.{OlderVersion}
-use Rattle.mq_table.specs.declared.older_hosts.OlderVersion.TheVariants.{V1, V2}
+use Rattle.mq_count.specs.declared.versions.OlderVersion.{OlderVersion}
+use Rattle.mq_count.specs.declared.versions.OlderVersion.TheVariants.{V1, V2}
 use Rattle.mq_table.specs.declared.timing.Timing.{Timing}
-use Rattle.mq_table.specs.Group.{GroupState}
+use Rattle.mq_table.specs.Group.{GroupState, is_ahead}
 use Rattle.mq_table.specs.Timing.{older_host_present}
 use Rattle.mq_table.specs.Table.{NamedSources, GroupChange, change_of}
-
--- whether a host-present timer runs
-abbrev pub is_ahead : ℕ → Option ℕ → Bool
-is_ahead now None = false
-is_ahead now (Some deadline) = nat_lt now deadline
 
 -- which older versions have hosts in the group, as far as the router knows
 abbrev pub hosts_of : GroupState → ℕ → Hosts

@@ -10,7 +10,7 @@ use Rattle.mq_table.specs.declared.kind.Kind.TheVariants.{IsIn, IsEx, ToIn, ToEx
 use Rattle.mq_table.specs.declared.timing.Timing.{Timing}
 use Rattle.mq_table.specs.Sets.{Set, ∅, ◌∪◌, ◌∩◌, ◌∖◌}
 use Rattle.mq_table.specs.Maps.{by_rule}
-use Rattle.mq_table.specs.Group.{GroupState, FilterMode, Include, Exclude, SourceTimer, Stopped, Running, running, stopped, timer_at, group_deadline, deadline_of, left_of}
+use Rattle.mq_table.specs.Group.{GroupState, FilterMode, Include, Exclude, SourceTimer, Stopped, Running, running, stopped, timer_at, group_deadline, deadline_of, sendings_of}
 use Rattle.mq_table.specs.Timing.{membership_interval}
 
 -- the sources that a record names; how often it names one doesn't matter
@@ -74,15 +74,15 @@ line gmi (Exclude d) ToIn X Y A =
     record (exclude d (X ∪ A) (Y ∖ A)) { restart = A; query = X ∖ A; query_group = true }
 
 -- One rule makes a line into timers, source by source. `before` is the timer before the record. A
--- source that no action of the line names keeps its deadline; one that was running keeps what is
--- left to send for it, and every other has nothing left. (No line copies the group timer of INCLUDE,
+-- source that no action of the line names keeps its deadline; one that was running keeps its
+-- sendings to go, and every other has none. (No line copies the group timer of INCLUDE,
 -- which has none, or keeps the deadline of a source that has none.)
 abbrev pub timer_by : Line → ℕ → FilterMode → ℕ → Option SourceTimer → Option SourceTimer
 timer_by l gmi mode s before =
     let group = unwrap_or (group_deadline mode) 0 in
     let kept = unwrap_or (deadline_of before) 0 in
     let deadline = if l.restart s then gmi else (if l.copy s then group else kept) in
-    if l.x s then Some (Running deadline (left_of before)) else (if l.y s then Some Stopped else None)
+    if l.x s then Some (Running deadline (sendings_of before)) else (if l.y s then Some Stopped else None)
 
 -- The new group and the queries that go with it. Host-present timers stay.
 pub record GroupChange : Type 0 where
@@ -90,13 +90,13 @@ pub record GroupChange : Type 0 where
   pub query : Set
   pub query_group : Bool
 
-abbrev pub line_of : Timing → ℕ → GroupState → Kind → NamedSources → Line
-line_of timing now g kind named =
+abbrev pub line_met : Timing → ℕ → GroupState → Kind → NamedSources → Line
+line_met timing now g kind named =
     line (now + membership_interval timing) g.mode kind (running g) (stopped g) (set.contains named)
 
 abbrev pub change_of : Timing → ℕ → GroupState → Kind → NamedSources → GroupChange
 change_of timing now g kind named =
-    let l = line_of timing now g kind named in
+    let l = line_met timing now g kind named in
     let timer = λ (s : ℕ). timer_by l (now + membership_interval timing) g.mode s (timer_at g s) in
     record {
       group = record { mode = l.mode; sources = by_rule g.sources named timer; v1 = g.v1; v2 = g.v2 };

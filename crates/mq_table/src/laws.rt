@@ -4,9 +4,9 @@
 ghost use Rattle.std.specs.Prelude.{◌≡◌, ℕ, ◌+◌, ◌≤◌, true, false, not, ◌||◌, ◌⊎◌, Some, None, IsSome, IsTrue};
 ghost use Rattle.std.specs.FinSet as set;
 ghost use Rattle.mq_table.specs.declared.timing.Timing.{Timing};
-ghost use Rattle.mq_table.specs.declared.older_hosts.OlderVersion.{OlderVersion};
+ghost use Rattle.mq_count.specs.declared.versions.OlderVersion.{OlderVersion};
 ghost use Rattle.mq_table.specs.Sets.{Set};
-ghost use Rattle.mq_table.specs.Group.{GroupState, running, timer_at, deadline_of, left_of, group_deadline, forwards_in, vacant, IsWellFormed, IsAnyGroup};
+ghost use Rattle.mq_table.specs.Group.{GroupState, running, timer_at, deadline_of, sendings_of, group_deadline, forwards_in, vacant, IsWellFormed, IsAnyGroup};
 ghost use Rattle.mq_table.specs.Timing.{membership_interval};
 ghost use Rattle.mq_table.specs.OlderHosts.{older_report};
 ghost use Rattle.mq_table.specs.Expiry.{expired};
@@ -66,10 +66,10 @@ pub fn records_change_what_they_name()
         → (line_for r).copy s ≡ true
         → deadline_of (timer_at (group_after r) s) ≡ group_deadline r.group.mode }
 
-    // A source that runs has as much left to send as before, and nothing where it didn't run.
+    // A source that runs has as many sendings to go as before, and none where it didn't run.
     ensures sendings { (r : Arrival) (s : ℕ)
         → running (group_after r) s ≡ true
-        → left_of (timer_at (group_after r) s) ≡ left_of (timer_at r.group s) }
+        → sendings_of (timer_at (group_after r) s) ≡ sendings_of (timer_at r.group s) }
 
     // A source that the record doesn't name is as it was, or gone.
     ensures unnamed { (r : Arrival) (s : ℕ)

@@ -9,5 +9,6 @@ pub mod older_hosts;
 pub mod timing;
 
 pub use kind::Kind;
-pub use older_hosts::{Hosts, OlderVersion};
+pub use mq_count::OlderVersion;
+pub use older_hosts::Hosts;
 pub use timing::Timing;

@@ -5,10 +5,3 @@ pub struct Hosts {
     pub v1: bool,
     pub v2: bool,
 }
-
-/// The version of an older host's Report: IGMPv1, IGMPv2 or MLDv1.
-#[derive(Clone, Copy, Debug, PartialEq, Eq)]
-pub enum OlderVersion {
-    V1,
-    V2,
-}

@@ -6,9 +6,9 @@ ghost use Rattle.mq_wire.specs.declared.message.Message.{Message as MessageOf};
 ghost use Rattle.mq_wire.specs.declared.message.WireFault.{WireFault as Fault};
 
 use crate::checksum::checksum_ok;
-use crate::message::{Message, OlderVersion, WireFault};
+use crate::message::{Message, WireFault};
 use byteorder::{BigEndian, ByteOrder};
-use mq_count::Addr4;
+use mq_count::{Addr4, OlderVersion};
 
 /// The type of a version 1 Report (RFC 1112 appendix I).
 const V1_REPORT: u8 = 0x12;

@@ -23,4 +23,5 @@ mod tests;
 
 pub use checksum::{checksum_of, checksum_ok};
 pub use igmp::read_igmp;
-pub use message::{Message, OlderVersion, WireFault};
+pub use message::{Message, WireFault};
+pub use mq_count::OlderVersion;

@@ -1,5 +1,7 @@
 //! The messages, and the faults of bytes that spell none.
 
+use mq_count::OlderVersion;
+
 /// A message of a host.
 #[derive(Clone, Copy)]
 pub enum Message<K> {
@@ -8,15 +10,6 @@ pub enum Message<K> {
     OldReport(OlderVersion, K),
     /// A Leave for a group (RFC 2236 section 3): a host of version 2 wants it no longer.
     Leave(K),
-}
-
-/// The version of an older Report.
-#[derive(Clone, Copy, Debug, PartialEq, Eq)]
-pub enum OlderVersion {
-    /// IGMPv1 (RFC 1112).
-    V1,
-    /// IGMPv2 (RFC 2236).
-    V2,
 }
 
 /// Why bytes spell no message: the first of these that holds, in this order, but that a field after

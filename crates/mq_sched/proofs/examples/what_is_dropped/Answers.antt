@@ -5,7 +5,7 @@ use Rattle.std.specs.FinSet as set
 use Rattle.std.specs.FinSet.{members}
 use Rattle.mq_table.specs.declared.kind.Kind.TheVariants.{IsEx, Block}
 use Rattle.mq_table.specs.Group.{Include, Exclude, Stopped, Running}
-use Rattle.mq_table.specs.Examples.{default_timing, until, group_of, these, included}
+use Rattle.mq_table.specs.Examples.{default_timing, until, group_in, naming, included}
 use Rattle.mq_table.proofs.Maps.{get-by_rule, keys-from_entries, kept-from_entries}
 use Rattle.mq_table.specs.Table.{change_of}
 use Rattle.mq_table.proofs.Groups.{same_group}
@@ -17,7 +17,7 @@ use Rattle.mq_sched.proofs.examples.what_is_dropped.Goals as goal
 
 pub returns-clause-not_querier : goal.returns-clause-not_querier
 returns-clause-not_querier c =
-    let change = change_is (change_of default_timing 1000 included Block (these (2 ∷ 3 ∷ []))) (group_of Include ((1, until 260000) ∷ (2, until 260000) ∷ [])) false (these (2 ∷ []))
+    let change = change_is (change_of default_timing 1000 included Block (naming (2 ∷ 3 ∷ []))) (group_in Include ((1, until 260000) ∷ (2, until 260000) ∷ [])) false (naming (2 ∷ []))
     (same_group _ _ _ _ _ (λ s. grind (arith, nat_tests, get-by_rule, gets, members)))
     (λ s. grind (arith, nat_tests, gets, members)) refl in
     ap (λ x. after_change false default_timing 1000 x no_schedule) change ∙ rw (keys-from_entries ((1, until 260000) ∷ (2, until 260000) ∷ []) tt) (simp gets)
@@ -27,11 +27,11 @@ returns-clause-role_lost c = rw (kept-from_entries (λ _. source_cleared) ((1, R
 
 pub returns-clause-sources_gone : goal.returns-clause-sources_gone
 returns-clause-sources_gone c =
-    let change = change_is (change_of default_timing 2500 blocked.group IsEx (these (3 ∷ []))) (group_of (Exclude 262500) ((3, Stopped) ∷ [])) false (these [])
+    let change = change_is (change_of default_timing 2500 blocked.group IsEx (naming (3 ∷ []))) (group_in (Exclude 262500) ((3, Stopped) ∷ [])) false (naming [])
     (same_group _ _ _ _ _ (λ s. grind (arith, nat_tests, get-by_rule, gets, members)))
     (λ s. grind (arith, nat_tests, gets, members)) refl in
-    let asked : after_change true default_timing 2500 (record { group = (group_of (Exclude 262500) ((3, Stopped) ∷ [])); query = set.contains (these []); query_group = false }) (record { group_query = None; sources_due = Some 3000 }) ≡ with_schedule (Exclude 262500) ((3, Stopped) ∷ []) None None =
-    rw (kept-from_entries (λ s timer. cond (set.contains (these []) s) (source_asked 4500 2 timer) timer) ((3, Stopped) ∷ []), keys-from_entries ((3, Stopped) ∷ []) tt) (simp (gets, members)) in
+    let asked : after_change true default_timing 2500 (record { group = (group_in (Exclude 262500) ((3, Stopped) ∷ [])); query = set.contains (naming []); query_group = false }) (record { group_query = None; sources_due = Some 3000 }) ≡ with_schedule (Exclude 262500) ((3, Stopped) ∷ []) None None =
+    rw (kept-from_entries (λ s timer. cond (set.contains (naming []) s) (source_asked 4500 2 timer) timer) ((3, Stopped) ∷ []), keys-from_entries ((3, Stopped) ∷ []) tt) (simp (gets, members)) in
     ap (λ x. after_change true default_timing 2500 x (record { group_query = None; sources_due = Some 3000 })) change ∙ asked
 
 pub returns-clause-group_included : goal.returns-clause-group_included

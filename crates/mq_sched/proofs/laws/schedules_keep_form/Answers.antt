@@ -8,10 +8,10 @@ pub returns-clause-timers_ended : goal.returns-clause-timers_ended
 returns-clause-timers_ended c = fits_after_expiry
 
 pub returns-clause-asked : goal.returns-clause-asked
-returns-clause-asked c r = fits_acted r.is_querier r.timing r.now r.query_group r.query r.state
+returns-clause-asked c r = fits_acted r.is_querier r.timing r.now r.query_group r.query r.before
 
 pub returns-clause-round_sent : goal.returns-clause-round_sent
-returns-clause-round_sent c r = fits_after_round r.timing r.now r.state
+returns-clause-round_sent c r = fits_after_round r.timing r.now r.before
 
 pub returns-clause-all_dropped : goal.returns-clause-all_dropped
 returns-clause-all_dropped c = fits_cleared
