@@ -7,6 +7,7 @@ use std::alloc::{AllocError, Global};
 use std::convert::AsStr;
 
 /// What the command line asks for.
+#[derive(Clone, Copy)]
 pub enum Request<'a> {
     /// The line of one IGMP message, whose bytes are given in hexadecimal.
     Message {

@@ -20,7 +20,7 @@ mod text;
 pub use lines::igmp_line;
 use mq_count::Watched;
 pub use printing::LineFault;
-pub use program::run;
+pub use program::{perform, run};
 use std::io::{BufWriter, ErrorKind, Write};
 use std::process::ExitCode;
 use std::{env, io};
