@@ -4,6 +4,8 @@
  *   REFUSE_ALLOCATION=N   the Nth malloc, calloc, realloc or aligned_alloc answers null
  *   REFUSE_READ=N         the Nth read fails
  *   REFUSE_WRITE=N        the Nth write fails
+ *   REFUSE_LATER=1        and so does each later write to its descriptor
+ *   REFUSE_EMPTY=1        a refused write takes nothing in place of failing
  *   REFUSE_SECOND_BYTE=1  a read or write moves at most one byte
  *   REFUSE_COUNTS=FILE    has the counts, four numbers of eight bytes: allocations, reads, writes, and
  *                         one more than the descriptor of the write that failed
@@ -28,7 +30,7 @@ struct counts {
 
 static struct counts own, *counts = &own;
 static uint64_t refused_allocation, refused_read, refused_write;
-static int is_by_bytes;
+static int is_by_bytes, is_for_later, is_empty;
 
 static uint64_t number(const char *name) {
     const char *text = getenv(name);
@@ -49,6 +51,8 @@ __attribute__((constructor)) static void begin(void) {
     refused_read = number("REFUSE_READ");
     refused_write = number("REFUSE_WRITE");
     is_by_bytes = number("REFUSE_SECOND_BYTE");
+    is_for_later = number("REFUSE_LATER");
+    is_empty = number("REFUSE_EMPTY");
 }
 
 /* Counts a call, and answers whether it is the one to refuse, with the error it then sets. */
@@ -86,9 +90,11 @@ ssize_t read(int file, void *into, size_t size) {
 }
 
 ssize_t write(int file, const void *from, size_t size) {
-    if (is_refused(&counts->writes, refused_write, EIO)) {
-        counts->failed = file + 1;
-        return -1;
+    uint64_t place = file + 1;
+    if (is_refused(&counts->writes, refused_write, EIO) || (is_for_later && counts->failed == place)) {
+        counts->failed = place;
+        errno = EIO;
+        return is_empty ? 0 : -1;
     }
     return syscall(SYS_write, file, from, is_by_bytes && size > 1 ? 1 : size);
 }

@@ -13,8 +13,6 @@ mod command;
 mod lines;
 mod printing;
 mod program;
-#[cfg(test)]
-mod tests;
 mod text;
 
 pub use lines::igmp_line;
