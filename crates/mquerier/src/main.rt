@@ -9,7 +9,6 @@
 //! streams; `main` runs it on the program's own words and streams.
 #![tactic(auto)]
 
-mod command;
 mod lines;
 mod printing;
 mod program;
