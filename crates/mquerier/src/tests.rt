@@ -40,7 +40,7 @@ fn is_outcome(rt: &impl Abort, got: Outcome, output: &[u8], errors: &[u8], statu
     assert_eq!(rt; got.status, status, "{output:?}");
 }
 
-const MESSAGES: [(&str, &[u8], u8); 15] = [
+const MESSAGES: [(&str, &[u8], u8); 22] = [
     ("1600f8faef010203", b"report v2 group 239.1.2.3\n", 0),
     ("1200fcfaef010203", b"report v1 group 239.1.2.3\n", 0),
     ("1700f7faef010203", b"leave group 239.1.2.3\n", 0),
@@ -51,6 +51,29 @@ const MESSAGES: [(&str, &[u8], u8); 15] = [
     ("00000000", b"fault 2 checksum\n", 1),
     ("1300ecff", b"fault 3 unknown type\n", 1),
     ("", b"fault 1 truncated at 0\n", 1),
+    ("1100eeff00000000", b"query v1 group 0.0.0.0\n", 0),
+    (
+        "1164ee9b00000000",
+        b"query v2 group 0.0.0.0 response 10000\n",
+        0,
+    ),
+    (
+        "1164ec1e00000000027d0000",
+        b"query v3 group 0.0.0.0 response 10000 s 0 qrv 2 interval 125 sources 0\n",
+        0,
+    ),
+    (
+        "110af173e80101010a7d00010a000001",
+        b"query v3 group 232.1.1.1 response 1000 s 1 qrv 2 interval 125 sources 1 10.0.0.1\n",
+        0,
+    ),
+    (
+        "1164ec1d00000000027d0001",
+        b"fault 1 truncated at 12\n",
+        1,
+    ),
+    ("1164ee9b", b"fault 4 query length\n", 1),
+    ("1164ee9b000000000000", b"fault 4 query length\n", 1),
     // Sent by hosts of the Linux kernel, older versions forced.
     ("1600f6f9ef040401", b"report v2 group 239.4.4.1\n", 0),
     ("1600f6f8ef040402", b"report v2 group 239.4.4.2\n", 0),
