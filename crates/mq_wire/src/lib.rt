@@ -2,6 +2,7 @@
 //!
 //! ```text
 //! match read_igmp(bytes) {
+//!     Ok(Message::Query(query)) => ..                // a router asks: query.group, query.response
 //!     Ok(Message::OldReport(version, group)) => ..   // a host of version 1 or 2 wants the group
 //!     Ok(Message::Leave(group)) => ..                // a host of version 2 wants it no longer
 //!     Err(WireFault::Truncated { at }) => ..         // the field that begins at `at` is cut
@@ -9,19 +10,31 @@
 //! }
 //! ```
 //!
-//! - To read: `read_igmp`, which answers a `Message` or a `WireFault`. It takes no memory.
+//! - To read: `read_igmp`, which answers a `Message` or a `WireFault`. It takes no memory; a query's
+//!   `Sources` stay in the bytes.
+//! - Codes of times: `resp8` and `code8`.
 //! - Checksums: `checksum_ok` and `checksum_of`.
+//! - Addresses: `WireKey`.
 //! - Laws, functions that do nothing: `laws`.
 #![tactic(auto)]
 
 pub mod checksum;
+pub mod codes;
+mod fields;
 pub mod igmp;
 pub mod laws;
 pub mod message;
+pub mod query;
+pub mod sources;
 #[cfg(test)]
 mod tests;
+pub mod wire_key;
 
 pub use checksum::{checksum_of, checksum_ok};
+pub use codes::{code8, resp8};
 pub use igmp::read_igmp;
 pub use message::{Message, WireFault};
 pub use mq_count::OlderVersion;
+pub use query::{Qrv, QuerierFields, Query, QueryVersion};
+pub use sources::Sources;
+pub use wire_key::WireKey;
