@@ -1,3 +1,4 @@
+pub mod Capture
 pub mod Frame
 pub mod Options
 pub mod Tests

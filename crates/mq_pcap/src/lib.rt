@@ -1,9 +1,13 @@
 //! Captures: the packets of a classic pcap file, and the message that a frame carries.
 #![tactic(auto)]
 
+pub mod fault;
+pub mod form;
 pub mod frame;
 pub mod link_type;
 mod options;
 
+pub use fault::PcapFault;
+pub use form::{Endian, Form, Fraction};
 pub use frame::{Inner, unwrap_frame};
 pub use link_type::LinkType;
