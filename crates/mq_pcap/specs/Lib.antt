@@ -1,4 +1,5 @@
 pub mod Capture
+pub mod Filling
 pub mod Frame
 pub mod Options
 pub mod Tests

@@ -2,6 +2,7 @@
 #![tactic(auto)]
 
 pub mod fault;
+mod filling;
 pub mod form;
 pub mod frame;
 pub mod link_type;
