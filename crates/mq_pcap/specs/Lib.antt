@@ -2,4 +2,5 @@ pub mod Capture
 pub mod Filling
 pub mod Frame
 pub mod Options
+pub mod Reading
 pub mod Tests

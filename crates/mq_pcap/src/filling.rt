@@ -1,6 +1,6 @@
 //! Filling a buffer from a stream that hands out pieces of any size.
 
-ghost use Rattle.std.specs.Prelude.{◌≡◌, ◌⊎◌, Err, IsOk};
+ghost use Rattle.std.specs.Prelude.{◌≡◌, IfErr};
 ghost use Rattle.mq_count.specs.Streams.{inner_of, has_failed, taken_from};
 ghost use Rattle.mq_pcap.specs.Filling.{Source, Fills};
 
@@ -14,7 +14,7 @@ pub(crate) fn fill<R: Read>(reader: &mut Watched<R>, buffer: &mut [u8]) -> Resul
     ensures fills { let old : Source = record { ahead = R.remaining (inner_of reader.old); taken = taken_from reader.old; failed = has_failed reader.old } in
         let new : Source = record { ahead = R.remaining (inner_of reader.new); taken = taken_from reader.new; failed = has_failed reader.new } in
         Fills old new buffer.new result }
-    ensures fault { result ≡ Err PcapFault.Read ⊎ IsOk result }
+    ensures fault { IfErr result (λ f. f ≡ PcapFault.Read) }
 {
     let mut count = 0;
     while count < buffer.len() {

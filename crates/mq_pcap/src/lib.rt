@@ -7,6 +7,7 @@ pub mod form;
 pub mod frame;
 pub mod link_type;
 mod options;
+pub mod reader;
 
 pub use fault::PcapFault;
 pub use form::{Endian, Form, Fraction};
