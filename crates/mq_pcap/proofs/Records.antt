@@ -11,7 +11,7 @@ use Rattle.mq_pcap.specs.declared.form.Endian.TheVariants.{Big, Little}
 use Rattle.mq_pcap.specs.declared.form.Form.{Form}
 use Rattle.mq_pcap.specs.declared.fault.PcapFault.{PcapFault}
 use Rattle.mq_pcap.specs.declared.fault.PcapFault.TheVariants as fault
-use Rattle.mq_pcap.specs.declared.reader.Packet.{Packet}
+use Rattle.mq_pcap.specs.declared.reader_state.Packet.{Packet}
 use Rattle.mq_pcap.specs.Capture.{number_in, field, stamp_of, captured_length, most_bytes, endless, record_fault}
 use Rattle.mq_pcap.specs.Filling.{Source, Takes, Fills}
 use Rattle.mq_pcap.specs.Reading.{Reads}
@@ -45,14 +45,17 @@ record_read form number old mid new header body rest count n m stamp few size wh
     record {
       bytes = header ++ body;
       takes = Takes-trans old mid new header body (header_taken old mid header count size whole first) (subst (λ bytes. Takes mid new bytes) (second.fills.0 ∙ take_all m body (omega (arith, length_is))) second.takes);
-      answers = (few, record {
-        header = header;
-        parts = rw lent refl;
-        header_length = size;
-        stamp = at;
-        captured = rw lent (length_is ∙ announced);
-        within = rw lent (omega (arith, length_is));
-      });
+      answers = (
+        few,
+        record {
+          header = header;
+          parts = rw lent refl;
+          header_length = size;
+          stamp = at;
+          captured = rw lent (length_is ∙ announced);
+          within = rw lent (omega (arith, length_is));
+        },
+      );
       failed = none_failed old mid new header body count (Ok m) first second;
     }
 

@@ -1,6 +1,6 @@
 -- A classic pcap file: a header of 24 bytes, and then records, each a header of 16 bytes and as many bytes of
 -- data as were captured. All fields have the byte order in which the file's magic number is one of two.
-use Rattle.std.specs.Prelude.{◌≡◌, ◌⊎◌, ℕ, ◌+◌, ◌*◌, ◌/◌, ◌%◌, ◌<◌, ◌≤◌, nat_lt, Bool, not, ◌&&◌, ◌==◌, List, [], ◌∷◌, ◌++◌, length, take, drop, Option, None, Some, Result, Ok, Err}
+use Rattle.std.specs.Prelude.{◌≡◌, ◌⊎◌, ℕ, ◌+◌, ◌*◌, ◌/◌, ◌%◌, ◌<◌, ◌≤◌, nat_lt, Bool, true, false, not, ◌&&◌, ◌==◌, List, [], ◌∷◌, ◌++◌, length, take, drop, Option, None, Some, Result, Ok, Err}
 use Rattle.byteorder.specs.Endian.{big_number, little_number}
 use Rattle.mq_pcap.specs.declared.link_type.LinkType.{LinkType}
 use Rattle.mq_pcap.specs.declared.link_type.LinkType.TheVariants as link
@@ -12,6 +12,17 @@ use Rattle.mq_pcap.specs.declared.form.Form.{Form}
 use Rattle.mq_pcap.specs.declared.fault.PcapFault.{PcapFault}
 use Rattle.mq_pcap.specs.declared.fault.PcapFault.TheVariants as fault
 use Rattle.mq_pcap.specs.Tests.{first_that_holds}
+
+-- whether a fault is that of a stream whose read failed
+abbrev pub is_read : PcapFault → Bool
+is_read fault.Read = true
+is_read fault.Magic = false
+is_read fault.Version = false
+is_read fault.LinkType = false
+is_read (fault.CutHeader number) = false
+is_read (fault.CutData number) = false
+is_read (fault.TooLong number) = false
+is_read fault.Endless = false
 
 -- the number in the first n bytes
 abbrev pub number_in : Endian → ℕ → List ℕ → ℕ

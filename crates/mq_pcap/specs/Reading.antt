@@ -4,24 +4,14 @@ use Rattle.std.specs.Io.KnownBytes.{IsAtEnd}
 use Rattle.mq_pcap.specs.declared.form.Form.{Form}
 use Rattle.mq_pcap.specs.declared.fault.PcapFault.{PcapFault}
 use Rattle.mq_pcap.specs.declared.fault.PcapFault.TheVariants as fault
-use Rattle.mq_pcap.specs.declared.reader.Packet.{Packet}
-use Rattle.mq_pcap.specs.declared.reader.Progress.{Progress}
-use Rattle.mq_pcap.specs.declared.reader.Progress.TheVariants.{Reading, Ended, Stopped}
-use Rattle.mq_pcap.specs.declared.reader.PcapReader.{PcapReader}
-use Rattle.mq_pcap.specs.Capture.{Captured, IsRecord, header_of, captured_length, most_bytes, endless, record_fault}
+use Rattle.mq_pcap.specs.declared.reader_state.Packet.{Packet}
+use Rattle.mq_pcap.specs.declared.reader_state.Progress.{Progress}
+use Rattle.mq_pcap.specs.declared.reader_state.Progress.TheVariants.{Reading, Ended, Stopped}
+use Rattle.mq_pcap.specs.declared.reader_state.PcapReader.{PcapReader}
+use Rattle.mq_pcap.specs.Capture.{is_read, Captured, IsRecord, header_of, captured_length, most_bytes, endless, record_fault}
 use Rattle.mq_pcap.specs.Filling.{Source, Takes}
 
--- whether a fault is that of a stream whose read failed
-abbrev pub is_read : PcapFault → Bool
-is_read fault.Read = true
-is_read fault.Magic = false
-is_read fault.Version = false
-is_read fault.LinkType = false
-is_read (fault.CutHeader number) = false
-is_read (fault.CutData number) = false
-is_read (fault.TooLong number) = false
-is_read fault.Endless = false
-
+-- whether an answer is that fault
 abbrev pub is_read_fault : {X : Type 0} → Result X PcapFault → Bool
 is_read_fault (Ok x) = false
 is_read_fault (Err f) = is_read f
@@ -55,3 +45,46 @@ pub record Reads (form : Form) (number : ℕ) (old new : Source) (buffer : List 
   pub takes : Takes old new bytes
   pub answers : IsAnswerTo form number new buffer bytes answer
   pub failed : new.failed ≡ (old.failed || is_read_fault answer)
+
+-- what is answered of the bytes that were taken where the file's header should stand
+abbrev pub IsOpenedBy : Source → (bytes : List ℕ) → Result PcapReader PcapFault → Type 0
+IsOpenedBy new bytes (Ok reader) =
+    (length bytes ≡ 24) × (header_of bytes ≡ Ok reader.form) × (reader.number ≡ 1) × (reader.progress ≡ Reading)
+IsOpenedBy new bytes (Err f) =
+    ((f ≡ fault.Read) × (length bytes < 24))
+    ⊎ ((header_of bytes ≡ Err f) × ((length bytes ≡ 24) ⊎ IsAtEnd new.ahead))
+
+-- a capture was opened, or a fault met
+pub record Opens (old new : Source) (answer : Result PcapReader PcapFault) : Type 0 where
+  pub bytes : List ℕ
+  pub takes : Takes old new bytes
+  pub answers : IsOpenedBy new bytes answer
+  pub failed : new.failed ≡ (old.failed || is_read_fault answer)
+
+-- how the captures' records are read, the number of the next, and how far the reader is
+abbrev pub form_of : PcapReader → Form
+form_of reader = reader.form
+
+abbrev pub number_of : PcapReader → ℕ
+number_of reader = reader.number
+
+abbrev pub progress_of : PcapReader → Progress
+progress_of reader = reader.progress
+
+-- how far a reader is after an answer
+abbrev pub progress_after : Result (Option Packet) PcapFault → Progress
+progress_after (Ok (Some packet)) = Reading
+progress_after (Ok None) = Ended
+progress_after (Err f) = Stopped f
+
+-- how many records an answer has read
+abbrev pub records_in : Result (Option Packet) PcapFault → ℕ
+records_in (Ok (Some packet)) = 1
+records_in (Ok None) = 0
+records_in (Err f) = 0
+
+-- behind the end None is answered again, and behind a fault the same fault
+abbrev pub IsAgain : Progress → Result (Option Packet) PcapFault → Type 0
+IsAgain Reading answer = Unit {0}
+IsAgain Ended answer = answer ≡ Ok None
+IsAgain (Stopped f) answer = answer ≡ Err f

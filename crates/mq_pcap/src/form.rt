@@ -1,7 +1,7 @@
 //! The form of a capture, as the header of its file says it.
 
-ghost use Rattle.std.specs.Prelude.{◌≡◌, ◌+◌, ◌≤◌, length, drop};
-ghost use Rattle.mq_pcap.specs.Capture.{header_of, header_in, number_in, field, milliseconds, magic_of};
+ghost use Rattle.std.specs.Prelude.{◌≡◌, ◌+◌, ◌≤◌, false, length, IfErr, IfOk};
+ghost use Rattle.mq_pcap.specs.Capture.{is_read, header_of, header_in, field, milliseconds};
 
 use crate::fault::PcapFault;
 use crate::link_type::LinkType;
@@ -78,7 +78,9 @@ impl Form {
     /// The form that a file's header says, or the first fault.
     #[tactic(auto, unfolding(crate::specs::Capture::header_of))]
     pub(crate) fn of_header(bytes: &[u8]) -> Result<Form, PcapFault>
-        ensures { result ≡ header_of bytes.now }
+        ensures form { result ≡ header_of bytes.now }
+        ensures whole { IfOk result (λ _. 24 ≤ length bytes.now) }
+        ensures of_the_file { IfErr result (λ f. is_read f ≡ false) }
     {
         if bytes.len() < FILE_HEADER {
             return Err(PcapFault::CutHeader { number: 0 });
@@ -104,7 +106,8 @@ impl Form {
     #[tactic(auto, unfolding(crate::specs::Capture::header_in))]
     fn of_rest(order: Endian, fraction: Fraction, bytes: &[u8]) -> Result<Form, PcapFault>
         requires { 24 ≤ length bytes.now }
-        ensures { result ≡ header_in order fraction bytes.now }
+        ensures form { result ≡ header_in order fraction bytes.now }
+        ensures of_the_file { IfErr result (λ f. is_read f ≡ false) }
     {
         if order.word(bytes, 4) != 2 || order.word(bytes, 6) != 4 {
             return Err(PcapFault::Version);

@@ -8,8 +8,11 @@ pub mod frame;
 pub mod link_type;
 mod options;
 pub mod reader;
+pub mod reader_state;
+mod record;
 
 pub use fault::PcapFault;
 pub use form::{Endian, Form, Fraction};
 pub use frame::{Inner, unwrap_frame};
 pub use link_type::LinkType;
+pub use reader_state::{Packet, PcapReader, Progress};

@@ -1,91 +1,74 @@
 //! The packets of a capture, one after another.
 
-ghost use Rattle.std.specs.Prelude.{◌≡◌, ◌≤◌, length};
+ghost use Rattle.std.specs.Prelude.{◌≡◌, ◌+◌, ◌≤◌, length};
 ghost use Rattle.mq_count.specs.Streams.{inner_of, has_failed, taken_from};
 ghost use Rattle.mq_pcap.specs.Filling.{Source};
-ghost use Rattle.mq_pcap.specs.Reading.{Reads};
+ghost use Rattle.mq_pcap.specs.Reading.{Opens, Reads, form_of, number_of, progress_of, progress_after, records_in, IsAgain};
 
 use crate::fault::PcapFault;
 use crate::filling::fill;
-use crate::form::Form;
+use crate::form::{FILE_HEADER, Form};
+use crate::link_type::LinkType;
+use crate::reader_state::{Packet, PcapReader, Progress};
+use crate::record::read_record;
 use mq_count::Watched;
 use std::io::Read;
 
-/// A packet of a capture. Its bytes are the first ones of the buffer that was lent.
-#[derive(Clone, Copy, Debug, PartialEq, Eq)]
-pub struct Packet {
-    /// The moment of the packet in milliseconds: its seconds, and its fraction's whole milliseconds.
-    pub stamp_ms: u64,
-    /// How many bytes were captured, at most 262144.
-    pub length: usize,
-}
-
-/// How far a reader is.
-#[derive(Clone, Copy, Debug, PartialEq, Eq)]
-pub enum Progress {
-    /// A record may follow.
-    Reading,
-    /// The stream has ended behind a record.
-    Ended,
-    /// There was a fault.
-    Stopped(PcapFault),
-}
-
-/// A capture that is read from a stream.
-#[derive(Drop)]
-pub struct PcapReader {
-    form: Form,
-    number: u64,
-    progress: Progress,
-}
-
-/// The most bytes of a packet.
-const MOST: usize = 262_144;
-
-/// The first record number that no capture may have.
-const ENDLESS: u64 = 4_294_967_296;
-
-/// The bytes of a record's header, and where its fields stand.
-const RECORD_HEADER: usize = 16;
-
-/// Reads the record of a number.
-fn read_record<R: Read>(
-    form: Form,
-    number: u64,
-    reader: &mut Watched<R>,
-    buffer: &mut [u8],
-) -> Result<Option<Packet>, PcapFault>
-    requires { 262144 ≤ length buffer.old }
-    ensures { let old : Source = record { ahead = R.remaining (inner_of reader.old); taken = taken_from reader.old; failed = has_failed reader.old } in
-        let new : Source = record { ahead = R.remaining (inner_of reader.new); taken = taken_from reader.new; failed = has_failed reader.new } in
-        Reads form number old new buffer.new result }
-{
-    if number >= ENDLESS {
-        let mut byte = [0; 1];
-        return match fill(reader, &mut byte)? {
-            0 => Ok(None),
-            _ => Err(PcapFault::Endless),
-        };
+impl PcapReader {
+    /// Reads the header of a capture.
+    pub fn open<R: Read>(reader: &mut Watched<R>) -> Result<PcapReader, PcapFault>
+        ensures { let old : Source = record { ahead = R.remaining (inner_of reader.old); taken = taken_from reader.old; failed = has_failed reader.old } in
+            let new : Source = record { ahead = R.remaining (inner_of reader.new); taken = taken_from reader.new; failed = has_failed reader.new } in
+            Opens old new result }
+    {
+        let mut header = [0; FILE_HEADER];
+        let count = fill(reader, &mut header)?;
+        let form = Form::of_header(&header[..count])?;
+        Ok(PcapReader {
+            form,
+            number: 1,
+            progress: Progress::Reading,
+        })
     }
-    let mut header = [0; RECORD_HEADER];
-    let count = fill(reader, &mut header)?;
-    if count == 0 {
-        return Ok(None);
+
+    /// What the frames of the capture begin with.
+    pub fn link(&self) -> LinkType
+        ensures { result ≡ (form_of self.now).link }
+    {
+        self.form.link
     }
-    if count < RECORD_HEADER {
-        return Err(PcapFault::CutHeader { number });
+
+    /// Reads the next packet into the front of `buffer`, which has at least 262144 bytes; None at the end of
+    /// the capture. After a fault it answers the same fault, and after None it answers None, and then neither
+    /// reads nor writes.
+    pub fn next<R: Read>(
+        &mut self,
+        reader: &mut Watched<R>,
+        buffer: &mut [u8],
+    ) -> Result<Option<Packet>, PcapFault>
+        requires { 262144 ≤ length buffer.old }
+        ensures reads { let old : Source = record { ahead = R.remaining (inner_of reader.old); taken = taken_from reader.old; failed = has_failed reader.old } in
+            let new : Source = record { ahead = R.remaining (inner_of reader.new); taken = taken_from reader.new; failed = has_failed reader.new } in
+            progress_of self.old ≡ Progress.Reading
+            → Reads (form_of self.old) (number_of self.old) old new buffer.new result }
+        ensures again { IsAgain (progress_of self.old) result }
+        ensures untouched { (progress_of self.old ≡ Progress.Reading → ⊥)
+            → (reader.new ≡ reader.old) × (buffer.new ≡ buffer.old) }
+        ensures form { form_of self.new ≡ form_of self.old }
+        ensures number { number_of self.new ≡ number_of self.old + records_in result }
+        ensures progress { progress_of self.new ≡ progress_after result }
+    {
+        match self.progress {
+            Progress::Ended => return Ok(None),
+            Progress::Stopped(fault) => return Err(fault),
+            Progress::Reading => {}
+        }
+        let answer = read_record(self.form, self.number, reader, buffer);
+        match &answer {
+            Ok(Some(_)) => self.number += 1,
+            Ok(None) => self.progress = Progress::Ended,
+            Err(fault) => self.progress = Progress::Stopped(*fault),
+        }
+        answer
     }
-    let length = form.order.double_word(&header, 8) as usize;
-    if length > MOST {
-        return Err(PcapFault::TooLong { number });
-    }
-    if fill(reader, &mut buffer[..length])? < length {
-        return Err(PcapFault::CutData { number });
-    }
-    let seconds = form.order.double_word(&header, 0);
-    let fraction = form.order.double_word(&header, 4);
-    Ok(Some(Packet {
-        stamp_ms: u64::from(seconds) * 1000 + u64::from(form.fraction.whole_ms(fraction)),
-        length,
-    }))
 }
