@@ -1,13 +1,11 @@
 -- A buffer that is filled up to a place, and one more read.
-use Rattle.std.proofs.Common.{◌≡◌, ◌≤◌, ◌<◌, ◌+◌, ◌-◌, ◌||◌, ℕ, List, [], ◌++◌, length, take, drop, Bool, false, Option, None, Some, Ok, Err, refl, arith, sym, ◌∙◌, ap, length-append}
+use Rattle.std.proofs.Common.{◌≡◌, ◌≤◌, ◌+◌, ◌-◌, ℕ, List, [], ◌++◌, length, take, refl, arith, ◌∙◌, ap, length-append}
 use Rattle.std.proofs.lemmas.List.{length-take-le}
-use Rattle.std.proofs.Math.Seq.{take-append-add, take-append_seam}
+use Rattle.std.proofs.Math.Seq.{take-append-add}
 use Rattle.std.proofs.lemmas.List.{take-append-le}
-use Rattle.std.proofs.KnownBytes.{Consumes-nil, Consumes-trans, Consumes-kept}
-use Rattle.std.specs.Io.KnownBytes.{Consumes, Keeps, IsAtEnd}
+use Rattle.std.proofs.KnownBytes.{Consumes-nil, Consumes-trans}
 use borrow.Rule.Slice.PartMut.{put_mid, mid_of, post_of, mid_len, same_len_mid}
-use Rattle.mq_count.specs.Streams.{counted_on}
-use Rattle.mq_pcap.specs.Filling.{Source, Takes, Fills}
+use Rattle.mq_pcap.specs.Filling.{Source, Takes}
 
 -- the first n bytes of the buffer were taken, and no call has failed
 pub record IsFilledTo (old new : Source) (buffer : List ℕ) (n : ℕ) : Type 0 where

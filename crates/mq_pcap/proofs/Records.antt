@@ -1,5 +1,5 @@
 -- A record whose header and body were taken one after the other.
-use Rattle.std.proofs.Common.{◌≡◌, ◌≤◌, ◌<◌, ◌+◌, ◌-◌, ◌||◌, ℕ, List, [], ◌++◌, length, take, drop, Bool, true, false, Option, None, Some, Result, Ok, Err, refl, arith, sym, ◌∙◌, ap, inl, inr, subst, length-append, length-drop}
+use Rattle.std.proofs.Common.{◌≡◌, ◌≤◌, ◌<◌, ◌+◌, ◌||◌, ℕ, List, ◌++◌, length, take, drop, Some, Result, Ok, Err, refl, arith, ◌∙◌, ap, inr, subst, length-append, length-drop}
 use Rattle.std.proofs.lemmas.Bool.{le-ltb, lt-ltb}
 use Rattle.std.proofs.lemmas.List.{take_all, take_at, length-take-le}
 use Rattle.std.specs.Prelude.{is_err}
@@ -9,10 +9,8 @@ use Rattle.byteorder.specs.Numbers.{big_from-append, little_from-append}
 use Rattle.mq_pcap.specs.declared.form.Endian.{Endian}
 use Rattle.mq_pcap.specs.declared.form.Endian.TheVariants.{Big, Little}
 use Rattle.mq_pcap.specs.declared.form.Form.{Form}
-use Rattle.mq_pcap.specs.declared.fault.PcapFault.{PcapFault}
 use Rattle.mq_pcap.specs.declared.fault.PcapFault.TheVariants as fault
-use Rattle.mq_pcap.specs.declared.reader_state.Packet.{Packet}
-use Rattle.mq_pcap.specs.Capture.{number_in, field, stamp_of, captured_length, most_bytes, endless, record_fault}
+use Rattle.mq_pcap.specs.Capture.{number_in, stamp_of, captured_length, most_bytes, endless}
 use Rattle.mq_pcap.specs.Filling.{Source, Takes, Fills}
 use Rattle.mq_pcap.specs.Reading.{Reads}
 use Rattle.mq_pcap.proofs.Filled.{Takes-trans}
@@ -23,10 +21,13 @@ number_in-append Big n xs ys fits = big_from-append n xs ys fits
 number_in-append Little n xs ys fits = little_from-append n xs ys fits
 
 -- what a header's length field says does not depend on what follows
-length_of_header : (form : Form) (header body : List ℕ) → length header ≡ 16 → captured_length form (header ++ body) ≡ captured_length form header
-length_of_header form header body size =
-    ap (number_in form.order 4) (drop-append-le 8 header body (omega (arith, size)))
-    ∙ number_in-append form.order 4 (drop 8 header) body (omega (arith, size, length-drop 8 header))
+pub captured_length-append : (form : Form) (bytes more : List ℕ) → 16 ≤ length bytes → captured_length form (bytes ++ more) ≡ captured_length form bytes
+captured_length-append form bytes more whole =
+    ap (number_in form.order 4) (drop-append-le 8 bytes more (omega (arith, whole)))
+    ∙ number_in-append form.order 4 (drop 8 bytes) more (omega (arith, whole, length-drop 8 bytes))
+
+pub length_of_header : (form : Form) (header body : List ℕ) → length header ≡ 16 → captured_length form (header ++ body) ≡ captured_length form header
+length_of_header form header body size = captured_length-append form header body (omega (arith, size))
 
 -- a header that was filled was taken
 header_taken : {E : Type 0} (old mid : Source) (header : List ℕ) (count : ℕ) → length header ≡ 16 → 16 ≤ count → Fills {E = E} old mid header (Ok count) → Takes old mid header

@@ -1,9 +1,9 @@
 -- Walking over options: one step of the walk is one option of the list.
-use Rattle.std.proofs.Common.{◌≡◌, ◌≤◌, ◌<◌, ◌+◌, ◌-◌, ℕ, zero, suc, List, [], ◌∷◌, length, take, drop, Bool, true, false, refl, ap, sym, ◌∙◌, arith, length-drop}
-use Rattle.std.specs.Prelude.{nat_lt, ◌==◌, if◌then◌else◌, slice_index, slice_range}
+use Rattle.std.proofs.Common.{◌≡◌, ◌≤◌, ◌<◌, ◌+◌, ◌-◌, ℕ, zero, suc, List, [], ◌∷◌, length, take, drop, false, refl, ap, arith, length-drop}
+use Rattle.std.specs.Prelude.{◌==◌, slice_index, slice_range}
 use Rattle.std.proofs.lemmas.Bool.{lt-ltb, ne_eqb}
 use Rattle.std.proofs.lemmas.List.{take_all}
-use Rattle.mq_pcap.specs.Options.{HeaderOption, options_within, options_of}
+use Rattle.mq_pcap.specs.Options.{options_within, options_of}
 
 -- as many options as there are bytes are all of them
 enough : (most n : ℕ) (bytes : List ℕ) → length bytes ≤ most → length bytes ≤ n → options_within most bytes ≡ options_within n bytes

@@ -1,6 +1,6 @@
 -- What a frame of a capture carries: at each layer a list of tests in their order, the first of which that
 -- holds decides.
-use Rattle.std.specs.Prelude.{ℕ, ◌+◌, ◌*◌, ◌/◌, ◌%◌, nat_lt, Bool, true, false, not, ◌&&◌, ◌||◌, ◌==◌, if◌then◌else◌, List, [], ◌∷◌, length, take, drop, slice_index, slice_range}
+use Rattle.std.specs.Prelude.{ℕ, ◌+◌, ◌*◌, ◌/◌, ◌%◌, nat_lt, Bool, false, not, ◌&&◌, ◌||◌, ◌==◌, List, [], ◌∷◌, length, drop, slice_index, slice_range}
 use Rattle.std.specs.Int.{w32, w128, from_be_bytes}
 use Rattle.byteorder.specs.Endian.{big_number}
 use Rattle.mq_pcap.specs.declared.link_type.LinkType.{LinkType}

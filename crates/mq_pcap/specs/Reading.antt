@@ -1,5 +1,5 @@
 -- What a call of the reader answers of the bytes that it takes from a stream.
-use Rattle.std.specs.Prelude.{◌≡◌, ◌⊎◌, ℕ, ◌+◌, ◌<◌, ◌≤◌, ◌||◌, Bool, true, false, List, [], length, take, Option, None, Some, Result, Ok, Err}
+use Rattle.std.specs.Prelude.{◌≡◌, ◌⊎◌, ℕ, ◌+◌, ◌<◌, ◌≤◌, ◌||◌, Bool, false, List, [], length, take, Option, None, Some, Result, Ok, Err}
 use Rattle.std.specs.Io.KnownBytes.{IsAtEnd}
 use Rattle.mq_pcap.specs.declared.form.Form.{Form}
 use Rattle.mq_pcap.specs.declared.fault.PcapFault.{PcapFault}
@@ -8,7 +8,7 @@ use Rattle.mq_pcap.specs.declared.reader_state.Packet.{Packet}
 use Rattle.mq_pcap.specs.declared.reader_state.Progress.{Progress}
 use Rattle.mq_pcap.specs.declared.reader_state.Progress.TheVariants.{Reading, Ended, Stopped}
 use Rattle.mq_pcap.specs.declared.reader_state.PcapReader.{PcapReader}
-use Rattle.mq_pcap.specs.Capture.{is_read, Captured, IsRecord, header_of, captured_length, most_bytes, endless, record_fault}
+use Rattle.mq_pcap.specs.Capture.{is_read, IsRecord, header_of, captured_length, most_bytes, endless, record_fault}
 use Rattle.mq_pcap.specs.Filling.{Source, Takes}
 
 -- whether an answer is that fault

@@ -5,6 +5,7 @@ pub mod fault;
 mod filling;
 pub mod form;
 pub mod frame;
+pub mod laws;
 pub mod link_type;
 mod options;
 pub mod reader;

@@ -29,14 +29,21 @@ fn end(packets: u32) -> Outcome {
     }
 }
 
+/// The least length of a buffer.
+const LEAST: usize = 262_144;
+
 fn new_buffer(alloc: Global) -> Result<Vec<u8>, Fail> {
-    Ok(vec![in alloc; 0; 262144]?)
+    Ok(vec![in alloc; 0; LEAST]?)
 }
 
 /// Reads a capture to its end, in pieces, with call `fails_at` of its reader failing.
-fn read(rt: &impl Abort, capture: &[u8], piece: usize, fails_at: u64, buffer: &mut [u8]) -> Outcome
-    requires { 262144 ≤ length buffer.old }
-{
+fn read(
+    rt: &impl Abort,
+    capture: &[u8],
+    piece: usize,
+    fails_at: u64,
+    buffer: &mut [u8],
+) -> Outcome {
     let mut reader = Watched::new(Faulty::new(capture, piece, fails_at));
     let mut packets = 0;
     let mut pcap = match PcapReader::open(&mut reader) {
@@ -49,13 +56,16 @@ fn read(rt: &impl Abort, capture: &[u8], piece: usize, fails_at: u64, buffer: &m
         }
     };
     for _ in 0..100 {
+        assert!(rt; buffer.len() >= LEAST);
         match pcap.next(&mut reader, buffer) {
             Ok(Some(_)) => packets = u32::saturating_add(packets, 1),
             Ok(None) => {
+                assert!(rt; buffer.len() >= LEAST);
                 assert_eq!(rt; pcap.next(&mut reader, buffer), Ok(None));
                 return end(packets);
             }
             Err(fault) => {
+                assert!(rt; buffer.len() >= LEAST);
                 assert_eq!(rt; pcap.next(&mut reader, buffer), Err(fault));
                 assert_eq!(rt; reader.failed(), fault == PcapFault::Read);
                 return Outcome {
@@ -76,6 +86,7 @@ fn reads_a_packet(rt: HostRuntime) -> Result<(), Fail> {
     let mut reader = Watched::new(CAPTURE);
     let mut pcap = PcapReader::open(&mut reader)?;
     assert_eq!(rt; pcap.link(), LinkType::Ethernet);
+    assert!(rt; buffer.len() >= LEAST);
     let packet = pcap.next(&mut reader, &mut buffer)?;
     assert_eq!(rt;
         packet,
@@ -84,7 +95,7 @@ fn reads_a_packet(rt: HostRuntime) -> Result<(), Fail> {
             length: 60
         })
     );
-    assert!(rt; buffer[..60] == CAPTURE[40..]);
+    assert!(rt; buffer.get(..60) == CAPTURE.get(40..));
     Ok(())
 }
 
@@ -128,12 +139,14 @@ fn fails_after_each_byte(rt: HostRuntime) -> Result<(), Fail> {
     Ok(())
 }
 
-/// The capture with other bytes from a place on.
-fn changed(alloc: Global, place: usize, bytes: &[u8]) -> Result<Vec<u8>, Fail>
-    requires { place + length bytes.now ≤ 100 }
-{
-    let mut capture = Vec::from_slice(alloc, CAPTURE)?;
-    capture[place..place + bytes.len()].copy_from_slice(bytes);
+/// A capture with other bytes from a place on.
+fn changed(alloc: Global, capture: &[u8], place: usize, bytes: &[u8]) -> Result<Vec<u8>, Fail> {
+    let mut capture = Vec::from_slice(alloc, capture)?;
+    for (at, byte) in bytes.iter().enumerate() {
+        if let Some(cell) = capture.get_mut(place.saturating_add(at)) {
+            *cell = *byte;
+        }
+    }
     Ok(capture)
 }
 
@@ -162,14 +175,12 @@ fn headers_of_files(rt: HostRuntime) -> Result<(), Fail> {
         ),
     ];
     for (place, bytes, want) in table {
-        if place <= 96 && bytes.len() <= 4 {
-            let capture = changed(rt.alloc(), place, bytes)?;
-            assert_eq!(rt;
-                read(&rt, &capture, 100, NEVER, &mut buffer),
-                want,
-                "{place} {bytes:?}"
-            );
-        }
+        let capture = changed(rt.alloc(), CAPTURE, place, bytes)?;
+        assert_eq!(rt;
+            read(&rt, &capture, 100, NEVER, &mut buffer),
+            want,
+            "{place} {bytes:?}"
+        );
     }
     Ok(())
 }
@@ -206,14 +217,12 @@ fn moments_in_milliseconds(rt: HostRuntime) -> Result<(), Fail> {
         ),
     ];
     for (magic, moment, want) in table {
-        let mut capture = Vec::from_slice(rt.alloc(), CAPTURE)?;
-        if magic.len() == 4 && moment.len() == 8 {
-            capture[..4].copy_from_slice(magic);
-            capture[24..32].copy_from_slice(moment);
-        }
+        let capture = changed(rt.alloc(), CAPTURE, 0, magic)?;
+        let capture = changed(rt.alloc(), &capture, 24, moment)?;
         let bytes: &[u8] = &capture;
         let mut reader = Watched::new(bytes);
         let mut pcap = PcapReader::open(&mut reader)?;
+        assert!(rt; buffer.len() >= LEAST);
         let packet = pcap.next(&mut reader, &mut buffer)?;
         assert_eq!(rt;
             packet,
@@ -234,6 +243,7 @@ fn big_endian_captures(rt: HostRuntime) -> Result<(), Fail> {
     let mut reader = Watched::new(capture);
     let mut pcap = PcapReader::open(&mut reader)?;
     assert_eq!(rt; pcap.link(), LinkType::RawIp);
+    assert!(rt; buffer.len() >= LEAST);
     let packet = pcap.next(&mut reader, &mut buffer)?;
     assert_eq!(rt;
         packet,
@@ -242,6 +252,6 @@ fn big_endian_captures(rt: HostRuntime) -> Result<(), Fail> {
             length: 1
         })
     );
-    assert_eq!(rt; buffer[0], 0x45);
+    assert_eq!(rt; buffer.first(), Some(&0x45));
     Ok(())
 }

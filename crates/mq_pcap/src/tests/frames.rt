@@ -237,9 +237,9 @@ fn ipv6_packets(rt: HostRuntime) {
         let packet = packet6(&mut out, next, length, payload);
         assert_eq!(rt; answer_to(RAW, packet), want, "{next} {payload:?}");
     }
-    let mut out = [0; 80];
-    let packet = packet6(&mut out, 58, 0, b"");
-    assert_eq!(rt; answer_to(RAW, &packet[..39]), Seen::Cut);
+    let mut short = [0; 39];
+    short[0] = 0x60;
+    assert_eq!(rt; answer_to(RAW, &short), Seen::Cut);
 }
 
 #[test]

@@ -1,4 +1,4 @@
-use Rattle.std.proofs.Common.{◌≡◌, ◌≤◌, ◌-◌, length, take}
+use Rattle.std.proofs.Common.{◌-◌, length}
 use Rattle.mq_pcap.proofs.Filled.{IsFilledTo}
 use Rattle.mq_pcap.specs.Filling.{Source}
 use Rattle.mq_pcap.proofs.filling.fill.Given as goal

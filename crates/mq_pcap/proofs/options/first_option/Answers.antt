@@ -1,4 +1,4 @@
-use Rattle.std.proofs.Common.{◌≡◌, ◌∙◌}
+use Rattle.std.proofs.Common.{◌∙◌}
 use Rattle.mq_pcap.proofs.Walk.{first_option_is}
 use Rattle.mq_pcap.proofs.options.first_option.Goals as goal
 
