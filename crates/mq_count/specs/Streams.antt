@@ -25,6 +25,6 @@ abbrev pub count_of : {E : Type 0} → Result ℕ E → ℕ
 count_of (Ok n) = n
 count_of (Err e) = 0
 
--- a count that stays at the greatest u64
+-- a count of n more, as far as a u64 has room
 abbrev pub counted_on : ℕ → ℕ → ℕ
-counted_on old n = min (old + n) (2 ^ 64 - 1)
+counted_on old n = old + min n (2 ^ 64 - 1 - old)

@@ -1,0 +1,5 @@
+pub mod Filled
+pub mod Headers
+pub mod OneCapture
+pub mod Records
+pub mod Walk

@@ -1,0 +1,64 @@
+//! One record of a capture.
+
+ghost use Rattle.std.specs.Prelude.{◌≤◌, length};
+ghost use Rattle.mq_count.specs.Streams.{inner_of, has_failed, taken_from};
+ghost use Rattle.mq_pcap.specs.Filling.{Source};
+ghost use Rattle.mq_pcap.specs.Reading.{Reads};
+
+use crate::fault::PcapFault;
+use crate::filling::fill;
+use crate::form::Form;
+use crate::reader_state::Packet;
+use mq_count::Watched;
+use std::io::Read;
+
+/// The most bytes of a packet.
+const MOST: usize = 262_144;
+
+/// The first record number that no capture may have.
+const ENDLESS: u64 = 4_294_967_296;
+
+/// The bytes of a record's header, and where its fields stand.
+const RECORD_HEADER: usize = 16;
+
+/// Reads the record of a number.
+pub(crate) fn read_record<R: Read>(
+    form: Form,
+    number: u64,
+    reader: &mut Watched<R>,
+    buffer: &mut [u8],
+) -> Result<Option<Packet>, PcapFault>
+    requires { 262144 ≤ length buffer.old }
+    ensures { let old : Source = record { ahead = R.remaining (inner_of reader.old); taken = taken_from reader.old; failed = has_failed reader.old } in
+        let new : Source = record { ahead = R.remaining (inner_of reader.new); taken = taken_from reader.new; failed = has_failed reader.new } in
+        Reads form number old new buffer.new result }
+{
+    if number >= ENDLESS {
+        let mut byte = [0; 1];
+        return match fill(reader, &mut byte)? {
+            0 => Ok(None),
+            _ => Err(PcapFault::Endless),
+        };
+    }
+    let mut header = [0; RECORD_HEADER];
+    let count = fill(reader, &mut header)?;
+    if count == 0 {
+        return Ok(None);
+    }
+    if count < RECORD_HEADER {
+        return Err(PcapFault::CutHeader { number });
+    }
+    let length = form.order.double_word(&header, 8) as usize;
+    if length > MOST {
+        return Err(PcapFault::TooLong { number });
+    }
+    if fill(reader, &mut buffer[..length])? < length {
+        return Err(PcapFault::CutData { number });
+    }
+    let seconds = form.order.double_word(&header, 0);
+    let fraction = form.order.double_word(&header, 4);
+    Ok(Some(Packet {
+        stamp_ms: u64::from(seconds) * 1000 + u64::from(form.fraction.whole_ms(fraction)),
+        length,
+    }))
+}
