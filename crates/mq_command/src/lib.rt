@@ -65,7 +65,8 @@ Examples:
   mquerier message igmp 1600e9ff
       prints: fault 1 truncated at 4
 
-Read so far: IGMPv1 and IGMPv2 Reports and IGMPv2 Leave. Every other type is an unknown type.
+Read so far: IGMP queries of all three versions, IGMPv1 and IGMPv2 Reports, IGMPv2 Leave. Every other
+type is an unknown type.
 
 A fault is one of: 1 truncated at N, where the field that begins at byte N isn't whole; 2 checksum;
 3 unknown type; 4 query length. Its line goes to standard output too, and the status is then 1.";
