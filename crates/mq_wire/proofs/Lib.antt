@@ -1,4 +1,7 @@
+pub mod Addresses
+pub mod ByteCodes
+pub mod CodeValues
+pub mod Cuts
 pub mod Faults
-pub mod Older
 pub mod Spelled
 pub mod Sums

@@ -1,4 +1,4 @@
--- The checksum of a message, as RFC 3376 section 4.1.2 and RFC 1071 say it: the 16-bit one's complement of
+-- The checksum of a message, as RFC 2236 section 2.3 says it: the 16-bit one's complement of
 -- the one's complement sum of the whole message, with the checksum field as zero.
 use Rattle.std.specs.Prelude.{◌≡◌, ℕ, ◌+◌, ◌-◌, ◌*◌, ◌/◌, ◌%◌, ◌<◌, ◌≤◌, nat_lt, ◌==◌, ◌&&◌, if◌then◌else◌, Bool, List, [], ◌∷◌, ◌++◌, length, take, drop}
 

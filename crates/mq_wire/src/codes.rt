@@ -1,0 +1,35 @@
+//! The codes of times: the maximum response code of a query (RFC 3376 section 4.1.1) and the querier's
+//! query interval code (RFC 3376 section 4.1.7, RFC 3810 section 5.1.9).
+
+ghost use Rattle.std.specs.Prelude.{◌≡◌, ◌≤◌};
+ghost use Rattle.mq_wire.specs.Codes.{IsCodeFor, value8};
+
+/// The value of an 8-bit code, in the unit of its field: tenths of a second, or seconds. A code below
+/// 128 is its own value, and the greatest value is 31744.
+pub fn resp8(code: u8) -> u32
+    ensures value { result ≡ value8 code }
+    ensures greatest { result ≤ 31744 }
+{
+    if code < 128 {
+        return u32::from(code);
+    }
+    let mantissa = u32::from(code % 16);
+    let exponent = code / 16 % 8;
+    (mantissa + 16) << (exponent + 3)
+}
+
+/// The 8-bit code whose value is the greatest not above `value`.
+pub fn code8(value: u32) -> u8
+    ensures { IsCodeFor value8 255 value result }
+{
+    if value < 128 {
+        return value as u8;
+    }
+    for exponent in 0..8u8 {
+        if value < 256 << exponent {
+            let mantissa = value >> (exponent + 3);
+            return 112 + exponent * 16 + mantissa as u8;
+        }
+    }
+    255
+}
