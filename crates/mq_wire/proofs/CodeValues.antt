@@ -8,7 +8,7 @@ use Rattle.std.proofs.lemmas.Bool.Decides.{nat_tests, leb_tells}
 use Rattle.mq_wire.specs.Codes.{value_of, value8, IsCodeFor}
 
 -- a power of two is at most half of a greater one
-half_of : (e f : ℕ) → e < f → 2 * 2 ^ (e + 3) ≤ 2 ^ (f + 3)
+pub half_of : (e f : ℕ) → e < f → 2 * 2 ^ (e + 3) ≤ 2 ^ (f + 3)
 half_of e f less =
     let twice : 2 ^ (1 + (e + 3)) ≡ 2 * 2 ^ (e + 3) = pow-add 2 1 (e + 3) in
     let half : 2 ^ (1 + (e + 3)) ≤ 2 ^ (f + 3) = pow-le-pow_right (omega arith) (omega arith) in
@@ -69,9 +69,9 @@ greatest_of_all b n f small less =
     let by_mantissa : (b + n) * 2 ^ (7 + 3) ≤ (b + (b - 1)) * 2 ^ (7 + 3) = mul-le-mul_right (2 ^ (7 + 3)) (omega arith) in
     omega (arith, by_exponent, by_mantissa)
 
--- a code that is its own value is below each code with an exponent
-below_composed : (bits e m other : ℕ) → other < 2 ^ (bits + 3) → other ≤ (2 ^ bits + m) * 2 ^ (e + 3)
-below_composed bits e m other less =
+-- the least value with an exponent
+pub least_composed : (bits e m : ℕ) → 2 ^ (bits + 3) ≤ (2 ^ bits + m) * 2 ^ (e + 3)
+least_composed bits e m =
     let eight : 2 ^ (bits + 3) ≡ 2 ^ bits * 2 ^ 3 = pow-add 2 bits 3 in
     let p : 2 ^ 3 ≤ 2 ^ (e + 3) = pow-le-pow_right (omega arith) {i = 3} {j = e + 3} (omega arith) in
     let of_base : 2 ^ bits * 2 ^ 3 ≤ 2 ^ bits * 2 ^ (e + 3) = mul-le-mul_left (2 ^ bits) p in
@@ -84,7 +84,7 @@ greatest_value bits e m v other small less below next within no_more =
     elim (leb_tells (2 ^ (bits + 3)) other) [
       | inr own ↦ (
           let test : nat_lt other (2 ^ (bits + 3)) ≡ true = grind (arith, nat_tests, own.0) in
-          rw test (below_composed bits e m other own.1)
+          rw test (let least = least_composed bits e m in omega (arith, own.1, least))
           )
       | inl composed ↦ (
           let test : nat_lt other (2 ^ (bits + 3)) ≡ false = grind (arith, nat_tests, composed.0) in

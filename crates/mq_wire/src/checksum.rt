@@ -1,6 +1,7 @@
-//! The checksum of a message (RFC 3376 section 4.1.2, RFC 1071).
+//! The checksum of a message (RFC 1112 appendix I, RFC 2236 section 2.3; RFC 3376 sections 4.1.2 and
+//! 4.2.2).
 
-ghost use Rattle.std.specs.Prelude.{◌≡◌, ℕ, ◌<◌, ◌+◌, ◌≤◌, ◌↔◌, IsTrue, length};
+ghost use Rattle.std.specs.Prelude.{◌≡◌, ◌↔◌, ◌+◌, ◌*◌, ◌≤◌, ◌<◌, ◌^◌, IsTrue, length};
 ghost use Rattle.mq_wire.specs.Checksum.{IsRight, ones_complement, sum_of_words};
 ghost use Rattle.mq_wire.specs.Checksum as spec;
 
@@ -34,19 +35,48 @@ pub fn checksum_ok(message: &[u8]) -> bool
 fn sum_of(bytes: &[u8]) -> u16
     ensures { result ≡ ones_complement (sum_of_words bytes.now) }
 {
+    let sum = wide_sum(bytes);
+    if sum == 0 {
+        0
+    } else {
+        ((sum - 1) % 65535 + 1) as u16
+    }
+}
+
+/// A number with the same one's complement sum as the 16-bit words. Words of 64 bits are added up, since
+/// each has the one's complement sum of its four words of 16 bits (RFC 1071 section 2).
+fn wide_sum(bytes: &[u8]) -> u128
+    ensures same { ones_complement result ≡ ones_complement (sum_of_words bytes.now) }
+    ensures small { result ≤ length bytes.now * 2 ^ 61 }
+{
+    let mut sum = 0;
+    let mut rest = bytes;
+    while rest.len() >= 8 {
+        sum += u128::from(BigEndian::read_u64(rest));
+        rest = &rest[8..];
+    }
+    sum + last_sum(rest)
+}
+
+/// The sum of the 16-bit words of fewer than 8 bytes.
+fn last_sum(bytes: &[u8]) -> u128
+    requires { length bytes.now < 8 }
+    ensures sum { result ≡ sum_of_words bytes.now }
+    ensures small { result ≤ length bytes.now * 2 ^ 61 }
+{
     let mut sum = 0;
     let mut rest = bytes;
     while rest.len() >= 2 {
-        sum = add(sum, BigEndian::read_u16(rest));
+        sum += u128::from(BigEndian::read_u16(rest));
         rest = &rest[2..];
     }
     match rest {
-        [high, ..] => add(sum, u16::from(*high) * 256),
+        [high, ..] => sum + u128::from(*high) * 256,
         [] => sum,
     }
 }
 
-/// One's complement addition: a carry out of the high bit is added to the low bit (RFC 1071).
+/// One's complement addition: a carry out of the high bit is added to the low bit (RFC 1071 section 1).
 fn add(a: u16, b: u16) -> u16
     ensures { result ≡ ones_complement (a + b) }
 {

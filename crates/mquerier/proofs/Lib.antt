@@ -1,2 +1,3 @@
 pub mod PrintedLine
 pub mod Failures
+pub mod Pieces
