@@ -1,8 +1,10 @@
--- The checksum of a message, as RFC 2236 section 2.3 says it: the 16-bit one's complement of
+-- The checksum of a message, as RFC 1112 appendix I and RFC 2236 section 2.3 say it (RFC 3376 section 4.1.2 of a
+-- query, 4.2.2 of a Report of version 3): the 16-bit one's complement of
 -- the one's complement sum of the whole message, with the checksum field as zero.
 use Rattle.std.specs.Prelude.{◌≡◌, ℕ, ◌+◌, ◌-◌, ◌*◌, ◌/◌, ◌%◌, ◌<◌, ◌≤◌, nat_lt, ◌==◌, ◌&&◌, if◌then◌else◌, Bool, List, [], ◌∷◌, ◌++◌, length, take, drop}
 
--- the sum of the 16-bit words, most significant byte first; an odd last byte is followed by a zero byte
+-- the sum of the 16-bit words, most significant byte first; an odd last byte is followed by a zero byte (RFC
+-- 1071 section 1)
 abbrev pub sum_of_words : List ℕ → ℕ
 sum_of_words [] = 0
 sum_of_words (high ∷ []) = high * 256
@@ -18,6 +20,7 @@ abbrev pub is_right : List ℕ → Bool
 is_right bytes = nat_lt 0 (sum_of_words bytes) && sum_of_words bytes % 65535 == 0
 
 -- the one's complement sum of words whose sum is this: a carry out of the high bit is added to the low bit
+-- (RFC 1071 section 1)
 abbrev pub ones_complement : ℕ → ℕ
 ones_complement sum = if sum == 0 then 0 else (sum - 1) % 65535 + 1
 

@@ -1,21 +1,64 @@
-//! Messages that hosts of the Linux kernel sent, and faults of each kind that there is by now.
+//! Messages that hosts of the Linux kernel sent, queries, and faults of each kind.
 
-use crate::{Message, OlderVersion, WireFault, checksum_of, checksum_ok, read_igmp};
+use crate::{
+    Message, OlderVersion, Qrv, Query, QueryVersion, Sources, WireFault, WireKey, checksum_of, checksum_ok,
+    code8, read_igmp, resp8,
+};
+use mq_count::{Addr4, Addr6};
 
-/// What was read, with the group as its octets.
+/// What was read, with addresses as their octets.
 #[derive(Clone, Copy, Debug, PartialEq, Eq)]
 enum Read {
+    /// The version, the group and the response.
+    OlderQuery(OlderVersion, [u8; 4], u32),
+    /// The group, the response and the other fields.
+    Query([u8; 4], u32, Fields),
     Report(OlderVersion, [u8; 4]),
     Leave([u8; 4]),
     Fault(WireFault),
 }
 
+/// The S flag, the robustness variable, the interval, how many sources there are, and the sum of their
+/// last octets, each times its place.
+type Fields = (bool, u8, u32, usize, usize);
+
 fn outcome(bytes: &[u8]) -> Read {
     match read_igmp(bytes) {
+        Ok(Message::Query(query)) => query_outcome(query),
         Ok(Message::OldReport(version, group)) => Read::Report(version, group.octets()),
         Ok(Message::Leave(group)) => Read::Leave(group.octets()),
         Err(fault) => Read::Fault(fault),
     }
+}
+
+fn query_outcome(query: Query<'_, Addr4>) -> Read {
+    let group = query.group.octets();
+    match query.version {
+        QueryVersion::Older(version) => Read::OlderQuery(version, group, query.response),
+        QueryVersion::Current(fields) => Read::Query(
+            group,
+            query.response,
+            (
+                fields.suppress,
+                fields.robustness.get(),
+                fields.interval,
+                fields.sources.len(),
+                weighed(&fields.sources),
+            ),
+        ),
+    }
+}
+
+/// The sum of the sources' last octets, each times its place, counted from 1.
+fn weighed(sources: &Sources<'_, Addr4>) -> usize {
+    let mut sum = 0usize;
+    let mut place = 0usize;
+    for source in sources.iter() {
+        let [_, _, _, last] = source.octets();
+        place = place.wrapping_add(1);
+        sum = sum.wrapping_add(place.wrapping_mul(usize::from(last)));
+    }
+    sum
 }
 
 const V1: OlderVersion = OlderVersion::V1;
@@ -54,6 +97,73 @@ fn reads_messages_and_faults(rt: HostRuntime) {
     for (bytes, want) in table {
         assert_eq!(rt; outcome(bytes), want, "{bytes:?}");
     }
+}
+
+#[test]
+fn reads_queries(rt: HostRuntime) {
+    let table: [(&[u8], Read); 8] = [
+        (
+            b"\x11\x00\xee\xff\0\0\0\0",
+            Read::OlderQuery(V1, [0; 4], 0),
+        ),
+        (
+            b"\x11\x64\xee\x9b\0\0\0\0",
+            Read::OlderQuery(V2, [0; 4], 10000),
+        ),
+        (
+            b"\x11\x64\xec\x1e\0\0\0\0\x02\x7d\0\0",
+            Read::Query([0; 4], 10000, (false, 2, 125, 0, 0)),
+        ),
+        (
+            b"\x11\x0a\xf1\x73\xe8\x01\x01\x01\x0a\x7d\0\x01\x0a\0\0\x01",
+            Read::Query([232, 1, 1, 1], 1000, (true, 2, 125, 1, 1)),
+        ),
+        // Two sources, in their order.
+        (
+            b"\x11\x0a\xe7\x70\xe8\x01\x01\x01\x0a\x7d\0\x02\x0a\0\0\x01\x0a\0\0\x02",
+            Read::Query([232, 1, 1, 1], 1000, (true, 2, 125, 2, 5)),
+        ),
+        (
+            b"\x11\x64\xec\x1d\0\0\0\0\x02\x7d\0\x01",
+            Read::Fault(WireFault::Truncated { at: 12 }),
+        ),
+        (
+            b"\x11\x64\xee\x9b",
+            Read::Fault(WireFault::QueryLength),
+        ),
+        (
+            b"\x11\x64\xee\x9b\0\0\0\0\0\0",
+            Read::Fault(WireFault::QueryLength),
+        ),
+    ];
+    for (bytes, want) in table {
+        assert_eq!(rt; outcome(bytes), want, "{bytes:?}");
+    }
+}
+
+#[test]
+fn lent_sources_are_their_list(rt: HostRuntime) {
+    let lent = [
+        Addr4::from_octets([10, 0, 0, 7]),
+        Addr4::from_octets([10, 0, 0, 9]),
+    ];
+    let sources = Sources::lent(&lent);
+    assert_eq!(rt; sources.len(), 2);
+    assert!(rt; !sources.is_empty());
+    assert_eq!(rt; weighed(&sources), 7 + 2 * 9);
+    assert_eq!(rt; (Addr4::PER_QUERY, Addr6::PER_QUERY), (366, 89));
+}
+
+#[test]
+fn knows_codes(rt: HostRuntime) {
+    for (code, value) in [(0, 0), (0x7f, 127), (0x80, 128), (0xff, 31744)] {
+        assert_eq!(rt; resp8(code), value);
+        assert_eq!(rt; code8(value), code);
+    }
+    for (value, code) in [(129, 0x80), (136, 0x81), (40000, 0xff)] {
+        assert_eq!(rt; code8(value), code);
+    }
+    assert_eq!(rt; (Qrv::new(7).get(), Qrv::new(8).get()), (7, 0));
 }
 
 #[test]
