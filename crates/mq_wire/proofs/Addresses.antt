@@ -1,5 +1,5 @@
 -- Addresses that stand one after the other.
-use Rattle.std.proofs.Common.{◌≡◌, ◌<◌, ◌≤◌, ◌-◌, ◌+◌, ◌*◌, ℕ, zero, suc, List, ◌∷◌, length, take, drop, ap, sym, ◌∙◌, refl, arith}
+use Rattle.std.proofs.Common.{◌≡◌, ◌<◌, ◌≤◌, ◌-◌, ◌+◌, ℕ, zero, suc, List, ◌∷◌, length, take, drop, refl, arith}
 use Rattle.byteorder.specs.Endian.{big_from, big_number}
 use Rattle.std.proofs.lemmas.List.{get_or-take}
 use Rattle.mq_wire.specs.Fields.{addresses}

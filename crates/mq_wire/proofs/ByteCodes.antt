@@ -1,10 +1,8 @@
 -- The 8-bit code that is found for a value.
-use Rattle.std.proofs.Common.{◌≡◌, ℕ, ◌+◌, ◌-◌, ◌*◌, ◌/◌, ◌%◌, ◌^◌, ◌<◌, ◌≤◌, inl, inr, nat_lt, ap, sym, ◌∙◌, refl, arith, subst}
+use Rattle.std.proofs.Common.{◌≡◌, ℕ, ◌+◌, ◌-◌, ◌*◌, ◌/◌, ◌%◌, ◌^◌, ◌<◌, ◌≤◌, inl, inr, refl, arith, subst}
 use Rattle.std.proofs.Math.Nat.{pow-le-pow_right, mod-lt, div-add-mod, mod-eq_of_lt}
 use Rattle.std.proofs.lemmas.Nat.{pow-add, pow_pos, le-div, div_below}
-use Rattle.std.proofs.lemmas.Bool.{cases_order}
-use Rattle.std.proofs.lemmas.Bool.Decides.{nat_tests, leb_tells}
-use Rattle.mq_wire.specs.Codes.{value_of, value8, IsCodeFor}
+use Rattle.mq_wire.specs.Codes.{value8, IsCodeFor}
 use Rattle.mq_wire.proofs.CodeValues.{composed_code, own_code}
 
 -- 256 shifted by an exponent fits 32 bits

@@ -1,8 +1,6 @@
 -- The fault of bytes, case by case in the order of the tests.
-use Rattle.std.proofs.Common.{◌≡◌, ℕ, ◌<◌, ◌≤◌, ◌⊎◌, min, List, [], ◌∷◌, ◌++◌, length, Option, Some, None, ◌%◌, inl, inr, ap, sym, ◌∙◌, arith, refl, true, false}
-use Rattle.std.specs.Option.{option_map}
+use Rattle.std.proofs.Common.{◌≡◌, ℕ, ◌<◌, ◌≤◌, ◌⊎◌, min, List, [], ◌∷◌, ◌++◌, length, Option, Some, None, ◌%◌, inl, inr, arith, refl, true, false}
 use Rattle.std.proofs.lemmas.Bool.Decides.{nat_tests, leb_tells, eqb_tells}
-use Rattle.std.proofs.lemmas.Grind.{common_steps}
 use Rattle.mq_wire.specs.declared.message.MessageType.{MessageType}
 use Rattle.mq_wire.specs.declared.message.WireFault.{WireFault}
 use Rattle.mq_wire.specs.declared.message.WireFault.TheVariants.{Truncated, Checksum, UnknownType}

@@ -1,5 +1,5 @@
 -- Bytes spell one message at the most, and exactly where they have no fault.
-use Rattle.std.proofs.Common.{◌≡◌, ◌+◌, ◌≤◌, ◌<◌, ◌⊎◌, inl, inr, ℕ, ◌↔◌, nat_le, true, false, List, [], ◌∷◌, ◌++◌, length, Option, Result, Ok, Err, Some, None, arith, ap, subst, sym, ◌∙◌, refl}
+use Rattle.std.proofs.Common.{◌≡◌, ◌+◌, ◌≤◌, ◌⊎◌, inl, inr, ℕ, ◌↔◌, List, [], ◌∷◌, ◌++◌, length, Option, Result, Ok, Err, Some, None, arith, ap, subst, sym, ◌∙◌, refl}
 use Rattle.std.specs.Option.{option_map}
 use Rattle.std.proofs.lemmas.Bool.Decides.{nat_tests, leb_tells, eqb_tells}
 use Rattle.mq_wire.specs.declared.message.Message.{Message}

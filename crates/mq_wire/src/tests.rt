@@ -1,8 +1,8 @@
 //! Messages that hosts of the Linux kernel sent, queries, and faults of each kind.
 
 use crate::{
-    Message, OlderVersion, Qrv, Query, QueryVersion, Sources, WireFault, WireKey, checksum_of, checksum_ok,
-    code8, read_igmp, resp8,
+    Message, OlderVersion, Qrv, Query, QueryVersion, Sources, WireFault, WireKey, checksum_of,
+    checksum_ok, code8, read_igmp, resp8,
 };
 use mq_count::{Addr4, Addr6};
 
@@ -32,12 +32,17 @@ fn outcome(bytes: &[u8]) -> Read {
 }
 
 fn query_outcome(query: Query<'_, Addr4>) -> Read {
-    let group = query.group.octets();
-    match query.version {
-        QueryVersion::Older(version) => Read::OlderQuery(version, group, query.response),
+    let Query {
+        group,
+        response,
+        version,
+    } = query;
+    let group = group.octets();
+    match version {
+        QueryVersion::Older(version) => Read::OlderQuery(version, group, response),
         QueryVersion::Current(fields) => Read::Query(
             group,
-            query.response,
+            response,
             (
                 fields.suppress,
                 fields.robustness.get(),
@@ -102,10 +107,7 @@ fn reads_messages_and_faults(rt: HostRuntime) {
 #[test]
 fn reads_queries(rt: HostRuntime) {
     let table: [(&[u8], Read); 8] = [
-        (
-            b"\x11\x00\xee\xff\0\0\0\0",
-            Read::OlderQuery(V1, [0; 4], 0),
-        ),
+        (b"\x11\x00\xee\xff\0\0\0\0", Read::OlderQuery(V1, [0; 4], 0)),
         (
             b"\x11\x64\xee\x9b\0\0\0\0",
             Read::OlderQuery(V2, [0; 4], 10000),
@@ -127,10 +129,7 @@ fn reads_queries(rt: HostRuntime) {
             b"\x11\x64\xec\x1d\0\0\0\0\x02\x7d\0\x01",
             Read::Fault(WireFault::Truncated { at: 12 }),
         ),
-        (
-            b"\x11\x64\xee\x9b",
-            Read::Fault(WireFault::QueryLength),
-        ),
+        (b"\x11\x64\xee\x9b", Read::Fault(WireFault::QueryLength)),
         (
             b"\x11\x64\xee\x9b\0\0\0\0\0\0",
             Read::Fault(WireFault::QueryLength),

@@ -1,4 +1,4 @@
-use Rattle.std.proofs.Common.{◌≡◌, ◌+◌, ◌*◌, ◌<◌, ◌≤◌, ◌^◌, ◌%◌, arith}
+use Rattle.std.proofs.Common.{◌≡◌, ◌+◌, ◌*◌, ◌^◌, arith}
 use Rattle.std.proofs.lemmas.Nat.{pow-add}
 use Rattle.mq_wire.proofs.ByteCodes.{shifted, mantissa_bounds, found8, greatest8}
 use Rattle.mq_wire.proofs.codes.code8.Goals as goal

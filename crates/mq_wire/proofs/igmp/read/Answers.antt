@@ -1,4 +1,4 @@
-use Rattle.std.proofs.Common.{◌≡◌, [], sym, ◌∙◌, refl, arith}
+use Rattle.std.proofs.Common.{◌≡◌, [], sym, refl}
 use Rattle.mq_wire.specs.Family.{Igmp}
 use Rattle.mq_wire.proofs.Faults.{short, wrong, unknown}
 use Rattle.mq_wire.proofs.Spelled.{reads}

@@ -1,4 +1,4 @@
-use Rattle.std.proofs.Common.{◌≡◌, ◌+◌, ◌%◌, ◌<◌, ℕ, List, drop, ap, ◌∙◌, refl, arith, slice_index, nat_lt, false}
+use Rattle.std.proofs.Common.{◌≡◌, ◌+◌, ◌%◌, ℕ, drop, ap, ◌∙◌, refl, arith, slice_index, nat_lt, false}
 use Rattle.std.specs.Option.{option_map}
 use Rattle.std.proofs.lemmas.Bool.Decides.{nat_tests}
 use Rattle.mq_wire.specs.Fields.{number_at, addresses}

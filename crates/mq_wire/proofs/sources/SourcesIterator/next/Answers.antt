@@ -1,4 +1,4 @@
-use Rattle.std.proofs.Common.{◌≡◌, ◌<◌, ◌∷◌, ◌-◌, List, ℕ, take, drop, sym, ◌∙◌, arith, ap}
+use Rattle.std.proofs.Common.{◌≡◌, ◌∷◌, ◌-◌, ℕ, take, drop, sym, ◌∙◌, arith, ap}
 use Rattle.byteorder.specs.Endian.{big_number}
 use Rattle.mq_wire.specs.Fields.{addresses}
 use Rattle.mq_wire.specs.Sources.{listed_in}
