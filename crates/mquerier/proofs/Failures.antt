@@ -2,7 +2,7 @@
 use Rattle.std.proofs.Common.{◌≡◌, ◌||◌, Bool, true, false, List, ℕ, Option, Result, Ok, Err, is_err, inl, inr, ◌∙◌, refl}
 use Rattle.mquerier.specs.Printing.{Prints}
 use Rattle.mquerier.specs.declared.program.Failure.{Failure}
-use Rattle.mquerier.specs.Status.{Stream, Told, failure_line}
+use Rattle.mquerier.specs.Status.{Told, failure_line}
 
 or_true : (b : Bool) → (b || true) ≡ true
 or_true true = refl

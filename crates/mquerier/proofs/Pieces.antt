@@ -1,5 +1,5 @@
 -- A text that is printed in pieces.
-use Rattle.std.proofs.Common.{◌≡◌, ◌<◌, ℕ, List, ◌∷◌, ◌++◌, length, Option, Result, Ok, Err, append_assoc, length-append, ap, sym, subst, ◌∙◌, refl, arith}
+use Rattle.std.proofs.Common.{◌≡◌, ℕ, List, ◌∷◌, ◌++◌, Option, Result, Ok, Err, append_assoc, length-append, ap, sym, subst, ◌∙◌, arith}
 use Rattle.std.specs.Io.KnownBytes.{Appends}
 use Rattle.std.proofs.KnownBytes.{Appends-trans}
 use Rattle.std.specs.List.{flat_map}

@@ -1,4 +1,4 @@
-use Rattle.std.proofs.Common.{◌≡◌, ◌∙◌, refl, true, false}
+use Rattle.std.proofs.Common.{◌∙◌, refl, true, false}
 use Rattle.std.proofs.lemmas.Result.{err_from_is_err_and}
 use Rattle.mquerier.specs.Text.{line_of, message_text, fault_text}
 use Rattle.mquerier.proofs.PrintedLine.{printed_line, begun_line}

@@ -1,4 +1,4 @@
-use Rattle.std.proofs.Common.{◌≡◌, ◌∙◌, sym, ap}
+use Rattle.std.proofs.Common.{◌∙◌, sym, ap}
 use Rattle.mquerier.specs.Text.{line_of, message_text}
 use Rattle.mquerier.proofs.Pieces.{printed_as}
 use Rattle.mquerier.proofs.lines.print_message.Goals as goal

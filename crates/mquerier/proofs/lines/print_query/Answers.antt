@@ -1,4 +1,4 @@
-use Rattle.std.proofs.Common.{◌≡◌, ◌∙◌, sym, refl, codes}
+use Rattle.std.proofs.Common.{◌∙◌, codes}
 use Rattle.std.proofs.lemmas.Result.{err_from_is_err_and}
 use Rattle.mquerier.specs.Text.{query_head, sources_text}
 use Rattle.mquerier.proofs.Pieces.{head_begun, sources_begun, all_printed}
