@@ -1,3 +1,4 @@
+pub mod Variables
 pub mod Sets
 pub mod Maps
 pub mod Group
