@@ -6,9 +6,11 @@ pub mod examples;
 pub mod kind;
 pub mod laws;
 pub mod older_hosts;
+pub mod timers;
 pub mod timing;
 
 pub use kind::Kind;
 pub use mq_count::OlderVersion;
 pub use older_hosts::Hosts;
+pub use timers::{FilterMode, SourceTimer};
 pub use timing::Timing;
