@@ -4,20 +4,15 @@ use Rattle.std.specs.Ordering.{nat_cmp}
 use Rattle.std.specs.FinMap as map
 use Rattle.std.specs.FinMap.{FinMap}
 use Rattle.mq_table.specs.Sets.{Set}
-
 -- The timer of a source: stopped, so at zero, which the tables write as a source of Y; or running
 -- until a deadline, which they write as a source of X. A running one has a number of
 -- group-and-source-specific queries that are still to go for it (RFC 3376 sections 6.2.3 and 6.6.3.2,
--- RFC 3810 sections 7.2.3 and 7.6.3.2).
-pub data SourceTimer : Type 0 where
-  Stopped : SourceTimer
-  Running : (deadline sendings : ℕ) → SourceTimer
-
--- The filter mode; in EXCLUDE with the deadline of the group timer, which RFC 3810 calls the filter
--- timer (RFC 3376 sections 6.2.1 and 6.2.2, RFC 3810 sections 7.2.1 and 7.2.2).
-pub data FilterMode : Type 0 where
-  Include : FilterMode
-  Exclude : (deadline : ℕ) → FilterMode
+-- RFC 3810 sections 7.2.3 and 7.6.3.2). The filter mode; in EXCLUDE with the deadline of the group timer,
+-- which RFC 3810 calls the filter timer (RFC 3376 sections 6.2.1 and 6.2.2, RFC 3810 sections 7.2.1 and 7.2.2).
+pub use Rattle.mq_table.specs.declared.timers.SourceTimer.{SourceTimer}
+pub use Rattle.mq_table.specs.declared.timers.SourceTimer.TheVariants.{Stopped, Running}
+pub use Rattle.mq_table.specs.declared.timers.FilterMode.{FilterMode}
+pub use Rattle.mq_table.specs.declared.timers.FilterMode.TheVariants.{Include, Exclude}
 
 -- A group: its mode, the timers of its sources, and until when a host of version 1 or 2 is taken to
 -- be there (RFC 3376 section 7.3.2; MLD has version 1 alone, RFC 3810 section 8.3.2).
