@@ -23,10 +23,12 @@
 //!   `sets_are_known_by_their_members`, `binary_digits_bound_a_number`, `rules_act_at_each_key`.
 #![tactic(auto)]
 
+mod extents;
 pub mod items;
 pub mod memory;
 pub mod merge_state;
 pub mod merging;
+pub mod pools;
 pub mod searching;
 pub mod source_sets;
 
@@ -34,5 +36,6 @@ pub use items::{Keyed, numbers_find_items};
 pub use memory::Memory;
 pub use merge_state::{Merge, Merged};
 pub use merging::{merge, rules_act_at_each_key};
+pub use pools::Pool;
 pub use searching::{binary_digits_bound_a_number, find};
 pub use source_sets::{InsertFault, SourceSet, sets_are_known_by_their_members};

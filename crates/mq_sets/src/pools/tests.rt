@@ -1,0 +1,1 @@
+//! Pools against plain lists of lists, and with each growth refused.
