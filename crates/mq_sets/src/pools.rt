@@ -89,6 +89,13 @@ impl<T: Copy> Pool<T> {
         self.cell_limit - self.used
     }
 
+    /// How many more rows there may be.
+    pub fn free_rows(&self) -> usize
+        ensures { result + length self.now.rows ≡ self.now.row_limit }
+    {
+        self.row_limit - self.extents.len()
+    }
+
     /// Makes a row of no cells at a place; the rows from there on move up by one.
     pub fn insert_row(&mut self, place: usize)
         requires place { place ≤ length self.old.rows }
