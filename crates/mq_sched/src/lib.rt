@@ -3,5 +3,9 @@
 //! 6.6.2, RFC 3810 section 7.6.2).
 #![tactic(auto)]
 
+mod deadline_order;
+pub mod deadlines;
 pub mod examples;
 pub mod laws;
+
+pub use deadlines::Deadlines;
