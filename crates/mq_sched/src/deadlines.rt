@@ -51,6 +51,13 @@ impl Deadlines {
         })
     }
 
+    /// For how many deadlines memory was reserved. It never changes.
+    pub fn room(&self) -> usize
+        ensures { result ≡ self.now.room }
+    {
+        self.room
+    }
+
     /// How many groups have a deadline here.
     pub fn len(&self) -> usize
         ensures { result ≡ length self.now.deadlines }
