@@ -1,6 +1,6 @@
 -- The places that are due, ascending.
-use Rattle.std.proofs.Common.{ℕ, ◌+◌, ◌<◌, ◌≤◌, ◌≡◌, ◌==◌, Bool, true, false, cond, arith, refl, List, length, get_or, take, sym, ap, ◌∙◌, ⊎_elim}
-use Rattle.std.specs.List.{All, AllWithin, count_by, list_any}
+use Rattle.std.proofs.Common.{ℕ, ◌<◌, ◌≤◌, ◌≡◌, ◌==◌, Bool, true, false, cond, arith, refl, List, length, get_or, take, sym, ap, ◌∙◌, ⊎_elim}
+use Rattle.std.specs.List.{AllWithin, list_any}
 use Rattle.std.specs.List.Sorted.{IsPermutation, IsNonDecreasingBy}
 use Rattle.std.specs.Prelude.{nat_lt, if◌then◌else◌}
 use Rattle.std.proofs.lemmas.Bool.Decides.{eqb_tells}
@@ -10,7 +10,7 @@ use Rattle.std.proofs.lemmas.List.Elements.{All-take}
 use Rattle.std.proofs.lemmas.List.Folds.{list_any_none, list_any_at}
 use Rattle.std.proofs.lemmas.List.Sums.{sum_by_more_le, sum_by-take-le, get_or-le-sum_by}
 use Rattle.std.proofs.lemmas.List.Sorted.{list_any-IsPermutation, sum_by-IsPermutation}
-use Rattle.mq_sets.proofs.Ascents.{below-eqb, above-eqb}
+use Rattle.mq_sets.proofs.Ascents.{below-eqb}
 use Rattle.mq_sets.specs.Ascending.{IsAscending, set_of}
 use Rattle.mq_sched.specs.Deadlines.{IsOrder, is_due}
 use Rattle.mq_sched.proofs.Places.{get_or_any}

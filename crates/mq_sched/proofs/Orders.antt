@@ -1,20 +1,20 @@
 -- The places in the order of their deadlines.
-use Rattle.std.proofs.Common.{ℕ, suc, ◌+◌, ◌-◌, ◌/◌, ◌<◌, ◌≤◌, ◌≡◌, ◌==◌, ◌&&◌, min, Bool, true, false, cond, arith, refl, List, [], ◌∷◌, ◌++◌, length, get_or, map, take, drop, set, Some, sym, ap, ◌∙◌, ⊎_elim}
-use Rattle.std.specs.List.{All, AllWithin, count_by, insert, remove, list_any, slice_get}
+use Rattle.std.proofs.Common.{ℕ, ◌+◌, ◌-◌, ◌/◌, ◌<◌, ◌≤◌, ◌≡◌, ◌==◌, min, cond, arith, refl, List, [], ◌∷◌, length, get_or, map, Some, sym, ap, ◌∙◌, ⊎_elim}
+use Rattle.std.specs.List.{All, AllWithin, count_by, insert, slice_get}
 use Rattle.std.specs.List.Sorted.{IsNonDecreasingBy}
-use Rattle.std.specs.Prelude.{nat_lt, nat_le, if◌then◌else◌}
-use Rattle.std.proofs.lemmas.Bool.{cases_lt, eq-eqb, lt-ltb, le-ltb, false≢true}
+use Rattle.std.specs.Prelude.{nat_lt, if◌then◌else◌}
+use Rattle.std.proofs.lemmas.Bool.{cases_lt, eq-eqb, lt-ltb, le-ltb}
 use Rattle.std.proofs.lemmas.Bool.Decides.{eqb_tells}
 use Rattle.std.proofs.lemmas.List.{get_or_default, get_or-map, length-map}
-use Rattle.std.proofs.lemmas.List.Edits.{length-insert, get_or-insert_below, get_or-insert_at, get_or-insert_above, length-remove, get_or-remove_below, get_or-remove_above}
-use Rattle.std.proofs.lemmas.List.Sums.{sum_by-insert, sum_by-remove}
+use Rattle.std.proofs.lemmas.List.Edits.{length-insert, get_or-insert_below, get_or-insert_at, get_or-insert_above}
+use Rattle.std.proofs.lemmas.List.Sums.{sum_by-insert}
 use Rattle.std.proofs.lemmas.List.Sorted.{IsNonDecreasingBy-insert}
-use Rattle.mq_sched.proofs.Places.{get_or_any, count-some, count-none, count-map, count-agree, ascending-map, ascending-agree, moved_up-below, moved_up-behind, moved_up-at_below, moved_up-at_from, moved_up-at_above, moved_down-upto, moved_down-behind, moved_down-at_below, moved_down-at_behind}
+use Rattle.mq_sched.proofs.Places.{get_or_any, count-some, count-none, count-map, count-agree, ascending-map, moved_up-below, moved_up-behind, moved_up-at_below, moved_up-at_from, moved_up-at_above}
 use Rattle.mq_count.specs.Spending.{Spends}
 use Rattle.mq_sets.specs.Search.{bitlen}
 use Rattle.mq_sets.proofs.Narrowing.{spent_by_halving}
 use Rattle.mq_sets.proofs.Ascents.{below-eqb, above-eqb}
-use Rattle.mq_sched.specs.Deadlines.{IsOrder, IsEarliest, is_due, moved_up, moved_down}
+use Rattle.mq_sched.specs.Deadlines.{IsOrder, IsEarliest, moved_up}
 
 -- what is passed and what is ahead, as a search narrows down where a deadline goes
 pub record IsNarrowed (key : ℕ → ℕ) (order : List ℕ) (due old m low high : ℕ) : Type 0 where

@@ -1,17 +1,17 @@
 -- An order out of which one place was taken.
-use Rattle.std.proofs.Common.{ℕ, ◌+◌, ◌-◌, ◌<◌, ◌≤◌, ◌≡◌, ◌==◌, cond, true, false, arith, refl, List, length, get_or, map, set, sym, ap, ◌∙◌, ⊎_elim}
+use Rattle.std.proofs.Common.{ℕ, ◌+◌, ◌-◌, ◌<◌, ◌≤◌, ◌≡◌, ◌==◌, cond, arith, refl, List, length, get_or, map, set, sym, ◌∙◌, ⊎_elim}
 use Rattle.std.specs.List.{All, AllPairs, AllWithin, count_by, insert, remove}
 use Rattle.std.specs.List.Sorted.{IsNonDecreasingBy}
 use Rattle.std.specs.Prelude.{nat_lt, if◌then◌else◌}
 use Rattle.std.proofs.lemmas.Bool.{cases_lt, eq-eqb, lt-ltb, le-ltb}
-use Rattle.std.proofs.lemmas.List.{get_or-map, length-map, length-set, get_or-set_same, get_or-set_other}
+use Rattle.std.proofs.lemmas.List.{length-map, length-set, get_or-set_same, get_or-set_other}
 use Rattle.std.proofs.lemmas.List.Edits.{length-insert, length-remove, get_or-remove_below, get_or-remove_above}
 use Rattle.std.proofs.lemmas.List.Quantifiers.{all_pairs_remove}
 use Rattle.std.proofs.lemmas.List.Sums.{sum_by-insert, sum_by-remove}
 use Rattle.std.proofs.lemmas.List.Sorted.{IsNonDecreasingBy-insert}
 use Rattle.mq_sets.proofs.Ascents.{below-eqb, above-eqb}
 use Rattle.mq_sched.specs.Deadlines.{IsOrder, moved_down}
-use Rattle.mq_sched.proofs.Places.{get_or_any, count-some, count-map, count-agree, ascending-map, ascending-agree, moved_down-upto, moved_down-behind, moved_down-at_below, moved_down-at_behind}
+use Rattle.mq_sched.proofs.Places.{count-some, count-map, count-agree, ascending-map, ascending-agree, moved_down-upto, moved_down-behind, moved_down-at_below, moved_down-at_behind}
 
 -- each place but one stands in it once
 pub record IsWithout (deadlines order : List ℕ) (place : ℕ) : Type 0 where

@@ -1,4 +1,4 @@
-use Rattle.std.proofs.Common.{ℕ, ◌-◌, ◌+◌, ◌/◌, ◌≤◌, ◌<◌, ◌≡◌, arith, refl, slice_index, get_or, length, sym, ◌∙◌, ⊎_elim}
+use Rattle.std.proofs.Common.{ℕ, ◌-◌, ◌+◌, ◌/◌, ◌≤◌, ◌<◌, arith, refl, slice_index, get_or, length, sym, ◌∙◌, ⊎_elim}
 use Rattle.std.proofs.lemmas.Bool.{cases_lt, false≢true}
 use Rattle.std.proofs.lemmas.List.{get_or_default}
 use Rattle.mq_sched.proofs.Orders.{IsNarrowed-to_behind, IsNarrowed-to_before}

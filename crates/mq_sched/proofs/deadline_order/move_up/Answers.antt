@@ -1,4 +1,4 @@
-use Rattle.std.proofs.Common.{◌<◌, ◌≡◌, arith, length, sym, get_or}
+use Rattle.std.proofs.Common.{◌<◌, arith, length, sym, get_or}
 use Rattle.std.proofs.lemmas.List.{get_or-set_other}
 use Rattle.std.proofs.lemmas.List.Edits.{map_over_more}
 use Rattle.mq_sched.specs.Deadlines.{moved_up}

@@ -1,6 +1,6 @@
-use Rattle.std.proofs.Common.{ℕ, ◌<◌, ◌≡◌, arith, ap, get_or, length}
+use Rattle.std.proofs.Common.{arith, ap}
 use Rattle.std.proofs.lemmas.List.{get_or_default}
-use Rattle.mq_sched.specs.Deadlines.{DeadlinesState, IsEarliest}
+use Rattle.mq_sched.specs.Deadlines.{DeadlinesState}
 use Rattle.mq_sched.proofs.Orders.{first_of, places_below, first_is_earliest}
 use Rattle.mq_sched.proofs.deadlines.Deadlines.earliest.Goals as goal
 

@@ -1,4 +1,4 @@
-use Rattle.std.proofs.Common.{◌≡◌, ◌≤◌, arith, ap, length, refl}
+use Rattle.std.proofs.Common.{◌≡◌, ◌≤◌, arith, ap, length}
 use Rattle.std.proofs.lemmas.List.{take_at, length-map}
 use Rattle.mq_sched.specs.Deadlines.{DeadlinesState, moved_up}
 use Rattle.mq_sched.proofs.Orders.{places_below, IsOrder-insert}
