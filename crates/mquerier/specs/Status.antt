@@ -2,8 +2,8 @@
 use Rattle.std.specs.Prelude.{◌≡◌, ◌≤◌, ◌⊎◌, ℕ, Bool, true, false, List, Option, IsErr, codes}
 use Rattle.std.specs.Io.KnownBytes.{Appends}
 use Rattle.hex.specs.Hex.{decode_of}
-use Rattle.mquerier.specs.declared.command.Request.{Request}
-use Rattle.mquerier.specs.declared.command.Request.TheVariants.{Message}
+use Rattle.mq_command.specs.declared.Request.{Request}
+use Rattle.mq_command.specs.declared.Request.TheVariants.{Message}
 use Rattle.mquerier.specs.declared.program.Failure.{Failure}
 use Rattle.mquerier.specs.declared.program.Failure.TheVariants.{NotHex, Memory, Write}
 use Rattle.mquerier.specs.Line.{PrintsHexLine}

@@ -9,12 +9,9 @@
 //! streams; `main` runs it on the program's own words and streams.
 #![tactic(auto)]
 
-mod command;
 mod lines;
 mod printing;
 mod program;
-#[cfg(test)]
-mod tests;
 mod text;
 
 pub use lines::igmp_line;

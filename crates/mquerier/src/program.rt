@@ -6,11 +6,11 @@ ghost use Rattle.mq_count.specs.Streams.{inner_of, has_failed};
 ghost use Rattle.mquerier.specs.Line.{PrintsHexLine};
 ghost use Rattle.mquerier.specs.Status.{Stream, status_of, Told, hex_of, IsFaulty, Performs, Runs};
 
-use crate::command::{Request, request_of};
 use crate::lines::igmp_line;
 use crate::printing::print;
 use clap::error::ErrorKind;
 use hex::FromHexError;
+use mq_command::{Request, request_of};
 use mq_count::Watched;
 use std::alloc::Global;
 use std::convert::AsStr;
@@ -68,8 +68,7 @@ pub fn run<S: AsStr, R: Read, W: Write, E: Write>(
     output: &mut Watched<W>,
     errors: &mut Watched<E>,
 ) -> u8
-    ensures runs {
-        let out : Stream = record { before = W.contents (inner_of output.old); after = W.contents (inner_of output.new); failed = has_failed output.new } in
+    ensures runs { let out : Stream = record { before = W.contents (inner_of output.old); after = W.contents (inner_of output.new); failed = has_failed output.new } in
         let err : Stream = record { before = E.contents (inner_of errors.old); after = E.contents (inner_of errors.new); failed = has_failed errors.new } in
         Runs out err result }
     ensures refused { result ≡ 2 → output.new ≡ output.old }
@@ -94,8 +93,7 @@ pub fn perform<R: Read, W: Write, E: Write>(
     output: &mut Watched<W>,
     errors: &mut Watched<E>,
 ) -> u8
-    ensures performs {
-        let out : Stream = record { before = W.contents (inner_of output.old); after = W.contents (inner_of output.new); failed = has_failed output.new } in
+    ensures performs { let out : Stream = record { before = W.contents (inner_of output.old); after = W.contents (inner_of output.new); failed = has_failed output.new } in
         let err : Stream = record { before = E.contents (inner_of errors.old); after = E.contents (inner_of errors.new); failed = has_failed errors.new } in
         Performs request.now out err result }
     // What is refused leaves the output as it was.
@@ -129,8 +127,7 @@ fn message<W: Write>(alloc: Global, hex: &str, output: &mut Watched<W>) -> Resul
 /// Says on standard error what failed, and answers the status.
 fn told<E: Write>(failure: Failure, errors: &mut Watched<E>) -> u8
     ensures status { result ≡ status_of failure }
-    ensures line {
-        let err : Stream = record { before = E.contents (inner_of errors.old); after = E.contents (inner_of errors.new); failed = has_failed errors.new } in
+    ensures line { let err : Stream = record { before = E.contents (inner_of errors.old); after = E.contents (inner_of errors.new); failed = has_failed errors.new } in
         Told err failure }
 {
     let _ = print(failure.line().as_bytes(), errors);
