@@ -4,7 +4,7 @@ PREFIX ?= /usr/local
 SOURCES := $(shell tools/build --sources)
 FIRST_PATH := message igmp 1600f8faef010203
 
-.PHONY: all run test install clean
+.PHONY: all run test bench install clean
 
 all: bin/mquerier
 
@@ -20,9 +20,13 @@ run: bin/mquerier
 test:
 	@tools/gate
 
+# What reserved storage costs at several sizes. No part of the gate.
+bench:
+	bench/run
+
 install: bin/mquerier
 	install -d $(DESTDIR)$(PREFIX)/bin
 	install -m 755 bin/mquerier $(DESTDIR)$(PREFIX)/bin/mquerier
 
 clean:
-	rm -rf bin crates/*/out
+	rm -rf bin crates/*/out bench/work bench/storage/out

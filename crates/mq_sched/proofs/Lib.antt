@@ -1,7 +1,11 @@
+pub mod Orders
+pub mod Places
 pub mod Rounds
 pub mod Asked
 pub mod Fits
 pub mod Explicit
 pub mod Ascending
+pub mod Due
 pub mod Electing
 pub mod StayHeld
+pub mod Without

@@ -1,3 +1,4 @@
+pub mod Deadlines
 pub mod Schedule
 pub mod Sending
 pub mod Election

@@ -1,7 +1,13 @@
+//! Which groups are due: `Deadlines`, an index of the held groups' earliest deadlines, by their places.
+//!
 //! When a router asks: the specific queries that are still to go for one group (RFC 3376 section
 //! 6.6.3, RFC 3810 section 7.6.3), general queries, and the election of the querier (RFC 3376 section
 //! 6.6.2, RFC 3810 section 7.6.2).
 #![tactic(auto)]
 
+mod deadline_order;
+pub mod deadlines;
 pub mod examples;
 pub mod laws;
+
+pub use deadlines::Deadlines;

@@ -8,4 +8,5 @@ pub mod Merges
 pub mod Narrowing
 pub mod Placing
 pub mod Rules
+pub mod Stored
 pub mod WholeMerge

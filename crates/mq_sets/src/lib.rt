@@ -17,16 +17,19 @@
 //!
 //! - A set: `SourceSet`, with its `InsertFault`. One that is made by `with_room` takes all its memory then,
 //!   or answers `Memory`.
+//! - A list of lists in memory that is reserved once: `Pool`.
 //! - Ascending slices of whatever carries a key: `Keyed`, `find`, and `merge` with `Merge::next`,
 //!   which hands out `Merged`.
 //! - Laws for the crates above, functions that do nothing: `numbers_find_items`,
 //!   `sets_are_known_by_their_members`, `binary_digits_bound_a_number`, `rules_act_at_each_key`.
 #![tactic(auto)]
 
+mod extents;
 pub mod items;
 pub mod memory;
 pub mod merge_state;
 pub mod merging;
+pub mod pools;
 pub mod searching;
 pub mod source_sets;
 
@@ -34,5 +37,6 @@ pub use items::{Keyed, numbers_find_items};
 pub use memory::Memory;
 pub use merge_state::{Merge, Merged};
 pub use merging::{merge, rules_act_at_each_key};
+pub use pools::Pool;
 pub use searching::{binary_digits_bound_a_number, find};
 pub use source_sets::{InsertFault, SourceSet, sets_are_known_by_their_members};
