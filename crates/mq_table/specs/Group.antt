@@ -8,7 +8,8 @@ use Rattle.mq_table.specs.Sets.{Set}
 -- until a deadline, which they write as a source of X. A running one has a number of
 -- group-and-source-specific queries that are still to go for it (RFC 3376 sections 6.2.3 and 6.6.3.2,
 -- RFC 3810 sections 7.2.3 and 7.6.3.2). The filter mode; in EXCLUDE with the deadline of the group timer,
--- which RFC 3810 calls the filter timer (RFC 3376 sections 6.2.1 and 6.2.2, RFC 3810 sections 7.2.1 and 7.2.2).
+-- which RFC 3810 calls the filter timer (RFC 3376 sections 6.2.1 and 6.2.2, RFC 3810 sections 7.2.1 and
+-- 7.2.2).
 pub use Rattle.mq_table.specs.declared.timers.SourceTimer.{SourceTimer}
 pub use Rattle.mq_table.specs.declared.timers.SourceTimer.TheVariants.{Stopped, Running}
 pub use Rattle.mq_table.specs.declared.timers.FilterMode.{FilterMode}

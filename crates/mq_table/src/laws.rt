@@ -101,7 +101,11 @@ pub fn forwards_after_each_kind()
 /// What a record of each kind comes to while older hosts are there, in IGMP (where version 1 mutes
 /// Leave) and in MLD.
 pub fn older_hosts_translate_each_kind()
-    // Where there are none, each record is what it says.
+    // What is muted is ignored under any hosts.
+    ensures muted { (mutes : Bool) (hosts : Hosts) (kind : Kind) (named : NamedSources)
+        → translated mutes true hosts kind named ≡ None }
+
+    // Where there are none, each other record is what it says.
     ensures none { (mutes : Bool) (kind : Kind) (named : NamedSources)
         → translated mutes false (record { v1 = false; v2 = false }) kind named ≡ Some (kind, named) }
 
