@@ -10,7 +10,9 @@ use Rattle.std.specs.FinMap.{find, is_sorted}
 use Rattle.std.specs.FinSet as set
 use Rattle.mq_table.specs.declared.timing.Timing.{Timing}
 use Rattle.mq_table.specs.Sets.{Set}
-use Rattle.mq_table.specs.Group.{GroupState, FilterMode, SourceTimer, is_include, is_ahead, group_deadline, deadline_of, sendings_of}
+use Rattle.mq_table.specs.declared.timers.FilterMode.{FilterMode}
+use Rattle.mq_table.specs.declared.timers.SourceTimer.{SourceTimer}
+use Rattle.mq_table.specs.Group.{GroupState, is_include, is_ahead, group_deadline, deadline_of, sendings_of}
 use Rattle.mq_table.specs.Timing.{last_member_count}
 use Rattle.mq_table.specs.Lowering.{lowered_to, mode_lowered}
 use Rattle.mq_table.specs.Examples.{default_timing, naming}

@@ -3,5 +3,10 @@ pub mod Groups
 pub mod Lines
 pub mod Held
 pub mod Composed
-pub mod Lower
 pub mod Ahead
+pub mod Lower
+pub mod SourceLists
+pub mod Pushed
+pub mod Changed
+pub mod MadeLists
+pub mod Ended

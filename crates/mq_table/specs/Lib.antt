@@ -1,10 +1,15 @@
+pub mod Variables
 pub mod Sets
 pub mod Maps
 pub mod Group
 pub mod Timing
 pub mod Table
+pub mod Stored
+pub mod AtSource
+pub mod MergedRecord
 pub mod OlderHosts
 pub mod Expiry
 pub mod Lowering
+pub mod MadeSources
 pub mod Examples
 pub mod Laws

@@ -2,13 +2,31 @@
 //! the end of a timer and a query do to it (RFC 3376 sections 6 and 7, RFC 3810 sections 7 and 8).
 #![tactic(auto)]
 
+pub mod changes;
 pub mod examples;
+mod expiry;
+pub mod group;
+pub mod heads;
 pub mod kind;
 pub mod laws;
+mod lowering;
+mod merged_records;
 pub mod older_hosts;
+mod recording;
+mod rules;
+pub mod sources;
+pub mod timers;
 pub mod timing;
 
+pub use changes::Change;
+pub use group::Group;
+pub use heads::Head;
 pub use kind::Kind;
 pub use mq_count::OlderVersion;
-pub use older_hosts::Hosts;
+pub use older_hosts::{Hosts, translate};
+pub use sources::Source;
+pub use timers::{FilterMode, SourceTimer};
 pub use timing::Timing;
+
+#[cfg(test)]
+mod tests;

@@ -1,5 +1,6 @@
 use Rattle.std.proofs.Common.{[], ◌∷◌, None, Some, refl}
-use Rattle.mq_table.specs.Group.{Include, Running}
+use Rattle.mq_table.specs.declared.timers.FilterMode.TheVariants.{Include}
+use Rattle.mq_table.specs.declared.timers.SourceTimer.TheVariants.{Running}
 use Rattle.mq_sched.specs.Examples.{refreshed}
 use Rattle.mq_sched.proofs.Explicit.{known_sends}
 use Rattle.mq_sched.proofs.examples.a_round_in_time_and_late.Goals as goal

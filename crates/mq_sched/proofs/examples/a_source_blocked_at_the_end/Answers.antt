@@ -3,7 +3,7 @@ use Rattle.std.proofs.lemmas.Bool.Decides.{nat_tests}
 use Rattle.std.specs.FinMap.{gets}
 use Rattle.std.specs.FinSet.{members}
 use Rattle.mq_table.specs.declared.kind.Kind.TheVariants.{Block}
-use Rattle.mq_table.specs.Group.{Exclude}
+use Rattle.mq_table.specs.declared.timers.FilterMode.TheVariants.{Exclude}
 use Rattle.mq_table.specs.Examples.{default_timing, until, group_in, naming}
 use Rattle.mq_table.specs.Table.{change_of}
 use Rattle.mq_table.proofs.Maps.{get-by_rule, get-kept}

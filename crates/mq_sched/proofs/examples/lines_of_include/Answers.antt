@@ -3,7 +3,8 @@ use Rattle.std.proofs.lemmas.Bool.Decides.{nat_tests}
 use Rattle.std.specs.FinMap.{gets}
 use Rattle.std.specs.FinSet.{members}
 use Rattle.mq_table.specs.declared.kind.Kind.TheVariants.{IsIn, IsEx, ToIn, ToEx, Allow, Block}
-use Rattle.mq_table.specs.Group.{Include, Exclude, Stopped}
+use Rattle.mq_table.specs.declared.timers.FilterMode.TheVariants.{Include, Exclude}
+use Rattle.mq_table.specs.declared.timers.SourceTimer.TheVariants.{Stopped}
 use Rattle.mq_table.specs.Examples.{until, included, at_1000}
 use Rattle.mq_table.proofs.Maps.{get-by_rule}
 use Rattle.mq_table.proofs.Groups.{same_group}
