@@ -7,7 +7,7 @@ ghost use Rattle.mq_table.specs.declared.kind.Kind.{Kind};
 ghost use Rattle.mq_table.specs.declared.older_hosts.Hosts.{Hosts};
 ghost use Rattle.mq_table.specs.declared.timing.Timing.{Timing};
 ghost use Rattle.mq_count.specs.declared.versions.OlderVersion.{OlderVersion};
-ghost use Rattle.mq_table.specs.Sets.{Set};
+ghost use Rattle.mq_table.specs.Sets.{Set, ◌∪◌};
 ghost use Rattle.mq_table.specs.Group.{GroupState, running, timer_at, deadline_of, sendings_of, group_deadline, forwards_in, vacant, IsWellFormed, IsAnyGroup};
 ghost use Rattle.mq_table.specs.Timing.{membership_interval};
 ghost use Rattle.mq_table.specs.Table.{NamedSources};
@@ -103,30 +103,30 @@ pub fn forwards_after_each_kind()
 pub fn older_hosts_translate_each_kind()
     // Where there are none, each record is what it says.
     ensures none { (mutes : Bool) (kind : Kind) (named : NamedSources)
-        → translated mutes (record { v1 = false; v2 = false }) kind named ≡ Some (kind, named) }
+        → translated mutes false (record { v1 = false; v2 = false }) kind named ≡ Some (kind, named) }
 
     // Hosts of either version can't leave single sources out.
     ensures block { (mutes : Bool) (hosts : Hosts) (named : NamedSources)
-        → (hosts.v1 || hosts.v2) ≡ true → translated mutes hosts Kind.Block named ≡ None }
+        → (hosts.v1 || hosts.v2) ≡ true → translated mutes false hosts Kind.Block named ≡ None }
     ensures to_ex { (mutes : Bool) (hosts : Hosts) (named : NamedSources)
         → (hosts.v1 || hosts.v2) ≡ true
-        → translated mutes hosts Kind.ToEx named ≡ Some (Kind.ToEx, set.empty) }
+        → translated mutes false hosts Kind.ToEx named ≡ Some (Kind.ToEx, set.empty) }
 
     // TO_IN is ignored under hosts of version 1 in IGMP, and nowhere else.
     ensures to_in_under_v1 { (hosts : Hosts) (named : NamedSources)
-        → hosts.v1 ≡ true → translated true hosts Kind.ToIn named ≡ None }
+        → hosts.v1 ≡ true → translated true false hosts Kind.ToIn named ≡ None }
     ensures to_in_under_v2 { (mutes : Bool) (hosts : Hosts) (named : NamedSources)
-        → hosts.v1 ≡ false → translated mutes hosts Kind.ToIn named ≡ Some (Kind.ToIn, named) }
+        → hosts.v1 ≡ false → translated mutes false hosts Kind.ToIn named ≡ Some (Kind.ToIn, named) }
     ensures to_in_of_mld { (hosts : Hosts) (named : NamedSources)
-        → translated false hosts Kind.ToIn named ≡ Some (Kind.ToIn, named) }
+        → translated false false hosts Kind.ToIn named ≡ Some (Kind.ToIn, named) }
 
     // The others are what they say under any hosts.
     ensures is_in { (mutes : Bool) (hosts : Hosts) (named : NamedSources)
-        → translated mutes hosts Kind.IsIn named ≡ Some (Kind.IsIn, named) }
+        → translated mutes false hosts Kind.IsIn named ≡ Some (Kind.IsIn, named) }
     ensures is_ex { (mutes : Bool) (hosts : Hosts) (named : NamedSources)
-        → translated mutes hosts Kind.IsEx named ≡ Some (Kind.IsEx, named) }
+        → translated mutes false hosts Kind.IsEx named ≡ Some (Kind.IsEx, named) }
     ensures allow { (mutes : Bool) (hosts : Hosts) (named : NamedSources)
-        → translated mutes hosts Kind.Allow named ≡ Some (Kind.Allow, named) }
+        → translated mutes false hosts Kind.Allow named ≡ Some (Kind.Allow, named) }
 {}
 
 /// Lowering starts and ends no timer, and none runs longer than before.
@@ -135,4 +135,12 @@ pub fn lowering_never_lengthens()
         → IsNoLater (group_deadline g.mode) (group_deadline (group_lowered timing now g).mode) }
     ensures sources { (timing : Timing) (now : ℕ) (asked : Set) (g : GroupState) (s : ℕ)
         → IsNoLater (deadline_of (timer_at g s)) (deadline_of (timer_at (sources_lowered timing now asked g) s)) }
+{}
+
+/// Lowering some sources and then others, at one moment, is lowering all of them: so the sources of a
+/// query may be lowered one by one, in any order, however often.
+pub fn lowering_adds_up()
+    ensures { (timing : Timing) (now : ℕ) (some others : Set) (g : GroupState)
+        → sources_lowered timing now others (sources_lowered timing now some g)
+        ≡ sources_lowered timing now (some ∪ others) g }
 {}
