@@ -1,5 +1,7 @@
 pub mod Schedule
 pub mod Sending
+pub mod Announcement
 pub mod Election
+pub mod StoredElection
 pub mod Laws
 pub mod Examples

@@ -3,5 +3,15 @@
 //! 6.6.2, RFC 3810 section 7.6.2).
 #![tactic(auto)]
 
+pub mod announced;
+pub mod election;
 pub mod examples;
 pub mod laws;
+pub mod roles;
+
+pub use announced::Announced;
+pub use election::Election;
+pub use roles::OtherQuerier;
+
+#[cfg(test)]
+mod tests;
