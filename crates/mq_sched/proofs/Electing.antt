@@ -3,8 +3,7 @@ use Rattle.std.proofs.Common.{◌≡◌, ℕ, ◌+◌, ◌<◌, Bool, true, fals
 use Rattle.std.proofs.lemmas.Bool.{leb-false}
 use Rattle.mq_table.specs.declared.timing.Timing.{Timing}
 use Rattle.mq_table.specs.Timing.{query_interval, startup_interval}
-use Rattle.mq_sched.specs.Election.{Role, Querier, Other, ElectionState, deadline_ended, general_is_due, after_general, ticked}
-use Rattle.mq_sched.specs.Laws.{next_moment}
+use Rattle.mq_sched.specs.Election.{Role, Querier, Other, ElectionState, deadline_ended, general_is_due, after_general, ticked, next_moment}
 
 later_general : (timing : Timing) (now : ℕ) (b : Bool) → 0 < timing.query_seconds → now < now + cond b (startup_interval timing) (query_interval timing)
 later_general timing now true positive = omega arith
@@ -12,11 +11,11 @@ later_general timing now false positive = omega arith
 
 after_due : (timing : Timing) (now : ℕ) (role : Role) → 0 < timing.query_seconds → general_is_due now role ≡ true → now < next_moment (after_general timing now role)
 after_due timing now (Querier due queries) positive e = later_general timing now (ltb 1 queries) positive
-after_due timing now (Other d) positive e = cc
+after_due timing now (Other address d) positive e = cc
 
 not_due : (now : ℕ) (role : Role) → deadline_ended now role ≡ false → general_is_due now role ≡ false → now < next_moment role
 not_due now (Querier due queries) ended due_now = leb-false due now due_now
-not_due now (Other d) ended due_now = leb-false d now ended
+not_due now (Other address d) ended due_now = leb-false d now ended
 
 sent_or_not : (now : ℕ) (e : ElectionState) → 0 < e.timing.query_seconds → deadline_ended now e.role ≡ false → (b : Bool) → general_is_due now e.role ≡ b → now < next_moment (cond b (record { role = after_general e.timing now e.role; timing = e.timing }) e).role
 sent_or_not now e positive ended true h = after_due e.timing now e.role positive h

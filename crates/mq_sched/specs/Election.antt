@@ -4,13 +4,15 @@
 use Rattle.std.specs.Prelude.{ℕ, ◌+◌, ◌-◌, Bool, true, false, not, ◌&&◌, ◌||◌, if◌then◌else◌, nat_lt, nat_le, ◌==◌, List, [], ◌∷◌, Option, None, Some}
 use Rattle.mq_table.specs.declared.timing.Timing.{Timing}
 use Rattle.mq_table.specs.Timing.{query_interval, other_querier_present, startup_interval, startup_count}
+use Rattle.mq_sched.specs.declared.announced.Announced.{Announced}
 use Rattle.mq_sched.specs.Sending.{SentQuery, GeneralQuery}
 
 -- The querier has the moment at which its general query is due, and how many of the queries at startup
--- are still to go; any other router has the deadline up to which another querier is taken to be there.
+-- are still to go; any other router has the source address of the last query that set its deadline, up to
+-- which that querier is taken to be there.
 pub data Role : Type 0 where
   Querier : (due startup_queries : ℕ) → Role
-  Other : (deadline : ℕ) → Role
+  Other : (address deadline : ℕ) → Role
 
 -- the role, and the timing in force
 pub record ElectionState : Type 0 where
@@ -19,18 +21,13 @@ pub record ElectionState : Type 0 where
 
 abbrev pub is_querier : Role → Bool
 is_querier (Querier due startup_queries) = true
-is_querier (Other deadline) = false
+is_querier (Other address deadline) = false
 
 -- at its start a router is querier (RFC 2236 section 3, whose election RFC 3376 section 6.6.2 takes; RFC 3810
 -- section 7.6.2), and all queries of startup are to go (sections 8.7 and 9.7)
 abbrev pub election_at : Timing → ℕ → ElectionState
 election_at configured start =
     record { role = Querier start (startup_count configured); timing = configured }
-
--- what a query of the current version says of its querier: QRV, and QQIC in seconds
-pub record Announced : Type 0 where
-  pub robustness : ℕ
-  pub query_seconds : ℕ
 
 -- a value that was heard; zero stands for none, and restores the configured one
 abbrev pub heard_or : ℕ → ℕ → ℕ
@@ -61,12 +58,12 @@ heard configured own now source announced e =
     let lower = nat_lt source own in
     let is_other = lower || not (is_querier e.role) in
     let timing = adopted configured is_other announced e.timing in
-    record { role = if lower then Other (now + other_querier_present timing) else e.role; timing = timing }
+    record { role = if lower then Other source (now + other_querier_present timing) else e.role; timing = timing }
 
 -- whether the other querier's deadline has come
 abbrev pub deadline_ended : ℕ → Role → Bool
 deadline_ended now (Querier due startup_queries) = false
-deadline_ended now (Other deadline) = nat_le deadline now
+deadline_ended now (Other address deadline) = nat_le deadline now
 
 -- Then the router is querier again, with the configured timing and a general query that is due at
 -- once, and without another startup.
@@ -78,7 +75,7 @@ returned configured now e =
 
 abbrev pub general_is_due : ℕ → Role → Bool
 general_is_due now (Querier due startup_queries) = nat_le due now
-general_is_due now (Other deadline) = false
+general_is_due now (Other address deadline) = false
 
 -- After a general query the next is due after the startup interval, while queries of startup are still
 -- to go, and else after the query interval (RFC 3376 sections 8.2, 8.6 and 8.7, RFC 3810 sections 9.2, 9.6
@@ -87,7 +84,7 @@ abbrev pub after_general : Timing → ℕ → Role → Role
 after_general timing now (Querier due startup_queries) =
     let interval = if nat_lt 1 startup_queries then startup_interval timing else query_interval timing in
     Querier (now + interval) (startup_queries - 1)
-after_general timing now (Other deadline) = Other deadline
+after_general timing now (Other address deadline) = Other address deadline
 
 -- What a tick does to the election: the end of the other querier's deadline, and then the general
 -- query, if it is due. However late the tick comes, one goes.
@@ -101,3 +98,9 @@ ticked configured now e =
 abbrev pub general_messages : (configured : Timing) → ℕ → ElectionState → List SentQuery
 general_messages configured now e =
     if general_is_due now (returned configured now e).role then GeneralQuery ∷ [] else []
+
+-- when the election has something to do next: the general query, or the end of the other querier's
+-- deadline
+abbrev pub next_moment : Role → ℕ
+next_moment (Querier due startup_queries) = due
+next_moment (Other address deadline) = deadline

@@ -11,7 +11,8 @@ use Rattle.mq_table.specs.Examples.{default_timing, group_in, group_with, naming
 use Rattle.mq_table.specs.Table.{change_of}
 use Rattle.mq_sched.specs.Schedule.{QuerySchedule, ScheduledGroup}
 use Rattle.mq_sched.specs.Sending.{SentQuery, after_change, messages_due, after_round}
-use Rattle.mq_sched.specs.Election.{Querier, Other, ElectionState, Announced}
+use Rattle.mq_sched.specs.declared.announced.Announced.{Announced}
+use Rattle.mq_sched.specs.Election.{Querier, Other, ElectionState}
 
 -- 232.1.1.1
 abbrev pub the_group : ℕ
@@ -57,8 +58,9 @@ announced_timing = record default_timing { robustness = 3; query_seconds = 60 }
 abbrev pub querier : Timing → ℕ → ℕ → ElectionState
 querier timing due startup_queries = record { role = Querier due startup_queries; timing = timing }
 
+-- the router with the address 2 is querier
 abbrev pub other_until : Timing → ℕ → ElectionState
-other_until timing deadline = record { role = Other deadline; timing = timing }
+other_until timing deadline = record { role = Other 2 deadline; timing = timing }
 
 abbrev pub announced : ℕ → ℕ → Option Announced
 announced robustness query_seconds =

@@ -5,7 +5,6 @@ use Rattle.std.specs.List.Sorted.{IsStrictlyIncreasing}
 use Rattle.mq_table.specs.declared.timing.Timing.{Timing}
 use Rattle.mq_table.specs.Sets.{Set}
 use Rattle.mq_sched.specs.Schedule.{ScheduleState, ScheduledGroup, IsScheduleOf}
-use Rattle.mq_sched.specs.Election.{Role, Querier, Other}
 use Rattle.mq_sched.specs.Sending.{SentQuery, GeneralQuery, GroupQuery, SourcesQuery, acted, messages_due, after_round}
 
 -- a round of a group with an address, at a moment
@@ -64,9 +63,3 @@ AscendIn (GeneralQuery ∷ queries) = AscendIn queries
 AscendIn (GroupQuery group flag ∷ queries) = AscendIn queries
 AscendIn (SourcesQuery group flag sources ∷ queries) =
     (0 < length sources) × IsStrictlyIncreasing sources × AscendIn queries
-
--- when the election has something to do next: the general query, or the end of the other querier's
--- deadline
-abbrev pub next_moment : Role → ℕ
-next_moment (Querier due startup_queries) = due
-next_moment (Other deadline) = deadline

@@ -1,6 +1,8 @@
 pub mod Deadlines
 pub mod Schedule
 pub mod Sending
+pub mod Announcement
 pub mod Election
+pub mod StoredElection
 pub mod Laws
 pub mod Examples

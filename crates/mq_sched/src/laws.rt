@@ -7,8 +7,8 @@ ghost use Rattle.mq_table.specs.Expiry.{expired};
 ghost use Rattle.mq_table.specs.Laws.{Arrival, group_after, IsNoLater};
 ghost use Rattle.mq_sched.specs.Schedule.{query_sendings, ScheduleState, ScheduledGroup, has_sendings, IsScheduleOf, settled, cleared};
 ghost use Rattle.mq_sched.specs.Sending.{is_due, group_due, messages_due};
-ghost use Rattle.mq_sched.specs.Election.{ElectionState, ticked};
-ghost use Rattle.mq_sched.specs.Laws.{Round, queries_of, state_after, Asking, after_asking, IsFitting, asked_in, asks_group, IsQuietAt, AscendIn, next_moment};
+ghost use Rattle.mq_sched.specs.Election.{ElectionState, ticked, next_moment};
+ghost use Rattle.mq_sched.specs.Laws.{Round, queries_of, state_after, Asking, after_asking, IsFitting, asked_in, asks_group, IsQuietAt, AscendIn};
 
 use mq_table::Timing;
 

@@ -5,9 +5,18 @@
 //! 6.6.2, RFC 3810 section 7.6.2).
 #![tactic(auto)]
 
+pub mod announced;
 mod deadline_order;
 pub mod deadlines;
+pub mod election;
 pub mod examples;
 pub mod laws;
+pub mod roles;
 
+pub use announced::Announced;
 pub use deadlines::Deadlines;
+pub use election::Election;
+pub use roles::OtherQuerier;
+
+#[cfg(test)]
+mod tests;

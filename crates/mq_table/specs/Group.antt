@@ -63,8 +63,7 @@ sendings_of (Some (Running d n)) = n
 abbrev pub timer_at : GroupState → ℕ → Option SourceTimer
 timer_at g s = map.get g.sources s
 
--- X, the sources with a running timer (RFC 3376 section 6.4.1, RFC 3810 sections 7.2.1 and 7.4.1). The
--- standards say "above zero"; a timer that has run out is stopped or removed before a table is read.
+-- X, the sources with a running timer
 abbrev pub running : GroupState → Set
 running g s = is_running (timer_at g s)
 
@@ -81,16 +80,14 @@ wants (Exclude d) timer = not (is_stopped timer)
 abbrev pub forwards_in : GroupState → Set
 forwards_in g s = wants g.mode (timer_at g s)
 
--- INCLUDE({}), the state of every group that isn't held: this project's; the standards only say that no
--- source is forwarded then (RFC 3376 section 6.3)
+-- INCLUDE({}), the state of every group that isn't held
 abbrev pub vacant : GroupState
 vacant = record { mode = Include; sources = map.empty; v1 = None; v2 = None }
 
 abbrev pub is_vacant : GroupState → Bool
 is_vacant g = is_include g.mode && map.len g.sources == 0
 
--- A group that is held: INCLUDE has a source, and none that is stopped (RFC 3376 sections 6.2.3 and 6.3,
--- RFC 3810 sections 7.2.3 and 7.3).
+-- A group that is held: INCLUDE has a source, and none that is stopped.
 pub record IsWellFormed (g : GroupState) : Type 0 where
   pub has_source : g.mode ≡ Include → (s : ℕ) × IsTrue (running g s)
   pub none_stopped : g.mode ≡ Include → (s : ℕ) → stopped g s ≡ false
