@@ -131,10 +131,6 @@ pub fn older_hosts_translate_each_kind()
         → translated mutes false hosts Kind.IsEx named ≡ Some (Kind.IsEx, named) }
     ensures allow { (mutes : Bool) (hosts : Hosts) (named : NamedSources)
         → translated mutes false hosts Kind.Allow named ≡ Some (Kind.Allow, named) }
-
-    // What is muted is ignored, whatever hosts there are.
-    ensures muted { (mutes : Bool) (hosts : Hosts) (kind : Kind) (named : NamedSources)
-        → translated mutes true hosts kind named ≡ None }
 {}
 
 /// Lowering starts and ends no timer, and none runs longer than before.
