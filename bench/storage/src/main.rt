@@ -10,7 +10,9 @@ use std::time::{Duration, Instant};
 /// How many edits are timed together, and how often: the least time of these counts, since the machine
 /// has other work too.
 const EDITS: u32 = 100000;
+
 const CHANGES: u32 = 2000;
+
 const ROUNDS: u32 = 10;
 
 fn main(rt: HostRuntime) -> anyhow::Result<()> {
@@ -39,7 +41,9 @@ fn main(rt: HostRuntime) -> anyhow::Result<()> {
             turns = turns.min(each(start.elapsed(&rt)?, EDITS));
         }
         let (rows, room) = (pool.rows(), pool.room());
-        println!(rt; "pool of {cells} cells, {rows} rows, {room} free: {edits} ns an edit, {turns} ns a row made and removed")?;
+        println!(rt;
+            "pool of {cells} cells, {rows} rows, {room} free: {edits} ns an edit, {turns} ns a row made and removed"
+        )?;
     }
     for groups in [1024usize, 65535] {
         let mut m = Meter::new();
@@ -67,7 +71,9 @@ fn main(rt: HostRuntime) -> anyhow::Result<()> {
             turns = turns.min(each(start.elapsed(&rt)?, CHANGES));
         }
         let held = deadlines.len();
-        println!(rt; "{held} deadlines: {changes} ns a change, {turns} ns a group deleted and made")?;
+        println!(rt;
+            "{held} deadlines: {changes} ns a change, {turns} ns a group deleted and made"
+        )?;
     }
     Ok(())
 }
