@@ -7,7 +7,13 @@ use mq_sched::Deadlines;
 use mq_sets::Pool;
 use std::time::{Duration, Instant};
 
+/// How many edits are timed together, and how often: the least time of these counts, since the machine
+/// has other work too.
 const EDITS: u32 = 100000;
+
+const CHANGES: u32 = 2000;
+
+const ROUNDS: u32 = 10;
 
 fn main(rt: HostRuntime) -> anyhow::Result<()> {
     for cells in [1024usize, 16384, 65535] {
@@ -18,20 +24,26 @@ fn main(rt: HostRuntime) -> anyhow::Result<()> {
             edit_first(&mut pool, 16);
         }
         make_row(&mut pool);
-        let start = Instant::now(&rt)?;
-        for turn in 0..EDITS {
-            edit_first(&mut pool, 4 + turn as usize % 2);
+        let mut edits = u128::MAX;
+        let mut turns = u128::MAX;
+        for _ in 0..ROUNDS {
+            let start = Instant::now(&rt)?;
+            for turn in 0..EDITS {
+                edit_first(&mut pool, 4 + turn as usize % 2);
+            }
+            edits = edits.min(each(start.elapsed(&rt)?, EDITS));
+            let start = Instant::now(&rt)?;
+            for turn in 0..EDITS {
+                make_row(&mut pool);
+                edit_first(&mut pool, 4 + turn as usize % 2);
+                remove_first(&mut pool);
+            }
+            turns = turns.min(each(start.elapsed(&rt)?, EDITS));
         }
-        let edits = each(start.elapsed(&rt)?);
-        let start = Instant::now(&rt)?;
-        for turn in 0..EDITS {
-            make_row(&mut pool);
-            edit_first(&mut pool, 4 + turn as usize % 2);
-            remove_first(&mut pool);
-        }
-        let turns = each(start.elapsed(&rt)?);
         let (rows, room) = (pool.rows(), pool.room());
-        println!(rt; "pool of {cells} cells, {rows} rows, {room} free: {edits} ns an edit, {turns} ns a row made and removed")?;
+        println!(rt;
+            "pool of {cells} cells, {rows} rows, {room} free: {edits} ns an edit, {turns} ns a row made and removed"
+        )?;
     }
     for groups in [1024usize, 65535] {
         let mut m = Meter::new();
@@ -41,21 +53,27 @@ fn main(rt: HostRuntime) -> anyhow::Result<()> {
             random = next(random);
             make_deadline(&mut deadlines, place, random, &mut m);
         }
-        let start = Instant::now(&rt)?;
-        for _ in 0..EDITS {
-            random = next(random);
-            change(&mut deadlines, random, &mut m);
+        let mut changes = u128::MAX;
+        let mut turns = u128::MAX;
+        for _ in 0..ROUNDS {
+            let start = Instant::now(&rt)?;
+            for _ in 0..CHANGES {
+                random = next(random);
+                change(&mut deadlines, random, &mut m);
+            }
+            changes = changes.min(each(start.elapsed(&rt)?, CHANGES));
+            let start = Instant::now(&rt)?;
+            for _ in 0..CHANGES {
+                random = next(random);
+                let place = delete(&mut deadlines, random);
+                make_deadline(&mut deadlines, place, random, &mut m);
+            }
+            turns = turns.min(each(start.elapsed(&rt)?, CHANGES));
         }
-        let changes = each(start.elapsed(&rt)?);
-        let start = Instant::now(&rt)?;
-        for _ in 0..EDITS {
-            random = next(random);
-            let place = delete(&mut deadlines, random);
-            make_deadline(&mut deadlines, place, random, &mut m);
-        }
-        let turns = each(start.elapsed(&rt)?);
         let held = deadlines.len();
-        println!(rt; "{held} deadlines: {changes} ns a change, {turns} ns a group deleted and made")?;
+        println!(rt;
+            "{held} deadlines: {changes} ns a change, {turns} ns a group deleted and made"
+        )?;
     }
     Ok(())
 }
@@ -128,7 +146,7 @@ fn next(random: u32) -> u32 {
     random.wrapping_mul(1664525).wrapping_add(1013904223)
 }
 
-/// Nanoseconds for each edit.
-fn each(time: Duration) -> u128 {
-    time.as_nanos() / u128::from(EDITS)
+/// Nanoseconds for each of so many.
+fn each(time: Duration, many: u32) -> u128 {
+    time.as_nanos() / u128::from(many.max(1))
 }

@@ -1,12 +1,11 @@
 -- Rows in a list of cells: what an append, an edit of the rows and a copy leave.
-use Rattle.std.proofs.Common.{ℕ, suc, ◌+◌, ◌-◌, ◌<◌, ◌≤◌, ◌≡◌, arith, refl, List, [], ◌∷◌, ◌++◌, length, map, take, drop, set, get_or, sym, ap, ◌∙◌, subst, length-append, length-take, length-drop, ⊎_elim}
+use Rattle.std.proofs.Common.{ℕ, suc, ◌+◌, ◌-◌, ◌<◌, ◌≤◌, ◌≡◌, arith, refl, List, [], ◌∷◌, ◌++◌, length, map, take, drop, set, get_or, sym, ap, ◌∙◌, subst, length-append, length-take, length-drop}
 use Rattle.std.specs.List.{All, sum_by, insert, remove}
-use Rattle.std.proofs.lemmas.Bool.{cases_lt}
 use Rattle.std.proofs.lemmas.List.{drop-append-le, take-append-le, drop_at, take_all, map-append, take-map, drop-map, get_or-map, take_more, take_more_set, get_or-set_other, map-set, set-set, length-set, length-map}
 use Rattle.std.proofs.Math.Seq.{map-set_same}
 use Rattle.std.proofs.lemmas.List.Elements.{All-head, All-tail, All-weaker, All-append, All-nil, All-cons, All-set, All-take, All-drop}
-use Rattle.std.proofs.lemmas.List.Sums.{sum_by-cons, sum_by_more, sum_by-set, sum_by-insert, sum_by-remove, get_or-le-sum_by, sum-map}
-use Rattle.std.proofs.lemmas.List.Edits.{length-insert, length-remove}
+use Rattle.std.proofs.lemmas.List.Sums.{sum_by-cons, sum_by_more, sum_by-set, sum_by-insert, get_or-le-sum_by, sum-map}
+use Rattle.std.proofs.lemmas.List.Edits.{length-insert}
 use Rattle.mq_sets.specs.Pools.{cells_of, rows_of, IsWithin, cells_in, cells_said, IsStored, PoolState}
 use Rattle.mq_sets.specs.declared.extents.Extent.{Extent}
 

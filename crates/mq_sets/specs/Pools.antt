@@ -1,5 +1,5 @@
 -- A list of lists, and how it stands in one list of cells.
-use Rattle.std.specs.Prelude.{ℕ, ◌+◌, ◌*◌, ◌≡◌, ◌≤◌, List, length, map, take, drop}
+use Rattle.std.specs.Prelude.{ℕ, ◌+◌, ◌≡◌, ◌≤◌, List, length, map, take, drop}
 use Rattle.std.specs.List.{All, sum_by}
 use Rattle.mq_sets.specs.declared.extents.Extent.{Extent}
 

@@ -1,4 +1,4 @@
-use Rattle.std.proofs.Common.{◌<◌, ◌≤◌, arith, ap, refl, ◌∙◌, length, []}
+use Rattle.std.proofs.Common.{arith, ap, refl, ◌∙◌, length, []}
 use Rattle.std.proofs.lemmas.List.{length-map}
 use Rattle.std.specs.List.{insert}
 use Rattle.mq_sets.specs.Pools.{PoolState, cells_of}

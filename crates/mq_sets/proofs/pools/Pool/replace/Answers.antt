@@ -1,4 +1,4 @@
-use Rattle.std.proofs.Common.{◌+◌, ◌<◌, ◌≤◌, ◌≡◌, arith, ap, refl, sym, ◌∙◌, length, get_or, set, []}
+use Rattle.std.proofs.Common.{◌<◌, arith, ap, refl, ◌∙◌, length, get_or, set, []}
 use Rattle.std.proofs.lemmas.List.{length-map}
 use Rattle.mq_sets.specs.Pools.{PoolState, cells_of, cells_in}
 use Rattle.mq_sets.proofs.Stored.{IsStored-replace, rows_of-replace, cells_in-rows_of, length-row, with_rows}
