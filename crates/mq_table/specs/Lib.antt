@@ -2,6 +2,7 @@ pub mod Variables
 pub mod Sets
 pub mod Maps
 pub mod Group
+pub mod Stored
 pub mod Timing
 pub mod Table
 pub mod OlderHosts

@@ -3,14 +3,18 @@
 #![tactic(auto)]
 
 pub mod examples;
+pub mod group;
 pub mod kind;
 pub mod laws;
 pub mod older_hosts;
+pub mod sources;
 pub mod timers;
 pub mod timing;
 
+pub use group::Group;
 pub use kind::Kind;
 pub use mq_count::OlderVersion;
 pub use older_hosts::Hosts;
+pub use sources::Source;
 pub use timers::{FilterMode, SourceTimer};
 pub use timing::Timing;
