@@ -3,5 +3,6 @@ pub mod Groups
 pub mod Lines
 pub mod Held
 pub mod Composed
-pub mod Lower
 pub mod Ahead
+pub mod Lower
+pub mod SourceLists

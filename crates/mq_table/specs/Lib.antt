@@ -5,6 +5,7 @@ pub mod Group
 pub mod Stored
 pub mod Timing
 pub mod Table
+pub mod AtSource
 pub mod OlderHosts
 pub mod Expiry
 pub mod Lowering

@@ -54,6 +54,9 @@ impl<K: Key> Group<K> {
     pub fn is_vacant(&self) -> bool
         ensures { result ≡ is_vacant self.now.state }
     {
-        matches!(self.mode, FilterMode::Include) && self.sources.is_empty()
+        match self.mode {
+            FilterMode::Include => self.sources.is_empty(),
+            FilterMode::Exclude(_) => false,
+        }
     }
 }

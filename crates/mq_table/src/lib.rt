@@ -7,6 +7,7 @@ pub mod group;
 pub mod kind;
 pub mod laws;
 pub mod older_hosts;
+mod rules;
 pub mod sources;
 pub mod timers;
 pub mod timing;

@@ -1,7 +1,7 @@
 //! A source of a group, with its timer.
 
 ghost use Rattle.std.specs.Prelude.{◌≡◌};
-ghost use Rattle.mq_table.specs.Group.{deadline_of, left_of};
+ghost use Rattle.mq_table.specs.Group.{deadline_of, sendings_of};
 
 use crate::timers::SourceTimer;
 use mq_count::{Key, Moment};
