@@ -6,3 +6,4 @@ pub mod Composed
 pub mod Ahead
 pub mod Lower
 pub mod SourceLists
+pub mod Pushed

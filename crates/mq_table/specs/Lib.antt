@@ -6,6 +6,7 @@ pub mod Stored
 pub mod Timing
 pub mod Table
 pub mod AtSource
+pub mod MergedRecord
 pub mod OlderHosts
 pub mod Expiry
 pub mod Lowering

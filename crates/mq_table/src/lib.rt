@@ -6,6 +6,7 @@ pub mod examples;
 pub mod group;
 pub mod kind;
 pub mod laws;
+mod merged_records;
 pub mod older_hosts;
 mod rules;
 pub mod sources;

@@ -29,8 +29,8 @@ pub(crate) struct Rule {
 
 impl Rule {
     /// The timer of a source of INCLUDE, or of none, that the record names.
-    fn named_in_include(self, before: Option<SourceTimer>) -> Option<SourceTimer>
-        ensures { result ≡ timer_after self.interval_end Include self.kind before true }
+    fn named_in_include(&self, before: Option<SourceTimer>) -> Option<SourceTimer>
+        ensures { result ≡ timer_after self.now.interval_end Include self.now.kind before true }
     {
         match self.kind {
             Kind::IsIn | Kind::ToIn | Kind::Allow => {
@@ -49,8 +49,8 @@ impl Rule {
     }
 
     /// The timer of a source that the record names, in EXCLUDE with the deadline of its group.
-    fn named_in_exclude(self, group: Moment, before: Option<SourceTimer>) -> Option<SourceTimer>
-        ensures { result ≡ timer_after self.interval_end (Exclude group) self.kind before true }
+    fn named_in_exclude(&self, group: Moment, before: Option<SourceTimer>) -> Option<SourceTimer>
+        ensures { result ≡ timer_after self.now.interval_end (Exclude group) self.now.kind before true }
     {
         match self.kind {
             Kind::IsIn | Kind::ToIn | Kind::Allow => {
@@ -63,8 +63,8 @@ impl Rule {
     }
 
     /// The timer of a source that the record names.
-    fn timer_if_named(self, before: Option<SourceTimer>) -> Option<SourceTimer>
-        ensures { result ≡ timer_after self.interval_end self.mode self.kind before true }
+    fn timer_if_named(&self, before: Option<SourceTimer>) -> Option<SourceTimer>
+        ensures { result ≡ timer_after self.now.interval_end self.now.mode self.now.kind before true }
     {
         let mode = self.mode;
         match &mode {
@@ -74,8 +74,8 @@ impl Rule {
     }
 
     /// The timer of a source that the record doesn't name.
-    fn timer_if_unnamed(self, before: Option<SourceTimer>) -> Option<SourceTimer>
-        ensures { result ≡ timer_after self.interval_end self.mode self.kind before false }
+    fn timer_if_unnamed(&self, before: Option<SourceTimer>) -> Option<SourceTimer>
+        ensures { result ≡ timer_after self.now.interval_end self.now.mode self.now.kind before false }
     {
         match (self.kind, self.mode, before) {
             (Kind::IsEx | Kind::ToEx, _, _) => None,
@@ -87,11 +87,11 @@ impl Rule {
 
     /// The timer of a source after the record, or None where the new group doesn't have it.
     pub(crate) fn timer_after(
-        self,
+        &self,
         before: Option<SourceTimer>,
         is_named: bool,
     ) -> Option<SourceTimer>
-        ensures { result ≡ timer_after self.interval_end self.mode self.kind before is_named }
+        ensures { result ≡ timer_after self.now.interval_end self.now.mode self.now.kind before is_named }
     {
         if is_named {
             self.timer_if_named(before)
@@ -101,8 +101,8 @@ impl Rule {
     }
 
     /// Whether the record's query for sources asks for a source.
-    pub(crate) fn asks_for(self, before: Option<SourceTimer>, is_named: bool) -> bool
-        ensures { result ≡ is_asked_after self.interval_end self.mode self.kind before is_named }
+    pub(crate) fn asks_for(&self, before: Option<SourceTimer>, is_named: bool) -> bool
+        ensures { result ≡ is_asked_after self.now.interval_end self.now.mode self.now.kind before is_named }
     {
         let runs = matches!(before, Some(SourceTimer::Running(_, _)));
         let is_stopped = matches!(before, Some(SourceTimer::Stopped));
@@ -115,8 +115,8 @@ impl Rule {
     }
 
     /// The mode after the record.
-    pub(crate) fn mode_after(self) -> FilterMode
-        ensures { result ≡ mode_after self.interval_end self.mode self.kind }
+    pub(crate) fn mode_after(&self) -> FilterMode
+        ensures { result ≡ mode_after self.now.interval_end self.now.mode self.now.kind }
     {
         match self.kind {
             Kind::IsEx | Kind::ToEx => FilterMode::Exclude(self.interval_end),
@@ -125,8 +125,8 @@ impl Rule {
     }
 
     /// Whether the record sends a query to the group.
-    pub(crate) fn asks_group(self) -> bool
-        ensures { result ≡ asks_group_after self.interval_end self.mode self.kind }
+    pub(crate) fn asks_group(&self) -> bool
+        ensures { result ≡ asks_group_after self.now.interval_end self.now.mode self.now.kind }
     {
         matches!(self.kind, Kind::ToIn) && matches!(self.mode, FilterMode::Exclude(_))
     }

@@ -1,0 +1,32 @@
+-- What a record makes of each pair of a merge: of the group's source, if it holds it, and the record's
+-- source, if it names it.
+use Rattle.std.specs.Prelude.{ℕ, Bool, true, false, if◌then◌else◌, is_some, Option, None, Some}
+use Rattle.std.specs.Option.{option_map}
+use Rattle.mq_table.specs.declared.rules.Rule.{Rule}
+use Rattle.mq_table.specs.declared.sources.Source.{Source}
+use Rattle.mq_table.specs.Group.{SourceTimer}
+use Rattle.mq_table.specs.AtSource.{timer_after, is_asked_after}
+
+-- the number of a source, by that of its address
+abbrev pub number_in : {K : Type 0} → (K → ℕ) → Source K → ℕ
+number_in number x = number x.address
+
+-- a source with a timer, if there is one
+abbrev pub source_with : {K : Type 0} → K → Option SourceTimer → Option (Source K)
+source_with address None = None
+source_with address (Some timer) = Some (record { address = address; timer = timer })
+
+-- the source as the record leaves it
+abbrev pub source_made : {K : Type 0} → Rule → Option (Source K) × Option K → Option (Source K)
+source_made rule (Some x, named) =
+    source_with x.address (timer_after rule.interval_end rule.mode rule.kind (Some x.timer) (is_some named))
+source_made rule (None, Some y) = source_with y (timer_after rule.interval_end rule.mode rule.kind None true)
+source_made rule (None, None) = None
+
+-- the source, if the record's query asks for it
+abbrev pub source_asked : {K : Type 0} → Rule → Option (Source K) × Option K → Option K
+source_asked rule (Some x, named) =
+    if is_asked_after rule.interval_end rule.mode rule.kind (Some x.timer) (is_some named) then Some x.address else None
+source_asked rule (None, Some y) =
+    if is_asked_after rule.interval_end rule.mode rule.kind None true then Some y else None
+source_asked rule (None, None) = None
