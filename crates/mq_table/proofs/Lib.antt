@@ -7,3 +7,4 @@ pub mod Ahead
 pub mod Lower
 pub mod SourceLists
 pub mod Pushed
+pub mod Changed

@@ -2,9 +2,9 @@ pub mod Variables
 pub mod Sets
 pub mod Maps
 pub mod Group
-pub mod Stored
 pub mod Timing
 pub mod Table
+pub mod Stored
 pub mod AtSource
 pub mod MergedRecord
 pub mod OlderHosts

@@ -5,6 +5,8 @@ use Rattle.std.specs.Coded.{Coded, code_by, coded×, coded_ℕ, coded_option}
 use Rattle.std.specs.Ordering.{nat_cmp}
 use Rattle.std.specs.FinMap as map
 use Rattle.std.specs.FinMap.{FinMap}
+use Rattle.std.specs.FinSet as set
+use Rattle.mq_table.specs.Table.{NamedSources}
 use Rattle.mq_table.specs.declared.sources.Source.{Source}
 use Rattle.mq_table.specs.Group.{GroupState, FilterMode, SourceTimer}
 
@@ -27,3 +29,11 @@ stored_code mode timer =
 -- the timers of a list of sources, by their numbers
 abbrev pub timers_in : {K : Type 0} → (K → ℕ) → List (Source K) → FinMap nat_cmp SourceTimer
 timers_in number sources = map.from_entries (list_map (λ x. (number x.address, x.timer)) sources)
+
+-- the sources that a record names, from a list of their addresses
+abbrev pub named_in : {K : Type 0} → (K → ℕ) → List K → NamedSources
+named_in number addresses = set.from_list (list_map number addresses)
+
+-- for so many sources a group has timers
+abbrev pub size_of : GroupState → ℕ
+size_of g = map.len g.sources

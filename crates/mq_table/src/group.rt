@@ -14,10 +14,10 @@ use std::marker::Model;
 /// The state of one multicast group.
 #[derive(Drop)]
 pub struct Group<K: Key> {
-    mode: FilterMode,
-    sources: Vec<Source<K>>,
-    v1: Option<Moment>,
-    v2: Option<Moment>,
+    pub(crate) mode: FilterMode,
+    pub(crate) sources: Vec<Source<K>>,
+    pub(crate) v1: Option<Moment>,
+    pub(crate) v2: Option<Moment>,
 }
 
 impl<K: Key> Model for Group<K> {

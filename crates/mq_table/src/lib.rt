@@ -8,6 +8,7 @@ pub mod kind;
 pub mod laws;
 mod merged_records;
 pub mod older_hosts;
+mod recording;
 mod rules;
 pub mod sources;
 pub mod timers;

@@ -1,0 +1,62 @@
+use Rattle.std.proofs.Common.{◌≡◌, ◌+◌, ◌≤◌, length, vec_capacity, sym, ap, ◌∙◌, arith}
+use Rattle.std.specs.List.{filter_map}
+use Rattle.mq_sets.specs.Ascending.{IsAscending}
+use Rattle.mq_sets.specs.Merging.{merged_lists}
+use Rattle.mq_table.specs.Timing.{membership_interval}
+use Rattle.mq_table.specs.Stored.{size_of}
+use Rattle.mq_table.specs.MergedRecord.{number_in, source_made, source_asked}
+use Rattle.mq_table.proofs.SourceLists.{len-timers_in}
+use Rattle.mq_table.proofs.Changed.{made_ascends, asked_ascends, recorded_group, recorded_query, recorded_query_group}
+use Rattle.mq_table.proofs.group.Group.apply_into.Given.{Over}
+use Rattle.mq_table.proofs.group.Group.apply_into.Goals as goal
+
+pub unwrap-requires : goal.unwrap-requires
+unwrap-requires g c =
+    let size : size_of c.args.self.now.state ≡ length c.as_slice-held.result.now = rw (← c.self.view_is, c.as_slice-held.ensures.value) (len-timers_in g.K.Key.number c.self.inside.sources.items c.self.invariant) in
+    let room : vec_capacity c.into.inside.sources ≡ c.args.into.now.room = ap (λ s. s.room) c.into.view_is in
+    c.push_changes.ensures.room
+    (omega (arith, size, room, c.requires.room, c.clear.ensures.capacity, ap length c.as_slice.ensures.members))
+    (omega (arith, size, c.requires.asked_room, c.clear-2.ensures.capacity, ap length c.as_slice.ensures.members))
+
+-- the timers run up to the group membership interval from now
+interval_end : (g : Over) (c : goal.After-asks_group g) → c.after.result ≡ c.args.now + membership_interval c.args.timing.now
+interval_end g c = c.after.ensures.later ∙ ap (λ n. c.args.now + n) c.membership_interval.ensures
+
+-- what was pushed
+made : (g : Over) (c : goal.After-asks_group g) → c.push_changes.new.sources.items ≡ filter_map (source_made (record { kind = c.args.kind; mode = c.self.inside.mode; interval_end = c.after.result })) (merged_lists (number_in g.K.Key.number) g.K.Key.number c.self.inside.sources.items c.args.named.now)
+made g c = rw (c.unwrap.ensures, c.as_slice-held.ensures.value, c.as_slice.ensures.members) at c.push_changes.ensures.sources
+
+asked : (g : Over) (c : goal.After-asks_group g) → c.push_changes.new.asked.items ≡ filter_map (source_asked (record { kind = c.args.kind; mode = c.self.inside.mode; interval_end = c.after.result })) (merged_lists (number_in g.K.Key.number) g.K.Key.number c.self.inside.sources.items c.args.named.now)
+asked g c = rw (c.unwrap.ensures, c.as_slice-held.ensures.value, c.as_slice.ensures.members) at c.push_changes.ensures.asked
+
+named_ascends : (g : Over) (c : goal.After-asks_group g) → IsAscending g.K.Key.number c.args.named.now
+named_ascends g c = rw c.as_slice.ensures.members at c.as_slice.ensures.ascending
+
+pub invariant_of-into : goal.invariant_of-into
+invariant_of-into g c = rw (made g c) (made_ascends g.K.Key.number _ c.self.inside.sources.items c.args.named.now c.self.invariant (named_ascends g c))
+
+pub returns-clause-ascending : goal.returns-clause-ascending
+returns-clause-ascending g c = rw (asked g c) (asked_ascends g.K.Key.number _ c.self.inside.sources.items c.args.named.now c.self.invariant (named_ascends g c))
+
+pub returns-clause-group : goal.returns-clause-group
+returns-clause-group g c =
+    recorded_group g.K.Key.number c.args.timing.now c.args.now c.self.inside.mode c.args.kind c.self.inside.v1 c.self.inside.v2 c.self.inside.sources.items c.args.named.now c.self.invariant (named_ascends g c)
+    c.args.self.now.state c.after.result (interval_end g c) (ap (λ s. s.state) c.self.view_is)
+    c.mode_after-into-inside.result c.push_changes.new.sources.items c.mode_after-into-inside.ensures (made g c)
+
+pub returns-clause-query : goal.returns-clause-query
+returns-clause-query g c =
+    recorded_query g.K.Key.number c.args.timing.now c.args.now c.self.inside.mode c.args.kind c.self.inside.v1 c.self.inside.v2 c.self.inside.sources.items c.args.named.now c.self.invariant (named_ascends g c)
+    c.args.self.now.state c.after.result (interval_end g c) (ap (λ s. s.state) c.self.view_is)
+    c.push_changes.new.asked.items (asked g c)
+
+pub returns-clause-query_group : goal.returns-clause-query_group
+returns-clause-query_group g c =
+    recorded_query_group g.K.Key.number c.args.timing.now c.args.now c.self.inside.mode c.args.kind c.self.inside.v1 c.self.inside.v2 c.self.inside.sources.items c.args.named.now c.self.invariant (named_ascends g c)
+    c.args.self.now.state c.after.result (interval_end g c) (ap (λ s. s.state) c.self.view_is)
+    c.asks_group.result c.asks_group.ensures
+
+pub returns-clause-spent : goal.returns-clause-spent
+returns-clause-spent g c =
+    let size : size_of c.args.self.now.state ≡ length c.self.inside.sources.items = rw (← c.self.view_is) (len-timers_in g.K.Key.number c.self.inside.sources.items c.self.invariant) in
+    rw size (rw (c.unwrap.ensures, c.as_slice-held.ensures.value, c.as_slice.ensures.members) at c.push_changes.ensures.spent)

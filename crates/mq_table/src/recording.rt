@@ -1,0 +1,63 @@
+//! Records, applied to a group.
+
+ghost use Rattle.std.specs.Prelude.{◌≡◌, ℕ, ◌+◌, ◌^◌, ◌≤◌, [], min, length, vec_capacity};
+ghost use Rattle.mq_count.specs.Spending.{Spends};
+ghost use Rattle.mq_sets.specs.Ascending.{IsAscending, set_of};
+ghost use Rattle.mq_table.specs.Table.{change_of};
+ghost use Rattle.mq_table.specs.Stored.{named_in, size_of};
+
+use crate::group::Group;
+use crate::kind::Kind;
+use crate::merged_records::push_changes;
+use crate::rules::Rule;
+use crate::timing::Timing;
+use mq_count::{Key, Meter, Moment};
+use mq_sets::SourceSet;
+
+impl<K: Key> Group<K> {
+    /// Applies a record and takes no memory: the new group is written into `into`, and the sources
+    /// for which the record sends a query into `asked`, ascending; both have room for the sources
+    /// of the group and of the record together. Answers whether the record sends a query to the
+    /// group.
+    pub fn apply_into(
+        &self,
+        kind: Kind,
+        named: &SourceSet<K>,
+        now: Moment,
+        timing: &Timing,
+        into: &mut Group<K>,
+        asked: &mut Vec<K>,
+        m: &mut Meter,
+    ) -> bool
+        requires in_range { now ≤ 2 ^ 53 }
+        requires room { size_of self.now.state + length named.now ≤ into.old.room }
+        requires asked_room { size_of self.now.state + length named.now ≤ vec_capacity asked.old }
+
+        ensures group { let change = change_of timing.now now self.now.state kind (named_in K.number named.now) in
+            into.new.state ≡ change.group }
+        ensures query { let change = change_of timing.now now self.now.state kind (named_in K.number named.now) in
+            (s : ℕ) → set_of K.number asked.new.items s ≡ change.query s }
+        ensures query_group { let change = change_of timing.now now self.now.state kind (named_in K.number named.now) in
+            result ≡ change.query_group }
+        ensures ascending { IsAscending K.number asked.new.items }
+        ensures room { into.old.room ≤ into.new.room }
+        ensures asked_room { vec_capacity asked.old ≤ vec_capacity asked.new }
+
+        // At least one comparison for each source of the shorter side, at most one for each of both.
+        ensures spent { Spends (min (size_of self.now.state) (length named.now)) (size_of self.now.state + length named.now) m.old m.new }
+    {
+        let rule = Rule {
+            kind,
+            mode: self.mode,
+            interval_end: now.after(timing.membership_interval()),
+        };
+        into.sources.clear();
+        asked.clear();
+        let held = self.sources.as_slice();
+        push_changes(&rule, held, named.as_slice(), &mut into.sources, asked, m).unwrap();
+        into.mode = rule.mode_after();
+        into.v1 = self.v1;
+        into.v2 = self.v2;
+        rule.asks_group()
+    }
+}
