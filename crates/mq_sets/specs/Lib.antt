@@ -3,3 +3,4 @@ pub mod Merging
 pub mod Rules
 pub mod Search
 pub mod Sides
+pub mod SourceSets

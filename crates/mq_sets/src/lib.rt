@@ -15,7 +15,8 @@
 //! }
 //! ```
 //!
-//! - A set: `SourceSet`, with its `InsertFault`.
+//! - A set: `SourceSet`, with its `InsertFault`. One that is made by `with_room` takes all its memory then,
+//!   or answers `Memory`.
 //! - Ascending slices of whatever carries a key: `Keyed`, `find`, and `merge` with `Merge::next`,
 //!   which hands out `Merged`.
 //! - Laws for the crates above, functions that do nothing: `numbers_find_items`,
@@ -23,12 +24,14 @@
 #![tactic(auto)]
 
 pub mod items;
+pub mod memory;
 pub mod merge_state;
 pub mod merging;
 pub mod searching;
 pub mod source_sets;
 
 pub use items::{Keyed, numbers_find_items};
+pub use memory::Memory;
 pub use merge_state::{Merge, Merged};
 pub use merging::{merge, rules_act_at_each_key};
 pub use searching::{binary_digits_bound_a_number, find};
