@@ -30,21 +30,21 @@ impl<K: Key> Group<K> {
         m: &mut Meter,
     ) -> bool
         requires in_range { now ≤ 2 ^ 53 }
-        requires room { size_of self.now.state + length named.now ≤ into.old.room }
-        requires asked_room { size_of self.now.state + length named.now ≤ vec_capacity asked.old }
+        requires room { size_of self.now.state + length named.now.members ≤ into.old.room }
+        requires asked_room { size_of self.now.state + length named.now.members ≤ vec_capacity asked.old }
 
-        ensures group { let change = change_of timing.now now self.now.state kind (named_in K.number named.now) in
+        ensures group { let change = change_of timing.now now self.now.state kind (named_in K.number named.now.members) in
             into.new.state ≡ change.group }
-        ensures query { let change = change_of timing.now now self.now.state kind (named_in K.number named.now) in
+        ensures query { let change = change_of timing.now now self.now.state kind (named_in K.number named.now.members) in
             (s : ℕ) → set_of K.number asked.new.items s ≡ change.query s }
-        ensures query_group { let change = change_of timing.now now self.now.state kind (named_in K.number named.now) in
+        ensures query_group { let change = change_of timing.now now self.now.state kind (named_in K.number named.now.members) in
             result ≡ change.query_group }
         ensures ascending { IsAscending K.number asked.new.items }
         ensures room { into.old.room ≤ into.new.room }
         ensures asked_room { vec_capacity asked.old ≤ vec_capacity asked.new }
 
         // At least one comparison for each source of the shorter side, at most one for each of both.
-        ensures spent { Spends (min (size_of self.now.state) (length named.now)) (size_of self.now.state + length named.now) m.old m.new }
+        ensures spent { Spends (min (size_of self.now.state) (length named.now.members)) (size_of self.now.state + length named.now.members) m.old m.new }
     {
         let rule = Rule {
             kind,

@@ -23,36 +23,36 @@ interval_end : (g : Over) (c : goal.After-asks_group g) → c.after.result ≡ c
 interval_end g c = c.after.ensures.later ∙ ap (λ n. c.args.now + n) c.membership_interval.ensures
 
 -- what was pushed
-made : (g : Over) (c : goal.After-asks_group g) → c.push_changes.new.sources.items ≡ filter_map (source_made (record { kind = c.args.kind; mode = c.self.inside.mode; interval_end = c.after.result })) (merged_lists (number_in g.K.Key.number) g.K.Key.number c.self.inside.sources.items c.args.named.now)
+made : (g : Over) (c : goal.After-asks_group g) → c.push_changes.new.sources.items ≡ filter_map (source_made (record { kind = c.args.kind; mode = c.self.inside.mode; interval_end = c.after.result })) (merged_lists (number_in g.K.Key.number) g.K.Key.number c.self.inside.sources.items c.args.named.now.members)
 made g c = rw (c.unwrap.ensures, c.as_slice-held.ensures.value, c.as_slice.ensures.members) at c.push_changes.ensures.sources
 
-asked : (g : Over) (c : goal.After-asks_group g) → c.push_changes.new.asked.items ≡ filter_map (source_asked (record { kind = c.args.kind; mode = c.self.inside.mode; interval_end = c.after.result })) (merged_lists (number_in g.K.Key.number) g.K.Key.number c.self.inside.sources.items c.args.named.now)
+asked : (g : Over) (c : goal.After-asks_group g) → c.push_changes.new.asked.items ≡ filter_map (source_asked (record { kind = c.args.kind; mode = c.self.inside.mode; interval_end = c.after.result })) (merged_lists (number_in g.K.Key.number) g.K.Key.number c.self.inside.sources.items c.args.named.now.members)
 asked g c = rw (c.unwrap.ensures, c.as_slice-held.ensures.value, c.as_slice.ensures.members) at c.push_changes.ensures.asked
 
-named_ascends : (g : Over) (c : goal.After-asks_group g) → IsAscending g.K.Key.number c.args.named.now
+named_ascends : (g : Over) (c : goal.After-asks_group g) → IsAscending g.K.Key.number c.args.named.now.members
 named_ascends g c = rw c.as_slice.ensures.members at c.as_slice.ensures.ascending
 
 pub invariant_of-into : goal.invariant_of-into
-invariant_of-into g c = rw (made g c) (made_ascends g.K.Key.number _ c.self.inside.sources.items c.args.named.now c.self.invariant (named_ascends g c))
+invariant_of-into g c = rw (made g c) (made_ascends g.K.Key.number _ c.self.inside.sources.items c.args.named.now.members c.self.invariant (named_ascends g c))
 
 pub returns-clause-ascending : goal.returns-clause-ascending
-returns-clause-ascending g c = rw (asked g c) (asked_ascends g.K.Key.number _ c.self.inside.sources.items c.args.named.now c.self.invariant (named_ascends g c))
+returns-clause-ascending g c = rw (asked g c) (asked_ascends g.K.Key.number _ c.self.inside.sources.items c.args.named.now.members c.self.invariant (named_ascends g c))
 
 pub returns-clause-group : goal.returns-clause-group
 returns-clause-group g c =
-    recorded_group g.K.Key.number c.args.timing.now c.args.now c.self.inside.mode c.args.kind c.self.inside.v1 c.self.inside.v2 c.self.inside.sources.items c.args.named.now c.self.invariant (named_ascends g c)
+    recorded_group g.K.Key.number c.args.timing.now c.args.now c.self.inside.mode c.args.kind c.self.inside.v1 c.self.inside.v2 c.self.inside.sources.items c.args.named.now.members c.self.invariant (named_ascends g c)
     c.args.self.now.state c.after.result (interval_end g c) (ap (λ s. s.state) c.self.view_is)
     c.mode_after-into-inside.result c.push_changes.new.sources.items c.mode_after-into-inside.ensures (made g c)
 
 pub returns-clause-query : goal.returns-clause-query
 returns-clause-query g c =
-    recorded_query g.K.Key.number c.args.timing.now c.args.now c.self.inside.mode c.args.kind c.self.inside.v1 c.self.inside.v2 c.self.inside.sources.items c.args.named.now c.self.invariant (named_ascends g c)
+    recorded_query g.K.Key.number c.args.timing.now c.args.now c.self.inside.mode c.args.kind c.self.inside.v1 c.self.inside.v2 c.self.inside.sources.items c.args.named.now.members c.self.invariant (named_ascends g c)
     c.args.self.now.state c.after.result (interval_end g c) (ap (λ s. s.state) c.self.view_is)
     c.push_changes.new.asked.items (asked g c)
 
 pub returns-clause-query_group : goal.returns-clause-query_group
 returns-clause-query_group g c =
-    recorded_query_group g.K.Key.number c.args.timing.now c.args.now c.self.inside.mode c.args.kind c.self.inside.v1 c.self.inside.v2 c.self.inside.sources.items c.args.named.now c.self.invariant (named_ascends g c)
+    recorded_query_group g.K.Key.number c.args.timing.now c.args.now c.self.inside.mode c.args.kind c.self.inside.v1 c.self.inside.v2 c.self.inside.sources.items c.args.named.now.members c.self.invariant (named_ascends g c)
     c.args.self.now.state c.after.result (interval_end g c) (ap (λ s. s.state) c.self.view_is)
     c.asks_group.result c.asks_group.ensures
 
