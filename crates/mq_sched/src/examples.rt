@@ -108,7 +108,7 @@ pub fn a_round_in_time_and_late()
 /// A group of IGMPv2 hosts: a Report at 1000 and a Leave at 2000. Reported again at 2500, it is asked
 /// at 3000 with the S flag set; otherwise with it clear, and it is gone at 4000.
 pub fn a_leave()
-    ensures first_sending { IfSome (older_leave true default_timing 2000 heard_v2) (λ change.
+    ensures first_sending { IfSome (older_leave true false default_timing 2000 heard_v2) (λ change.
         Sends 2000 (after_change true default_timing 2000 change no_schedule)
         (GroupQuery the_group false ∷ []) after_leave) }
     ensures second_sending { Sends 3000 after_leave

@@ -103,26 +103,26 @@ pub fn older_hosts()
     ensures report_v1 { older_report OlderVersion.V1 default_timing 1000 vacant ≡ heard_v1 }
 
     // In version 2 a Leave asks the group; in IGMPv1 it is ignored, while a Done of MLDv1 counts.
-    ensures leave_after_v2 { IfSome (older_leave true default_timing 2000 heard_v2)
+    ensures leave_after_v2 { IfSome (older_leave true false default_timing 2000 heard_v2)
         (λ change. Leaves change heard_v2 true []) }
-    ensures leave_after_v1 { older_leave true default_timing 2000 heard_v1 ≡ None }
-    ensures done_after_v1 { IfSome (older_leave false default_timing 2000 heard_v1)
+    ensures leave_after_v1 { older_leave true false default_timing 2000 heard_v1 ≡ None }
+    ensures done_after_v1 { IfSome (older_leave false false default_timing 2000 heard_v1)
         (λ change. Leaves change heard_v1 true []) }
 
     // BLOCK is ignored, and TO_EX comes without its sources.
-    ensures block_under_v2 { translated_change true default_timing 2000 heard_v2 Kind.Block (naming (1 ∷ []))
+    ensures block_under_v2 { translated_change true false default_timing 2000 heard_v2 Kind.Block (naming (1 ∷ []))
         ≡ None }
-    ensures block_under_v1 { translated_change false default_timing 2000 heard_v1 Kind.Block (naming (1 ∷ []))
+    ensures block_under_v1 { translated_change false false default_timing 2000 heard_v1 Kind.Block (naming (1 ∷ []))
         ≡ None }
-    ensures to_ex_under_v2 { IfSome (translated_change true default_timing 2000 heard_v2 Kind.ToEx (naming (1 ∷ [])))
+    ensures to_ex_under_v2 { IfSome (translated_change true false default_timing 2000 heard_v2 Kind.ToEx (naming (1 ∷ [])))
         (λ change. Leaves change (group_with (Exclude 262000) [] None (Some 261000)) false []) }
-    ensures allow_under_v1 { IfSome (translated_change true default_timing 2000 heard_v1 Kind.Allow (naming (1 ∷ [])))
+    ensures allow_under_v1 { IfSome (translated_change true false default_timing 2000 heard_v1 Kind.Allow (naming (1 ∷ [])))
         (λ change. Leaves change
         (group_with (Exclude 261000) ((1, until 262000) ∷ []) (Some 261000) None) false []) }
 
     // Once the timer has run out, BLOCK counts again.
     ensures block_later { IfSome
-        (translated_change true default_timing 3000 (group_with (Exclude 261000) [] None (Some 3000))
+        (translated_change true false default_timing 3000 (group_with (Exclude 261000) [] None (Some 3000))
         Kind.Block (naming (1 ∷ [])))
         (λ change. Leaves change
         (group_with (Exclude 261000) ((1, until 261000) ∷ []) None (Some 3000)) false (1 ∷ [])) }
