@@ -20,8 +20,8 @@ use Rattle.mq_table.specs.Group.{GroupState, FilterMode, Include, Exclude, Sourc
 use Rattle.mq_table.specs.Timing.{membership_interval}
 use Rattle.mq_table.specs.Table.{line, timer_by, change_of}
 use Rattle.mq_table.specs.AtSource.{timer_after, is_asked_after, mode_after, asks_group_after}
-use Rattle.mq_table.specs.Stored.{timers_in, named_in}
-use Rattle.mq_table.specs.MergedRecord.{number_in, source_with, source_made, source_asked}
+use Rattle.mq_table.specs.Stored.{timers_in, named_in, number_in}
+use Rattle.mq_table.specs.MergedRecord.{source_with, source_made, source_asked}
 use Rattle.mq_table.proofs.Groups.{same_sources}
 use Rattle.mq_table.proofs.Lines.{timer_by-nothing, timer_at-change_of}
 use Rattle.mq_table.proofs.SourceLists.{get-timers_in}

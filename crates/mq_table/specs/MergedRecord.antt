@@ -7,10 +7,6 @@ use Rattle.mq_table.specs.declared.sources.Source.{Source}
 use Rattle.mq_table.specs.Group.{SourceTimer}
 use Rattle.mq_table.specs.AtSource.{timer_after, is_asked_after}
 
--- the number of a source, by that of its address
-abbrev pub number_in : {K : Type 0} → (K → ℕ) → Source K → ℕ
-number_in number x = number x.address
-
 -- a source with a timer, if there is one
 abbrev pub source_with : {K : Type 0} → K → Option SourceTimer → Option (Source K)
 source_with address None = None

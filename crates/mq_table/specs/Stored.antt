@@ -7,6 +7,7 @@ use Rattle.std.specs.FinMap as map
 use Rattle.std.specs.FinMap.{FinMap}
 use Rattle.std.specs.FinSet as set
 use Rattle.mq_table.specs.Table.{NamedSources}
+use Rattle.mq_table.specs.declared.heads.Head.{Head}
 use Rattle.mq_table.specs.declared.sources.Source.{Source}
 use Rattle.mq_table.specs.Group.{GroupState, FilterMode, SourceTimer}
 
@@ -26,9 +27,17 @@ stored_code mode timer =
     (λ p. record { state = record { mode = p.0.0.0; sources = p.0.0.1; v1 = p.0.1.0; v2 = p.0.1.1 }; room = p.1 })
     (λ _. refl)
 
+-- the number of a source is that of its address
+abbrev pub number_in : {K : Type 0} → (K → ℕ) → Source K → ℕ
+number_in number x = number x.address
+
 -- the timers of a list of sources, by their numbers
 abbrev pub timers_in : {K : Type 0} → (K → ℕ) → List (Source K) → FinMap nat_cmp SourceTimer
 timers_in number sources = map.from_entries (list_map (λ x. (number x.address, x.timer)) sources)
+
+-- the state of a group with this head and these timers
+abbrev pub state_of : Head → FinMap nat_cmp SourceTimer → GroupState
+state_of head timers = record { mode = head.mode; sources = timers; v1 = head.v1; v2 = head.v2 }
 
 -- the sources that a record names, from a list of their addresses
 abbrev pub named_in : {K : Type 0} → (K → ℕ) → List K → NamedSources

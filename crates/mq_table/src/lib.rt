@@ -4,6 +4,7 @@
 
 pub mod examples;
 pub mod group;
+pub mod heads;
 pub mod kind;
 pub mod laws;
 mod lowering;
@@ -16,6 +17,7 @@ pub mod timers;
 pub mod timing;
 
 pub use group::Group;
+pub use heads::Head;
 pub use kind::Kind;
 pub use mq_count::OlderVersion;
 pub use older_hosts::{Hosts, translate};

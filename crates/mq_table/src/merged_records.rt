@@ -6,7 +6,8 @@ ghost use Rattle.std.specs.Option.{option_to_list};
 ghost use Rattle.mq_count.specs.Spending.{Spends};
 ghost use Rattle.mq_sets.specs.Ascending.{IsAscending};
 ghost use Rattle.mq_sets.specs.Merging.{merged_lists, pair_of};
-ghost use Rattle.mq_table.specs.MergedRecord.{number_in, source_with, source_made, source_asked};
+ghost use Rattle.mq_table.specs.Stored.{number_in};
+ghost use Rattle.mq_table.specs.MergedRecord.{source_with, source_made, source_asked};
 
 use crate::rules::Rule;
 use crate::sources::Source;

@@ -2,7 +2,8 @@ use Rattle.std.proofs.Common.{◌≡◌, ◌-◌, ◌++◌, ap, ◌∙◌, arith
 use Rattle.mq_count.proofs.Spent.{Spends-join_within}
 use Rattle.mq_sets.specs.Merging.{merged, merged_lists, pair_of, comparisons_along}
 use Rattle.std.specs.Option.{option_to_list}
-use Rattle.mq_table.specs.MergedRecord.{number_in, source_made, source_asked}
+use Rattle.mq_table.specs.Stored.{number_in}
+use Rattle.mq_table.specs.MergedRecord.{source_made, source_asked}
 use Rattle.mq_table.proofs.Pushed.{pushed_next, pushed_few}
 use Rattle.mq_table.proofs.merged_records.push_changes.Goals as goal
 

@@ -2,7 +2,8 @@ use Rattle.std.proofs.Common.{◌≡◌, ◌+◌, ◌-◌, ◌≤◌, ◌++◌, 
 use Rattle.std.specs.List.{filter_map}
 use Rattle.mq_count.specs.Spending.{Spends}
 use Rattle.mq_sets.specs.Merging.{merged, merged_lists, comparisons_along}
-use Rattle.mq_table.specs.MergedRecord.{number_in, source_made, source_asked}
+use Rattle.mq_table.specs.Stored.{number_in}
+use Rattle.mq_table.specs.MergedRecord.{source_made, source_asked}
 use Rattle.mq_table.proofs.merged_records.push_changes.Given as goal
 
 -- What is pushed, and what the pairs ahead give, are what the whole merge gives; no more was pushed than

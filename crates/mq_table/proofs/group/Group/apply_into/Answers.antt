@@ -3,8 +3,8 @@ use Rattle.std.specs.List.{filter_map}
 use Rattle.mq_sets.specs.Ascending.{IsAscending}
 use Rattle.mq_sets.specs.Merging.{merged_lists}
 use Rattle.mq_table.specs.Timing.{membership_interval}
-use Rattle.mq_table.specs.Stored.{size_of}
-use Rattle.mq_table.specs.MergedRecord.{number_in, source_made, source_asked}
+use Rattle.mq_table.specs.Stored.{number_in, size_of}
+use Rattle.mq_table.specs.MergedRecord.{source_made, source_asked}
 use Rattle.mq_table.proofs.SourceLists.{len-timers_in}
 use Rattle.mq_table.proofs.Changed.{made_ascends, asked_ascends, recorded_group, recorded_query, recorded_query_group}
 use Rattle.mq_table.proofs.group.Group.apply_into.Given.{Over}
