@@ -4,7 +4,7 @@ ghost use Rattle.std.specs.Prelude.{◌≡◌, ◌≤◌, length, IfOk};
 ghost use Rattle.mq_count.specs.Spending.{Spends};
 ghost use Rattle.mq_sets.specs.Ascending.{IsAscending};
 ghost use Rattle.mq_sets.specs.Search.{bitlen};
-ghost use Rattle.mq_table.specs.Group.{vacant, is_vacant, forwards_in};
+ghost use Rattle.mq_table.specs.Group.{vacant, is_vacant, timer_at, forwards_in};
 ghost use Rattle.mq_table.specs.Stored.{timers_in, number_in, state_of, size_of};
 
 use crate::heads::Head;
@@ -142,18 +142,27 @@ impl<K: Key> Group<K> {
         self.v2
     }
 
+    /// The timer of a source, or None where the group doesn't have it.
+    pub fn timer_of(&self, source: K, m: &mut Meter) -> Option<SourceTimer>
+        ensures timer { result ≡ timer_at self.now.state (K.number source) }
+        ensures spent { Spends 0 (bitlen (size_of self.now.state)) m.old m.new }
+    {
+        match find(self.sources.as_slice(), source, m) {
+            Ok(place) => Some(self.sources[place].timer),
+            Err(_) => None,
+        }
+    }
+
     /// Whether what this source sends to the group is forwarded, as of the last moment that the
     /// group was told (RFC 3376 section 6.3, RFC 3810 section 7.3).
     pub fn forwards(&self, source: K, m: &mut Meter) -> bool
         ensures answer { result ≡ forwards_in self.now.state (K.number source) }
         ensures spent { Spends 0 (bitlen (size_of self.now.state)) m.old m.new }
     {
-        match find(self.sources.as_slice(), source, m) {
-            Ok(place) => match (self.mode, self.sources[place].timer) {
-                (_, SourceTimer::Running(_, _)) => true,
-                (_, SourceTimer::Stopped) => false,
-            },
-            Err(_) => matches!(self.mode, FilterMode::Exclude(_)),
+        let timer = self.timer_of(source, m);
+        match self.mode {
+            FilterMode::Include => matches!(timer, Some(SourceTimer::Running(_, _))),
+            FilterMode::Exclude(_) => !matches!(timer, Some(SourceTimer::Stopped)),
         }
     }
 }
