@@ -6,7 +6,9 @@ use Rattle.std.specs.Option.{option_and_then, option_map}
 use Rattle.std.specs.FinMap as map
 use Rattle.mq_table.specs.declared.timing.Timing.{Timing}
 use Rattle.mq_table.specs.Sets.{Set}
-use Rattle.mq_table.specs.Group.{GroupState, SourceTimer, Stopped, Running, timer_at, deadline_of, group_deadline}
+use Rattle.mq_table.specs.declared.timers.SourceTimer.{SourceTimer}
+use Rattle.mq_table.specs.declared.timers.SourceTimer.TheVariants.{Stopped, Running}
+use Rattle.mq_table.specs.Group.{GroupState, timer_at, deadline_of, group_deadline}
 use Rattle.mq_table.specs.Timing.{last_member_count}
 use Rattle.mq_table.specs.Lowering.{lowered_to}
 use Rattle.mq_table.specs.Laws.{IsNoLater}

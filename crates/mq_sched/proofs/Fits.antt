@@ -10,7 +10,11 @@ use Rattle.mq_table.specs.declared.kind.Kind.{Kind}
 use Rattle.mq_table.specs.declared.timing.Timing.{Timing}
 use Rattle.mq_table.specs.Sets.{Set, ◌∩◌}
 use Rattle.mq_table.specs.Maps.{kept}
-use Rattle.mq_table.specs.Group.{GroupState, FilterMode, Include, Exclude, SourceTimer, Stopped, Running, is_include, is_vacant, vacant, timer_at, deadline_of, sendings_of, is_ahead}
+use Rattle.mq_table.specs.declared.timers.FilterMode.{FilterMode}
+use Rattle.mq_table.specs.declared.timers.FilterMode.TheVariants.{Include, Exclude}
+use Rattle.mq_table.specs.declared.timers.SourceTimer.{SourceTimer}
+use Rattle.mq_table.specs.declared.timers.SourceTimer.TheVariants.{Stopped, Running}
+use Rattle.mq_table.specs.Group.{GroupState, is_include, is_vacant, vacant, timer_at, deadline_of, sendings_of, is_ahead}
 use Rattle.mq_table.specs.Timing.{last_member_count}
 use Rattle.mq_table.specs.Table.{NamedSources, line_met, change_of}
 use Rattle.mq_table.specs.Expiry.{ahead, mode_expired, at_zero, source_expired, expired}

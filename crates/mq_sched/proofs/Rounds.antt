@@ -9,7 +9,9 @@ use Rattle.std.specs.FinMap as map
 use Rattle.std.specs.FinMap.{FinMap}
 use Rattle.mq_table.specs.declared.timing.Timing.{Timing}
 use Rattle.mq_table.specs.Sets.{Set, ◌∩◌, ◌∖◌}
-use Rattle.mq_table.specs.Group.{GroupState, SourceTimer, Stopped, Running, timer_at, deadline_of, group_deadline, sendings_of, is_ahead}
+use Rattle.mq_table.specs.declared.timers.SourceTimer.{SourceTimer}
+use Rattle.mq_table.specs.declared.timers.SourceTimer.TheVariants.{Stopped, Running}
+use Rattle.mq_table.specs.Group.{GroupState, timer_at, deadline_of, group_deadline, sendings_of, is_ahead}
 use Rattle.mq_table.specs.Lowering.{lowered_to}
 use Rattle.mq_table.proofs.Maps.{get-kept}
 use Rattle.mq_sched.specs.Schedule.{QuerySchedule, query_sendings, ScheduledGroup, some_source, has_sendings, IsScheduleOf}

@@ -2,7 +2,11 @@
 use Rattle.std.specs.Prelude.{◌≡◌, ℕ, true, List, [], ◌∷◌, Option, None, Some}
 use Rattle.mq_table.specs.declared.kind.Kind.{Kind}
 use Rattle.mq_table.specs.declared.timing.Timing.{Timing}
-use Rattle.mq_table.specs.Group.{GroupState, FilterMode, Include, Exclude, SourceTimer, Running}
+use Rattle.mq_table.specs.declared.timers.FilterMode.{FilterMode}
+use Rattle.mq_table.specs.declared.timers.FilterMode.TheVariants.{Include, Exclude}
+use Rattle.mq_table.specs.declared.timers.SourceTimer.{SourceTimer}
+use Rattle.mq_table.specs.declared.timers.SourceTimer.TheVariants.{Running}
+use Rattle.mq_table.specs.Group.{GroupState}
 use Rattle.mq_table.specs.Examples.{default_timing, group_in, group_with, naming}
 use Rattle.mq_table.specs.Table.{change_of}
 use Rattle.mq_sched.specs.Schedule.{QuerySchedule, ScheduledGroup}

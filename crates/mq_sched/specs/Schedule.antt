@@ -5,7 +5,10 @@ use Rattle.std.specs.List.{list_any}
 use Rattle.std.specs.FinMap as map
 use Rattle.mq_table.specs.Sets.{Set}
 use Rattle.mq_table.specs.Maps.{kept}
-use Rattle.mq_table.specs.Group.{GroupState, Include, SourceTimer, Stopped, Running, is_include, timer_at, sendings_of}
+use Rattle.mq_table.specs.declared.timers.FilterMode.TheVariants.{Include}
+use Rattle.mq_table.specs.declared.timers.SourceTimer.{SourceTimer}
+use Rattle.mq_table.specs.declared.timers.SourceTimer.TheVariants.{Stopped, Running}
+use Rattle.mq_table.specs.Group.{GroupState, is_include, timer_at, sendings_of}
 
 -- how many sendings of a query are still to go, and when the next is due
 pub record QuerySchedule : Type 0 where

@@ -5,7 +5,9 @@ use Rattle.std.specs.FinMap as map
 use Rattle.mq_table.specs.declared.timing.Timing.{Timing}
 use Rattle.mq_table.specs.Sets.{Set, ◌∩◌, ◌∖◌}
 use Rattle.mq_table.specs.Maps.{kept}
-use Rattle.mq_table.specs.Group.{GroupState, SourceTimer, Stopped, Running, is_include, is_ahead, group_deadline, deadline_of, timer_at}
+use Rattle.mq_table.specs.declared.timers.SourceTimer.{SourceTimer}
+use Rattle.mq_table.specs.declared.timers.SourceTimer.TheVariants.{Stopped, Running}
+use Rattle.mq_table.specs.Group.{GroupState, is_include, is_ahead, group_deadline, deadline_of, timer_at}
 use Rattle.mq_table.specs.Timing.{last_member_count}
 use Rattle.mq_table.specs.Table.{GroupChange}
 use Rattle.mq_table.specs.Lowering.{lowered_to, group_lowered}

@@ -5,7 +5,9 @@
 //! group membership interval of 260000 ms, and two queries 1000 ms apart for a last member.
 
 ghost use Rattle.std.specs.Prelude.{◌≡◌, [], ◌∷◌, true, false, Some, None, IfSome};
-ghost use Rattle.mq_table.specs.Group.{Include, Exclude, Stopped, Running, vacant};
+ghost use Rattle.mq_table.specs.declared.timers.FilterMode.TheVariants.{Include, Exclude};
+ghost use Rattle.mq_table.specs.declared.timers.SourceTimer.TheVariants.{Stopped, Running};
+ghost use Rattle.mq_table.specs.Group.{vacant};
 ghost use Rattle.mq_table.specs.Table.{change_of};
 ghost use Rattle.mq_table.specs.OlderHosts.{older_report, older_leave};
 ghost use Rattle.mq_table.specs.Expiry.{expired};

@@ -2,7 +2,6 @@
 //! group with its schedule, every moment and every timing.
 
 ghost use Rattle.std.specs.Prelude.{◌≡◌, ℕ, ◌+◌, ◌<◌, true, false, ◌&&◌, []};
-ghost use Rattle.mq_table.specs.declared.timing.Timing.{Timing};
 ghost use Rattle.mq_table.specs.Group.{GroupState, timer_at, deadline_of, sendings_of, group_deadline, IsWellFormed};
 ghost use Rattle.mq_table.specs.Expiry.{expired};
 ghost use Rattle.mq_table.specs.Laws.{Arrival, group_after, IsNoLater};
@@ -10,6 +9,8 @@ ghost use Rattle.mq_sched.specs.Schedule.{query_sendings, ScheduleState, Schedul
 ghost use Rattle.mq_sched.specs.Sending.{is_due, group_due, messages_due};
 ghost use Rattle.mq_sched.specs.Election.{ElectionState, ticked};
 ghost use Rattle.mq_sched.specs.Laws.{Round, queries_of, state_after, Asking, after_asking, IsFitting, asked_in, asks_group, IsQuietAt, AscendIn, next_moment};
+
+use mq_table::Timing;
 
 /// A round asks for the sources that have a sending to go, where they are due. Each of them has
 /// exactly one fewer then, every other timer is as it was, and no deadline moves.
@@ -38,14 +39,14 @@ pub fn a_round_counts_its_group_query_down()
         → (state_after r).schedule.group_query ≡ r.before.schedule.group_query }
 {}
 
-/// A round leaves nothing due at or before its moment, so that another one then sends nothing: where
-/// the last member query interval isn't 0, as in every configuration.
-pub fn a_round_leaves_nothing_due()
-    ensures later { (r : Round)
-        → 0 < r.timing.last_member_interval → IsQuietAt r.now (state_after r).schedule }
+/// A round leaves nothing due at or before its moment, so that another one then sends nothing.
+pub fn a_round_leaves_nothing_due(timing: Timing)
+    ensures later { (r : Round) → r.timing ≡ timing → IsQuietAt r.now (state_after r).schedule }
     ensures silent { (r : Round)
-        → 0 < r.timing.last_member_interval → messages_due r.timing r.now r.address (state_after r) ≡ [] }
-{}
+        → r.timing ≡ timing → messages_due r.timing r.now r.address (state_after r) ≡ [] }
+{
+    timing.is_in_range();
+}
 
 /// A round is in order: no query for sources is empty, and the sources of each ascend.
 pub fn a_round_is_in_order()
@@ -61,19 +62,20 @@ pub fn asking_never_lengthens()
 {}
 
 /// A schedule goes on fitting its group: after a record, after the end of timers, after what a record
-/// asks (where the robustness variable isn't 0, as in every configuration), after a round, and after
-/// all is dropped.
-pub fn schedules_keep_form()
+/// asks, after a round, and after all is dropped.
+pub fn schedules_keep_form(timing: Timing)
     ensures record_came { (r : Arrival) (schedule : ScheduleState)
         → IsScheduleOf r.group schedule
         → IsScheduleOf (group_after r) (settled (group_after r) schedule) }
     ensures timers_ended { (now : ℕ) (g : GroupState) (schedule : ScheduleState)
         → IsScheduleOf g schedule → IsScheduleOf (expired now g) (settled (expired now g) schedule) }
     ensures asked { (r : Asking)
-        → 0 < r.timing.robustness → IsFitting r.before → IsFitting (after_asking r) }
+        → r.timing ≡ timing → IsFitting r.before → IsFitting (after_asking r) }
     ensures round_sent { (r : Round) → IsFitting r.before → IsFitting (state_after r) }
     ensures all_dropped { (e : ScheduledGroup) → IsFitting (cleared e) }
-{}
+{
+    timing.is_in_range();
+}
 
 /// A group that is held stays held, whatever is asked, sent or dropped.
 pub fn groups_stay_held()
@@ -82,10 +84,11 @@ pub fn groups_stay_held()
     ensures all_dropped { (e : ScheduledGroup) → IsWellFormed e.group → IsWellFormed (cleared e).group }
 {}
 
-/// A tick leaves nothing for the election to do at or before its moment: where the query interval,
-/// configured and in force, isn't 0, as in every configuration.
-pub fn a_tick_leaves_nothing_due()
-    ensures { (configured : Timing) (now : ℕ) (e : ElectionState)
-        → 0 < configured.query_seconds → 0 < e.timing.query_seconds
-        → now < next_moment (ticked configured now e).role }
-{}
+/// A tick leaves nothing for the election to do at or before its moment.
+pub fn a_tick_leaves_nothing_due(configured: Timing, in_force: Timing)
+    ensures { (now : ℕ) (e : ElectionState)
+        → e.timing ≡ in_force → now < next_moment (ticked configured now e).role }
+{
+    configured.is_in_range();
+    in_force.is_in_range();
+}

@@ -4,7 +4,7 @@ use Rattle.std.specs.FinMap.{gets}
 use Rattle.std.specs.FinSet as set
 use Rattle.std.specs.FinSet.{members}
 use Rattle.mq_table.specs.declared.kind.Kind.TheVariants.{ToIn}
-use Rattle.mq_table.specs.Group.{Exclude}
+use Rattle.mq_table.specs.declared.timers.FilterMode.TheVariants.{Exclude}
 use Rattle.mq_table.specs.Examples.{default_timing, group_with, heard_v2, naming}
 use Rattle.mq_table.proofs.Maps.{get-by_rule, get-kept, keys-from_entries, kept-from_entries}
 use Rattle.mq_table.specs.Table.{change_of}

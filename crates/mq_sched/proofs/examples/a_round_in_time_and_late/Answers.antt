@@ -1,6 +1,6 @@
 use Rattle.std.proofs.Common.{[], ◌∷◌}
 use Rattle.std.specs.FinMap.{gets}
-use Rattle.mq_table.specs.Group.{Running}
+use Rattle.mq_table.specs.declared.timers.SourceTimer.TheVariants.{Running}
 use Rattle.mq_table.specs.Examples.{until}
 use Rattle.mq_table.proofs.Maps.{keys-from_entries, kept-from_entries}
 use Rattle.mq_sched.specs.Sending.{source_counted}

@@ -4,7 +4,8 @@ use Rattle.std.specs.FinMap.{gets}
 use Rattle.std.specs.FinSet as set
 use Rattle.std.specs.FinSet.{members}
 use Rattle.mq_table.specs.declared.kind.Kind.TheVariants.{IsEx, Block}
-use Rattle.mq_table.specs.Group.{Include, Exclude, Stopped, Running}
+use Rattle.mq_table.specs.declared.timers.FilterMode.TheVariants.{Include, Exclude}
+use Rattle.mq_table.specs.declared.timers.SourceTimer.TheVariants.{Stopped, Running}
 use Rattle.mq_table.specs.Examples.{default_timing, until, group_in, naming, included}
 use Rattle.mq_table.proofs.Maps.{get-by_rule, keys-from_entries, kept-from_entries}
 use Rattle.mq_table.specs.Table.{change_of}

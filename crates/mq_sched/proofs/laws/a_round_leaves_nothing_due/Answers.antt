@@ -1,9 +1,15 @@
+use Rattle.std.proofs.Common.{◌≡◌, ◌<◌, ap, arith}
+use Rattle.mq_table.specs.Variables.{Variables}
 use Rattle.mq_sched.specs.Laws.{state_after}
 use Rattle.mq_sched.proofs.Rounds.{quiet_after_round, quiet_is_silent}
 use Rattle.mq_sched.proofs.laws.a_round_leaves_nothing_due.Goals as goal
 
+-- the last member query interval isn't 0
+positive : (c : goal.After-is_in_range) (timing : Variables) → timing ≡ c.args.timing → 0 < timing.last_member_interval
+positive c timing is = omega (arith, c.is_in_range.ensures.last_member_interval.at_least, ap (λ (t : Variables). t.last_member_interval) is)
+
 pub returns-clause-later : goal.returns-clause-later
-returns-clause-later c r = quiet_after_round r.timing r.now r.before
+returns-clause-later c r is = quiet_after_round r.timing r.now r.before (positive c r.timing is)
 
 pub returns-clause-silent : goal.returns-clause-silent
-returns-clause-silent c r positive = quiet_is_silent r.timing r.now r.address (state_after r) (quiet_after_round r.timing r.now r.before positive)
+returns-clause-silent c r is = quiet_is_silent r.timing r.now r.address (state_after r) (quiet_after_round r.timing r.now r.before (positive c r.timing is))

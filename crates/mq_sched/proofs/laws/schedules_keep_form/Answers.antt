@@ -1,3 +1,5 @@
+use Rattle.std.proofs.Common.{◌<◌, ap, arith}
+use Rattle.mq_table.specs.Variables.{Variables}
 use Rattle.mq_sched.proofs.Fits.{fits_after_record, fits_after_expiry, fits_acted, fits_after_round, fits_cleared}
 use Rattle.mq_sched.proofs.laws.schedules_keep_form.Goals as goal
 
@@ -8,7 +10,9 @@ pub returns-clause-timers_ended : goal.returns-clause-timers_ended
 returns-clause-timers_ended c = fits_after_expiry
 
 pub returns-clause-asked : goal.returns-clause-asked
-returns-clause-asked c r = fits_acted r.is_querier r.timing r.now r.query_group r.query r.before
+returns-clause-asked c r is =
+    let positive : 0 < r.timing.robustness = omega (arith, c.is_in_range.ensures.robustness.at_least, ap (λ (t : Variables). t.robustness) is) in
+    fits_acted r.is_querier r.timing r.now r.query_group r.query r.before positive
 
 pub returns-clause-round_sent : goal.returns-clause-round_sent
 returns-clause-round_sent c r = fits_after_round r.timing r.now r.before
