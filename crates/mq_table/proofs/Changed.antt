@@ -100,11 +100,11 @@ asked-nothing gmi (Exclude d) ToEx = refl
 asked-nothing gmi (Exclude d) ToIn = refl
 
 -- a source with a timer has that timer and the source's address
-timer-source_with : {K : Type 0} (address : K) (timer : Option SourceTimer) → option_map (λ (x : Source K). x.timer) (source_with address timer) ≡ timer
+pub timer-source_with : {K : Type 0} (address : K) (timer : Option SourceTimer) → option_map (λ (x : Source K). x.timer) (source_with address timer) ≡ timer
 timer-source_with address None = refl
 timer-source_with address (Some timer) = refl
 
-address-source_with : {K : Type 0} (address : K) (timer : Option SourceTimer) (x : Source K) → source_with address timer ≡ Some x → x.address ≡ address
+pub address-source_with : {K : Type 0} (address : K) (timer : Option SourceTimer) (x : Source K) → source_with address timer ≡ Some x → x.address ≡ address
 address-source_with address None x is = cc
 address-source_with address (Some timer) x is = cc
 

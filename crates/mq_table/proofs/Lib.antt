@@ -8,3 +8,5 @@ pub mod Lower
 pub mod SourceLists
 pub mod Pushed
 pub mod Changed
+pub mod MadeLists
+pub mod Ended

@@ -1,6 +1,6 @@
 -- Lists of sources, as the finite maps from their numbers to their timers.
-use Rattle.std.proofs.Common.{◌≡◌, ℕ, zero, suc, ◌+◌, ◌<◌, true, false, List, [], ◌∷◌, length, get_or, Option, None, Some, is_some, refl, ap, ◌∙◌, arith}
-use Rattle.std.proofs.lemmas.Bool.{eq-eqb, true≢false}
+use Rattle.std.proofs.Common.{◌≡◌, ℕ, zero, suc, ◌+◌, ◌<◌, ◌==◌, ◌&&◌, true, false, List, [], ◌∷◌, length, get_or, Option, None, Some, is_some, refl, sym, ap, ◌∙◌, arith}
+use Rattle.std.proofs.lemmas.Bool.{eq-eqb, eqb-true, true≢false}
 use Rattle.std.specs.Option.{option_map}
 use Rattle.std.specs.Ordering.{nat_cmp}
 use Rattle.std.specs.Cmp.{nat_cmp_total}
@@ -9,7 +9,7 @@ use Rattle.mq_sets.specs.Ascending.{IsAscending, set_of, item_with}
 use Rattle.mq_sets.proofs.Ascents.{below-eqb, IsAscending-head, IsAscending-tail, item_with-above}
 use Rattle.mq_sets.proofs.Found.{maps_each_number, found_where_member}
 use Rattle.mq_table.specs.declared.sources.Source.{Source}
-use Rattle.mq_table.specs.Group.{SourceTimer}
+use Rattle.mq_table.specs.Group.{GroupState, FilterMode, Include, Exclude, SourceTimer, is_include, vacant, is_vacant}
 use Rattle.mq_table.specs.Stored.{timers_in, number_in}
 
 module _ {K : Type 0} (number : K → ℕ) where
@@ -44,3 +44,11 @@ module _ {X : Type 0} (number : X → ℕ) where
 pub get-found : {K : Type 0} (number : K → ℕ) (xs : List (Source K)) (i : ℕ) (d : Source K) (n : ℕ) → IsAscending (number_in number) xs → i < length xs → number_in number (get_or xs i d) ≡ n → map.get (timers_in number xs) n ≡ (let x = get_or xs i d in Some x.timer)
 get-found number xs i d n up within is =
     get-timers_in number xs n ∙ ap (option_map (λ (x : Source _). x.timer)) (item_with-at (number_in number) xs i d n up within is)
+
+-- INCLUDE without sources is vacant, once it has no host-present timers.
+pub vacant_if : (g : GroupState) → is_vacant g ≡ true → record { mode = g.mode; sources = g.sources; v1 = None; v2 = None } ≡ vacant
+vacant_if g is = by_mode g.mode g.sources is
+  where
+    by_mode : (mode : FilterMode) (sources : map.FinMap nat_cmp SourceTimer) → (is_include mode && (map.len sources == 0)) ≡ true → ◌≡◌ {A = GroupState} (record { mode = mode; sources = sources; v1 = None; v2 = None }) vacant
+    by_mode Include sources is = ap (λ m. record { mode = Include; sources = m; v1 = None; v2 = None }) (map.empty_of_len sources (eqb-true _ _ is))
+    by_mode (Exclude d) sources is = absurd (true≢false (sym is))

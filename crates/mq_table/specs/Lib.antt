@@ -10,5 +10,6 @@ pub mod MergedRecord
 pub mod OlderHosts
 pub mod Expiry
 pub mod Lowering
+pub mod MadeSources
 pub mod Examples
 pub mod Laws

@@ -3,6 +3,7 @@
 #![tactic(auto)]
 
 pub mod examples;
+mod expiry;
 pub mod group;
 pub mod heads;
 pub mod kind;

@@ -42,4 +42,23 @@ impl<K: Key> Group<K> {
             FilterMode::Exclude(deadline) => FilterMode::Exclude(m.earlier(*deadline, limit)),
         };
     }
+
+    /// Lowers the timer of one source of a query to the last member query time, if the group has
+    /// the source and its timer runs (RFC 3376 sections 6.6.1 and 6.6.3.2, RFC 3810 sections 7.6.1
+    /// and 7.6.3.2). A query's sources are lowered one by one, in any order, however often.
+    pub fn lower_source(&mut self, source: K, now: Moment, timing: &Timing, m: &mut Meter)
+        requires in_range { now ≤ 2 ^ 53 }
+        ensures state { self.new.state ≡ sources_lowered timing.now now (λ s. s == K.number source) self.old.state }
+        ensures room { self.new.room ≡ self.old.room }
+        ensures spent { Spends 0 (bitlen (size_of self.old.state) + 1) m.old m.new }
+    {
+        let limit = now.after(timing.last_member_time());
+        if let Ok(place) = find(self.sources.as_slice(), source, m) {
+            let held = self.sources[place];
+            self.sources[place] = Source {
+                address: held.address,
+                timer: lower(&held.timer, limit, m),
+            };
+        }
+    }
 }

@@ -1,0 +1,16 @@
+-- What becomes of each source of a list, where nothing is added to it.
+use Rattle.std.specs.Prelude.{ℕ, ◌==◌, if◌then◌else◌, Option, None, Some}
+use Rattle.mq_table.specs.declared.sources.Source.{Source}
+use Rattle.mq_table.specs.Group.{FilterMode, SourceTimer}
+use Rattle.mq_table.specs.Expiry.{source_expired}
+use Rattle.mq_table.specs.Lowering.{source_lowered}
+use Rattle.mq_table.specs.MergedRecord.{source_with}
+
+-- a source that the end of timers leaves
+abbrev pub source_left : {K : Type 0} → FilterMode → ℕ → Source K → Option (Source K)
+source_left mode now x = source_with x.address (source_expired mode now x.timer)
+
+-- the source of a number, lowered; any other stays
+abbrev pub source_lowered_at : {K : Type 0} → (K → ℕ) → (limit n : ℕ) → Source K → Option (Source K)
+source_lowered_at number limit n x =
+    Some (record { address = x.address; timer = if number x.address == n then source_lowered limit x.timer else x.timer })

@@ -1,0 +1,116 @@
+//! The end of timers.
+
+ghost use Rattle.std.specs.Prelude.{◌≡◌, ◌+◌, ◌*◌, length, vec_capacity};
+ghost use Rattle.std.specs.List.{filter_map};
+ghost use Rattle.std.specs.Option.{option_and_then};
+ghost use Rattle.mq_count.specs.Spending.{Spends};
+ghost use Rattle.mq_table.specs.Expiry.{ahead, mode_expired, source_expired, held_or_vacant, expired};
+ghost use Rattle.mq_table.specs.MadeSources.{source_left};
+ghost use Rattle.mq_table.specs.Stored.{size_of};
+
+use crate::group::Group;
+use crate::sources::Source;
+use crate::timers::{FilterMode, SourceTimer};
+use mq_count::{Key, Meter, Moment};
+
+/// A deadline that is still ahead. At most one comparison.
+fn still_ahead(deadline: Option<Moment>, now: Moment, m: &mut Meter) -> Option<Moment>
+    ensures ahead { result ≡ option_and_then (ahead now) deadline }
+    ensures spent { Spends 0 1 m.old m.new }
+{
+    match deadline {
+        Some(deadline) if !m.reached(deadline, now) => Some(deadline),
+        _ => None,
+    }
+}
+
+/// The mode once the group timer has ended, if it has. At most one comparison.
+fn mode_left(mode: &FilterMode, now: Moment, m: &mut Meter) -> FilterMode
+    ensures mode { result ≡ mode_expired now mode.now }
+    ensures spent { Spends 0 1 m.old m.new }
+{
+    match mode {
+        FilterMode::Exclude(deadline) if !m.reached(*deadline, now) => {
+            FilterMode::Exclude(*deadline)
+        }
+        _ => FilterMode::Include,
+    }
+}
+
+/// What a source's timer is once it has ended, if it has, in a group of this mode; None where the
+/// source is removed. At most one comparison.
+fn timer_left(
+    timer: &SourceTimer,
+    mode: &FilterMode,
+    now: Moment,
+    m: &mut Meter,
+) -> Option<SourceTimer>
+    ensures timer { result ≡ source_expired mode.now now timer.now }
+    ensures spent { Spends 0 1 m.old m.new }
+{
+    match timer {
+        SourceTimer::Running(deadline, sendings) if !m.reached(*deadline, now) => {
+            Some(SourceTimer::Running(*deadline, *sendings))
+        }
+        _ => match mode {
+            FilterMode::Include => None,
+            FilterMode::Exclude(_) => Some(SourceTimer::Stopped),
+        },
+    }
+}
+
+/// Leaves of a list the sources that the end of their timers leaves in a group of this mode, in one
+/// pass over the list.
+fn leave_sources<K: Key>(
+    sources: &mut Vec<Source<K>>,
+    mode: &FilterMode,
+    now: Moment,
+    m: &mut Meter,
+)
+    ensures items { sources.new.items ≡ filter_map (source_left mode.now now) sources.old.items }
+    ensures capacity { vec_capacity sources.new ≡ vec_capacity sources.old }
+    ensures spent { Spends 0 (length sources.old.items) m.old m.new }
+{
+    let mut left = 0;
+    for place in 0..sources.len() {
+        let held = sources[place];
+        if let Some(timer) = timer_left(&held.timer, mode, now, m) {
+            sources[left] = Source {
+                address: held.address,
+                timer,
+            };
+            left += 1;
+        }
+    }
+    sources.truncate(left);
+}
+
+impl<K: Key> Group<K> {
+    /// INCLUDE without sources isn't held, and its host-present timers go with it.
+    fn let_go_if_vacant(&mut self)
+        ensures state { self.new.state ≡ held_or_vacant self.old.state }
+        ensures room { self.new.room ≡ self.old.room }
+    {
+        if self.is_vacant() {
+            self.v1 = None;
+            self.v2 = None;
+        }
+    }
+
+    /// Ends the timers that have run out at this moment: sources first, then the group (RFC 3376
+    /// sections 6.2.2, 6.3 and 6.5, RFC 3810 sections 7.2.2, 7.2.3 and 7.5). In INCLUDE a source
+    /// at zero is removed, in EXCLUDE it stays, stopped. The end of the group timer makes the group
+    /// INCLUDE of the sources that still run; without any the group is vacant.
+    pub fn expire(&mut self, now: Moment, m: &mut Meter)
+        ensures state { self.new.state ≡ expired now self.old.state }
+        ensures room { self.new.room ≡ self.old.room }
+        ensures spent { Spends 0 (size_of self.old.state + 3) m.old m.new }
+    {
+        let mode = mode_left(&self.mode, now, m);
+        leave_sources(&mut self.sources, &mode, now, m);
+        self.mode = mode;
+        self.v1 = still_ahead(self.v1, now, m);
+        self.v2 = still_ahead(self.v2, now, m);
+        self.let_go_if_vacant();
+    }
+}
