@@ -2,6 +2,7 @@
 //! the end of a timer and a query do to it (RFC 3376 sections 6 and 7, RFC 3810 sections 7 and 8).
 #![tactic(auto)]
 
+pub mod changes;
 pub mod examples;
 mod expiry;
 pub mod group;
@@ -17,6 +18,7 @@ pub mod sources;
 pub mod timers;
 pub mod timing;
 
+pub use changes::Change;
 pub use group::Group;
 pub use heads::Head;
 pub use kind::Kind;

@@ -1,6 +1,6 @@
 //! A record merged with its group: the one pass over both that every form of a record makes.
 
-ghost use Rattle.std.specs.Prelude.{◌≡◌, ◌+◌, ◌≤◌, ◌++◌, [], min, length, vec_capacity, IsOk, OnOk, OnErr};
+ghost use Rattle.std.specs.Prelude.{◌≡◌, ◌+◌, ◌≤◌, ◌<◌, ◌++◌, [], min, length, vec_capacity, IsOk, OnOk, OnErr, IsSome};
 ghost use Rattle.std.specs.List.{filter_map};
 ghost use Rattle.std.specs.Option.{option_to_list};
 ghost use Rattle.mq_count.specs.Spending.{Spends};
@@ -51,6 +51,7 @@ fn push_if_some<T: Copy>(list: &mut Vec<T>, item: Option<T>) -> Result<(), Alloc
     ensures items { OnOk result (list.new.items ≡ list.old.items ++ option_to_list item) }
     ensures capacity { vec_capacity list.old ≤ vec_capacity list.new }
     ensures full { OnErr result (vec_capacity list.old ≤ length list.old.items) }
+    ensures some { OnErr result (IsSome item) }
 {
     match item {
         Some(item) => list.push(item)?,
@@ -76,9 +77,11 @@ pub(crate) fn push_changes<'a, K: Key>(
 
     ensures sources { OnOk result (sources.new.items ≡ filter_map (source_made rule.now) (merged_lists (number_in K.number) K.number held.now named.now)) }
     ensures asked { OnOk result (asked.new.items ≡ filter_map (source_asked rule.now) (merged_lists (number_in K.number) K.number held.now named.now)) }
-    ensures spent { OnOk result (Spends (min (length held.now) (length named.now)) (length held.now + length named.now) m.old m.new) }
+    ensures compares { OnOk result (Spends (min (length held.now) (length named.now)) (length held.now + length named.now) m.old m.new) }
+    ensures compares_at_most { Spends 0 (length held.now + length named.now) m.old m.new }
 
-    // With room for both sides it takes no memory.
+    // It wants memory only where the record leaves a source, and with room for both sides none.
+    ensures memory { OnErr result (0 < length (filter_map (source_made rule.now) (merged_lists (number_in K.number) K.number held.now named.now))) }
     ensures room { length held.now + length named.now ≤ vec_capacity sources.old → length held.now + length named.now ≤ vec_capacity asked.old → IsOk result }
     ensures sources_room { vec_capacity sources.old ≤ vec_capacity sources.new }
     ensures asked_room { vec_capacity asked.old ≤ vec_capacity asked.new }

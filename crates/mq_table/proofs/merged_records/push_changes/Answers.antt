@@ -7,8 +7,8 @@ use Rattle.mq_table.specs.MergedRecord.{source_made, source_asked}
 use Rattle.mq_table.proofs.Pushed.{pushed_next, pushed_few}
 use Rattle.mq_table.proofs.merged_records.push_changes.Goals as goal
 
-pub returns-clause-spent : goal.returns-clause-spent
-returns-clause-spent g c =
+pub returns-clause-compares : goal.returns-clause-compares
+returns-clause-compares g c =
     let number = number_in g.K.Key.number in
     let ahead = merged number g.K.Key.number c.loop-item.merge in
     let all = merged_lists number g.K.Key.number c.args.held.now c.args.named.now in
@@ -18,6 +18,30 @@ returns-clause-spent g c =
     let at_most = rw c.merge-merge.ensures.sides at c.merge-merge.ensures.compares_at_most in
     let compared = comparisons_along all - comparisons_along ahead in
     Spends-join_within {a = compared} {b = compared} _ _ c.loop-item.invariant.spent c.next.ensures.spent (omega (arith, at_least, none, c.next.ensures.comparisons_ahead)) (omega (arith, at_most, none, c.next.ensures.comparisons_ahead))
+
+pub returns-clause-compares_at_most : goal.returns-clause-compares_at_most
+returns-clause-compares_at_most g c =
+    let number = number_in g.K.Key.number in
+    let all = merged_lists number g.K.Key.number c.args.held.now c.args.named.now in
+    let at_most = rw c.merge-merge.ensures.sides at c.merge-merge.ensures.compares_at_most in
+    let compared = comparisons_along all - comparisons_along (merged number g.K.Key.number c.loop-item.merge) in
+    Spends-join_within {a = compared} {b = compared} 0 _ c.loop-item.invariant.spent c.next.ensures.spent (omega arith) (omega (arith, at_most, c.next.ensures.comparisons_ahead, c.loop-item.invariant.fewer))
+
+pub returns-in_err-push_if_some-clause-compares_at_most : goal.returns-in_err-push_if_some-clause-compares_at_most
+returns-in_err-push_if_some-clause-compares_at_most g c =
+    let number = number_in g.K.Key.number in
+    let all = merged_lists number g.K.Key.number c.args.held.now c.args.named.now in
+    let at_most = rw c.merge-merge.ensures.sides at c.merge-merge.ensures.compares_at_most in
+    let compared = comparisons_along all - comparisons_along (merged number g.K.Key.number c.loop-item.merge) in
+    Spends-join_within {a = compared} {b = compared} 0 _ c.loop-item.invariant.spent c.in-Some.ensures.spent (omega arith) (omega (arith, at_most, c.in-Some.ensures.comparisons_ahead, c.loop-item.invariant.fewer))
+
+pub returns-in_err-push_if_some-2-clause-compares_at_most : goal.returns-in_err-push_if_some-2-clause-compares_at_most
+returns-in_err-push_if_some-2-clause-compares_at_most g c =
+    let number = number_in g.K.Key.number in
+    let all = merged_lists number g.K.Key.number c.args.held.now c.args.named.now in
+    let at_most = rw c.merge-merge.ensures.sides at c.merge-merge.ensures.compares_at_most in
+    let compared = comparisons_along all - comparisons_along (merged number g.K.Key.number c.loop-item.merge) in
+    Spends-join_within {a = compared} {b = compared} 0 _ c.loop-item.invariant.spent c.in-Some.ensures.spent (omega arith) (omega (arith, at_most, c.in-Some.ensures.comparisons_ahead, c.loop-item.invariant.fewer))
 
 pub loop-item-preserved : goal.loop-item-preserved
 loop-item-preserved g c =

@@ -59,4 +59,4 @@ returns-clause-query_group g c =
 pub returns-clause-spent : goal.returns-clause-spent
 returns-clause-spent g c =
     let size : size_of c.args.self.now.state ≡ length c.self.inside.sources.items = rw (← c.self.view_is) (len-timers_in g.K.Key.number c.self.inside.sources.items c.self.invariant) in
-    rw size (rw (c.unwrap.ensures, c.as_slice-held.ensures.value, c.as_slice.ensures.members) at c.push_changes.ensures.spent)
+    rw size (rw (c.unwrap.ensures, c.as_slice-held.ensures.value, c.as_slice.ensures.members) at c.push_changes.ensures.compares)
