@@ -182,10 +182,10 @@ module _ {K : Type 0} (number : K → ℕ) (timing : Timing) (now : ℕ) (mode :
   state_after =
       let gmi = now + membership_interval timing in
       let timers = same_sources (timers_in number (filter_map (source_made rule_of_record) (merged_lists (number_in number) number held named))) _ (λ s.
-        get-made number rule_of_record held named up_held up_named s
-        ∙ ap (timer_after gmi mode kind (timer_at state_before s)) (sym (contains-named_in number named s))
-        ∙ sym (line-timer gmi mode kind state_before (set.contains (named_in number named)) s)
-        ∙ sym (timer_at-change_of timing now state_before kind (named_in number named) s)) in
+      get-made number rule_of_record held named up_held up_named s
+      ∙ ap (timer_after gmi mode kind (timer_at state_before s)) (sym (contains-named_in number named s))
+      ∙ sym (line-timer gmi mode kind state_before (set.contains (named_in number named)) s)
+      ∙ sym (timer_at-change_of timing now state_before kind (named_in number named) s)) in
       λ i. record { mode = sym (line-mode gmi mode kind (running state_before) (stopped state_before) (set.contains (named_in number named))) i; sources = timers i; v1 = v1; v2 = v2 }
 
   pub asked_of : (s : ℕ) → set_of number (filter_map (source_asked rule_of_record) (merged_lists (number_in number) number held named)) s ≡ (change_of timing now state_before kind (named_in number named)).query s

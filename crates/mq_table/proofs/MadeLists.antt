@@ -73,7 +73,7 @@ module _ {K : Type 0} (number : K → ℕ) (timing : Timing) (now : ℕ) (mode :
 pub unlowered : (timing : Timing) (now n : ℕ) (g : GroupState) → timer_at g n ≡ None → g ≡ sources_lowered timing now (λ s. s == n) g
 unlowered timing now n g absent =
     let timers = same_sources g.sources (kept (λ s timer. Some (cond (s == n) (source_lowered (lowered_to timing now) timer) timer)) g.sources) (λ s.
-      sym (get-kept (λ s timer. Some (cond (s == n) (source_lowered (lowered_to timing now) timer) timer)) g.sources s ∙ stays s (timer_at g s) (λ e. ap (timer_at g) e ∙ absent))) in
+    sym (get-kept (λ s timer. Some (cond (s == n) (source_lowered (lowered_to timing now) timer) timer)) g.sources s ∙ stays s (timer_at g s) (λ e. ap (timer_at g) e ∙ absent))) in
     λ i. record { mode = g.mode; sources = timers i; v1 = g.v1; v2 = g.v2 }
   where
     stays : (s : ℕ) (timer : Option SourceTimer) → (s ≡ n → timer ≡ None) → option_and_then (λ timer. Some (cond (s == n) (source_lowered (lowered_to timing now) timer) timer)) timer ≡ timer

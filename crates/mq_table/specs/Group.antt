@@ -4,7 +4,6 @@ use Rattle.std.specs.Ordering.{nat_cmp}
 use Rattle.std.specs.FinMap as map
 use Rattle.std.specs.FinMap.{FinMap}
 use Rattle.mq_table.specs.Sets.{Set}
-
 -- The timer of a source: stopped, so at zero, which the tables write as a source of Y; or running
 -- until a deadline, which they write as a source of X. A running one has a number of
 -- group-and-source-specific queries that are still to go for it (RFC 3376 section 6.6.3.2). The filter

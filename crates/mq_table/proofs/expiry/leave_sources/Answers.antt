@@ -20,24 +20,24 @@ loop-place-preserved g c =
     let spent = Spends-join_within 0 (place + 1) so_far.spent c.timer_left.ensures.spent (omega arith) (omega arith) in
     elim c.match-timer_left.branch [
       | in-Some w ↦
-      let y : Source g.row.K.Denot = record { address = held.address; timer = w.in-Some.timer } in
-      let is = ap (source_with held.address) (sym c.timer_left.ensures.timer ∙ w.in-Some.is) in
-      rw (w.sources-is, w.left-is) (record {
-        behind = omega (arith, so_far.behind);
-        len = length-set xs c.loop-place.left y ∙ so_far.len;
-        made = passed_some rule initial xs c.loop-place.left place held so_far.behind within so_far.len so_far.made so_far.rest c.index.ensures y is;
-        rest = rest_after_some rule initial xs c.loop-place.left place held so_far.behind within so_far.len so_far.made so_far.rest c.index.ensures y;
-        capacity = so_far.capacity;
-        spent = spent;
-      })
+          let y : Source g.row.K.Denot = record { address = held.address; timer = w.in-Some.timer } in
+          let is = ap (source_with held.address) (sym c.timer_left.ensures.timer ∙ w.in-Some.is) in
+          rw (w.sources-is, w.left-is) (record {
+            behind = omega (arith, so_far.behind);
+            len = length-set xs c.loop-place.left y ∙ so_far.len;
+            made = passed_some rule initial xs c.loop-place.left place held so_far.behind within so_far.len so_far.made so_far.rest c.index.ensures y is;
+            rest = rest_after_some rule initial xs c.loop-place.left place held so_far.behind within so_far.len so_far.made so_far.rest c.index.ensures y;
+            capacity = so_far.capacity;
+            spent = spent;
+          })
       | in_default w ↦
-      let is = ap (source_with held.address) (sym c.timer_left.ensures.timer ∙ w.in_default.is) in
-      rw (w.sources-is, w.left-is) (record {
-        behind = omega (arith, so_far.behind);
-        len = so_far.len;
-        made = passed_none rule initial xs c.loop-place.left place held so_far.behind within so_far.len so_far.made so_far.rest c.index.ensures is;
-        rest = rest_after_none rule initial xs c.loop-place.left place held so_far.behind within so_far.len so_far.made so_far.rest c.index.ensures;
-        capacity = so_far.capacity;
-        spent = spent;
-      })
+          let is = ap (source_with held.address) (sym c.timer_left.ensures.timer ∙ w.in_default.is) in
+          rw (w.sources-is, w.left-is) (record {
+            behind = omega (arith, so_far.behind);
+            len = so_far.len;
+            made = passed_none rule initial xs c.loop-place.left place held so_far.behind within so_far.len so_far.made so_far.rest c.index.ensures is;
+            rest = rest_after_none rule initial xs c.loop-place.left place held so_far.behind within so_far.len so_far.made so_far.rest c.index.ensures;
+            capacity = so_far.capacity;
+            spent = spent;
+          })
     ]

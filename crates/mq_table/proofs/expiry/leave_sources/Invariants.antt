@@ -12,5 +12,5 @@ invariant-loop-place g l = record {
   made : take l.left l.sources.items ≡ filter_map (source_left l.mode l.now) (take l.place l.initial.sources.items);
   rest : drop l.place l.sources.items ≡ drop l.place l.initial.sources.items;
   capacity : vec_capacity l.sources ≡ vec_capacity l.initial.sources;
-  spent : Spends 0 l.place l.initial.m l.m
+  spent : Spends 0 l.place l.initial.m l.m;
 }

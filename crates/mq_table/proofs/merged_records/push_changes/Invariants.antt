@@ -24,7 +24,7 @@ invariant-loop-item g l =
       sources_room : vec_capacity l.initial.sources ≤ vec_capacity l.sources;
       asked_room : vec_capacity l.initial.asked ≤ vec_capacity l.asked;
       fewer : comparisons_along ahead ≤ comparisons_along all;
-      spent : Spends compared compared l.initial.m l.m
+      spent : Spends compared compared l.initial.m l.m;
     }
 
 abbrev pub decreases-loop-item : goal.decreases-loop-item
