@@ -5,7 +5,7 @@ ghost use Rattle.std.specs.Prelude.{◌≡◌, ℕ, ◌+◌, ◌≤◌, true, fa
 ghost use Rattle.std.specs.FinSet as set;
 ghost use Rattle.mq_table.specs.declared.timing.Timing.{Timing};
 ghost use Rattle.mq_count.specs.declared.versions.OlderVersion.{OlderVersion};
-ghost use Rattle.mq_table.specs.Sets.{Set};
+ghost use Rattle.mq_table.specs.Sets.{Set, ◌∪◌};
 ghost use Rattle.mq_table.specs.Group.{GroupState, running, timer_at, deadline_of, sendings_of, group_deadline, forwards_in, vacant, IsWellFormed, IsAnyGroup};
 ghost use Rattle.mq_table.specs.Timing.{membership_interval};
 ghost use Rattle.mq_table.specs.OlderHosts.{older_report};
@@ -101,4 +101,12 @@ pub fn lowering_never_lengthens()
         → IsNoLater (group_deadline g.mode) (group_deadline (group_lowered timing now g).mode) }
     ensures sources { (timing : Timing) (now : ℕ) (asked : Set) (g : GroupState) (s : ℕ)
         → IsNoLater (deadline_of (timer_at g s)) (deadline_of (timer_at (sources_lowered timing now asked g) s)) }
+{}
+
+/// Lowering some sources and then others, at one moment, is lowering all of them: so the sources of a
+/// query may be lowered one by one, in any order, however often.
+pub fn lowering_adds_up()
+    ensures { (timing : Timing) (now : ℕ) (some others : Set) (g : GroupState)
+        → sources_lowered timing now others (sources_lowered timing now some g)
+        ≡ sources_lowered timing now (some ∪ others) g }
 {}

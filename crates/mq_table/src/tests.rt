@@ -1,7 +1,7 @@
 //! The worked rows, for the addresses of both families and through both forms of a record. The states
 //! are those of the standards' tables at the default timing, before any query lowers a timer.
 
-ghost use Rattle.std.specs.Prelude.{◌≤◌, ◌^◌, IfOk};
+ghost use Rattle.std.specs.Prelude.{◌+◌, ◌≤◌, ◌^◌, IfOk};
 
 use crate::{FilterMode, Group, Hosts, Kind, SourceTimer, Timing, translate};
 use mq_count::{Addr4, Addr6, Key, Meter, Moment, OlderVersion};
@@ -115,76 +115,156 @@ fn expect_line(got: Result<Vec<u8>, AllocError>, want: &str) -> Result<(), Fail>
     expect(got?.as_slice() == want.as_bytes(), "another line")
 }
 
-/// The group after a record at a moment.
+/// What happens to a group at a moment.
+#[derive(Clone, Copy)]
+enum Step {
+    /// A record with the sources of these letters.
+    Record(Kind, &'static str),
+    /// A Report of an older host.
+    Older(OlderVersion),
+    /// The end of timers.
+    Expire,
+    /// A query to the group.
+    LowerGroup,
+    /// A query for the sources of these letters, one by one.
+    Lower(&'static str),
+}
+
 fn recorded<K: Key>(
     alloc: Global,
     group: &Group<K>,
-    record: (u64, Kind, &str),
+    kind: Kind,
+    letters: &str,
+    now: Moment,
     sources: &[K; 4],
-) -> Result<Group<K>, Fail> {
-    let set = named(alloc, record.2, sources)?;
-    let change = group.apply(
-        alloc,
-        record.1,
-        &set,
-        at(record.0)?,
-        &defaults()?,
-        &mut Meter::new(),
-    )?;
+) -> Result<Group<K>, Fail>
+    requires { now ≤ 2 ^ 53 }
+{
+    let set = named(alloc, letters, sources)?;
+    let change = group.apply(alloc, kind, &set, now, &defaults()?, &mut Meter::new())?;
     Ok(change.group)
 }
 
-/// Each kind of record with the same sources at 1000: the new group, whether the group is asked, and
-/// the sources that are asked for; through both forms.
-fn each_kind_gives<K: Key>(
+fn lower<K: Key>(
+    group: &mut Group<K>,
+    letters: &str,
+    now: Moment,
+    sources: &[K; 4],
+) -> Result<(), Fail>
+    requires { now ≤ 2 ^ 53 }
+{
+    let timing = defaults()?;
+    for letter in letters.as_bytes() {
+        for (known, source) in b"abcd".iter().zip(sources) {
+            if known == letter {
+                group.lower_source(*source, now, &timing, &mut Meter::new());
+            }
+        }
+    }
+    Ok(())
+}
+
+fn after_step<K: Key>(
+    alloc: Global,
+    mut group: Group<K>,
+    step: Step,
+    now: Moment,
+    sources: &[K; 4],
+) -> Result<Group<K>, Fail>
+    requires { now ≤ 2 ^ 53 }
+{
+    match step {
+        Step::Record(kind, letters) => return recorded(alloc, &group, kind, letters, now, sources),
+        Step::Older(version) => group.older(version, now, &defaults()?),
+        Step::Expire => group.expire(now, &mut Meter::new()),
+        Step::LowerGroup => group.lower_group(now, &defaults()?, &mut Meter::new()),
+        Step::Lower(letters) => lower(&mut group, letters, now, sources)?,
+    }
+    Ok(group)
+}
+
+fn after_steps<K: Key>(
+    alloc: Global,
+    steps: &[(u64, Step)],
+    sources: &[K; 4],
+) -> Result<Group<K>, Fail> {
+    let mut group = Group::vacant(alloc);
+    for (ms, step) in steps {
+        group = after_step(alloc, group, *step, at(*ms)?, sources)?;
+    }
+    Ok(group)
+}
+
+/// Steps from a group that isn't held, and the line of the group after them.
+type Row = (&'static [(u64, Step)], &'static str);
+
+fn rows_give<K: Key>(alloc: Global, rows: &[Row], sources: &[K; 4]) -> Result<(), Fail> {
+    for (steps, want) in rows {
+        let group = after_steps(alloc, steps, sources)?;
+        expect_line(shown(alloc, &group, sources), want)?;
+    }
+    Ok(())
+}
+
+/// A record at 1000: the new group, whether the group is asked, and the sources that are asked for.
+type Line = (Kind, &'static str, bool, &'static str);
+
+fn made_anew<K: Key>(
     alloc: Global,
     before: &Group<K>,
-    letters: &str,
+    set: &SourceSet<K>,
+    line: &Line,
     sources: &[K; 4],
-    rows: &[(Kind, &str, bool, &str)],
 ) -> Result<(), Fail> {
-    let set = named(alloc, letters, sources)?;
-    let (held, record) = (before.sources().len(), set.len());
-    expect(held <= 4 && record <= 4, "four sources at most")?;
-    for (kind, after, group_asked, asked) in rows {
-        let mut m = Meter::new();
-        let change = before.apply(alloc, *kind, &set, at(1000)?, &defaults()?, &mut m)?;
-        expect_line(shown(alloc, &change.group, sources), after)?;
-        expect(change.query_group == *group_asked, "Q(G)")?;
-        expect_line(letters_of(alloc, change.query.as_slice(), sources), asked)?;
-        let (low, high) = (held.min(record) as u64, (held + record) as u64);
-        expect(low <= m.spent() && m.spent() <= high, "comparisons")?;
+    let (kind, after, group_asked, asked) = *line;
+    let change = before.apply(alloc, kind, set, at(1000)?, &defaults()?, &mut Meter::new())?;
+    expect_line(shown(alloc, &change.group, sources), after)?;
+    expect(change.query_group == group_asked, "Q(G)")?;
+    expect_line(letters_of(alloc, change.query.as_slice(), sources), asked)
+}
 
-        let mut into = Group::with_room(alloc, 8)?;
-        let mut query = Vec::with_capacity(alloc, 8)?;
-        let is_asked = before.apply_into(
-            *kind,
-            &set,
-            at(1000)?,
-            &defaults()?,
-            &mut into,
-            &mut query,
-            &mut m,
-        );
-        expect_line(shown(alloc, &into, sources), after)?;
-        expect(is_asked == *group_asked, "Q(G)")?;
-        expect_line(letters_of(alloc, query.as_slice(), sources), asked)?;
+fn made_in_lent_storage<K: Key>(
+    alloc: Global,
+    before: &Group<K>,
+    set: &SourceSet<K>,
+    line: &Line,
+    sources: &[K; 4],
+) -> Result<(), Fail> {
+    let (kind, after, group_asked, asked) = *line;
+    let mut into = Group::with_room(alloc, 8)?;
+    let mut query = Vec::with_capacity(alloc, 8)?;
+    if before.sources().len() > 4 || set.len() > 4 {
+        return Err(Fail::from("four sources at most"));
+    }
+    let (now, timing) = (at(1000)?, defaults()?);
+    let mut m = Meter::new();
+    let is_asked = before.apply_into(kind, set, now, &timing, &mut into, &mut query, &mut m);
+    expect_line(shown(alloc, &into, sources), after)?;
+    expect(is_asked == group_asked, "Q(G)")?;
+    expect_line(letters_of(alloc, query.as_slice(), sources), asked)
+}
+
+fn lines_give<K: Key>(
+    alloc: Global,
+    steps: &[(u64, Step)],
+    letters: &str,
+    lines: &[Line],
+    sources: &[K; 4],
+) -> Result<(), Fail> {
+    let before = after_steps(alloc, steps, sources)?;
+    let set = named(alloc, letters, sources)?;
+    for line in lines {
+        made_anew(alloc, &before, &set, line, sources)?;
+        made_in_lent_storage(alloc, &before, &set, line, sources)?;
     }
     Ok(())
 }
 
 fn lines_of_include<K: Key>(alloc: Global, sources: &[K; 4]) -> Result<(), Fail> {
-    let before = recorded(
+    lines_give(
         alloc,
-        &Group::vacant(alloc),
-        (0, Kind::Allow, "ab"),
-        sources,
-    )?;
-    each_kind_gives(
-        alloc,
-        &before,
+        &[(0, Step::Record(Kind::Allow, "ab"))],
         "bc",
-        sources,
         &[
             (Kind::IsIn, "include a=260000 b=261000 c=261000", false, ""),
             (Kind::IsEx, "exclude 261000 b=260000 !c", false, ""),
@@ -193,50 +273,27 @@ fn lines_of_include<K: Key>(alloc: Global, sources: &[K; 4]) -> Result<(), Fail>
             (Kind::ToEx, "exclude 261000 b=260000 !c", false, "b"),
             (Kind::ToIn, "include a=260000 b=261000 c=261000", false, "a"),
         ],
+        sources,
     )
 }
 
 fn lines_of_exclude<K: Key>(alloc: Global, sources: &[K; 4]) -> Result<(), Fail> {
-    let started = recorded(alloc, &Group::vacant(alloc), (0, Kind::ToEx, "ab"), sources)?;
-    let before = recorded(alloc, &started, (500, Kind::Allow, "ad"), sources)?;
-    each_kind_gives(
+    lines_give(
         alloc,
-        &before,
-        "bcd",
-        sources,
         &[
-            (
-                Kind::IsIn,
-                "exclude 260000 a=260500 b=261000 c=261000 d=261000",
-                false,
-                "",
-            ),
-            (Kind::IsEx, "exclude 261000 !b c=261000 d=260500", false, ""),
-            (
-                Kind::Allow,
-                "exclude 260000 a=260500 b=261000 c=261000 d=261000",
-                false,
-                "",
-            ),
-            (
-                Kind::Block,
-                "exclude 260000 a=260500 !b c=260000 d=260500",
-                false,
-                "cd",
-            ),
-            (
-                Kind::ToEx,
-                "exclude 261000 !b c=260000 d=260500",
-                false,
-                "cd",
-            ),
-            (
-                Kind::ToIn,
-                "exclude 260000 a=260500 b=261000 c=261000 d=261000",
-                true,
-                "a",
-            ),
+            (0, Step::Record(Kind::ToEx, "ab")),
+            (500, Step::Record(Kind::Allow, "ad")),
         ],
+        "bcd",
+        &[
+            (Kind::IsIn, "exclude 260000 a=260500 b=261000 c=261000 d=261000", false, ""),
+            (Kind::IsEx, "exclude 261000 !b c=261000 d=260500", false, ""),
+            (Kind::Allow, "exclude 260000 a=260500 b=261000 c=261000 d=261000", false, ""),
+            (Kind::Block, "exclude 260000 a=260500 !b c=260000 d=260500", false, "cd"),
+            (Kind::ToEx, "exclude 261000 !b c=260000 d=260500", false, "cd"),
+            (Kind::ToIn, "exclude 260000 a=260500 b=261000 c=261000 d=261000", true, "a"),
+        ],
+        sources,
     )
 }
 
@@ -248,121 +305,160 @@ fn the_twelve_lines_for_both_families(rt: HostRuntime) -> Result<(), Fail> {
     lines_of_exclude(rt.alloc(), &sources_v6())
 }
 
-/// The end of timers: EXCLUDE with a until 300000 and b stopped, until 261000, and others.
 fn ends_of_timers<K: Key>(alloc: Global, sources: &[K; 4]) -> Result<(), Fail> {
-    let blocked = recorded(
+    rows_give(
         alloc,
-        &Group::vacant(alloc),
-        (1000, Kind::ToEx, "ab"),
+        &[
+            // EXCLUDE with a until 300000 and b stopped, until 261000.
+            (
+                &[
+                    (1000, Step::Record(Kind::ToEx, "ab")),
+                    (40000, Step::Record(Kind::Allow, "a")),
+                    (260999, Step::Expire),
+                ],
+                "exclude 261000 a=300000 !b",
+            ),
+            // The end of the group timer leaves the source that still runs.
+            (
+                &[
+                    (1000, Step::Record(Kind::ToEx, "ab")),
+                    (40000, Step::Record(Kind::Allow, "a")),
+                    (261000, Step::Expire),
+                ],
+                "include a=300000",
+            ),
+            (
+                &[
+                    (1000, Step::Record(Kind::ToEx, "ab")),
+                    (40000, Step::Record(Kind::Allow, "a")),
+                    (261000, Step::Expire),
+                    (300000, Step::Expire),
+                ],
+                "include",
+            ),
+            (
+                &[
+                    (1000, Step::Record(Kind::ToEx, "ab")),
+                    (40000, Step::Record(Kind::Allow, "a")),
+                    (300000, Step::Expire),
+                ],
+                "include",
+            ),
+            // In EXCLUDE a source that runs out stays, stopped; in INCLUDE it is removed.
+            (
+                &[
+                    (1000, Step::Record(Kind::ToEx, "ab")),
+                    (1001, Step::Record(Kind::Block, "c")),
+                    (1002, Step::Lower("c")),
+                    (3002, Step::Expire),
+                ],
+                "exclude 261000 !a !b !c",
+            ),
+            (
+                &[
+                    (0, Step::Record(Kind::Allow, "abc")),
+                    (1, Step::Record(Kind::Allow, "bd")),
+                    (260000, Step::Expire),
+                ],
+                "include b=260001 d=260001",
+            ),
+        ],
         sources,
-    )?;
-    for (rest, want) in [
-        ((260999, 0), "exclude 261000 a=300000 !b"),
-        // The end of the group timer leaves the source that still runs.
-        ((261000, 0), "include a=300000"),
-        ((261000, 300000), "include"),
-        ((300000, 0), "include"),
-    ] {
-        let mut group = recorded(alloc, &blocked, (40000, Kind::Allow, "a"), sources)?;
-        let mut m = Meter::new();
-        group.expire(at(rest.0)?, &mut m);
-        if rest.1 > 0 {
-            group.expire(at(rest.1)?, &mut m);
-        }
-        expect_line(shown(alloc, &group, sources), want)?;
-        expect(group.is_vacant() == (want == "include"), "vacant")?;
-        expect(m.spent() <= 8, "comparisons")?;
-    }
-    // In EXCLUDE a source that runs out stays, stopped; in INCLUDE it is removed.
-    let mut excluded = recorded(alloc, &blocked, (500, Kind::Allow, "cd"), sources)?;
-    excluded.expire(at(260500)?, &mut Meter::new());
-    expect_line(
-        shown(alloc, &excluded, sources),
-        "exclude 261000 !a !b !c !d",
-    )?;
-    let included = recorded(
-        alloc,
-        &Group::vacant(alloc),
-        (0, Kind::Allow, "abc"),
-        sources,
-    )?;
-    let mut included = recorded(alloc, &included, (1, Kind::Allow, "bd"), sources)?;
-    included.expire(at(260000)?, &mut Meter::new());
-    expect_line(
-        shown(alloc, &included, sources),
-        "include b=260001 d=260001",
     )
 }
 
-/// A Report of an older host at 1000, and what then comes of records and of a Leave.
 fn older_hosts<K: Key>(alloc: Global, sources: &[K; 4]) -> Result<(), Fail> {
-    let (v1, v2) = (
-        Hosts {
-            v1: true,
-            v2: false,
-        },
-        Hosts {
-            v1: false,
-            v2: true,
-        },
-    );
-    for (version, line, hosts) in [
-        (OlderVersion::V1, "exclude 261000 v1 261000", v1),
-        (OlderVersion::V2, "exclude 261000 v2 261000", v2),
-    ] {
-        let vacant = Group::vacant(alloc);
-        let mut group = recorded(alloc, &vacant, (1000, Kind::IsEx, ""), sources)?;
-        group.older(version, at(1000)?, &defaults()?);
-        expect_line(shown(alloc, &group, sources), line)?;
-        let mut m = Meter::new();
-        expect(
-            group.compat(at(260999)?, &mut m) == hosts,
-            "hosts before the end",
-        )?;
-        let none = Hosts {
-            v1: false,
-            v2: false,
-        };
-        expect(
-            group.compat(at(261000)?, &mut m) == none,
-            "hosts at the end",
-        )?;
-        expect(m.spent() <= 4, "comparisons")?;
-        // A record keeps the host-present timers.
-        let group = recorded(alloc, &group, (2000, Kind::ToIn, ""), sources)?;
-        expect_line(shown(alloc, &group, sources), line)?;
+    rows_give(
+        alloc,
+        &[
+            // A Report acts as IS_EX of nothing; records keep the host-present timers.
+            (
+                &[
+                    (1000, Step::Record(Kind::IsEx, "")),
+                    (1000, Step::Older(OlderVersion::V1)),
+                    (2000, Step::Record(Kind::ToIn, "")),
+                ],
+                "exclude 261000 v1 261000",
+            ),
+            (
+                &[
+                    (1000, Step::Record(Kind::IsEx, "")),
+                    (1000, Step::Older(OlderVersion::V2)),
+                    (2000, Step::Record(Kind::IsEx, "a")),
+                    (261000, Step::Expire),
+                ],
+                "exclude 262000 a=262000",
+            ),
+            // They go with their group.
+            (
+                &[
+                    (1000, Step::Record(Kind::IsEx, "")),
+                    (2000, Step::Older(OlderVersion::V2)),
+                    (261000, Step::Expire),
+                ],
+                "include",
+            ),
+        ],
+        sources,
+    )
+}
+
+fn queries_lower<K: Key>(alloc: Global, sources: &[K; 4]) -> Result<(), Fail> {
+    rows_give(
+        alloc,
+        &[
+            // Held and not, repeated, in any order; INCLUDE has no group timer.
+            (
+                &[
+                    (0, Step::Record(Kind::Allow, "abd")),
+                    (5000, Step::Lower("dcada")),
+                    (5000, Step::LowerGroup),
+                ],
+                "include a=7000 b=260000 d=7000",
+            ),
+            // No timer is lengthened, and no stopped one is started.
+            (
+                &[
+                    (0, Step::Record(Kind::ToEx, "ab")),
+                    (500, Step::Record(Kind::Allow, "a")),
+                    (5000, Step::Lower("ab")),
+                    (5000, Step::LowerGroup),
+                    (6000, Step::Lower("ab")),
+                    (6000, Step::LowerGroup),
+                ],
+                "exclude 7000 a=7000 !b",
+            ),
+        ],
+        sources,
+    )
+}
+
+#[test]
+fn ends_older_hosts_and_queries_for_both_families(rt: HostRuntime) -> Result<(), Fail> {
+    ends_of_timers(rt.alloc(), &sources_v4())?;
+    ends_of_timers(rt.alloc(), &sources_v6())?;
+    older_hosts(rt.alloc(), &sources_v4())?;
+    older_hosts(rt.alloc(), &sources_v6())?;
+    queries_lower(rt.alloc(), &sources_v4())?;
+    queries_lower(rt.alloc(), &sources_v6())
+}
+
+#[test]
+fn hosts_are_there_before_their_deadline(rt: HostRuntime) -> Result<(), Fail> {
+    let mut group: Group<Addr4> = Group::vacant(rt.alloc());
+    group.older(OlderVersion::V2, at(1000)?, &defaults()?);
+    let mut m = Meter::new();
+    for (ms, v2) in [(260999, true), (261000, false)] {
+        assert_eq!(rt; group.compat(at(ms)?, &mut m), Hosts { v1: false, v2 });
     }
+    assert_eq!(rt; m.spent(), 2);
     Ok(())
 }
 
 #[test]
-fn timers_end_for_both_families(rt: HostRuntime) -> Result<(), Fail> {
-    ends_of_timers(rt.alloc(), &sources_v4())?;
-    ends_of_timers(rt.alloc(), &sources_v6())
-}
-
-#[test]
-fn older_hosts_of_both_families(rt: HostRuntime) -> Result<(), Fail> {
-    older_hosts(rt.alloc(), &sources_v4())?;
-    older_hosts(rt.alloc(), &sources_v6())
-}
-
-#[test]
 fn records_under_older_hosts(rt: HostRuntime) {
-    let none = Hosts {
-        v1: false,
-        v2: false,
-    };
-    let (v1, v2) = (
-        Hosts {
-            v1: true,
-            v2: false,
-        },
-        Hosts {
-            v1: false,
-            v2: true,
-        },
-    );
+    let none = Hosts { v1: false, v2: false };
+    let (v1, v2) = (Hosts { v1: true, v2: false }, Hosts { v1: false, v2: true });
     for (kind, hosts, mutes, want) in [
         (Kind::Block, none, true, Some((Kind::Block, false))),
         (Kind::Block, v2, true, None),
@@ -382,66 +478,38 @@ fn records_under_older_hosts(rt: HostRuntime) {
     }
 }
 
-/// Sources asked for by a query of another router at 5000: held and not, repeated, in any order.
-fn queries_lower<K: Key>(alloc: Global, sources: &[K; 4]) -> Result<(), Fail> {
-    let mut group = recorded(
-        alloc,
-        &Group::vacant(alloc),
-        (0, Kind::Allow, "abd"),
-        sources,
-    )?;
-    let [a, _, c, d] = *sources;
-    for asked in [d, c, a, d, a] {
-        let mut m = Meter::new();
-        group.lower_source(asked, at(5000)?, &defaults()?, &mut m);
-        expect(m.spent() <= 3, "comparisons")?;
-    }
-    expect_line(
-        shown(alloc, &group, sources),
-        "include a=7000 b=260000 d=7000",
-    )?;
-    // What would lengthen a timer leaves it, and a group timer isn't one of INCLUDE.
-    group.lower_source(a, at(6000)?, &defaults()?, &mut Meter::new());
-    group.lower_group(at(6000)?, &defaults()?, &mut Meter::new());
-    expect_line(
-        shown(alloc, &group, sources),
-        "include a=7000 b=260000 d=7000",
-    )?;
-    let mut group = recorded(alloc, &group, (1000, Kind::ToEx, "bc"), sources)?;
-    let mut m = Meter::new();
-    group.lower_group(at(5000)?, &defaults()?, &mut m);
-    group.lower_group(at(6000)?, &defaults()?, &mut m);
-    group.lower_source(c, at(5000)?, &defaults()?, &mut m);
-    expect_line(shown(alloc, &group, sources), "exclude 7000 b=260000 !c")?;
-    expect(m.spent() <= 5, "comparisons")
-}
-
-#[test]
-fn queries_lower_for_both_families(rt: HostRuntime) -> Result<(), Fail> {
-    queries_lower(rt.alloc(), &sources_v4())?;
-    queries_lower(rt.alloc(), &sources_v6())
-}
-
 fn numbered(number: u16) -> Addr4 {
     let [high, low] = number.to_be_bytes();
     Addr4::from_octets([10, 1, high, low])
 }
 
-/// A group of many sources: all allowed at 0 and blocked at 1000, by one record each.
+/// A group of the sources whose numbers are multiples of a step, allowed at 0, and how many
+/// comparisons that took.
+fn numbered_group(alloc: Global, count: u16, step: u16) -> Result<(Group<Addr4>, u64), Fail> {
+    let set = numbered_set(alloc, count, step)?;
+    let mut m = Meter::new();
+    let vacant = Group::vacant(alloc);
+    let change = vacant.apply(alloc, Kind::Allow, &set, at(0)?, &defaults()?, &mut m)?;
+    Ok((change.group, m.spent()))
+}
+
+fn numbered_set(alloc: Global, count: u16, step: u16) -> Result<SourceSet<Addr4>, Fail> {
+    let mut set = SourceSet::empty(alloc);
+    for turn in 0..count {
+        set.insert(numbered(turn.wrapping_mul(step)), 1024, &mut Meter::new())?;
+    }
+    Ok(set)
+}
+
+/// All sources of a large group are allowed and then blocked, by one record each.
 #[test]
 fn large_groups(rt: HostRuntime) -> Result<(), Fail> {
-    let alloc = rt.alloc();
     for size in [366, 1024] {
-        let mut set = SourceSet::empty(alloc);
-        for number in 0..size {
-            set.insert(numbered(number), 1024, &mut Meter::new())?;
-        }
-        let vacant = Group::vacant(alloc);
+        let (group, spent) = numbered_group(rt.alloc(), size, 1)?;
+        assert_eq!(rt; spent, 0);
+        let set = numbered_set(rt.alloc(), size, 1)?;
         let mut m = Meter::new();
-        let allowed = vacant.apply(alloc, Kind::Allow, &set, at(0)?, &defaults()?, &mut m)?;
-        assert_eq!(rt; m.spent(), 0);
-        let group = allowed.group;
-        let blocked = group.apply(alloc, Kind::Block, &set, at(1000)?, &defaults()?, &mut m)?;
+        let blocked = group.apply(rt.alloc(), Kind::Block, &set, at(1000)?, &defaults()?, &mut m)?;
         assert_eq!(rt; blocked.query.len(), usize::from(size));
         assert_eq!(rt; m.spent(), u64::from(size));
         assert_eq!(rt; blocked.group.sources().len(), usize::from(size));
@@ -449,23 +517,16 @@ fn large_groups(rt: HostRuntime) -> Result<(), Fail> {
     Ok(())
 }
 
-/// As many sources as a query can name, to be lowered in a group that holds some of them.
+/// As many sources as a query can name, to be lowered in a group that holds 366 of them.
 #[test]
 fn every_source_that_a_query_can_name(rt: HostRuntime) -> Result<(), Fail> {
-    let alloc = rt.alloc();
-    let mut set = SourceSet::empty(alloc);
-    for number in 0..366 {
-        set.insert(numbered(100 * number), 366, &mut Meter::new())?;
-    }
-    let vacant = Group::vacant(alloc);
+    let (mut group, _) = numbered_group(rt.alloc(), 366, 100)?;
     let mut m = Meter::new();
-    let mut group = vacant
-        .apply(alloc, Kind::Allow, &set, at(0)?, &defaults()?, &mut m)?
-        .group;
+    let (now, timing) = (at(5000)?, defaults()?);
     for number in 0..65535 {
-        group.lower_source(numbered(number), at(5000)?, &defaults()?, &mut m);
+        group.lower_source(numbered(number), now, &timing, &mut m);
     }
-    assert!(rt; m.spent() <= 65535 * 10);
+    assert!(rt; m.spent() <= 655350);
     // All of them end at 7000.
     group.expire(at(7000)?, &mut m);
     assert!(rt; group.is_vacant());
@@ -474,25 +535,16 @@ fn every_source_that_a_query_can_name(rt: HostRuntime) -> Result<(), Fail> {
 
 #[test]
 fn forwarding(rt: HostRuntime) -> Result<(), Fail> {
-    let (alloc, sources) = (rt.alloc(), sources_v4());
-    let included = recorded(
-        alloc,
-        &Group::vacant(alloc),
-        (0, Kind::Allow, "ab"),
-        &sources,
-    )?;
-    let excluded = recorded(
-        alloc,
-        &Group::vacant(alloc),
-        (0, Kind::ToEx, "ab"),
-        &sources,
-    )?;
-    let excluded = recorded(alloc, &excluded, (500, Kind::Allow, "a"), &sources)?;
-    for (place, from_included, from_excluded) in [
-        (0, true, true),
-        (1, true, false),
-        (2, false, true),
-    ] {
+    let sources = sources_v4();
+    let included = after_steps(rt.alloc(), &[(0, Step::Record(Kind::Allow, "ab"))], &sources)?;
+    let steps = [
+        (0, Step::Record(Kind::ToEx, "ab")),
+        (500, Step::Record(Kind::Allow, "a")),
+    ];
+    let excluded = after_steps(rt.alloc(), &steps, &sources)?;
+    for (place, from_included, from_excluded) in
+        [(0, true, true), (1, true, false), (2, false, true)]
+    {
         let mut m = Meter::new();
         assert_eq!(rt; included.forwards(sources[place], &mut m), from_included);
         assert_eq!(rt; excluded.forwards(sources[place], &mut m), from_excluded);
@@ -504,56 +556,68 @@ fn forwarding(rt: HostRuntime) -> Result<(), Fail> {
 /// A head and a row are the group, also in storage that is lent.
 #[test]
 fn heads_and_rows(rt: HostRuntime) -> Result<(), Fail> {
-    let (alloc, sources) = (rt.alloc(), sources_v4());
-    let mut group = recorded(
-        alloc,
-        &Group::vacant(alloc),
-        (0, Kind::ToEx, "ab"),
-        &sources,
-    )?;
-    group.older(OlderVersion::V2, at(0)?, &defaults()?);
-    let mut lent = Group::with_room(alloc, 4)?;
+    let sources = sources_v4();
+    let steps = [
+        (0, Step::Record(Kind::ToEx, "ab")),
+        (0, Step::Older(OlderVersion::V2)),
+    ];
+    let group = after_steps(rt.alloc(), &steps, &sources)?;
+    let mut lent = Group::with_room(rt.alloc(), 4)?;
     let row = group.row();
     assert!(rt; row.len() <= 4);
     lent.load(group.head(), row);
-    assert_eq!(rt;
-        shown(alloc, &lent, &sources)?.as_slice(),
-        b"exclude 260000 !a !b v2 260000".as_slice()
-    );
-    Ok(())
+    expect_line(shown(rt.alloc(), &lent, &sources), "exclude 260000 !a !b v2 260000")
+}
+
+/// The four sources, also where the first request for memory is refused.
+fn all_four(alloc: Global) -> Result<SourceSet<Addr4>, Fail> {
+    let mut set = SourceSet::empty(alloc);
+    for source in &sources_v4() {
+        if set.insert(*source, 4, &mut Meter::new()).is_err() {
+            set.insert(*source, 4, &mut Meter::new())?;
+        }
+    }
+    Ok(set)
+}
+
+/// The group after a record, also where a request for memory is refused, which leaves the group as it
+/// was.
+fn recorded_at_last(
+    alloc: Global,
+    group: &Group<Addr4>,
+    kind: Kind,
+    set: &SourceSet<Addr4>,
+) -> Result<Group<Addr4>, Fail> {
+    let size = group.sources().len();
+    let (now, timing) = (at(0)?, defaults()?);
+    match group.apply(alloc, kind, set, now, &timing, &mut Meter::new()) {
+        Ok(change) => Ok(change.group),
+        Err(Memory) => {
+            expect(group.sources().len() == size, "as it was")?;
+            Ok(group.apply(alloc, kind, set, now, &timing, &mut Meter::new())?.group)
+        }
+    }
 }
 
 /// Passes whichever request for memory is refused: `rt try --test --fail-alloc N` refuses the Nth.
 #[test]
 fn a_refused_growth_leaves_the_group_as_it_was(rt: HostRuntime) -> Result<(), Fail> {
-    let (alloc, sources) = (rt.alloc(), sources_v4());
-    let mut set = SourceSet::empty(alloc);
-    for source in sources {
-        if set.insert(source, 4, &mut Meter::new()).is_err() {
-            set.insert(source, 4, &mut Meter::new())?;
-        }
-    }
-    let mut m = Meter::new();
-    let mut group = Group::vacant(alloc);
+    let set = all_four(rt.alloc())?;
+    let mut group = Group::vacant(rt.alloc());
     for kind in [Kind::Allow, Kind::ToIn, Kind::Block, Kind::ToEx] {
-        let size = group.sources().len();
-        let first = group.apply(alloc, kind, &set, at(0)?, &defaults()?, &mut m);
-        let change = match first {
-            Ok(change) => change,
-            Err(Memory) => {
-                assert_eq!(rt; group.sources().len(), size, "as it was");
-                group.apply(alloc, kind, &set, at(0)?, &defaults()?, &mut m)?
-            }
-        };
-        assert_eq!(rt; change.group.sources().len(), 4);
-        group = change.group;
+        group = recorded_at_last(rt.alloc(), &group, kind, &set)?;
+        assert_eq!(rt; group.sources().len(), 4);
     }
-    // A record that leaves no source wants no memory.
-    let empty = SourceSet::empty(alloc);
-    let left = group.apply(alloc, Kind::IsEx, &empty, at(0)?, &defaults()?, &mut m);
-    assert!(rt; left.is_ok());
-    if Group::<Addr4>::with_room(alloc, 4).is_err() {
-        assert!(rt; Group::<Addr4>::with_room(alloc, 4).is_ok(), "the next try");
-    }
+    Ok(())
+}
+
+/// A record that leaves no source wants no memory.
+#[test]
+fn a_record_of_nothing_wants_no_memory(rt: HostRuntime) -> Result<(), Fail> {
+    let vacant: Group<Addr4> = Group::vacant(rt.alloc());
+    let none = SourceSet::empty(rt.alloc());
+    let mut m = Meter::new();
+    let change = vacant.apply(rt.alloc(), Kind::IsEx, &none, at(0)?, &defaults()?, &mut m);
+    assert!(rt; change.is_ok());
     Ok(())
 }
