@@ -196,9 +196,9 @@ fn after_steps<K: Key>(
 }
 
 /// Steps from a group that isn't held, and the line of the group after them.
-type Row = (&'static [(u64, Step)], &'static str);
+type Row<'a> = (&'a [(u64, Step)], &'a str);
 
-fn rows_give<K: Key>(alloc: Global, rows: &[Row], sources: &[K; 4]) -> Result<(), Fail> {
+fn rows_give<'a, K: Key>(alloc: Global, rows: &'a [Row<'a>], sources: &[K; 4]) -> Result<(), Fail> {
     for (steps, want) in rows {
         let group = after_steps(alloc, steps, sources)?;
         expect_line(shown(alloc, &group, sources), want)?;
@@ -286,12 +286,37 @@ fn lines_of_exclude<K: Key>(alloc: Global, sources: &[K; 4]) -> Result<(), Fail>
         ],
         "bcd",
         &[
-            (Kind::IsIn, "exclude 260000 a=260500 b=261000 c=261000 d=261000", false, ""),
+            (
+                Kind::IsIn,
+                "exclude 260000 a=260500 b=261000 c=261000 d=261000",
+                false,
+                "",
+            ),
             (Kind::IsEx, "exclude 261000 !b c=261000 d=260500", false, ""),
-            (Kind::Allow, "exclude 260000 a=260500 b=261000 c=261000 d=261000", false, ""),
-            (Kind::Block, "exclude 260000 a=260500 !b c=260000 d=260500", false, "cd"),
-            (Kind::ToEx, "exclude 261000 !b c=260000 d=260500", false, "cd"),
-            (Kind::ToIn, "exclude 260000 a=260500 b=261000 c=261000 d=261000", true, "a"),
+            (
+                Kind::Allow,
+                "exclude 260000 a=260500 b=261000 c=261000 d=261000",
+                false,
+                "",
+            ),
+            (
+                Kind::Block,
+                "exclude 260000 a=260500 !b c=260000 d=260500",
+                false,
+                "cd",
+            ),
+            (
+                Kind::ToEx,
+                "exclude 261000 !b c=260000 d=260500",
+                false,
+                "cd",
+            ),
+            (
+                Kind::ToIn,
+                "exclude 260000 a=260500 b=261000 c=261000 d=261000",
+                true,
+                "a",
+            ),
         ],
         sources,
     )
@@ -457,8 +482,20 @@ fn hosts_are_there_before_their_deadline(rt: HostRuntime) -> Result<(), Fail> {
 
 #[test]
 fn records_under_older_hosts(rt: HostRuntime) {
-    let none = Hosts { v1: false, v2: false };
-    let (v1, v2) = (Hosts { v1: true, v2: false }, Hosts { v1: false, v2: true });
+    let none = Hosts {
+        v1: false,
+        v2: false,
+    };
+    let (v1, v2) = (
+        Hosts {
+            v1: true,
+            v2: false,
+        },
+        Hosts {
+            v1: false,
+            v2: true,
+        },
+    );
     for (kind, hosts, mutes, want) in [
         (Kind::Block, none, true, Some((Kind::Block, false))),
         (Kind::Block, v2, true, None),
@@ -509,7 +546,14 @@ fn large_groups(rt: HostRuntime) -> Result<(), Fail> {
         assert_eq!(rt; spent, 0);
         let set = numbered_set(rt.alloc(), size, 1)?;
         let mut m = Meter::new();
-        let blocked = group.apply(rt.alloc(), Kind::Block, &set, at(1000)?, &defaults()?, &mut m)?;
+        let blocked = group.apply(
+            rt.alloc(),
+            Kind::Block,
+            &set,
+            at(1000)?,
+            &defaults()?,
+            &mut m,
+        )?;
         assert_eq!(rt; blocked.query.len(), usize::from(size));
         assert_eq!(rt; m.spent(), u64::from(size));
         assert_eq!(rt; blocked.group.sources().len(), usize::from(size));
@@ -536,15 +580,21 @@ fn every_source_that_a_query_can_name(rt: HostRuntime) -> Result<(), Fail> {
 #[test]
 fn forwarding(rt: HostRuntime) -> Result<(), Fail> {
     let sources = sources_v4();
-    let included = after_steps(rt.alloc(), &[(0, Step::Record(Kind::Allow, "ab"))], &sources)?;
+    let included = after_steps(
+        rt.alloc(),
+        &[(0, Step::Record(Kind::Allow, "ab"))],
+        &sources,
+    )?;
     let steps = [
         (0, Step::Record(Kind::ToEx, "ab")),
         (500, Step::Record(Kind::Allow, "a")),
     ];
     let excluded = after_steps(rt.alloc(), &steps, &sources)?;
-    for (place, from_included, from_excluded) in
-        [(0, true, true), (1, true, false), (2, false, true)]
-    {
+    for (place, from_included, from_excluded) in [
+        (0, true, true),
+        (1, true, false),
+        (2, false, true),
+    ] {
         let mut m = Meter::new();
         assert_eq!(rt; included.forwards(sources[place], &mut m), from_included);
         assert_eq!(rt; excluded.forwards(sources[place], &mut m), from_excluded);
@@ -566,7 +616,10 @@ fn heads_and_rows(rt: HostRuntime) -> Result<(), Fail> {
     let row = group.row();
     assert!(rt; row.len() <= 4);
     lent.load(group.head(), row);
-    expect_line(shown(rt.alloc(), &lent, &sources), "exclude 260000 !a !b v2 260000")
+    expect_line(
+        shown(rt.alloc(), &lent, &sources),
+        "exclude 260000 !a !b v2 260000",
+    )
 }
 
 /// The four sources, also where the first request for memory is refused.
@@ -594,7 +647,11 @@ fn recorded_at_last(
         Ok(change) => Ok(change.group),
         Err(Memory) => {
             expect(group.sources().len() == size, "as it was")?;
-            Ok(group.apply(alloc, kind, set, now, &timing, &mut Meter::new())?.group)
+            Ok(
+                group
+                    .apply(alloc, kind, set, now, &timing, &mut Meter::new())?
+                    .group,
+            )
         }
     }
 }
