@@ -1,19 +1,16 @@
 # Builds, runs and tests `mquerier`. `rt` is the command of the Rattle toolchain.
 
 PREFIX ?= /usr/local
-SOURCES := $(shell find crates -path '*/out' -prune -o -type f -print) crates.txt
+SOURCES := $(shell tools/build --sources)
 FIRST_PATH := message igmp 1600f8faef010203
 
 .PHONY: all run test install clean
 
 all: bin/mquerier
 
-# Proves the crates, builds the program, and runs it once.
+# Proves the crates that the program stands on, builds it, and runs it once.
 bin/mquerier: $(SOURCES)
-	@mkdir -p bin
-	@echo 'proving and building $@ (bin/build.log)' >&2
-	@cd crates/mquerier && rt run -- $(FIRST_PATH) > ../../bin/build.log 2>&1 || { cat ../../bin/build.log; exit 1; }
-	@cp crates/mquerier/out/mquerier $@
+	@tools/build $(FIRST_PATH)
 
 # The line of one message.
 run: bin/mquerier
@@ -21,10 +18,7 @@ run: bin/mquerier
 
 # The whole gate. Its last line counts what passed.
 test:
-	tools/refused/check
-	tools/refuse-growths
-	tools/refuse-allocations $(FIRST_PATH)
-	rt ci
+	@tools/gate
 
 install: bin/mquerier
 	install -d $(DESTDIR)$(PREFIX)/bin

@@ -1,9 +1,9 @@
--- What is known of a watched stream: what it is round, whether a call has failed, and how many bytes its
--- reads have handed out.
+-- What is known of a watched stream: the stream that it watches, whether a call has failed, and how many
+-- bytes its reads have handed out.
 use Rattle.std.specs.Prelude.{ℕ, ◌+◌, ◌-◌, ◌^◌, ◌==◌, ◌&&◌, nat_lt, length, min, Bool, true, List, Result, Ok, Err}
 use Rattle.mq_count.specs.declared.streams.Watched.{Watched}
 
--- the reader or writer that it is round
+-- the reader or writer that it watches
 abbrev pub inner_of : {T : Type 0} → Watched T → T
 inner_of w = w.inner
 

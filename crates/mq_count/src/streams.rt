@@ -8,8 +8,8 @@ ghost use Rattle.std.specs.Io.KnownBytes.{Keeps, ReadConsumes, WriteAppends};
 use std::io;
 use std::io::{Read, Write};
 
-/// A reader or a writer, and what its calls have come to. It passes each call on, and changes no
-/// answer.
+/// A reader or a writer, and what its calls have come to: it makes each call on the stream that it
+/// watches, and gives back the answer.
 #[derive(Drop)]
 pub struct Watched<T> {
     inner: T,
@@ -20,7 +20,7 @@ pub struct Watched<T> {
 impl<T> Watched<T> {
     ghost use Rattle.mq_count.specs.Streams.{inner_of, has_failed, taken_from};
 
-    /// Round a reader or a writer, none of whose calls has failed yet.
+    /// Watches a reader or a writer, none of whose calls has failed yet.
     pub fn new(inner: T) -> Watched<T>
         ensures inner { inner_of result ≡ inner }
         ensures failed { has_failed result ≡ false }
@@ -84,8 +84,8 @@ impl<W: Write> Write for Watched<W> {
         ensures taken { taken_from self.new ≡ taken_from self.old }
     {
         let answer = self.inner.write(buf);
-        let took_none = matches!(&answer, Ok(0)) && !buf.is_empty();
-        if answer.is_err() || took_none {
+        let refused_all = matches!(&answer, Ok(0)) && !buf.is_empty();
+        if answer.is_err() || refused_all {
             self.failed = true;
         }
         answer

@@ -1,5 +1,6 @@
--- Which router of a link asks the hosts: the one of the lowest address (RFC 3376 sections 6.6.2 and 8,
--- RFC 3810 sections 7.6.2 and 9).
+-- Which router of a link asks the hosts: the one of the lowest address (RFC 3376 section 6.6.2, RFC 3810
+-- section 7.6.2), for as long as it is heard (sections 8.5 and 9.5). The S flag of a query does not suppress
+-- the election (sections 4.1.5 and 5.1.7).
 use Rattle.std.specs.Prelude.{ℕ, ◌+◌, ◌-◌, Bool, true, false, not, ◌&&◌, ◌||◌, if◌then◌else◌, nat_lt, nat_le, ◌==◌, List, [], ◌∷◌, Option, None, Some}
 use Rattle.mq_table.specs.declared.timing.Timing.{Timing}
 use Rattle.mq_table.specs.Timing.{query_interval, other_querier_present, startup_interval, startup_count}
@@ -20,7 +21,8 @@ abbrev pub is_querier : Role → Bool
 is_querier (Querier due startup_queries) = true
 is_querier (Other deadline) = false
 
--- at its start a router is querier, and all queries of startup are to go (RFC 3376 section 8.7)
+-- at its start a router is querier (RFC 2236 section 3, whose election RFC 3376 section 6.6.2 takes; RFC 3810
+-- section 7.6.2), and all queries of startup are to go (sections 8.7 and 9.7)
 abbrev pub election_at : Timing → ℕ → ElectionState
 election_at configured start =
     record { role = Querier start (startup_count configured); timing = configured }
@@ -79,7 +81,8 @@ general_is_due now (Querier due startup_queries) = nat_le due now
 general_is_due now (Other deadline) = false
 
 -- After a general query the next is due after the startup interval, while queries of startup are still
--- to go, and else after the query interval.
+-- to go, and else after the query interval (RFC 3376 sections 8.2, 8.6 and 8.7, RFC 3810 sections 9.2, 9.6
+-- and 9.7).
 abbrev pub after_general : Timing → ℕ → Role → Role
 after_general timing now (Querier due startup_queries) =
     let interval = if nat_lt 1 startup_queries then startup_interval timing else query_interval timing in

@@ -60,7 +60,8 @@ abbrev pub source_cleared : SourceTimer → SourceTimer
 source_cleared Stopped = Stopped
 source_cleared (Running d n) = Running d 0
 
--- a router that is no longer querier drops all that was to go, and no timer
+-- a router that is no longer querier drops all that was to go (RFC 3376 section 6.6.2, RFC 3810 section
+-- 7.6.2), and no timer
 abbrev pub cleared : ScheduledGroup → ScheduledGroup
 cleared e =
     let g = e.group in

@@ -14,7 +14,8 @@ use Rattle.mq_table.specs.Lowering.{lowered_to, group_lowered}
 use Rattle.mq_sched.specs.Schedule.{QuerySchedule, ScheduleState, ScheduledGroup, some_source, has_sendings, settled}
 
 -- A query that a router sends: general, to a group, or to a group for some of its sources, which
--- ascend. `s` is the flag Suppress Router-Side Processing: routers that hear it lower nothing.
+-- ascend (RFC 3376 section 4.1.11, RFC 3810 section 5.1.13). `s` is the flag Suppress Router-Side Processing:
+-- routers that hear it lower nothing (sections 4.1.5 and 5.1.7).
 pub data SentQuery : Type 0 where
   GeneralQuery : SentQuery
   GroupQuery : (group : ℕ) (s : Bool) → SentQuery
@@ -60,7 +61,8 @@ sources_asked timing now asked e =
       };
     }
 
--- the queries of a line of the tables are sent by the querier alone
+-- the queries of a line of the tables are sent by the querier alone (RFC 3376 sections 6.4.2 and 6.6.3.2,
+-- RFC 3810 sections 7.1 and 7.4.2)
 abbrev pub acted : (is_querier : Bool) → Timing → ℕ → (query_group : Bool) → (query : Set)
     → ScheduledGroup → ScheduledGroup
 acted false timing now query_group query e = e

@@ -27,9 +27,12 @@ FoundHasNumber {X} number = (xs : List X) (n : ℕ) → IfSome (item_with number
 
 -- the finite map from the items' numbers to a value of each has at a number the value of the item there
 abbrev pub MapsEachNumber : {X : Type 0} → (V : Type 0) → (X → ℕ) → Type 0
-MapsEachNumber {X} V number = (value : X → V) (xs : List X) (n : ℕ) → map_of.get {R = nat_cmp} (map_of.from_entries (map (λ x. (number x, value x)) xs)) n ≡ option_map value (item_with number xs n)
+MapsEachNumber {X} V number =
+    (value : X → V) (xs : List X) (n : ℕ)
+    → map_of.get {R = nat_cmp} (map_of.from_entries (map (λ x. (number x, value x)) xs)) n ≡ option_map value (item_with number xs n)
 
 -- an ascending list is known by its set: two of one set are equal
 abbrev pub KnownBySet : {X : Type 0} → (X → ℕ) → Type 0
 KnownBySet {X} number =
-    (xs ys : List X) → IsAscending number xs → IsAscending number ys → ((n : ℕ) → set_of number xs n ≡ set_of number ys n) → xs ≡ ys
+    (xs ys : List X) → IsAscending number xs → IsAscending number ys
+    → ((n : ℕ) → set_of number xs n ≡ set_of number ys n) → xs ≡ ys

@@ -12,7 +12,8 @@ abbrev pub merged_lists : {L R : Type 0} → (L → ℕ) → (R → ℕ) → Lis
 merged_lists left_number right_number [] right = map (λ y. (None, Some y)) right
 merged_lists left_number right_number (x ∷ left) right =
     map (λ y. (None, Some y)) (filter (λ y. nat_lt (right_number y) (left_number x)) right)
-    ++ (Some x, item_with right_number right (left_number x)) ∷ merged_lists left_number right_number left (filter (λ y. nat_lt (left_number x) (right_number y)) right)
+    ++ (Some x, item_with right_number right (left_number x))
+    ∷ merged_lists left_number right_number left (filter (λ y. nat_lt (left_number x) (right_number y)) right)
 
 abbrev pub merged : {L R : Type 0} → (L → ℕ) → (R → ℕ) → Sides L R → List (Option L × Option R)
 merged left_number right_number sides = merged_lists left_number right_number sides.left sides.right
@@ -32,7 +33,7 @@ abbrev pub right_of : {L R : Type 0} → Option (Merged L R) → List R
 right_of None = []
 right_of (Some p) = option_to_list (pair_of p).1
 
--- how many comparisons one call makes: one while both sides have an item left
+-- how many comparisons one call makes: one while neither side is used up
 abbrev pub comparisons_of : {L R : Type 0} → Sides L R → ℕ
 comparisons_of sides = min 1 (min (length sides.left) (length sides.right))
 
@@ -40,7 +41,7 @@ comparisons_of sides = min 1 (min (length sides.left) (length sides.right))
 abbrev pub have_both_sides : {L R : Type 0} → List (Option L × Option R) → Bool
 have_both_sides pairs = list_any (λ p. is_some p.0) pairs && list_any (λ p. is_some p.1) pairs
 
--- how many of the pairs are handed out while both sides have an item left
+-- how many of the pairs are handed out while neither side is used up
 abbrev pub comparisons_along : {L R : Type 0} → List (Option L × Option R) → ℕ
 comparisons_along [] = 0
 comparisons_along (p ∷ pairs) = (if have_both_sides (p ∷ pairs) then 1 else 0) + comparisons_along pairs

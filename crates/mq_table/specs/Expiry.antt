@@ -1,5 +1,5 @@
--- What the end of timers does to a group (RFC 3376 sections 6.2.2, 6.3 and 6.5, RFC 3810 sections
--- 7.2.2, 7.2.3 and 7.5). A timer has run out when its deadline is at or before now.
+-- What the end of timers does to a group (RFC 3376 sections 6.2.2, 6.2.3, 6.3, 6.5 and 7.3.2, RFC 3810
+-- sections 7.2.2, 7.2.3, 7.3, 7.5 and 8.3.2). A timer has run out when its deadline is at or before now.
 use Rattle.std.specs.Prelude.{ℕ, if◌then◌else◌, nat_lt, Option, None, Some}
 use Rattle.std.specs.Option.{option_and_then}
 use Rattle.mq_table.specs.Maps.{kept}

@@ -6,9 +6,10 @@ use Rattle.std.specs.FinMap.{FinMap}
 use Rattle.mq_table.specs.Sets.{Set}
 -- The timer of a source: stopped, so at zero, which the tables write as a source of Y; or running
 -- until a deadline, which they write as a source of X. A running one has a number of
--- group-and-source-specific queries that are still to go for it (RFC 3376 section 6.6.3.2). The filter
--- mode; in EXCLUDE with the deadline of the group timer, which RFC 3810 calls the filter timer (RFC 3376
--- sections 6.2.1 and 6.2.2, RFC 3810 sections 7.2.1 and 7.2.2).
+-- group-and-source-specific queries that are still to go for it (RFC 3376 sections 6.2.3 and 6.6.3.2,
+-- RFC 3810 sections 7.2.3 and 7.6.3.2). The filter mode; in EXCLUDE with the deadline of the group timer,
+-- which RFC 3810 calls the filter timer (RFC 3376 sections 6.2.1 and 6.2.2, RFC 3810 sections 7.2.1 and
+-- 7.2.2).
 pub use Rattle.mq_table.specs.declared.timers.SourceTimer.{SourceTimer}
 pub use Rattle.mq_table.specs.declared.timers.SourceTimer.TheVariants.{Stopped, Running}
 pub use Rattle.mq_table.specs.declared.timers.FilterMode.{FilterMode}
@@ -62,7 +63,8 @@ sendings_of (Some (Running d n)) = n
 abbrev pub timer_at : GroupState → ℕ → Option SourceTimer
 timer_at g s = map.get g.sources s
 
--- X, the sources with a running timer
+-- X, the sources with a running timer (RFC 3376 section 6.4.1, RFC 3810 sections 7.2.1 and 7.4.1). The
+-- standards say "above zero"; a timer that has run out is stopped or removed before a table is read.
 abbrev pub running : GroupState → Set
 running g s = is_running (timer_at g s)
 
@@ -79,14 +81,16 @@ wants (Exclude d) timer = not (is_stopped timer)
 abbrev pub forwards_in : GroupState → Set
 forwards_in g s = wants g.mode (timer_at g s)
 
--- INCLUDE({}), the state of every group that isn't held
+-- INCLUDE({}), the state of every group that isn't held: this project's; the standards only say that no
+-- source is forwarded then (RFC 3376 section 6.3)
 abbrev pub vacant : GroupState
 vacant = record { mode = Include; sources = map.empty; v1 = None; v2 = None }
 
 abbrev pub is_vacant : GroupState → Bool
 is_vacant g = is_include g.mode && map.len g.sources == 0
 
--- A group that is held: INCLUDE has a source, and none that is stopped.
+-- A group that is held: INCLUDE has a source, and none that is stopped (RFC 3376 sections 6.2.3 and 6.3,
+-- RFC 3810 sections 7.2.3 and 7.3).
 pub record IsWellFormed (g : GroupState) : Type 0 where
   pub has_source : g.mode ≡ Include → (s : ℕ) × IsTrue (running g s)
   pub none_stopped : g.mode ≡ Include → (s : ℕ) → stopped g s ≡ false

@@ -33,8 +33,8 @@ sources_lowered timing now asked g =
     record g { sources = kept timer_of g.sources }
 
 -- What a specific query of another router lowers: with the S flag set nothing; else the group timer,
--- or, where it asks for sources, their timers. Queries of IGMPv2 and MLDv1 have no S flag and count
--- as clear.
+-- or, where it asks for sources, their timers (RFC 3376 sections 4.1.5 and 6.6.1, RFC 3810 sections
+-- 5.1.7 and 7.6.1). Queries of IGMPv2 and MLDv1 have no S flag and count as clear.
 abbrev pub lowered_by_query : Timing → ℕ → (s : Bool) → Option Set → GroupState → GroupState
 lowered_by_query timing now true asked g = g
 lowered_by_query timing now false None g = group_lowered timing now g

@@ -1,4 +1,4 @@
--- Sets of sources, each as the test for its members. RFC 3376 section 6.4 and RFC 3810 section 7.4
+-- Sets of sources, each as the test for its members. RFC 3376 section 4.2.15 and RFC 3810 section 5.2.12
 -- write A+B for A ∪ B, A*B for A ∩ B and A-B for A ∖ B.
 use Rattle.std.specs.Prelude.{ℕ, Bool, false, not, ◌&&◌, ◌||◌}
 

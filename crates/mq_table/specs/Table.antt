@@ -1,5 +1,6 @@
 -- What a record makes of its group: the tables of RFC 3376 sections 6.4.1 and 6.4.2, and of
--- RFC 3810 sections 7.4.1 and 7.4.2.
+-- RFC 3810 sections 7.4.1 and 7.4.2. They are read of a group whose ended timers have been worked off, so
+-- that the sources with a running timer are those whose timer is above zero.
 use Rattle.std.specs.Prelude.{◌≡◌, ℕ, ◌+◌, Bool, true, false, if◌then◌else◌, Option, None, Some}
 use Rattle.std.specs.Option.{unwrap_or}
 use Rattle.std.specs.Ordering.{nat_cmp}
@@ -13,14 +14,16 @@ use Rattle.mq_table.specs.Maps.{by_rule}
 use Rattle.mq_table.specs.Group.{GroupState, FilterMode, Include, Exclude, SourceTimer, Stopped, Running, running, stopped, timer_at, group_deadline, deadline_of, sendings_of}
 use Rattle.mq_table.specs.Timing.{membership_interval}
 
--- the sources that a record names; how often it names one doesn't matter
+-- the sources that a record names (RFC 3376 sections 4.2.9 and 4.2.15, RFC 3810 sections 5.2.9 and 5.2.12);
+-- how often it names one doesn't matter
 abbrev pub NamedSources : Type 0
 NamedSources = FinSet nat_cmp
 
 -- One line of the tables: the new state, INCLUDE(x) or EXCLUDE(x,y), and the actions. The timers of
 -- the sources of `restart` are set to the group membership interval, those of `copy` to the group timer
--- from before the record; Q(G,query) is sent where `query` has a source, and Q(G) where `query_group`
--- says so. The actions "(B-A)=0" and "delete" are in the new X and Y, "group timer=GMI" is in the mode.
+-- from before the record. A querier sends Q(G,query), for those of `query` whose timers are above the last
+-- member query time, and Q(G) where `query_group` says so. The actions "(B-A)=0" and "delete" are in the new
+-- X and Y, "group timer=GMI" is in the mode.
 pub record Line : Type 0 where
   pub mode : FilterMode
   pub x : Set

@@ -6,7 +6,7 @@
 
 ghost use Rattle.std.specs.Prelude.{◌≡◌, [], ◌∷◌, true, false, Some, None, IfSome};
 ghost use Rattle.std.specs.FinSet as set;
-ghost use Rattle.mq_table.specs.Group.{Include, Exclude, Stopped, vacant};
+ghost use Rattle.mq_table.specs.Group.{Include, Exclude, Stopped, forwards_in, vacant};
 ghost use Rattle.mq_table.specs.Timing.{membership_interval, older_host_present, other_querier_present, startup_interval, startup_count, last_member_count, last_member_time};
 ghost use Rattle.mq_table.specs.Table.{change_of};
 ghost use Rattle.mq_table.specs.OlderHosts.{translated_change, older_report, older_leave};
@@ -78,6 +78,17 @@ pub fn lines_of_exclude()
         (group_in (Exclude 260000) ((1, until 260500) ∷ (2, until 261000) ∷ (3, until 261000)
         ∷ (4, until 261000) ∷ []))
         true (1 ∷ []) }
+{}
+
+/// What is forwarded: in INCLUDE the sources held, in EXCLUDE all but the stopped ones, and nothing of a
+/// group that isn't held.
+pub fn forwarding()
+    ensures held_by_include { forwards_in included 1 ≡ true }
+    ensures not_held_by_include { forwards_in included 3 ≡ false }
+    ensures running_in_exclude { forwards_in excluded 1 ≡ true }
+    ensures stopped_in_exclude { forwards_in excluded 2 ≡ false }
+    ensures not_held_by_exclude { forwards_in excluded 3 ≡ true }
+    ensures of_no_group { forwards_in vacant 1 ≡ false }
 {}
 
 /// What is computed of the defaults, and of other values of the variables.

@@ -1,14 +1,17 @@
 //! Laws of the definitions. No function here does anything: its contract is the law, for every
 //! group, moment, timing and record.
 
-ghost use Rattle.std.specs.Prelude.{◌≡◌, ℕ, ◌+◌, ◌≤◌, true, false, not, ◌||◌, ◌⊎◌, Some, None, IsSome, IsTrue};
+ghost use Rattle.std.specs.Prelude.{◌≡◌, Bool, ℕ, ◌+◌, ◌≤◌, true, false, not, ◌||◌, ◌⊎◌, Some, None, IsSome, IsTrue};
 ghost use Rattle.std.specs.FinSet as set;
+ghost use Rattle.mq_table.specs.declared.kind.Kind.{Kind};
+ghost use Rattle.mq_table.specs.declared.older_hosts.Hosts.{Hosts};
 ghost use Rattle.mq_table.specs.declared.timing.Timing.{Timing};
 ghost use Rattle.mq_count.specs.declared.versions.OlderVersion.{OlderVersion};
 ghost use Rattle.mq_table.specs.Sets.{Set, ◌∪◌};
 ghost use Rattle.mq_table.specs.Group.{GroupState, running, timer_at, deadline_of, sendings_of, group_deadline, forwards_in, vacant, IsWellFormed, IsAnyGroup};
 ghost use Rattle.mq_table.specs.Timing.{membership_interval};
-ghost use Rattle.mq_table.specs.OlderHosts.{older_report};
+ghost use Rattle.mq_table.specs.Table.{NamedSources};
+ghost use Rattle.mq_table.specs.OlderHosts.{translated, older_report};
 ghost use Rattle.mq_table.specs.Expiry.{expired};
 ghost use Rattle.mq_table.specs.Lowering.{group_lowered, sources_lowered};
 ghost use Rattle.mq_table.specs.Laws.{Arrival, line_for, group_after, ForwardsAfter, IsNoLater, AllAhead};
@@ -93,6 +96,41 @@ pub fn forwards_after_each_kind()
     ensures block { ForwardsAfter Kind.Block (λ named before. before) }
 
     ensures not_held { (s : ℕ) → forwards_in vacant s ≡ false }
+{}
+
+/// What a record of each kind comes to while older hosts are there, in IGMP (where version 1 mutes
+/// Leave) and in MLD.
+pub fn older_hosts_translate_each_kind()
+    // What is muted is ignored under any hosts.
+    ensures muted { (mutes : Bool) (hosts : Hosts) (kind : Kind) (named : NamedSources)
+        → translated mutes true hosts kind named ≡ None }
+
+    // Where there are none, each other record is what it says.
+    ensures none { (mutes : Bool) (kind : Kind) (named : NamedSources)
+        → translated mutes false (record { v1 = false; v2 = false }) kind named ≡ Some (kind, named) }
+
+    // Hosts of either version can't leave single sources out.
+    ensures block { (mutes : Bool) (hosts : Hosts) (named : NamedSources)
+        → (hosts.v1 || hosts.v2) ≡ true → translated mutes false hosts Kind.Block named ≡ None }
+    ensures to_ex { (mutes : Bool) (hosts : Hosts) (named : NamedSources)
+        → (hosts.v1 || hosts.v2) ≡ true
+        → translated mutes false hosts Kind.ToEx named ≡ Some (Kind.ToEx, set.empty) }
+
+    // TO_IN is ignored under hosts of version 1 in IGMP, and nowhere else.
+    ensures to_in_under_v1 { (hosts : Hosts) (named : NamedSources)
+        → hosts.v1 ≡ true → translated true false hosts Kind.ToIn named ≡ None }
+    ensures to_in_under_v2 { (mutes : Bool) (hosts : Hosts) (named : NamedSources)
+        → hosts.v1 ≡ false → translated mutes false hosts Kind.ToIn named ≡ Some (Kind.ToIn, named) }
+    ensures to_in_of_mld { (hosts : Hosts) (named : NamedSources)
+        → translated false false hosts Kind.ToIn named ≡ Some (Kind.ToIn, named) }
+
+    // The others are what they say under any hosts.
+    ensures is_in { (mutes : Bool) (hosts : Hosts) (named : NamedSources)
+        → translated mutes false hosts Kind.IsIn named ≡ Some (Kind.IsIn, named) }
+    ensures is_ex { (mutes : Bool) (hosts : Hosts) (named : NamedSources)
+        → translated mutes false hosts Kind.IsEx named ≡ Some (Kind.IsEx, named) }
+    ensures allow { (mutes : Bool) (hosts : Hosts) (named : NamedSources)
+        → translated mutes false hosts Kind.Allow named ≡ Some (Kind.Allow, named) }
 {}
 
 /// Lowering starts and ends no timer, and none runs longer than before.

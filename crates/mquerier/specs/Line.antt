@@ -32,8 +32,3 @@ pub record PrintsHexLine (old new : Option (List ℕ)) (text : List ℕ) (flag :
   pub decoded : decode_of text ≡ Ok bytes
   pub is_line : IsLineOf bytes flag line
   pub grows : Appends old new line
-
--- the line of a message was printed
-pub record PrintsSomeLine (old new : Option (List ℕ)) : Type 0 where
-  pub text : List ℕ
-  pub printed : PrintsHexLine old new text true

@@ -9,18 +9,15 @@
 //! streams; `main` runs it on the program's own words and streams.
 #![tactic(auto)]
 
-mod command;
 mod lines;
 mod printing;
 mod program;
-#[cfg(test)]
-mod tests;
 mod text;
 
 pub use lines::igmp_line;
 use mq_count::Watched;
 pub use printing::LineFault;
-pub use program::run;
+pub use program::{perform, run};
 use std::io::{BufWriter, ErrorKind, Write};
 use std::process::ExitCode;
 use std::{env, io};

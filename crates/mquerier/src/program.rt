@@ -3,14 +3,14 @@
 ghost use Rattle.std.specs.Prelude.{◌≡◌, ◌≤◌, Err, true, IfOk, IsErr};
 ghost use Rattle.hex.specs.Hex.{decode_of};
 ghost use Rattle.mq_count.specs.Streams.{inner_of, has_failed};
-ghost use Rattle.mquerier.specs.Line.{PrintsHexLine, PrintsSomeLine};
-ghost use Rattle.mquerier.specs.Status.{status_of, Told, IsFaulty};
+ghost use Rattle.mquerier.specs.Line.{PrintsHexLine};
+ghost use Rattle.mquerier.specs.Status.{Stream, status_of, Told, hex_of, IsFaulty, Performs, Runs};
 
-use crate::command::{Request, request_of};
 use crate::lines::igmp_line;
 use crate::printing::print;
 use clap::error::ErrorKind;
 use hex::FromHexError;
+use mq_command::{Request, request_of};
 use mq_count::Watched;
 use std::alloc::Global;
 use std::convert::AsStr;
@@ -58,37 +58,47 @@ impl Failure {
     }
 }
 
-/// Does what the words ask for, the program's name the first of them, and answers the status: 0 where
-/// it is done; 1 where the input is faulty, the output fails or memory runs out; 2 where the command
-/// line is faulty or help is asked for. The input isn't read yet. A write to `errors` that fails
-/// changes no status.
+/// Reads the words, the program's name the first of them, and then performs what they ask for:
+/// `request_of` and `perform`, one after the other. A command line that is refused, or that asks for
+/// help, has the text of `clap` on `errors` and the status 2, and leaves the output as it was.
 pub fn run<S: AsStr, R: Read, W: Write, E: Write>(
     alloc: Global,
     words: &[S],
+    input: &mut Watched<R>,
+    output: &mut Watched<W>,
+    errors: &mut Watched<E>,
+) -> u8
+    ensures runs { let out : Stream = record { before = W.contents (inner_of output.old); after = W.contents (inner_of output.new); failed = has_failed output.new } in
+        let err : Stream = record { before = E.contents (inner_of errors.old); after = E.contents (inner_of errors.new); failed = has_failed errors.new } in
+        Runs out err result }
+    ensures refused { result ≡ 2 → output.new ≡ output.old }
+{
+    match request_of(alloc, words) {
+        Ok(request) => perform(alloc, &request, input, output, errors),
+        Err(error) if error.kind() == ErrorKind::OutOfMemory => told(Failure::Memory, errors),
+        Err(error) => {
+            let _ = write!(errors, "{error}");
+            REFUSED
+        }
+    }
+}
+
+/// Does what is asked for, and answers the status: 0 where it is done; 1 where the input is faulty, the
+/// output fails or memory runs out; 2 where the request is faulty. The input isn't read yet. A write to
+/// `errors` that fails changes no status.
+pub fn perform<R: Read, W: Write, E: Write>(
+    alloc: Global,
+    request: &Request<'_>,
     _input: &mut Watched<R>,
     output: &mut Watched<W>,
     errors: &mut Watched<E>,
 ) -> u8
-    ensures status { result ≤ 2 }
-    // What is done is a message's line.
-    ensures done { result ≡ 0 → PrintsSomeLine (W.contents (inner_of output.old)) (W.contents (inner_of output.new)) }
-    // What is faulty is told: the line of a message's fault, or what failed.
-    ensures faulty { result ≡ 1 → IsFaulty
-        (W.contents (inner_of output.old)) (W.contents (inner_of output.new)) (has_failed output.new)
-        (E.contents (inner_of errors.old)) (E.contents (inner_of errors.new)) (has_failed errors.new) }
+    ensures performs { let out : Stream = record { before = W.contents (inner_of output.old); after = W.contents (inner_of output.new); failed = has_failed output.new } in
+        let err : Stream = record { before = E.contents (inner_of errors.old); after = E.contents (inner_of errors.new); failed = has_failed errors.new } in
+        Performs request.now out err result }
     // What is refused leaves the output as it was.
     ensures refused { result ≡ 2 → output.new ≡ output.old }
 {
-    let request = match request_of(alloc, words) {
-        Ok(request) => request,
-        Err(error) if error.kind() == ErrorKind::OutOfMemory => {
-            return told(Failure::Memory, errors);
-        }
-        Err(error) => {
-            let _ = write!(errors, "{error}");
-            return REFUSED;
-        }
-    };
     let Request::Message { hex } = request;
     match message(alloc, hex, output) {
         Ok(true) => DONE,
@@ -117,7 +127,8 @@ fn message<W: Write>(alloc: Global, hex: &str, output: &mut Watched<W>) -> Resul
 /// Says on standard error what failed, and answers the status.
 fn told<E: Write>(failure: Failure, errors: &mut Watched<E>) -> u8
     ensures status { result ≡ status_of failure }
-    ensures line { Told (E.contents (inner_of errors.old)) (E.contents (inner_of errors.new)) (has_failed errors.new) failure }
+    ensures line { let err : Stream = record { before = E.contents (inner_of errors.old); after = E.contents (inner_of errors.new); failed = has_failed errors.new } in
+        Told err failure }
 {
     let _ = print(failure.line().as_bytes(), errors);
     failure.status()

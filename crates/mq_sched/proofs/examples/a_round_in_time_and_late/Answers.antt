@@ -1,19 +1,12 @@
-use Rattle.std.proofs.Common.{[], ◌∷◌}
-use Rattle.std.specs.FinMap.{gets}
+use Rattle.std.proofs.Common.{[], ◌∷◌, None, Some, refl}
+use Rattle.mq_table.specs.declared.timers.FilterMode.TheVariants.{Include}
 use Rattle.mq_table.specs.declared.timers.SourceTimer.TheVariants.{Running}
-use Rattle.mq_table.specs.Examples.{until}
-use Rattle.mq_table.proofs.Maps.{keys-from_entries, kept-from_entries}
-use Rattle.mq_sched.specs.Sending.{source_counted}
+use Rattle.mq_sched.specs.Examples.{refreshed}
+use Rattle.mq_sched.proofs.Explicit.{known_sends}
 use Rattle.mq_sched.proofs.examples.a_round_in_time_and_late.Goals as goal
 
 pub returns-clause-late : goal.returns-clause-late
-returns-clause-late c = record {
-  queries_sent = rw (keys-from_entries ((1, Running 262500 1) ∷ (2, Running 4000 1) ∷ []) tt) (simp gets);
-  leaves = rw (kept-from_entries (λ _. source_counted) ((1, Running 262500 1) ∷ (2, Running 4000 1) ∷ [])) (rw (keys-from_entries ((1, until 262500) ∷ (2, until 4000) ∷ []) tt) (simp gets));
-}
+returns-clause-late c = known_sends 3900 Include ((1, Running 262500 1) ∷ (2, Running 4000 1) ∷ []) None None refreshed.schedule tt tt refl refl
 
 pub returns-clause-late_with_more_to_go : goal.returns-clause-late_with_more_to_go
-returns-clause-late_with_more_to_go c = record {
-  queries_sent = rw (keys-from_entries ((1, Running 262500 2) ∷ []) tt) (simp gets);
-  leaves = rw (kept-from_entries (λ _. source_counted) ((1, Running 262500 2) ∷ [])) (rw (keys-from_entries ((1, Running 262500 1) ∷ []) tt) (simp gets));
-}
+returns-clause-late_with_more_to_go c = known_sends 5500 Include ((1, Running 262500 2) ∷ []) None None (record { group_query = None; sources_due = Some 3000 }) tt tt refl refl

@@ -1,4 +1,5 @@
-//! The command line.
+//! The command line of `mquerier`, by `clap`: what it asks for, and its help.
+#![tactic(auto)]
 
 use clap::builder::ValueParser;
 use clap::error::ErrorKind;
@@ -7,6 +8,7 @@ use std::alloc::{AllocError, Global};
 use std::convert::AsStr;
 
 /// What the command line asks for.
+#[derive(Clone, Copy)]
 pub enum Request<'a> {
     /// The line of one IGMP message, whose bytes are given in hexadecimal.
     Message {
@@ -18,6 +20,11 @@ pub enum Request<'a> {
 /// What the words ask for, the program's name the first of them, or what `clap` says of them.
 pub fn request_of<'a, S: AsStr>(alloc: Global, words: &'a [S]) -> Result<Request<'a>, Error> {
     let mut command = command(alloc)?;
+    asked(&mut command, words)
+}
+
+// (The command and what it matched are locals of two functions: a proof over both takes far longer.)
+fn asked<'a, S: AsStr>(command: &mut Command<'a>, words: &'a [S]) -> Result<Request<'a>, Error> {
     let matches = command.try_get_matches_from_mut(words)?;
     let hex = matches
         .subcommand_matches("message")
@@ -64,18 +71,24 @@ A fault is one of: 1 truncated at N, where the field that begins at byte N isn't
 3 unknown type; 4 query length. Its line goes to standard output too, and the status is then 1.";
 
 fn message<'a>(alloc: Global) -> Result<Command<'a>, AllocError> {
-    let family = Arg::new(alloc, "FAMILY")
-        .required(true)
-        .value_parser(ValueParser::Names(FAMILIES.as_slice()))
-        .help("The protocol of the message");
-    let hex = Arg::new(alloc, "HEX")
-        .required(true)
-        .help("The message in hexadecimal, without the IP header");
     Command::new(alloc, "message")
         .about(MESSAGE_ABOUT)
         .after_help(MESSAGE_AFTER_HELP)
-        .arg(family)?
-        .arg(hex)
+        .arg(family(alloc))?
+        .arg(hex(alloc))
+}
+
+fn family<'a>(alloc: Global) -> Arg<'a> {
+    Arg::new(alloc, "FAMILY")
+        .required(true)
+        .value_parser(ValueParser::Names(FAMILIES.as_slice()))
+        .help("The protocol of the message")
 }
 
 static FAMILIES: [&str; 1] = ["igmp"];
+
+fn hex<'a>(alloc: Global) -> Arg<'a> {
+    Arg::new(alloc, "HEX")
+        .required(true)
+        .help("The message in hexadecimal, without the IP header")
+}
