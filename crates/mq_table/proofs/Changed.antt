@@ -16,7 +16,7 @@ use Rattle.mq_table.specs.declared.rules.Rule.{Rule}
 use Rattle.mq_table.specs.declared.sources.Source.{Source}
 use Rattle.mq_table.specs.declared.timing.Timing.{Timing}
 use Rattle.mq_table.specs.Sets.{Set}
-use Rattle.mq_table.specs.Group.{GroupState, FilterMode, Include, Exclude, SourceTimer, is_running, is_stopped, running, stopped, timer_at}
+use Rattle.mq_table.specs.Group.{GroupState, FilterMode, Include, Exclude, SourceTimer, running, stopped, timer_at}
 use Rattle.mq_table.specs.Timing.{membership_interval}
 use Rattle.mq_table.specs.Table.{line, timer_by, change_of}
 use Rattle.mq_table.specs.AtSource.{timer_after, is_asked_after, mode_after, asks_group_after}

@@ -1,5 +1,5 @@
 -- What the end of timers leaves of a list of sources.
-use Rattle.std.proofs.Common.{◌≡◌, ℕ, List, Option, None, Some, ap}
+use Rattle.std.proofs.Common.{◌≡◌, ℕ, List, Option, ap}
 use Rattle.std.specs.List.{filter_map}
 use Rattle.std.specs.Option.{option_and_then}
 use Rattle.mq_sets.specs.Ascending.{IsAscending}

@@ -1,17 +1,15 @@
 -- Lists of sources that are made of other lists, source by source.
-use Rattle.std.proofs.Common.{◌≡◌, ℕ, zero, suc, ◌+◌, ◌≤◌, ◌<◌, ◌==◌, Bool, true, false, cond, List, [], ◌∷◌, ◌++◌, length, set, get_or, take, drop, Option, None, Some, refl, sym, ap, ◌∙◌, arith, ⊎_elim}
+use Rattle.std.proofs.Common.{◌≡◌, ℕ, zero, suc, ◌+◌, ◌≤◌, ◌<◌, ◌==◌, false, cond, List, [], ◌∷◌, ◌++◌, length, set, get_or, take, drop, Option, None, Some, refl, sym, ap, ◌∙◌, arith, ⊎_elim}
 use Rattle.std.specs.List.{All, filter_map, cons_option}
 use Rattle.std.proofs.lemmas.List.{append-nil, take_more, take_more_set, drop_more, drop-set-lt}
 use Rattle.std.specs.Option.{option_map, option_and_then, option_to_list, IfSome}
-use Rattle.std.specs.Ordering.{nat_cmp}
-use Rattle.std.specs.FinMap as map
 use Rattle.std.proofs.lemmas.Bool.{eq-eqb}
 use Rattle.std.proofs.lemmas.Bool.Decides.{eqb_tells}
 use Rattle.std.proofs.lemmas.Option.{none-some}
 use Rattle.std.proofs.lemmas.List.Elements.{All-head, All-tail, filter_map-append}
 use Rattle.mq_sets.specs.Ascending.{IsAscending, item_with}
 use Rattle.mq_sets.specs.Rules.{KeepsNumbers}
-use Rattle.mq_sets.proofs.Ascents.{IsAscending-head, IsAscending-tail, below-eqb, above-eqb}
+use Rattle.mq_sets.proofs.Ascents.{IsAscending-tail, below-eqb, above-eqb}
 use Rattle.mq_sets.proofs.Found.{found_has_number}
 use Rattle.mq_sets.proofs.Rules.{item_with-filter_map}
 use Rattle.mq_table.specs.declared.sources.Source.{Source}

@@ -1,7 +1,7 @@
 -- What becomes of each source of a list, where nothing is added to it.
-use Rattle.std.specs.Prelude.{ℕ, ◌==◌, if◌then◌else◌, Option, None, Some}
+use Rattle.std.specs.Prelude.{ℕ, ◌==◌, if◌then◌else◌, Option, Some}
 use Rattle.mq_table.specs.declared.sources.Source.{Source}
-use Rattle.mq_table.specs.Group.{FilterMode, SourceTimer}
+use Rattle.mq_table.specs.Group.{FilterMode}
 use Rattle.mq_table.specs.Expiry.{source_expired}
 use Rattle.mq_table.specs.Lowering.{source_lowered}
 use Rattle.mq_table.specs.MergedRecord.{source_with}

@@ -1,7 +1,6 @@
 -- What a record makes of each pair of a merge: of the group's source, if it holds it, and the record's
 -- source, if it names it.
-use Rattle.std.specs.Prelude.{ℕ, Bool, true, false, if◌then◌else◌, is_some, Option, None, Some}
-use Rattle.std.specs.Option.{option_map}
+use Rattle.std.specs.Prelude.{true, if◌then◌else◌, is_some, Option, None, Some}
 use Rattle.mq_table.specs.declared.rules.Rule.{Rule}
 use Rattle.mq_table.specs.declared.sources.Source.{Source}
 use Rattle.mq_table.specs.Group.{SourceTimer}

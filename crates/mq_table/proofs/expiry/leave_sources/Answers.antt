@@ -1,4 +1,4 @@
-use Rattle.std.proofs.Common.{Option, ◌≡◌, ◌+◌, ◌<◌, ◌∙◌, length, ap, sym, arith}
+use Rattle.std.proofs.Common.{Option, ◌+◌, ◌<◌, ◌∙◌, length, ap, sym, arith}
 use Rattle.std.proofs.Math.ListN.{length-set}
 use Rattle.mq_count.proofs.Spent.{Spends-join_within}
 use Rattle.mq_table.specs.declared.sources.Source.{Source}

@@ -1,4 +1,4 @@
-use Rattle.std.proofs.Common.{◌≡◌, ◌+◌, ◌<◌, ◌∙◌, List, Result, Ok, Err, length, sym, ap, refl, arith}
+use Rattle.std.proofs.Common.{◌+◌, ◌∙◌, List, Result, Ok, Err, ap, refl, arith}
 use Rattle.std.specs.List.{filter_map}
 use Rattle.std.specs.Result.{OnErr}
 use Rattle.mq_sets.specs.Merging.{merged_lists}

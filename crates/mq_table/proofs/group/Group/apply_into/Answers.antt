@@ -1,4 +1,4 @@
-use Rattle.std.proofs.Common.{◌≡◌, ◌+◌, ◌≤◌, length, vec_capacity, sym, ap, ◌∙◌, arith}
+use Rattle.std.proofs.Common.{◌≡◌, ◌+◌, length, vec_capacity, ap, ◌∙◌, arith}
 use Rattle.std.specs.List.{filter_map}
 use Rattle.mq_sets.specs.Ascending.{IsAscending}
 use Rattle.mq_sets.specs.Merging.{merged_lists}

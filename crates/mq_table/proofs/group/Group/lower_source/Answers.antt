@@ -1,9 +1,7 @@
-use Rattle.std.proofs.Common.{◌≡◌, ℕ, ◌+◌, ◌==◌, ◌∙◌, length, set, get_or, ap, sym, refl, arith, Some}
-use Rattle.std.specs.List.{filter_map}
+use Rattle.std.proofs.Common.{◌≡◌, ◌+◌, ◌∙◌, set, ap, arith}
 use Rattle.mq_count.proofs.Spent.{Spends-within, Spends-join_within}
 use Rattle.mq_table.specs.declared.sources.Source.{Source}
 use Rattle.mq_table.specs.Lowering.{lowered_to, source_lowered}
-use Rattle.mq_table.specs.MadeSources.{source_lowered_at}
 use Rattle.mq_table.proofs.SourceLists.{len-timers_in, get-absent}
 use Rattle.mq_table.proofs.MadeLists.{lowered_in_place, lowered_state, unlowered}
 use Rattle.mq_table.proofs.group.Group.lower_source.Goals as goal

@@ -1,4 +1,3 @@
-use Rattle.std.proofs.Common.{◌≡◌}
 use Rattle.mq_table.proofs.SourceLists.{len-timers_in}
 use Rattle.mq_table.proofs.group.Group.row.Goals as goal
 
