@@ -1,3 +1,4 @@
+pub mod InRuns
 pub mod Rounds
 pub mod Asked
 pub mod Fits
@@ -5,3 +6,4 @@ pub mod Explicit
 pub mod Ascending
 pub mod Electing
 pub mod StayHeld
+pub mod RunsOfRounds

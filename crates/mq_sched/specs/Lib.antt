@@ -1,4 +1,5 @@
 pub mod Schedule
+pub mod Runs
 pub mod Sending
 pub mod Announcement
 pub mod Election
