@@ -7,3 +7,4 @@ pub mod Ascending
 pub mod Electing
 pub mod StayHeld
 pub mod RunsOfRounds
+pub mod RowSendings

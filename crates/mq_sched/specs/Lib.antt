@@ -1,4 +1,5 @@
 pub mod Schedule
+pub mod StoredSchedule
 pub mod Runs
 pub mod Sending
 pub mod Announcement

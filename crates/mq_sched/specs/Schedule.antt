@@ -9,7 +9,6 @@ use Rattle.mq_table.specs.declared.timers.FilterMode.TheVariants.{Include}
 use Rattle.mq_table.specs.declared.timers.SourceTimer.{SourceTimer}
 use Rattle.mq_table.specs.declared.timers.SourceTimer.TheVariants.{Stopped, Running}
 use Rattle.mq_table.specs.Group.{GroupState, is_include, timer_at, sendings_of}
-
 -- how many sendings of a query are still to go, and when the next is due
 pub use Rattle.mq_sched.specs.declared.queries.QuerySchedule.{QuerySchedule}
 

@@ -2,7 +2,9 @@
 
 ghost use Rattle.std.specs.Prelude.{◌≡◌, ◌+◌, ◌*◌, ◌^◌, ◌≤◌, Some};
 ghost use Rattle.mq_count.specs.Spending.{Spends};
-ghost use Rattle.mq_sched.specs.Schedule.{ScheduledGroup, no_schedule, settled};
+ghost use Rattle.mq_sched.specs.Schedule.{ScheduledGroup, no_schedule, some_source, has_sendings, settled};
+ghost use Rattle.mq_sched.specs.StoredSchedule.{item_has_sendings};
+ghost use Rattle.std.specs.List.{list_any};
 ghost use Rattle.mq_sched.specs.Sending.{group_asked};
 
 use crate::queries::QuerySchedule;
@@ -78,4 +80,35 @@ impl Schedule {
             });
         }
     }
+
+    /// Drops what a record or the end of timers has left without its ground: the group query of a
+    /// group that is INCLUDE, and the moment for sources where none has a sending to go. No
+    /// comparison.
+    pub fn settle<K: Key>(&mut self, group: &Group<K>)
+        ensures { self.new ≡ settled group.now.state self.old }
+    {
+        if let FilterMode::Include = group.mode() {
+            self.group_query = None;
+        }
+        if !has_sendings(group) {
+            self.sources_due = None;
+        }
+    }
+}
+
+/// Whether some source of the list has a sending to go.
+fn any_has_sendings<K: Key>(row: &[Source<K>]) -> bool
+    ensures { result ≡ list_any item_has_sendings row.now }
+{
+    row.iter().any(|x| match x.timer {
+        SourceTimer::Running(_, sendings) => 0 < sendings,
+        SourceTimer::Stopped => false,
+    })
+}
+
+/// Whether some source of the group has a sending to go.
+fn has_sendings<K: Key>(group: &Group<K>) -> bool
+    ensures { result ≡ some_source (has_sendings group.now.state) group.now.state }
+{
+    any_has_sendings(group.sources())
 }
