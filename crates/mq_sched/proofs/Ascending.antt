@@ -1,5 +1,5 @@
 -- The sources of a query ascend.
-use Rattle.std.proofs.Common.{ℕ, zero, suc, ◌+◌, ◌<◌, Bool, true, false, cond, ◌&&◌, List, [], ◌∷◌, ◌++◌, length, arith, add-one}
+use Rattle.std.proofs.Common.{ℕ, zero, suc, ◌+◌, ◌<◌, Bool, true, false, cond, ◌&&◌, List, [], ◌∷◌, ◌++◌, length, drop, arith, add-one}
 use Rattle.std.specs.Prelude.{map as list_map}
 use lib.Dec.{T}
 use Rattle.std.proofs.lemmas.List.Kept.{IsStrictlyIncreasing-filter}
@@ -13,8 +13,11 @@ use Rattle.mq_table.specs.Sets.{Set, ◌∩◌, ◌∖◌}
 use Rattle.mq_table.specs.Group.{GroupState, group_deadline, is_ahead}
 use Rattle.mq_table.specs.Lowering.{lowered_to}
 use Rattle.mq_sched.specs.Schedule.{ScheduledGroup, has_sendings}
-use Rattle.mq_sched.specs.Sending.{SentQuery, GeneralQuery, GroupQuery, SourcesQuery, above, is_due, group_due, sources_where, sources_query, source_messages, group_messages, messages_due}
+use Rattle.mq_sched.specs.Sending.{SentQuery, GeneralQuery, GroupQuery, SourcesQuery, above, is_due, group_due, sources_where, sources_queries, source_messages, group_messages, messages_due}
 use Rattle.mq_sched.specs.Laws.{AscendIn}
+use Rattle.mq_sched.specs.Runs.{runs_within}
+use Rattle.std.proofs.lemmas.List.{length-take}
+use Rattle.mq_sched.proofs.InRuns.{increasing-take, increasing-drop}
 
 first_part : (a b : Bool) → T (a && b) → T a
 first_part true b h = tt
@@ -42,22 +45,24 @@ ascend_append (GeneralQuery ∷ xs) ys a b = ascend_append xs ys a b
 ascend_append (GroupQuery g f ∷ xs) ys a b = ascend_append xs ys a b
 ascend_append (SourcesQuery g f ss ∷ xs) ys a b = (a.0, a.1, ascend_append xs ys a.2 b)
 
-ascend_query : (group : ℕ) (flag : Bool) (xs : List ℕ) → IsStrictlyIncreasing xs → AscendIn (sources_query group flag xs)
-ascend_query group flag [] up = tt
-ascend_query group flag (x ∷ xs) up = (omega arith, up, tt)
+ascend_runs : (most n group : ℕ) (flag : Bool) (xs : List ℕ) → 0 < n → IsStrictlyIncreasing xs → AscendIn (list_map (SourcesQuery group flag) (runs_within most n xs))
+ascend_runs most n group flag [] positive up = tt
+ascend_runs zero n group flag (x ∷ xs) positive up = tt
+ascend_runs (suc most) n group flag (x ∷ xs) positive up =
+    (omega (arith, length-take n (x ∷ xs)), increasing-take n (x ∷ xs) up, ascend_runs most n group flag (drop n (x ∷ xs)) positive (increasing-drop n (x ∷ xs) up))
 
 -- a round has queries or it has none
 ascend_if : (b : Bool) (queries : List SentQuery) → AscendIn queries → AscendIn (cond b queries [])
 ascend_if true queries a = a
 ascend_if false queries a = tt
 
-ascend_where : (group : ℕ) (flag : Bool) (test : Set) (g : GroupState) → AscendIn (sources_query group flag (sources_where test g))
-ascend_where group flag test g = ascend_query group flag (sources_where test g) (IsStrictlyIncreasing-filter test (map.keys g.sources) (keys_ascend g.sources))
+ascend_where : (n group : ℕ) (flag : Bool) (test : Set) (g : GroupState) → 0 < n → AscendIn (sources_queries n group flag (sources_where test g))
+ascend_where n group flag test g positive = ascend_runs (length (sources_where test g)) n group flag (sources_where test g) positive (IsStrictlyIncreasing-filter test (map.keys g.sources) (keys_ascend g.sources))
 
-pub messages_ascend : (timing : Timing) (now group : ℕ) (e : ScheduledGroup) → AscendIn (messages_due timing now group e)
-messages_ascend timing now group e =
+pub messages_ascend : (n : ℕ) (timing : Timing) (now group : ℕ) (e : ScheduledGroup) → 0 < n → AscendIn (messages_due n timing now group e)
+messages_ascend n timing now group e positive =
     let g = e.group in
-    ascend_append (group_messages timing now group e) (source_messages timing now group e)
+    ascend_append (group_messages timing now group e) (source_messages n timing now group e)
     (ascend_if (is_due now (group_due e.schedule.group_query)) (GroupQuery group (is_ahead (lowered_to timing now) (group_deadline g.mode)) ∷ []) tt)
-    (ascend_if (is_due now e.schedule.sources_due) _ (ascend_append (sources_query group true (sources_where (has_sendings g ∩ above timing now g) g)) (sources_query group false (sources_where (has_sendings g ∖ above timing now g) g))
-    (ascend_where group true (has_sendings g ∩ above timing now g) g) (ascend_where group false (has_sendings g ∖ above timing now g) g)))
+    (ascend_if (is_due now e.schedule.sources_due) _ (ascend_append (sources_queries n group true (sources_where (has_sendings g ∩ above timing now g) g)) (sources_queries n group false (sources_where (has_sendings g ∖ above timing now g) g))
+    (ascend_where n group true (has_sendings g ∩ above timing now g) g positive) (ascend_where n group false (has_sendings g ∖ above timing now g) g positive)))

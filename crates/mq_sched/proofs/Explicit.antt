@@ -19,8 +19,8 @@ use Rattle.mq_table.specs.Examples.{default_timing, naming}
 use Rattle.mq_table.specs.Table.{GroupChange}
 use Rattle.mq_table.proofs.Maps.{keys-from_entries, kept-from_entries}
 use Rattle.mq_sched.specs.Schedule.{QuerySchedule, ScheduleState, ScheduledGroup, settled}
-use Rattle.mq_sched.specs.Sending.{SentQuery, GroupQuery, source_asked, source_counted, sources_asked, group_asked, after_change, is_due, group_due, sources_query, messages_due, group_counted, sources_counted, sources_due_next, after_round}
-use Rattle.mq_sched.specs.Examples.{Sends, the_group}
+use Rattle.mq_sched.specs.Sending.{SentQuery, GroupQuery, source_asked, source_counted, sources_asked, group_asked, after_change, is_due, group_due, sources_queries, messages_due, group_counted, sources_counted, sources_due_next, after_round}
+use Rattle.mq_sched.specs.Examples.{Sends, the_group, per_query}
 
 -- the sources of a group, each once and ascending, with their timers
 abbrev pub Sources : Type 0
@@ -76,16 +76,16 @@ group_asked-known timing now true mode es v1 v2 schedule = refl
 group_asked-known timing now false mode es v1 v2 schedule = refl
 
 -- what goes in a round
-abbrev pub sent_by : Timing → ℕ → FilterMode → ScheduleState → List ℕ → (ℕ → Option SourceTimer) → List SentQuery
-sent_by timing now mode schedule keys timer =
+abbrev pub sent_by : ℕ → Timing → ℕ → FilterMode → ScheduleState → List ℕ → (ℕ → Option SourceTimer) → List SentQuery
+sent_by n timing now mode schedule keys timer =
     cond (is_due now (group_due schedule.group_query)) (GroupQuery the_group (is_ahead (lowered_to timing now) (group_deadline mode)) ∷ []) []
     ++ cond (is_due now schedule.sources_due)
-    (sources_query the_group true (filter (λ s. nat_lt 0 (sendings_of (timer s)) && is_ahead (lowered_to timing now) (deadline_of (timer s))) keys)
-    ++ sources_query the_group false (filter (λ s. nat_lt 0 (sendings_of (timer s)) && not (is_ahead (lowered_to timing now) (deadline_of (timer s)))) keys))
+    (sources_queries n the_group true (filter (λ s. nat_lt 0 (sendings_of (timer s)) && is_ahead (lowered_to timing now) (deadline_of (timer s))) keys)
+    ++ sources_queries n the_group false (filter (λ s. nat_lt 0 (sendings_of (timer s)) && not (is_ahead (lowered_to timing now) (deadline_of (timer s)))) keys))
     []
 
-pub sent-known : (timing : Timing) (now : ℕ) (mode : FilterMode) (es : Sources) (v1 v2 : Option ℕ) (schedule : ScheduleState) → T (is_sorted nat_cmp es) → messages_due timing now the_group (record { group = known mode es v1 v2; schedule = schedule }) ≡ sent_by timing now mode schedule (keys_of es) (λ s. find nat_cmp s es)
-sent-known timing now mode es v1 v2 schedule sorted = λ i. sent_by timing now mode schedule (keys-from_entries es sorted i) (λ s. map.get-from_entries nat_cmp_total es s i)
+pub sent-known : (n : ℕ) (timing : Timing) (now : ℕ) (mode : FilterMode) (es : Sources) (v1 v2 : Option ℕ) (schedule : ScheduleState) → T (is_sorted nat_cmp es) → messages_due n timing now the_group (record { group = known mode es v1 v2; schedule = schedule }) ≡ sent_by n timing now mode schedule (keys_of es) (λ s. find nat_cmp s es)
+sent-known n timing now mode es v1 v2 schedule sorted = λ i. sent_by n timing now mode schedule (keys-from_entries es sorted i) (λ s. map.get-from_entries nat_cmp_total es s i)
 
 -- and what it leaves
 abbrev pub counted : Sources → Sources
@@ -153,11 +153,11 @@ change_leaves now change schedule mode es asks query {v1 = v1} {v2 = v2} group_i
 -- What goes in a round of a group that is known, and what it leaves.
 pub known_sends : (now : ℕ) (mode : FilterMode) (es : Sources) (v1 v2 : Option ℕ) (schedule : ScheduleState) {queries : List SentQuery} {after : ScheduledGroup}
     → T (is_sorted nat_cmp es) → T (is_sorted nat_cmp (counted es))
-    → sent_by default_timing now mode schedule (keys_of es) (λ s. find nat_cmp s es) ≡ queries
+    → sent_by per_query default_timing now mode schedule (keys_of es) (λ s. find nat_cmp s es) ≡ queries
     → left_by default_timing now mode es v1 v2 schedule ≡ after
     → Sends now (record { group = known mode es v1 v2; schedule = schedule }) queries after
 known_sends now mode es v1 v2 schedule sorted counted_sorted sent left = record {
-  queries_sent = sent-known default_timing now mode es v1 v2 schedule sorted ∙ sent;
+  queries_sent = sent-known per_query default_timing now mode es v1 v2 schedule sorted ∙ sent;
   leaves = left-known default_timing now mode es v1 v2 schedule counted_sorted ∙ left;
 }
 
@@ -169,7 +169,7 @@ pub change_sends : (now : ℕ) (change : GroupChange) (schedule : ScheduleState)
     → T (is_sorted nat_cmp es)
     → T (is_sorted nat_cmp (asked_sources default_timing now (those query) es))
     → T (is_sorted nat_cmp (counted (asked_sources default_timing now (those query) es)))
-    → sent_by default_timing now (mode_asked default_timing now asks mode) (schedule_after default_timing now mode es asks (those query) schedule) (keys_of (asked_sources default_timing now (those query) es)) (λ s. find nat_cmp s (asked_sources default_timing now (those query) es)) ≡ queries
+    → sent_by per_query default_timing now (mode_asked default_timing now asks mode) (schedule_after default_timing now mode es asks (those query) schedule) (keys_of (asked_sources default_timing now (those query) es)) (λ s. find nat_cmp s (asked_sources default_timing now (those query) es)) ≡ queries
     → left_by default_timing now (mode_asked default_timing now asks mode) (asked_sources default_timing now (those query) es) v1 v2 (schedule_after default_timing now mode es asks (those query) schedule) ≡ after
     → Sends now (after_change true default_timing now change schedule) queries after
 change_sends now change schedule mode es asks query {v1 = v1} {v2 = v2} group_is query_is asks_is sorted asked_sorted counted_sorted sent left =

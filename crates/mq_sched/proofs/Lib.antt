@@ -1,5 +1,6 @@
 pub mod Orders
 pub mod Places
+pub mod InRuns
 pub mod Rounds
 pub mod Asked
 pub mod Fits
@@ -9,3 +10,5 @@ pub mod Due
 pub mod Electing
 pub mod StayHeld
 pub mod Without
+pub mod RunsOfRounds
+pub mod RowSendings

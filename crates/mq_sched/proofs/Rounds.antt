@@ -1,7 +1,8 @@
 -- What a round asks for, counts down and leaves.
 use Rattle.std.proofs.Common.{◌≡◌, ℕ, ◌+◌, ◌-◌, ◌<◌, Bool, true, false, cond, not, ◌&&◌, ◌||◌, List, [], ◌∷◌, ◌++◌, filter, Option, None, Some, IfSome, refl, sym, ap, ◌∙◌, arith, eqb, ltb, leb}
 use Rattle.std.proofs.lemmas.Bool.{false≢true, true≢false, and_parts, eqb-true, ltb-true, ltb-false, leb-false, lt-leb}
-use Rattle.std.specs.List.{list_any}
+use Rattle.std.specs.Prelude.{map as list_map}
+use Rattle.std.specs.List.{list_any, concat}
 use Rattle.std.specs.Option.{option_and_then, option_map, is_some}
 use Rattle.std.specs.Ordering.{nat_cmp}
 use Rattle.std.specs.Cmp.{unsigned_ties}
@@ -15,7 +16,9 @@ use Rattle.mq_table.specs.Group.{GroupState, timer_at, deadline_of, group_deadli
 use Rattle.mq_table.specs.Lowering.{lowered_to}
 use Rattle.mq_table.proofs.Maps.{get-kept}
 use Rattle.mq_sched.specs.Schedule.{QuerySchedule, query_sendings, ScheduledGroup, some_source, has_sendings, IsScheduleOf}
-use Rattle.mq_sched.specs.Sending.{SentQuery, GeneralQuery, GroupQuery, SourcesQuery, above, is_due, group_due, sources_where, sources_query, group_messages, source_messages, messages_due, group_counted, source_counted, sources_counted, sources_due_next, after_round}
+use Rattle.mq_sched.specs.Sending.{SentQuery, GeneralQuery, GroupQuery, SourcesQuery, above, is_due, group_due, sources_where, sources_queries, group_messages, source_messages, messages_due, group_counted, source_counted, sources_counted, sources_due_next, after_round}
+use Rattle.mq_sched.specs.Runs.{runs_of}
+use Rattle.mq_sched.proofs.InRuns.{together}
 use Rattle.mq_sched.specs.Laws.{asked_in, asks_group, IsQuietAt}
 
 or-false : (b : Bool) → (b || false) ≡ b
@@ -32,9 +35,16 @@ asked_in-append (GeneralQuery ∷ xs) ys s = asked_in-append xs ys s
 asked_in-append (GroupQuery g f ∷ xs) ys s = asked_in-append xs ys s
 asked_in-append (SourcesQuery g f ss ∷ xs) ys s = ap (λ b. list_any (λ x. eqb s x) ss || b) (asked_in-append xs ys s) ∙ sym (or_assoc (list_any (λ x. eqb s x) ss) (asked_in xs s) (asked_in ys s))
 
-asked_in-sources_query : (group : ℕ) (flag : Bool) (xs : List ℕ) (s : ℕ) → asked_in (sources_query group flag xs) s ≡ list_any (λ x. eqb s x) xs
-asked_in-sources_query group flag [] s = refl
-asked_in-sources_query group flag (x ∷ xs) s = or-false (list_any (λ y. eqb s y) (x ∷ xs))
+among-append : (xs ys : List ℕ) (s : ℕ) → list_any (λ x. eqb s x) (xs ++ ys) ≡ (list_any (λ x. eqb s x) xs || list_any (λ x. eqb s x) ys)
+among-append [] ys s = refl
+among-append (x ∷ xs) ys s = ap (λ b. eqb s x || b) (among-append xs ys s) ∙ sym (or_assoc (eqb s x) (list_any (λ x. eqb s x) xs) (list_any (λ x. eqb s x) ys))
+
+asked_in-runs : (group : ℕ) (flag : Bool) (runs : List (List ℕ)) (s : ℕ) → asked_in (list_map (SourcesQuery group flag) runs) s ≡ list_any (λ x. eqb s x) (concat runs)
+asked_in-runs group flag [] s = refl
+asked_in-runs group flag (run ∷ runs) s = ap (λ b. list_any (λ x. eqb s x) run || b) (asked_in-runs group flag runs s) ∙ sym (among-append run (concat runs) s)
+
+asked_in-sources_queries : (n group : ℕ) (flag : Bool) (xs : List ℕ) (s : ℕ) → 0 < n → asked_in (sources_queries n group flag xs) s ≡ list_any (λ x. eqb s x) xs
+asked_in-sources_queries n group flag xs s positive = asked_in-runs group flag (runs_of n xs) s ∙ ap (list_any (λ x. eqb s x)) (together n xs positive)
 
 -- a number is among those that pass a test where it passes and is among all
 among-filter : (p : Set) (ks : List ℕ) (s : ℕ) → list_any (λ x. eqb s x) (filter p ks) ≡ (p s && list_any (λ x. eqb s x) ks)
@@ -71,24 +81,24 @@ no_sendings : (t : Option SourceTimer) → is_some t ≡ false → ltb 0 (sendin
 no_sendings None e = refl
 no_sendings (Some t) e = absurd (true≢false e)
 
-asked_in-sources_where : (group : ℕ) (flag : Bool) (test : Set) (g : GroupState) (s : ℕ) → asked_in (sources_query group flag (sources_where test g)) s ≡ (test s && is_some (timer_at g s))
-asked_in-sources_where group flag test g s =
-    asked_in-sources_query group flag (sources_where test g) s
+asked_in-sources_where : (n group : ℕ) (flag : Bool) (test : Set) (g : GroupState) (s : ℕ) → 0 < n → asked_in (sources_queries n group flag (sources_where test g)) s ≡ (test s && is_some (timer_at g s))
+asked_in-sources_where n group flag test g s positive =
+    asked_in-sources_queries n group flag (sources_where test g) s positive
     ∙ among-filter test (map.keys g.sources) s
     ∙ ap (λ b. test s && b) (among-keys g.sources s)
 
-asked_in-source_messages : (timing : Timing) (now group : ℕ) (e : ScheduledGroup) (s : ℕ) → asked_in (source_messages timing now group e) s ≡ (is_due now e.schedule.sources_due && has_sendings e.group s)
-asked_in-source_messages timing now group e s =
+asked_in-source_messages : (n : ℕ) (timing : Timing) (now group : ℕ) (e : ScheduledGroup) (s : ℕ) → 0 < n → asked_in (source_messages n timing now group e) s ≡ (is_due now e.schedule.sources_due && has_sendings e.group s)
+asked_in-source_messages n timing now group e s positive =
     by_due (is_due now e.schedule.sources_due) _
-    (asked_in-append (sources_query group true (sources_where (has_sendings g ∩ above timing now g) g)) (sources_query group false (sources_where (has_sendings g ∖ above timing now g) g)) s
-    ∙ (λ i. asked_in-sources_where group true (has_sendings g ∩ above timing now g) g s i || asked_in-sources_where group false (has_sendings g ∖ above timing now g) g s i)
+    (asked_in-append (sources_queries n group true (sources_where (has_sendings g ∩ above timing now g) g)) (sources_queries n group false (sources_where (has_sendings g ∖ above timing now g) g)) s
+    ∙ (λ i. asked_in-sources_where n group true (has_sendings g ∩ above timing now g) g s positive i || asked_in-sources_where n group false (has_sendings g ∖ above timing now g) g s positive i)
     ∙ both_queries (timer_at g s) (has_sendings g s) (above timing now g s) (no_sendings (timer_at g s)))
   where
     g : GroupState
     g = e.group
 
     queries : List SentQuery
-    queries = sources_query group true (sources_where (has_sendings g ∩ above timing now g) g) ++ sources_query group false (sources_where (has_sendings g ∖ above timing now g) g)
+    queries = sources_queries n group true (sources_where (has_sendings g ∩ above timing now g) g) ++ sources_queries n group false (sources_where (has_sendings g ∖ above timing now g) g)
 
     by_due : (due b : Bool) → asked_in queries s ≡ b → asked_in (cond due queries []) s ≡ (due && b)
     by_due true b is = is
@@ -102,10 +112,10 @@ asked_in-group_messages timing now group e s = by_due (is_due now (group_due e.s
     by_due false = refl
 
 -- a round asks for the sources that have a sending to go, where they are due
-pub asked_in-messages_due : (timing : Timing) (now group : ℕ) (e : ScheduledGroup) (s : ℕ) → asked_in (messages_due timing now group e) s ≡ (is_due now e.schedule.sources_due && has_sendings e.group s)
-asked_in-messages_due timing now group e s =
-    asked_in-append (group_messages timing now group e) (source_messages timing now group e) s
-    ∙ (λ i. asked_in-group_messages timing now group e s i || asked_in-source_messages timing now group e s i)
+pub asked_in-messages_due : (n : ℕ) (timing : Timing) (now group : ℕ) (e : ScheduledGroup) (s : ℕ) → 0 < n → asked_in (messages_due n timing now group e) s ≡ (is_due now e.schedule.sources_due && has_sendings e.group s)
+asked_in-messages_due n timing now group e s positive =
+    asked_in-append (group_messages timing now group e) (source_messages n timing now group e) s
+    ∙ (λ i. asked_in-group_messages timing now group e s i || asked_in-source_messages n timing now group e s positive i)
 
 asks_group-append : (xs ys : List SentQuery) → asks_group (xs ++ ys) ≡ (asks_group xs || asks_group ys)
 asks_group-append [] ys = refl
@@ -113,14 +123,14 @@ asks_group-append (GeneralQuery ∷ xs) ys = asks_group-append xs ys
 asks_group-append (GroupQuery g f ∷ xs) ys = refl
 asks_group-append (SourcesQuery g f ss ∷ xs) ys = asks_group-append xs ys
 
-no_group_query : (group : ℕ) (flag : Bool) (xs : List ℕ) → asks_group (sources_query group flag xs) ≡ false
+no_group_query : (group : ℕ) (flag : Bool) (runs : List (List ℕ)) → asks_group (list_map (SourcesQuery group flag) runs) ≡ false
 no_group_query group flag [] = refl
-no_group_query group flag (x ∷ xs) = refl
+no_group_query group flag (run ∷ runs) = no_group_query group flag runs
 
 -- a round asks the group where its query is due
-pub asks_group-messages_due : (timing : Timing) (now group : ℕ) (e : ScheduledGroup) → asks_group (messages_due timing now group e) ≡ is_due now (group_due e.schedule.group_query)
-asks_group-messages_due timing now group e =
-    asks_group-append (group_messages timing now group e) (source_messages timing now group e)
+pub asks_group-messages_due : (n : ℕ) (timing : Timing) (now group : ℕ) (e : ScheduledGroup) → asks_group (messages_due n timing now group e) ≡ is_due now (group_due e.schedule.group_query)
+asks_group-messages_due n timing now group e =
+    asks_group-append (group_messages timing now group e) (source_messages n timing now group e)
     ∙ (λ i. first (is_due now (group_due e.schedule.group_query)) i || second (is_due now e.schedule.sources_due) i)
     ∙ or-false (is_due now (group_due e.schedule.group_query))
   where
@@ -131,8 +141,8 @@ asks_group-messages_due timing now group e =
     first true = refl
     first false = refl
 
-    second : (b : Bool) → asks_group (cond b (sources_query group true (sources_where (has_sendings g ∩ above timing now g) g) ++ sources_query group false (sources_where (has_sendings g ∖ above timing now g) g)) []) ≡ false
-    second true = asks_group-append (sources_query group true (sources_where (has_sendings g ∩ above timing now g) g)) _ ∙ (λ i. no_group_query group true (sources_where (has_sendings g ∩ above timing now g) g) i || no_group_query group false (sources_where (has_sendings g ∖ above timing now g) g) i)
+    second : (b : Bool) → asks_group (cond b (sources_queries n group true (sources_where (has_sendings g ∩ above timing now g) g) ++ sources_queries n group false (sources_where (has_sendings g ∖ above timing now g) g)) []) ≡ false
+    second true = asks_group-append (sources_queries n group true (sources_where (has_sendings g ∩ above timing now g) g)) _ ∙ (λ i. no_group_query group true (runs_of n (sources_where (has_sendings g ∩ above timing now g) g)) i || no_group_query group false (runs_of n (sources_where (has_sendings g ∖ above timing now g) g)) i)
     second false = refl
 
 abbrev group_after : Bool → GroupState → GroupState
@@ -167,16 +177,16 @@ same_deadline true (Some Stopped) = refl
 same_deadline true (Some (Running d n)) = refl
 
 -- a source that a round asks for has one sending fewer
-pub counted_down : (timing : Timing) (now group : ℕ) (e : ScheduledGroup) (s : ℕ) → asked_in (messages_due timing now group e) s ≡ true → sendings_of (timer_at (after_round timing now e).group s) + 1 ≡ sendings_of (timer_at e.group s)
-counted_down timing now group e s asked =
-    let parts = and_parts _ _ (sym (asked_in-messages_due timing now group e s) ∙ asked) in
+pub counted_down : (n : ℕ) (timing : Timing) (now group : ℕ) (e : ScheduledGroup) (s : ℕ) → 0 < n → asked_in (messages_due n timing now group e) s ≡ true → sendings_of (timer_at (after_round timing now e).group s) + 1 ≡ sendings_of (timer_at e.group s)
+counted_down n timing now group e s positive asked =
+    let parts = and_parts _ _ (sym (asked_in-messages_due n timing now group e s positive) ∙ asked) in
     ap (λ t. sendings_of t + 1) (timer_at-after_round timing now e s ∙ ap (λ b. cond b (option_map source_counted (timer_at e.group s)) (timer_at e.group s)) parts.0)
     ∙ one_fewer (timer_at e.group s) parts.1
 
 -- and any other is as it was
-pub others_stay : (timing : Timing) (now group : ℕ) (e : ScheduledGroup) (s : ℕ) → asked_in (messages_due timing now group e) s ≡ false → timer_at (after_round timing now e).group s ≡ timer_at e.group s
-others_stay timing now group e s unasked =
-    timer_at-after_round timing now e s ∙ by_due (is_due now e.schedule.sources_due) (sym (asked_in-messages_due timing now group e s) ∙ unasked)
+pub others_stay : (n : ℕ) (timing : Timing) (now group : ℕ) (e : ScheduledGroup) (s : ℕ) → 0 < n → asked_in (messages_due n timing now group e) s ≡ false → timer_at (after_round timing now e).group s ≡ timer_at e.group s
+others_stay n timing now group e s positive unasked =
+    timer_at-after_round timing now e s ∙ by_due (is_due now e.schedule.sources_due) (sym (asked_in-messages_due n timing now group e s positive) ∙ unasked)
   where
     by_due : (b : Bool) → (b && has_sendings e.group s) ≡ false → cond b (option_map source_counted (timer_at e.group s)) (timer_at e.group s) ≡ timer_at e.group s
     by_due true is = none_fewer (timer_at e.group s) is
@@ -193,11 +203,11 @@ group_one_fewer timing now (Some q) some due = ap (λ b. query_sendings (cond b 
     by_sendings true e = omega (arith, ltb-true 1 q.sendings e, some)
     by_sendings false e = omega (arith, ltb-false 1 q.sendings e, some)
 
-pub group_counted_down : (timing : Timing) (now group : ℕ) (e : ScheduledGroup) → IsScheduleOf e.group e.schedule → asks_group (messages_due timing now group e) ≡ true → query_sendings (after_round timing now e).schedule.group_query + 1 ≡ query_sendings e.schedule.group_query
-group_counted_down timing now group e fits asked = group_one_fewer timing now e.schedule.group_query fits.group_sendings (sym (asks_group-messages_due timing now group e) ∙ asked)
+pub group_counted_down : (n : ℕ) (timing : Timing) (now group : ℕ) (e : ScheduledGroup) → IsScheduleOf e.group e.schedule → asks_group (messages_due n timing now group e) ≡ true → query_sendings (after_round timing now e).schedule.group_query + 1 ≡ query_sendings e.schedule.group_query
+group_counted_down n timing now group e fits asked = group_one_fewer timing now e.schedule.group_query fits.group_sendings (sym (asks_group-messages_due n timing now group e) ∙ asked)
 
-pub group_stays : (timing : Timing) (now group : ℕ) (e : ScheduledGroup) → asks_group (messages_due timing now group e) ≡ false → (after_round timing now e).schedule.group_query ≡ e.schedule.group_query
-group_stays timing now group e unasked = by_query e.schedule.group_query (sym (asks_group-messages_due timing now group e) ∙ unasked)
+pub group_stays : (n : ℕ) (timing : Timing) (now group : ℕ) (e : ScheduledGroup) → asks_group (messages_due n timing now group e) ≡ false → (after_round timing now e).schedule.group_query ≡ e.schedule.group_query
+group_stays n timing now group e unasked = by_query e.schedule.group_query (sym (asks_group-messages_due n timing now group e) ∙ unasked)
   where
     by_query : (q : Option QuerySchedule) → is_due now (group_due q) ≡ false → group_counted timing now q ≡ q
     by_query None e = refl
@@ -223,9 +233,9 @@ quiet_after_round timing now e positive = record { group = of_group e.schedule.g
     ] refl
 
 -- and what is quiet sends nothing
-pub quiet_is_silent : (timing : Timing) (now group : ℕ) (e : ScheduledGroup) → IsQuietAt now e.schedule → messages_due timing now group e ≡ []
-quiet_is_silent timing now group e quiet =
-    (λ i. cond (no_group e.schedule.group_query quiet.group i) (GroupQuery group (is_ahead (lowered_to timing now) (group_deadline e.group.mode)) ∷ []) [] ++ source_messages timing now group e)
+pub quiet_is_silent : (n : ℕ) (timing : Timing) (now group : ℕ) (e : ScheduledGroup) → IsQuietAt now e.schedule → messages_due n timing now group e ≡ []
+quiet_is_silent n timing now group e quiet =
+    (λ i. cond (no_group e.schedule.group_query quiet.group i) (GroupQuery group (is_ahead (lowered_to timing now) (group_deadline e.group.mode)) ∷ []) [] ++ source_messages n timing now group e)
     ∙ silent (is_due now e.schedule.sources_due) _ (no_sources e.schedule.sources_due quiet.sources)
   where
     no_group : (q : Option QuerySchedule) → IfSome q (λ q. now < q.due) → is_due now (group_due q) ≡ false

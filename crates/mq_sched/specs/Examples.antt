@@ -18,6 +18,10 @@ use Rattle.mq_sched.specs.Election.{Querier, Other, ElectionState}
 abbrev pub the_group : ℕ
 the_group = 3892379905
 
+-- how many sources a message of IGMP holds in a packet of 1500 octets (RFC 3376 section 4.1.8)
+abbrev pub per_query : ℕ
+per_query = 366
+
 abbrev pub scheduled : ℕ → ℕ → Option QuerySchedule
 scheduled sendings due = Some (record { sendings = sendings; due = due })
 
@@ -35,7 +39,7 @@ with_schedule mode sources group_query sources_due =
 -- at a moment these queries go, and leave this
 pub record Sends (now : ℕ) (e : ScheduledGroup) (queries : List SentQuery) (after : ScheduledGroup)
     : Type 0 where
-  pub queries_sent : messages_due default_timing now the_group e ≡ queries
+  pub queries_sent : messages_due per_query default_timing now the_group e ≡ queries
   pub leaves : after_round default_timing now e ≡ after
 
 -- what a record at a moment makes of a group of the querier

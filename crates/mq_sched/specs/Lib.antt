@@ -1,5 +1,7 @@
 pub mod Deadlines
 pub mod Schedule
+pub mod StoredSchedule
+pub mod Runs
 pub mod Sending
 pub mod Announcement
 pub mod Election

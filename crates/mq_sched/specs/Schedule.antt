@@ -9,11 +9,8 @@ use Rattle.mq_table.specs.declared.timers.FilterMode.TheVariants.{Include}
 use Rattle.mq_table.specs.declared.timers.SourceTimer.{SourceTimer}
 use Rattle.mq_table.specs.declared.timers.SourceTimer.TheVariants.{Stopped, Running}
 use Rattle.mq_table.specs.Group.{GroupState, is_include, timer_at, sendings_of}
-
 -- how many sendings of a query are still to go, and when the next is due
-pub record QuerySchedule : Type 0 where
-  pub sendings : ℕ
-  pub due : ℕ
+pub use Rattle.mq_sched.specs.declared.queries.QuerySchedule.{QuerySchedule}
 
 -- none where there is no such query
 abbrev pub query_sendings : Option QuerySchedule → ℕ

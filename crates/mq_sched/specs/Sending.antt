@@ -1,6 +1,6 @@
 -- Sending specific queries (RFC 3376 sections 6.6.3.1 and 6.6.3.2, RFC 3810 sections 7.6.3.1 and
 -- 7.6.3.2): what starts them, which go at a moment, and what is still to go then.
-use Rattle.std.specs.Prelude.{ℕ, ◌+◌, ◌-◌, Bool, true, false, if◌then◌else◌, nat_lt, nat_le, List, [], ◌∷◌, ◌++◌, filter, Option, None, Some}
+use Rattle.std.specs.Prelude.{ℕ, ◌+◌, ◌-◌, Bool, true, false, if◌then◌else◌, nat_lt, nat_le, List, [], ◌∷◌, ◌++◌, map as list_map, filter, Option, None, Some}
 use Rattle.std.specs.FinMap as map
 use Rattle.mq_table.specs.declared.timing.Timing.{Timing}
 use Rattle.mq_table.specs.Sets.{Set, ◌∩◌, ◌∖◌}
@@ -11,6 +11,7 @@ use Rattle.mq_table.specs.Group.{GroupState, is_include, is_ahead, group_deadlin
 use Rattle.mq_table.specs.Timing.{last_member_count}
 use Rattle.mq_table.specs.Table.{GroupChange}
 use Rattle.mq_table.specs.Lowering.{lowered_to, group_lowered}
+use Rattle.mq_sched.specs.Runs.{runs_of}
 use Rattle.mq_sched.specs.Schedule.{QuerySchedule, ScheduleState, ScheduledGroup, some_source, has_sendings, settled}
 
 -- A query that a router sends: general, to a group, or to a group for some of its sources, which
@@ -87,10 +88,9 @@ group_due (Some q) = Some q.due
 abbrev pub sources_where : Set → GroupState → List ℕ
 sources_where test g = filter test (map.keys g.sources)
 
--- no query has an empty list of sources
-abbrev pub sources_query : ℕ → Bool → List ℕ → List SentQuery
-sources_query group s [] = []
-sources_query group s (x ∷ xs) = SourcesQuery group s (x ∷ xs) ∷ []
+-- The queries for a list of sources, in runs of what one message holds. No query has an empty list.
+abbrev pub sources_queries : (per_query group : ℕ) → Bool → List ℕ → List SentQuery
+sources_queries per_query group s sources = list_map (SourcesQuery group s) (runs_of per_query sources)
 
 abbrev pub group_messages : Timing → ℕ → ℕ → ScheduledGroup → List SentQuery
 group_messages timing now group e =
@@ -98,19 +98,21 @@ group_messages timing now group e =
     then GroupQuery group (is_ahead (lowered_to timing now) (group_deadline e.group.mode)) ∷ []
     else []
 
-abbrev pub source_messages : Timing → ℕ → ℕ → ScheduledGroup → List SentQuery
-source_messages timing now group e =
+abbrev pub source_messages : (per_query : ℕ) → Timing → ℕ → ℕ → ScheduledGroup → List SentQuery
+source_messages per_query timing now group e =
     let g = e.group in
     if is_due now e.schedule.sources_due
-    then sources_query group true (sources_where (has_sendings g ∩ above timing now g) g)
-    ++ sources_query group false (sources_where (has_sendings g ∖ above timing now g) g)
+    then sources_queries per_query group true (sources_where (has_sendings g ∩ above timing now g) g)
+    ++ sources_queries per_query group false (sources_where (has_sendings g ∖ above timing now g) g)
     else []
 
 -- What a group sends in one round, at or after the moment that is due: its group query, with S set
 -- where the group timer is above the last member query time; then the sources that have sendings to
--- go, in two queries, with S set those whose timer is above that time, and the others with S clear.
-abbrev pub messages_due : Timing → ℕ → (group : ℕ) → ScheduledGroup → List SentQuery
-messages_due timing now group e = group_messages timing now group e ++ source_messages timing now group e
+-- go, with S set those whose timer is above that time, and then the others with S clear. The sources of
+-- either flag go in as few messages as hold them, ascending.
+abbrev pub messages_due : (per_query : ℕ) → Timing → ℕ → (group : ℕ) → ScheduledGroup → List SentQuery
+messages_due per_query timing now group e =
+    group_messages timing now group e ++ source_messages per_query timing now group e
 
 -- one sending fewer, and the next after the last member query interval, where one is still to go
 abbrev pub group_counted : Timing → ℕ → Option QuerySchedule → Option QuerySchedule

@@ -4,7 +4,7 @@
 //! The moments and the queries are worked out by hand from the standards, with the default timing: a
 //! group membership interval of 260000 ms, and two queries 1000 ms apart for a last member.
 
-ghost use Rattle.std.specs.Prelude.{◌≡◌, [], ◌∷◌, true, false, Some, None, IfSome};
+ghost use Rattle.std.specs.Prelude.{◌≡◌, [], ◌∷◌, true, false, Some, None, IfSome, map, length, replicate};
 ghost use Rattle.mq_table.specs.declared.timers.FilterMode.TheVariants.{Include, Exclude};
 ghost use Rattle.mq_table.specs.declared.timers.SourceTimer.TheVariants.{Stopped, Running};
 ghost use Rattle.mq_table.specs.Group.{vacant};
@@ -12,6 +12,7 @@ ghost use Rattle.mq_table.specs.Table.{change_of};
 ghost use Rattle.mq_table.specs.OlderHosts.{older_report, older_leave};
 ghost use Rattle.mq_table.specs.Expiry.{expired};
 ghost use Rattle.mq_table.specs.Examples.{default_timing, until, group_in, group_with, naming, included, excluded, heard_v2};
+ghost use Rattle.mq_sched.specs.Runs.{runs_of};
 ghost use Rattle.mq_sched.specs.Schedule.{no_schedule, settled, cleared};
 ghost use Rattle.mq_sched.specs.Sending.{GeneralQuery, GroupQuery, SourcesQuery, messages_due, after_change};
 ghost use Rattle.mq_sched.specs.Election.{Querier, Other, election_at, heard, loses_role, ticked, general_messages};
@@ -88,6 +89,25 @@ pub fn a_source_refreshed()
         ≡ group_in Include ((1, until 262500) ∷ []) }
     // To block again what is lowered already asks nothing anew, and leaves what is due.
     ensures blocked_again { recorded_at 2500 blocked Kind.Block (1 ∷ 2 ∷ []) ≡ blocked }
+{}
+
+/// Five sources in messages of two: all are blocked and asked for at 2000, and 1 and 4 are allowed
+/// again at 2500. Then 1024 sources in messages of 366, and 90 in messages of 89.
+pub fn a_sending_in_several_messages()
+    ensures first { messages_due 2 default_timing 2000 the_group
+        (with_schedule Include ((1, Running 4000 2) ∷ (2, Running 4000 2) ∷ (3, Running 4000 2)
+        ∷ (4, Running 4000 2) ∷ (5, Running 4000 2) ∷ []) None (Some 2000))
+        ≡ SourcesQuery the_group false (1 ∷ 2 ∷ []) ∷ SourcesQuery the_group false (3 ∷ 4 ∷ [])
+        ∷ SourcesQuery the_group false (5 ∷ []) ∷ [] }
+    ensures second { messages_due 2 default_timing 3000 the_group
+        (with_schedule Include ((1, Running 262500 1) ∷ (2, Running 4000 1) ∷ (3, Running 4000 1)
+        ∷ (4, Running 262500 1) ∷ (5, Running 4000 1) ∷ []) None (Some 3000))
+        ≡ SourcesQuery the_group true (1 ∷ 4 ∷ []) ∷ SourcesQuery the_group false (2 ∷ 3 ∷ [])
+        ∷ SourcesQuery the_group false (5 ∷ []) ∷ [] }
+    ensures many { map length (runs_of 366 (replicate 1024 1)) ≡ 366 ∷ 366 ∷ 292 ∷ [] }
+    ensures one_too_many { map length (runs_of 366 (replicate 367 1)) ≡ 366 ∷ 1 ∷ [] }
+    ensures one_too_many_of_mld { map length (runs_of 89 (replicate 90 1)) ≡ 89 ∷ 1 ∷ [] }
+    ensures just_one { runs_of 3 (1 ∷ 2 ∷ 3 ∷ []) ≡ (1 ∷ 2 ∷ 3 ∷ []) ∷ [] }
 {}
 
 /// The round at 3000 is sent then, and not before; a late one is sent once, not once for each moment

@@ -1,14 +1,16 @@
 //! Laws of the definitions. No function here does anything: its contract is the law, for every
 //! group with its schedule, every moment and every timing.
 
-ghost use Rattle.std.specs.Prelude.{◌≡◌, ℕ, ◌+◌, ◌<◌, true, false, ◌&&◌, []};
+ghost use Rattle.std.specs.Prelude.{◌≡◌, ℕ, ◌+◌, ◌<◌, true, false, ◌&&◌, [], length};
 ghost use Rattle.mq_table.specs.Group.{GroupState, timer_at, deadline_of, sendings_of, group_deadline, IsWellFormed};
 ghost use Rattle.mq_table.specs.Expiry.{expired};
 ghost use Rattle.mq_table.specs.Laws.{Arrival, group_after, IsNoLater};
+ghost use Rattle.std.specs.List.{concat};
+ghost use Rattle.mq_sched.specs.Runs.{AllButLast};
 ghost use Rattle.mq_sched.specs.Schedule.{query_sendings, ScheduleState, ScheduledGroup, has_sendings, IsScheduleOf, settled, cleared};
 ghost use Rattle.mq_sched.specs.Sending.{is_due, group_due, messages_due};
 ghost use Rattle.mq_sched.specs.Election.{ElectionState, ticked, next_moment};
-ghost use Rattle.mq_sched.specs.Laws.{Round, queries_of, state_after, Asking, after_asking, IsFitting, asked_in, asks_group, IsQuietAt, AscendIn};
+ghost use Rattle.mq_sched.specs.Laws.{Round, queries_of, state_after, Asking, after_asking, IsFitting, asked_in, asks_group, IsQuietAt, AscendIn, set_runs, clear_runs, set_sources, clear_sources, AllFit};
 
 use mq_table::Timing;
 
@@ -18,12 +20,13 @@ use mq_table::Timing;
 /// exactly one fewer then, every other timer is as it was, and no deadline moves.
 pub fn a_round_counts_its_sources_down()
     ensures asked { (r : Round) (s : ℕ)
+        → 0 < r.per_query
         → asked_in (queries_of r) s ≡ (is_due r.now r.before.schedule.sources_due && has_sendings r.before.group s) }
     ensures fewer { (r : Round) (s : ℕ)
-        → asked_in (queries_of r) s ≡ true
+        → 0 < r.per_query → asked_in (queries_of r) s ≡ true
         → sendings_of (timer_at (state_after r).group s) + 1 ≡ sendings_of (timer_at r.before.group s) }
     ensures others { (r : Round) (s : ℕ)
-        → asked_in (queries_of r) s ≡ false
+        → 0 < r.per_query → asked_in (queries_of r) s ≡ false
         → timer_at (state_after r).group s ≡ timer_at r.before.group s }
     ensures deadlines { (r : Round) (s : ℕ)
         → deadline_of (timer_at (state_after r).group s) ≡ deadline_of (timer_at r.before.group s) }
@@ -45,14 +48,25 @@ pub fn a_round_counts_its_group_query_down()
 pub fn a_round_leaves_nothing_due(timing: Timing)
     ensures later { (r : Round) → r.timing ≡ timing → IsQuietAt r.now (state_after r).schedule }
     ensures silent { (r : Round)
-        → r.timing ≡ timing → messages_due r.timing r.now r.address (state_after r) ≡ [] }
+        → r.timing ≡ timing → messages_due r.per_query r.timing r.now r.address (state_after r) ≡ [] }
 {
     timing.is_in_range();
 }
 
 /// A round is in order: no query for sources is empty, and the sources of each ascend.
 pub fn a_round_is_in_order()
-    ensures { (r : Round) → AscendIn (queries_of r) }
+    ensures { (r : Round) → 0 < r.per_query → AscendIn (queries_of r) }
+{}
+
+/// A round asks for its sources in runs. Those with S set, put together, are the ascending sources
+/// that it has to ask for with S set, and each but the last has exactly what one message holds; so
+/// are and have those with S clear.
+pub fn a_round_is_in_runs()
+    ensures set { (r : Round) → 0 < r.per_query → concat (set_runs (queries_of r)) ≡ set_sources r }
+    ensures clear { (r : Round) → 0 < r.per_query → concat (clear_runs (queries_of r)) ≡ clear_sources r }
+    ensures set_full { (r : Round) → AllButLast (λ run. length run ≡ r.per_query) (set_runs (queries_of r)) }
+    ensures clear_full { (r : Round) → AllButLast (λ run. length run ≡ r.per_query) (clear_runs (queries_of r)) }
+    ensures fit { (r : Round) → AllFit r.per_query (queries_of r) }
 {}
 
 /// Asking for a group and its sources starts and ends no timer, and none runs longer than before.

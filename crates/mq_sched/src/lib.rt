@@ -11,12 +11,16 @@ pub mod deadlines;
 pub mod election;
 pub mod examples;
 pub mod laws;
+pub mod queries;
 pub mod roles;
+pub mod schedules;
 
 pub use announced::Announced;
 pub use deadlines::Deadlines;
 pub use election::Election;
+pub use queries::QuerySchedule;
 pub use roles::OtherQuerier;
+pub use schedules::Schedule;
 
 #[cfg(test)]
 mod tests;

@@ -1,10 +1,11 @@
-//! The worked rows of the election, for the addresses of both families.
+//! The worked rows of the election and of group queries, for the addresses of both families.
 
 ghost use Rattle.std.specs.Prelude.{◌≤◌, ◌^◌, IfOk};
 
-use crate::{Announced, Election};
+use crate::{Announced, Election, Schedule};
 use mq_count::{Addr4, Addr6, Key, Meter, Moment};
-use mq_table::Timing;
+use mq_table::{FilterMode, Group, Head, Source, Timing};
+use std::alloc::Global;
 use std::cmp::Ordering;
 use std::test::Fail;
 
@@ -131,9 +132,39 @@ fn expect_queries_heard<K: Key>(low: K, own: K, high: K) -> Result<(), Fail> {
     expect_state(&higher, None, 2, 125)
 }
 
+/// A group query that starts at 1000, and that ends with the group's EXCLUDE.
+fn expect_group_query<K: Key>(alloc: Global) -> Result<(), Fail> {
+    let mut group = Group::<K>::vacant(alloc);
+    let none: [Source<K>; 0] = [];
+    let exclude = FilterMode::Exclude(at(261000)?);
+    group.load(
+        Head {
+            mode: exclude,
+            v1: None,
+            v2: None,
+        },
+        &none,
+    );
+    let mut schedule = Schedule::none();
+    schedule.start_group(&mut group, at(1000)?, &robust(2)?, &mut Meter::new());
+    match group.mode() {
+        FilterMode::Exclude(deadline) => expect(is_at(deadline, 3000)?, "another deadline")?,
+        FilterMode::Include => return Err(Fail::from("another mode")),
+    }
+    let query = schedule.group_query().ok_or("a group query")?;
+    expect(query.sendings == 2, "another number of sendings")?;
+    expect(is_at(query.due, 1000)?, "another moment")?;
+    expect(schedule.sources_due().is_none(), "no source is due")?;
+    schedule.settle(&group);
+    expect(schedule.group_query().is_some(), "it stays in EXCLUDE")?;
+    schedule.settle(&Group::<K>::vacant(alloc));
+    expect(schedule.group_query().is_none(), "it goes with EXCLUDE")
+}
+
 #[test]
 fn igmp(rt: HostRuntime) -> Result<(), Fail> {
     let [low, own, high] = [2, 9, 200].map(|last| Addr4::from_octets([10, 0, 0, last]));
+    expect_group_query::<Addr4>(rt.alloc())?;
     expect_startup(own)?;
     expect_queries_heard(low, own, high)
 }
@@ -143,6 +174,7 @@ fn mld(rt: HostRuntime) -> Result<(), Fail> {
     let [low, own, high] = [2, 9, 200].map(|last| {
         Addr6::from_octets([0xfe, 0x80, 0, 0, 0, 0, 0, 0, 0, 0, 0, 0, 0, 0, 0, last])
     });
+    expect_group_query::<Addr6>(rt.alloc())?;
     expect_startup(own)?;
     expect_queries_heard(low, own, high)
 }

@@ -2,10 +2,10 @@ use Rattle.mq_sched.proofs.Rounds.{asks_group-messages_due, group_counted_down, 
 use Rattle.mq_sched.proofs.laws.a_round_counts_its_group_query_down.Goals as goal
 
 pub returns-clause-asked : goal.returns-clause-asked
-returns-clause-asked c r = asks_group-messages_due r.timing r.now r.address r.before
+returns-clause-asked c r = asks_group-messages_due r.per_query r.timing r.now r.address r.before
 
 pub returns-clause-fewer : goal.returns-clause-fewer
-returns-clause-fewer c r = group_counted_down r.timing r.now r.address r.before
+returns-clause-fewer c r = group_counted_down r.per_query r.timing r.now r.address r.before
 
 pub returns-clause-other : goal.returns-clause-other
-returns-clause-other c r = group_stays r.timing r.now r.address r.before
+returns-clause-other c r = group_stays r.per_query r.timing r.now r.address r.before

@@ -1,0 +1,63 @@
+-- Lists in runs: what they are together, and how long each is.
+use Rattle.std.proofs.Common.{◌≡◌, ℕ, zero, suc, ◌+◌, ◌<◌, ◌≤◌, List, [], ◌∷◌, Bool, ◌++◌, length, take, drop, refl, ap, ◌∙◌, arith, length-drop}
+use Rattle.std.proofs.lemmas.List.{take-append-drop, length-take, length-take-le, get_or-take, get_or-drop}
+use Rattle.std.specs.Prelude.{map as list_map}
+use Rattle.std.specs.List.{concat}
+use Rattle.std.specs.List.Sorted.{IsStrictlyIncreasing}
+use Rattle.mq_sched.specs.Laws.{AllFit}
+use Rattle.mq_sched.specs.Sending.{SourcesQuery, sources_queries}
+use Rattle.mq_sched.specs.Runs.{runs_within, runs_of, AllButLast}
+
+shorter : (n most : ℕ) (x : ℕ) (xs : List ℕ) → 0 < n → length (x ∷ xs) ≤ suc most → length (drop n (x ∷ xs)) ≤ most
+shorter n most x xs positive enough = omega (arith, length-drop n (x ∷ xs))
+
+together_within : (most n : ℕ) (xs : List ℕ) → 0 < n → length xs ≤ most → concat (runs_within most n xs) ≡ xs
+together_within most n [] positive enough = refl
+together_within zero n (x ∷ xs) positive enough = absurd (omega arith)
+together_within (suc most) n (x ∷ xs) positive enough =
+    ap (λ ys. take n (x ∷ xs) ++ ys) (together_within most n (drop n (x ∷ xs)) positive (shorter n most x xs positive enough))
+    ∙ take-append-drop n (x ∷ xs)
+
+-- the runs, put together, are the list
+pub together : (n : ℕ) (xs : List ℕ) → 0 < n → concat (runs_of n xs) ≡ xs
+together n xs positive = together_within (length xs) n xs positive (omega arith)
+
+first_full : (most n : ℕ) (xs ys : List ℕ) → (0 < length ys → length xs ≡ n) → AllButLast (λ run. length run ≡ n) (runs_within most n ys) → AllButLast (λ run. length run ≡ n) (xs ∷ runs_within most n ys)
+first_full most n xs [] full rest = tt
+first_full zero n xs (y ∷ ys) full rest = tt
+first_full (suc most) n xs (y ∷ ys) full rest = (full (omega arith), rest)
+
+full_within : (most n : ℕ) (xs : List ℕ) → AllButLast (λ run. length run ≡ n) (runs_within most n xs)
+full_within most n [] = tt
+full_within zero n (x ∷ xs) = tt
+full_within (suc most) n (x ∷ xs) =
+    first_full most n (take n (x ∷ xs)) (drop n (x ∷ xs))
+    (λ more. length-take-le n (x ∷ xs) (omega (arith, more, length-drop n (x ∷ xs))))
+    (full_within most n (drop n (x ∷ xs)))
+
+-- each run but the last is full
+pub full : (n : ℕ) (xs : List ℕ) → AllButLast (λ run. length run ≡ n) (runs_of n xs)
+full n xs = full_within (length xs) n xs
+
+fits_within : (most n group : ℕ) (flag : Bool) (xs : List ℕ) → AllFit n (list_map (SourcesQuery group flag) (runs_within most n xs))
+fits_within most n group flag [] = tt
+fits_within zero n group flag (x ∷ xs) = tt
+fits_within (suc most) n group flag (x ∷ xs) = (omega (arith, length-take n (x ∷ xs)), fits_within most n group flag (drop n (x ∷ xs)))
+
+-- no run is longer than one message holds
+pub fits : (n group : ℕ) (flag : Bool) (xs : List ℕ) → AllFit n (sources_queries n group flag xs)
+fits n group flag xs = fits_within (length xs) n group flag xs
+
+-- a part of an ascending list ascends
+pub increasing-take : (n : ℕ) (xs : List ℕ) → IsStrictlyIncreasing xs → IsStrictlyIncreasing (take n xs)
+increasing-take n xs up k within =
+    let in_run : k + 1 < n = omega (arith, within, length-take n xs) in
+    let in_list : k + 1 < length xs = omega (arith, within, length-take n xs) in
+    let first : k < n = omega arith in
+    rw (get_or-take n xs k 0 first, get_or-take n xs (k + 1) 0 in_run) (up k in_list)
+
+pub increasing-drop : (n : ℕ) (xs : List ℕ) → IsStrictlyIncreasing xs → IsStrictlyIncreasing (drop n xs)
+increasing-drop n xs up k within =
+    let in_list : n + k + 1 < length xs = omega (arith, within, length-drop n xs) in
+    let next : n + (k + 1) ≡ n + k + 1 = omega arith in
+    rw (get_or-drop n xs k 0, get_or-drop n xs (k + 1) 0, next) (up (n + k) in_list)

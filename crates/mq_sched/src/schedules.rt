@@ -1,0 +1,114 @@
+//! What is still to go for one group.
+
+ghost use Rattle.std.specs.Prelude.{◌≡◌, ◌+◌, ◌*◌, ◌^◌, ◌≤◌, Some};
+ghost use Rattle.mq_count.specs.Spending.{Spends};
+ghost use Rattle.mq_sched.specs.Schedule.{ScheduledGroup, no_schedule, some_source, has_sendings, settled};
+ghost use Rattle.mq_sched.specs.StoredSchedule.{item_has_sendings};
+ghost use Rattle.std.specs.List.{list_any};
+ghost use Rattle.mq_sched.specs.Sending.{group_asked};
+
+use crate::queries::QuerySchedule;
+use mq_count::{Key, Meter, Moment};
+use mq_table::{FilterMode, Group, Source, SourceTimer, Timing};
+use std::marker::Model;
+
+/// The specific queries that are still to go for one group: its group-specific query, and from when
+/// on those for its sources. How many are to go for a source stands with the source's timer in its
+/// group. A contract sees it as the state of the definitions.
+#[derive(Clone, Copy)]
+pub struct Schedule {
+    group_query: Option<QuerySchedule>,
+    sources_due: Option<Moment>,
+}
+
+impl Model for Schedule {
+    ghost use Rattle.mq_sched.specs.Schedule.{ScheduleState};
+
+    ghost Value = { ScheduleState };
+
+    ghost view = { λ s. record { group_query = s.group_query; sources_due = s.sources_due } };
+
+    ghost inverse = { λ v. record { group_query = v.group_query; sources_due = v.sources_due } };
+}
+
+impl Schedule {
+    /// Nothing is to go.
+    pub fn none() -> Schedule
+        ensures { result ≡ no_schedule }
+    {
+        Schedule {
+            group_query: None,
+            sources_due: None,
+        }
+    }
+
+    /// The group query that is to go, if there is one.
+    pub fn group_query(&self) -> Option<QuerySchedule>
+        ensures { result ≡ self.now.group_query }
+    {
+        self.group_query
+    }
+
+    /// When the sources that have sendings to go are due, if one has.
+    pub fn sources_due(&self) -> Option<Moment>
+        ensures { result ≡ self.now.sources_due }
+    {
+        self.sources_due
+    }
+
+    /// Starts the group-specific query of a group: its timer is lowered to the last member query
+    /// time, and the last member query count of sendings are to go, the first at once (RFC 3376
+    /// section 6.6.3.1, RFC 3810 section 7.6.3.1). At most one comparison.
+    pub fn start_group<K: Key>(
+        &mut self,
+        group: &mut Group<K>,
+        now: Moment,
+        timing: &Timing,
+        m: &mut Meter,
+    )
+        requires in_range { now ≤ 2 ^ 53 }
+        ensures asked { let e : ScheduledGroup = record { group = group.old.state; schedule = self.old } in
+            record { group = group.new.state; schedule = self.new } ≡ group_asked timing.now now e }
+        ensures room { group.new.room ≡ group.old.room }
+        ensures spent { Spends 0 1 m.old m.new }
+    {
+        group.lower_group(now, timing, m);
+        if let FilterMode::Exclude(_) = group.mode() {
+            self.group_query = Some(QuerySchedule {
+                sendings: timing.last_member_count(),
+                due: now,
+            });
+        }
+    }
+
+    /// Drops what a record or the end of timers has left without its ground: the group query of a
+    /// group that is INCLUDE, and the moment for sources where none has a sending to go. No
+    /// comparison.
+    pub fn settle<K: Key>(&mut self, group: &Group<K>)
+        ensures { self.new ≡ settled group.now.state self.old }
+    {
+        if let FilterMode::Include = group.mode() {
+            self.group_query = None;
+        }
+        if !has_sendings(group) {
+            self.sources_due = None;
+        }
+    }
+}
+
+/// Whether some source of the list has a sending to go.
+fn any_has_sendings<K: Key>(row: &[Source<K>]) -> bool
+    ensures { result ≡ list_any item_has_sendings row.now }
+{
+    row.iter().any(|x| match x.timer {
+        SourceTimer::Running(_, sendings) => 0 < sendings,
+        SourceTimer::Stopped => false,
+    })
+}
+
+/// Whether some source of the group has a sending to go.
+fn has_sendings<K: Key>(group: &Group<K>) -> bool
+    ensures { result ≡ some_source (has_sendings group.now.state) group.now.state }
+{
+    any_has_sendings(group.sources())
+}
