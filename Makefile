@@ -29,4 +29,4 @@ install: bin/mquerier
 	install -m 755 bin/mquerier $(DESTDIR)$(PREFIX)/bin/mquerier
 
 clean:
-	rm -rf bin crates/*/out bench/work bench/storage/out
+	rm -rf bin crates/*/out
