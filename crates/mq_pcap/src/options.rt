@@ -19,8 +19,8 @@ pub(crate) fn has_router_alert(options: &[u8]) -> bool
     ensures { result ≡ spec.has_router_alert options.now }
 {
     let mut rest = options;
-    while let Some((kind, data, behind)) = first_option(rest) {
-        if is_router_alert(kind, data) {
+    while let Some((kind, content, behind)) = first_option(rest) {
+        if is_router_alert(kind, content) {
             return true;
         }
         rest = behind;
@@ -28,10 +28,10 @@ pub(crate) fn has_router_alert(options: &[u8]) -> bool
     false
 }
 
-fn is_router_alert(kind: u8, data: &[u8]) -> bool
-    ensures { result ≡ spec.is_router_alert (kind, data.now) }
+fn is_router_alert(kind: u8, content: &[u8]) -> bool
+    ensures { result ≡ spec.is_router_alert (kind, content.now) }
 {
-    kind == ROUTER_ALERT && data.len() == ROUTER_ALERT_LENGTH && BigEndian::read_u16(data) == 0
+    kind == ROUTER_ALERT && content.len() == ROUTER_ALERT_LENGTH && BigEndian::read_u16(content) == 0
 }
 
 /// The type and the data of the first option, and the bytes behind it; or None where none fits.

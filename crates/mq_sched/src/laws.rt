@@ -14,8 +14,6 @@ ghost use Rattle.mq_sched.specs.Laws.{Round, queries_of, state_after, Asking, af
 
 use mq_table::Timing;
 
-use mq_table::Timing;
-
 /// A round asks for the sources that have a sending to go, where they are due. Each of them has
 /// exactly one fewer then, every other timer is as it was, and no deadline moves.
 pub fn a_round_counts_its_sources_down()
