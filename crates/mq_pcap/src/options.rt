@@ -31,7 +31,9 @@ pub(crate) fn has_router_alert(options: &[u8]) -> bool
 fn is_router_alert(kind: u8, content: &[u8]) -> bool
     ensures { result ≡ spec.is_router_alert (kind, content.now) }
 {
-    kind == ROUTER_ALERT && content.len() == ROUTER_ALERT_LENGTH && BigEndian::read_u16(content) == 0
+    kind == ROUTER_ALERT
+        && content.len() == ROUTER_ALERT_LENGTH
+        && BigEndian::read_u16(content) == 0
 }
 
 /// The type and the data of the first option, and the bytes behind it; or None where none fits.
