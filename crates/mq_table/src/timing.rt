@@ -26,7 +26,12 @@ impl Model for Timing {
 
     ghost view = { λ t. record { robustness = t.robustness; query_seconds = t.query_seconds; response_interval = t.response_interval; last_member_interval = t.last_member_interval } };
 
-    ghost invariant = { λ t. AreInRange (record { robustness = t.robustness; query_seconds = t.query_seconds; response_interval = t.response_interval; last_member_interval = t.last_member_interval }) };
+    ghost invariant = { λ t. AreInRange (record {
+      robustness = t.robustness;
+      query_seconds = t.query_seconds;
+      response_interval = t.response_interval;
+      last_member_interval = t.last_member_interval;
+    }) };
 
     ghost inverse = { λ v. record { robustness = v.robustness; query_seconds = v.query_seconds; response_interval = v.response_interval; last_member_interval = v.last_member_interval } };
 }

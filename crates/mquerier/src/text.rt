@@ -113,7 +113,10 @@ fn put_group_and_response(line: &mut Line, query: &Query<'_, Addr4>)
 /// Puts what only a query of version 3 says at the end, but for the sources.
 fn put_fields(line: &mut Line, fields: &QuerierFields<'_, Addr4>)
     requires { array_vec_len line.old + 71 ≤ 160 }
-    ensures { line.new.items ≡ line.old.items ++ codes " s " ++ flag_text fields.now.suppress ++ codes " qrv " ++ decimal fields.now.robustness ++ codes " interval " ++ decimal fields.now.interval ++ codes " sources " ++ decimal (length fields.now.sources) }
+    ensures { line.new.items ≡ line.old.items
+        ++ codes " s " ++ flag_text fields.now.suppress ++ codes " qrv " ++ decimal fields.now.robustness
+        ++ codes " interval " ++ decimal fields.now.interval
+        ++ codes " sources " ++ decimal (length fields.now.sources) }
 {
     put(line, b" s ");
     put(line, if fields.suppress { b"1" } else { b"0" });
