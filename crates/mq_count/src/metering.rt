@@ -63,8 +63,7 @@ impl Meter {
     }
 }
 
-/// Counts add up: what two calls count, one after the other, is bounded by the sums of their
-/// bounds.
+/// The law `SpendingAddsUp`.
 pub fn counts_add_up()
     ensures { SpendingAddsUp }
 {}
