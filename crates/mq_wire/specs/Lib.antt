@@ -1,7 +1,9 @@
+pub mod Canon
 pub mod Checksum
 pub mod Codes
 pub mod Family
 pub mod Fields
+pub mod PseudoHeader
 pub mod Queries
 pub mod Sources
 pub mod Spelling

@@ -1,0 +1,66 @@
+-- The one spelling in which a router writes a query of IGMPv3 or MLDv2 (RFC 3376 section 4.1, RFC 3810 section 5.1):
+-- reserved fields and the code of ICMPv6 are 0, times are lowered to values of codes, the message ends with its last
+-- source, and its checksum is in its field.
+use Rattle.std.specs.Prelude.{ℕ, ◌+◌, ◌-◌, ◌*◌, ◌/◌, ◌%◌, ◌==◌, Bool, true, false, if◌then◌else◌, List, [], ◌∷◌, ◌++◌, length}
+use Rattle.std.specs.List.{flat_map}
+use Rattle.byteorder.specs.Endian.{big_bytes}
+use Rattle.mq_wire.specs.declared.query.Query.{Query}
+use Rattle.mq_wire.specs.declared.query.QuerierFields.{QuerierFields}
+use Rattle.mq_wire.specs.declared.query.QueryVersion.{QueryVersion}
+use Rattle.mq_wire.specs.declared.query.QueryVersion.TheVariants.{Older, Current}
+use Rattle.mq_wire.specs.Checksum.{sum_of_words, ones_complement, with_field}
+use Rattle.mq_wire.specs.Codes.{code8_of, code16_of}
+use Rattle.mq_wire.specs.Family.{Family, Igmp, Mld, address_width}
+use Rattle.mq_wire.specs.PseudoHeader.{pseudo_header}
+
+-- type, response and group, with a checksum of 0. The response is in whole tenths of a second in IGMP, and in
+-- milliseconds in MLD.
+abbrev pub query_head : Family → (group response : ℕ) → List ℕ
+query_head Igmp group response = 0x11 ∷ code8_of (response / 100) ∷ 0 ∷ 0 ∷ big_bytes 4 group
+query_head Mld group response = 130 ∷ 0 ∷ 0 ∷ 0 ∷ big_bytes 2 (code16_of response) ++ 0 ∷ 0 ∷ big_bytes 16 group
+
+-- the S flag, the fifth bit from the highest, and the QRV in the three lowest
+abbrev pub flags_byte : Bool → ℕ → ℕ
+flags_byte true robustness = 8 + robustness
+flags_byte false robustness = robustness
+
+-- the flags, the interval, the number of sources, and these
+abbrev pub fields_bytes : {K : Type 0} → (width : ℕ) → QuerierFields K → List ℕ
+fields_bytes width fields =
+    flags_byte fields.suppress fields.robustness ∷ code8_of fields.interval
+    ∷ big_bytes 2 (length fields.sources) ++ flat_map (big_bytes width) fields.sources
+
+-- what stands behind the group; no query of an older version is written
+abbrev pub behind_group : Family → QueryVersion ℕ → List ℕ
+behind_group family (Older version) = []
+behind_group family (Current fields) = fields_bytes (address_width family) fields
+
+-- the whole query with a checksum of 0
+abbrev pub without_checksum : Family → Query ℕ → List ℕ
+without_checksum family query =
+    query_head family query.group query.response ++ behind_group family query.version
+
+-- all nodes of an IPv6 link, ff02::1, to which general queries go (RFC 3810 section 5.1.15)
+abbrev pub all_nodes : ℕ
+all_nodes = 0xff020000000000000000000000000001
+
+-- where an MLD query is sent: a general one to all nodes, any other to its group
+abbrev pub mld_destination : (group : ℕ) → ℕ
+mld_destination group = if group == 0 then all_nodes else group
+
+-- what the checksum covers before the message: nothing in IGMP
+abbrev pub covered_before : Family → (source group len : ℕ) → List ℕ
+covered_before Igmp source group len = []
+covered_before Mld source group len = pseudo_header source (mld_destination group) len
+
+-- the message with the checksum that it has behind these bytes in its field
+abbrev pub with_checksum : (pseudo message : List ℕ) → List ℕ
+with_checksum pseudo message =
+    let checksum = 65535 - ones_complement (sum_of_words (pseudo ++ with_field 0 0 message)) in
+    with_field (checksum / 256) (checksum % 256) message
+
+-- the query as the router at `source` writes it
+abbrev pub canon : Family → (source : ℕ) → Query ℕ → List ℕ
+canon family source query =
+    let message = without_checksum family query in
+    with_checksum (covered_before family source query.group (length message)) message
