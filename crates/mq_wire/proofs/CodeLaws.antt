@@ -4,7 +4,7 @@ use Rattle.std.proofs.Math.Nat.{mul-le-mul_left, mul-le-mul_right, mod-lt}
 use Rattle.std.proofs.lemmas.Nat.{pow-add, pow_pos, div-add-mod'}
 use Rattle.std.proofs.lemmas.Bool.{cases_order}
 use Rattle.std.proofs.lemmas.Bool.Decides.{nat_tests, leb_tells}
-use Rattle.mq_wire.specs.Codes.{value_of, value8, CodesComeBack}
+use Rattle.mq_wire.specs.Codes.{value_of, CodesComeBack}
 use Rattle.mq_wire.proofs.CodeValues.{half_of, least_composed}
 
 -- the smaller exponent has a smaller value
@@ -98,8 +98,8 @@ one_code bits c d fits_c fits_d same =
           )
     ]
 
-pub come_back8 : CodesComeBack value8 255
-come_back8 code found fits is_code =
+pub come_back : (bits : ℕ) → CodesComeBack (value_of bits) (16 * 2 ^ bits - 1)
+come_back bits code found fits is_code =
     let up = is_code.greatest code fits (omega arith) in
     let down = is_code.not_above in
-    one_code 4 found code is_code.fits fits (omega (arith, up, down))
+    one_code bits found code is_code.fits fits (omega (arith, up, down))

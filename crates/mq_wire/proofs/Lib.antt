@@ -1,9 +1,9 @@
 pub mod Addresses
-pub mod ByteCodes
 pub mod CodeLaws
 pub mod CodeValues
 pub mod Cuts
 pub mod Faults
+pub mod FoundCodes
 pub mod Spelled
 pub mod Sums
 pub mod WideSums

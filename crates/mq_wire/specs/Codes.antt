@@ -32,7 +32,7 @@ composed_for bits v zero e = 16 * 2 ^ bits - 1
 composed_for bits v (suc left) e =
     if nat_lt v (2 ^ (bits + e + 4)) then (8 + e) * 2 ^ bits + (v / 2 ^ (e + 3) - 2 ^ bits) else composed_for bits v left (e + 1)
 
--- The code whose value is the greatest not above v, with a mantissa of so many bits (the laws `codes_are_greatest`).
+-- The code whose value is the greatest not above v, with a mantissa of so many bits (the law `codes_are_greatest`).
 unfoldable pub code_of : (bits v : ℕ) → ℕ
 code_of bits v = if nat_lt v (2 ^ (bits + 3)) then v else composed_for bits v 8 0
 

@@ -2,12 +2,19 @@
 //! contract is a law.
 
 ghost use Rattle.mq_wire.specs.Checksum.{RightWithItsChecksum};
-ghost use Rattle.mq_wire.specs.Codes.{CodesComeBack, value8};
+ghost use Rattle.mq_wire.specs.Codes.{CodesComeBack, CodesAreGreatest, value8, value16, code8_of, code16_of};
 ghost use Rattle.mq_wire.specs.Spelling.{OneMessage, NoFaultWhereSpelled, SpelledWhereNoFault};
 
 /// The code for a value that a code has is that code.
 pub fn codes_come_back()
-    ensures { CodesComeBack value8 255 }
+    ensures bits8 { CodesComeBack value8 255 }
+    ensures bits16 { CodesComeBack value16 65535 }
+{}
+
+/// The code that is computed of a value is the one whose value is the greatest not above it.
+pub fn codes_are_greatest()
+    ensures bits8 { CodesAreGreatest value8 code8_of 255 }
+    ensures bits16 { CodesAreGreatest value16 code16_of 65535 }
 {}
 
 /// A message whose checksum field has its checksum is right.

@@ -31,7 +31,7 @@ mod tests;
 pub mod wire_key;
 
 pub use checksum::{checksum_of, checksum_ok};
-pub use codes::{code8, resp8};
+pub use codes::{code8, code16, resp8};
 pub use igmp::read_igmp;
 pub use message::{Message, WireFault};
 pub use mq_count::OlderVersion;
