@@ -6,4 +6,6 @@ pub mod Faults
 pub mod FoundCodes
 pub mod Spelled
 pub mod Sums
+pub mod SumsBehind
 pub mod WideSums
+pub mod WrittenParts

@@ -1,14 +1,15 @@
 -- The one spelling in which a router writes a query of IGMPv3 or MLDv2 (RFC 3376 section 4.1, RFC 3810 section 5.1):
 -- reserved fields and the code of ICMPv6 are 0, times are lowered to values of codes, the message ends with its last
 -- source, and its checksum is in its field.
-use Rattle.std.specs.Prelude.{ℕ, ◌+◌, ◌-◌, ◌*◌, ◌/◌, ◌%◌, ◌==◌, Bool, true, false, if◌then◌else◌, List, [], ◌∷◌, ◌++◌, length}
+use Rattle.std.specs.Prelude.{ℕ, ◌+◌, ◌-◌, ◌*◌, ◌/◌, ◌%◌, ◌==◌, Bool, true, false, if◌then◌else◌, ◌≡◌, ◌<◌, ◌≤◌, List, [], ◌∷◌, ◌++◌, length, drop, Result, Ok, Err}
 use Rattle.std.specs.List.{flat_map}
 use Rattle.byteorder.specs.Endian.{big_bytes}
 use Rattle.mq_wire.specs.declared.query.Query.{Query}
 use Rattle.mq_wire.specs.declared.query.QuerierFields.{QuerierFields}
 use Rattle.mq_wire.specs.declared.query.QueryVersion.{QueryVersion}
 use Rattle.mq_wire.specs.declared.query.QueryVersion.TheVariants.{Older, Current}
-use Rattle.mq_wire.specs.Checksum.{sum_of_words, ones_complement, with_field}
+use Rattle.mq_wire.specs.declared.writing.Small.{Small}
+use Rattle.mq_wire.specs.Checksum.{checksum_behind, with_field}
 use Rattle.mq_wire.specs.Codes.{code8_of, code16_of}
 use Rattle.mq_wire.specs.Family.{Family, Igmp, Mld, address_width}
 use Rattle.mq_wire.specs.PseudoHeader.{pseudo_header}
@@ -56,7 +57,7 @@ covered_before Mld source group len = pseudo_header source (mld_destination grou
 -- the message with the checksum that it has behind these bytes in its field
 abbrev pub with_checksum : (pseudo message : List ℕ) → List ℕ
 with_checksum pseudo message =
-    let checksum = 65535 - ones_complement (sum_of_words (pseudo ++ with_field 0 0 message)) in
+    let checksum = checksum_behind pseudo message in
     with_field (checksum / 256) (checksum % 256) message
 
 -- the query as the router at `source` writes it
@@ -64,3 +65,19 @@ abbrev pub canon : Family → (source : ℕ) → Query ℕ → List ℕ
 canon family source query =
     let message = without_checksum family query in
     with_checksum (covered_before family source query.group (length message)) message
+
+-- the version of a query that is written: IGMPv3 or MLDv2
+abbrev pub IsCurrent : {K : Type 0} → QueryVersion K → Type 0
+IsCurrent (Older version) = ⊥
+IsCurrent (Current fields) = Unit {0}
+
+-- how many sources a query names
+abbrev pub source_count : {K : Type 0} → QueryVersion K → ℕ
+source_count (Older version) = 0
+source_count (Current fields) = length fields.sources
+
+-- The text was written at the front of the bytes, and those behind it stayed; or they are too few for it, and
+-- all stayed.
+abbrev pub Writes : (text old new : List ℕ) → Result ℕ Small → Type 0
+Writes text old new (Ok len) = (len ≡ length text) × (len ≤ length old) × (new ≡ text ++ drop len old)
+Writes text old new (Err small) = (small.needed ≡ length text) × (length old < small.needed) × (new ≡ old)

@@ -32,6 +32,10 @@ with_field high low bytes = take 2 bytes ++ high ∷ low ∷ drop 4 bytes
 abbrev pub checksum_of : List ℕ → ℕ
 checksum_of bytes = 65535 - ones_complement (sum_of_words (with_field 0 0 bytes))
 
+-- the checksum of a message that covers these bytes before it too
+abbrev pub checksum_behind : (pseudo bytes : List ℕ) → ℕ
+checksum_behind pseudo bytes = 65535 - ones_complement (sum_of_words (pseudo ++ with_field 0 0 bytes))
+
 -- a message whose checksum field has its checksum is right
 abbrev pub RightWithItsChecksum : Type 0
 RightWithItsChecksum = (bytes : List ℕ) → 4 ≤ length bytes → IsRight (with_field (checksum_of bytes / 256) (checksum_of bytes % 256) bytes)

@@ -1,8 +1,8 @@
 //! The checksum of a message (RFC 1112 appendix I, RFC 2236 section 2.3; RFC 3376 sections 4.1.2 and
 //! 4.2.2).
 
-ghost use Rattle.std.specs.Prelude.{◌≡◌, ◌↔◌, ◌+◌, ◌*◌, ◌≤◌, ◌<◌, ◌^◌, IsTrue, length};
-ghost use Rattle.mq_wire.specs.Checksum.{IsRight, ones_complement, sum_of_words};
+ghost use Rattle.std.specs.Prelude.{◌≡◌, ◌↔◌, ◌+◌, ◌*◌, ◌%◌, ◌≤◌, ◌<◌, ◌^◌, IsTrue, length};
+ghost use Rattle.mq_wire.specs.Checksum.{IsRight, ones_complement, sum_of_words, with_field};
 ghost use Rattle.mq_wire.specs.Checksum as spec;
 
 use byteorder::{BigEndian, ByteOrder};
@@ -18,10 +18,24 @@ const AFTER: usize = 4;
 pub fn checksum_of(message: &[u8]) -> u16
     ensures { result ≡ spec.checksum_of message.now }
 {
+    u16::MAX - sum_without_field(message)
+}
+
+/// The checksum of a message that covers `before` too, a pseudo-header.
+pub(crate) fn checksum_behind(before: &[u8], message: &[u8]) -> u16
+    requires { length before.now % 2 ≡ 0 }
+    ensures { result ≡ spec.checksum_behind before.now message.now }
+{
+    u16::MAX - add(sum_of(before), sum_without_field(message))
+}
+
+/// The one's complement sum of a message's words, with 0 in its checksum field.
+fn sum_without_field(message: &[u8]) -> u16
+    ensures { result ≡ ones_complement (sum_of_words (with_field 0 0 message.now)) }
+{
     let before = &message[..message.len().min(FIELD)];
     let after = &message[message.len().min(AFTER)..];
-    let sum = add(sum_of(before), sum_of(after));
-    u16::MAX - sum
+    add(sum_of(before), sum_of(after))
 }
 
 /// Whether a message's checksum is right.

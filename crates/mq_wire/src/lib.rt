@@ -29,6 +29,7 @@ pub mod sources;
 #[cfg(test)]
 mod tests;
 pub mod wire_key;
+pub mod writing;
 
 pub use checksum::{checksum_of, checksum_ok};
 pub use codes::{code8, code16, resp8};

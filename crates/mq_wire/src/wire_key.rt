@@ -1,8 +1,8 @@
 //! What the formats know of an address.
 
-ghost use Rattle.std.specs.Prelude.{◌≡◌, ◌<◌, ◌≤◌, ℕ, length};
-ghost use Rattle.std.proofs.Common.{lit<};
-ghost use Rattle.byteorder.specs.Endian.{big_number};
+ghost use Rattle.std.specs.Prelude.{◌≡◌, ◌<◌, ◌≤◌, ◌++◌, ℕ, length, drop};
+ghost use Rattle.std.proofs.Common.{lit<, lit≤};
+ghost use Rattle.byteorder.specs.Endian.{big_number, big_bytes};
 
 use mq_count::{Addr4, Addr6, Key};
 
@@ -24,8 +24,15 @@ pub trait WireKey: Key {
         requires { WIDTH ≤ length bytes.now }
         ensures { Self.number result ≡ big_number WIDTH bytes.now };
 
-    // An address has some bytes.
+    /// Writes the address into the first bytes and leaves the others.
+    fn write(self, out: &mut [u8])
+        requires { WIDTH ≤ length out.old }
+        ensures { out.new ≡ big_bytes WIDTH (Self.number self) ++ drop WIDTH out.old };
+
+    // An address has some bytes, and few.
     ghost has_bytes: { 0 < WIDTH };
+
+    ghost few_bytes: { WIDTH ≤ 16 };
 }
 
 impl WireKey for Addr4 {
@@ -37,10 +44,16 @@ impl WireKey for Addr4 {
 
     ghost has_bytes = { lit< tt };
 
+    ghost few_bytes = { lit≤ tt };
+
     const PER_QUERY: usize = 366;
 
     fn read(bytes: &[u8]) -> Addr4 {
         Addr4::from_octets([bytes[0], bytes[1], bytes[2], bytes[3]])
+    }
+
+    fn write(self, out: &mut [u8]) {
+        out[..4].copy_from_slice(&self.octets());
     }
 }
 
@@ -53,11 +66,17 @@ impl WireKey for Addr6 {
 
     ghost has_bytes = { lit< tt };
 
+    ghost few_bytes = { lit≤ tt };
+
     const PER_QUERY: usize = 89;
 
     fn read(bytes: &[u8]) -> Addr6 {
         let mut octets = [0; 16];
         octets.copy_from_slice(&bytes[..16]);
         Addr6::from_octets(octets)
+    }
+
+    fn write(self, out: &mut [u8]) {
+        out[..16].copy_from_slice(&self.octets());
     }
 }
