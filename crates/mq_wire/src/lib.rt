@@ -20,11 +20,14 @@
 
 pub mod checksum;
 pub mod codes;
+mod family;
 mod fields;
 pub mod igmp;
 pub mod laws;
 pub mod message;
 pub mod query;
+mod reading;
+pub mod records;
 pub mod sources;
 #[cfg(test)]
 mod tests;
@@ -36,5 +39,6 @@ pub use igmp::read_igmp;
 pub use message::{Message, WireFault};
 pub use mq_count::OlderVersion;
 pub use query::{Qrv, QuerierFields, Query, QueryVersion};
+pub use records::{RecordView, Records};
 pub use sources::Sources;
 pub use wire_key::WireKey;
