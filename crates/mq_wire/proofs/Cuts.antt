@@ -1,14 +1,12 @@
 -- Which spans of a message are whole.
-use Rattle.std.proofs.Common.{◌≡◌, ℕ, zero, suc, ◌+◌, ◌*◌, ◌-◌, ◌/◌, ◌%◌, ◌<◌, ◌≤◌, nat_le, false, List, [], ◌∷◌, ◌++◌, length, Some, None, replicate, inl, inr, ap, ◌∙◌, refl, arith}
-use Rattle.std.proofs.Math.Nat.{mul-le-mul_right}
-use Rattle.std.proofs.lemmas.Nat.{div-add-mod', mod_below}
+use Rattle.std.proofs.Common.{◌≡◌, ℕ, zero, suc, ◌+◌, ◌<◌, ◌≤◌, List, [], ◌∷◌, ◌++◌, length, None, inl, inr, ap, ◌∙◌, arith}
 use Rattle.std.proofs.lemmas.Bool.Decides.{nat_tests, leb_tells, eqb_tells}
 use Rattle.mq_wire.specs.declared.message.MessageType.{MessageType}
 use Rattle.mq_wire.specs.declared.message.MessageType.TheVariants.{Query, OlderReport, Leave, Report}
 use Rattle.mq_wire.specs.Family.{Family, Igmp, Mld, group_end, address_width}
 use Rattle.mq_wire.specs.Fields.{first_cut}
 use Rattle.mq_wire.specs.Queries.{older_spans, query_spans, source_spans}
-use Rattle.mq_wire.specs.Records.{report_spans, spans_of_records, record_count}
+use Rattle.mq_wire.specs.Records.{spans_of_records, record_count}
 use Rattle.mq_wire.specs.Spelling.{spans_of}
 use Rattle.mq_wire.proofs.Spans.{step}
 

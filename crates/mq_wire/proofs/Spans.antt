@@ -1,5 +1,5 @@
 -- Spans one after the other: where the first that isn't whole begins, and where they end.
-use Rattle.std.proofs.Common.{◌≡◌, ℕ, zero, suc, ◌+◌, ◌*◌, ◌-◌, ◌/◌, ◌%◌, ◌<◌, ◌≤◌, nat_le, true, false, List, [], ◌∷◌, ◌++◌, length, Option, Some, None, Result, Ok, Err, replicate, sum, get_or, drop, inl, inr, ap, sym, ◌∙◌, refl, arith, add_assoc, add-zero, add-one, drop-cons}
+use Rattle.std.proofs.Common.{◌≡◌, ℕ, zero, suc, ◌+◌, ◌*◌, ◌-◌, ◌/◌, ◌%◌, ◌<◌, ◌≤◌, nat_le, false, List, [], ◌∷◌, ◌++◌, Option, Some, None, Result, Ok, Err, replicate, sum, inl, inr, ◌⊎◌, ap, sym, ◌∙◌, refl, arith, add-zero}
 use Rattle.std.specs.Option.{option_map}
 use Rattle.std.proofs.Math.Nat.{mul-le-mul_right}
 use Rattle.std.proofs.lemmas.Nat.{div-add-mod', mod_below}
@@ -74,6 +74,10 @@ cut_before len at place (width ∷ first) others cut =
       | inr over ↦ cut_here len at width (first ++ others) over.1 ∙ sym (cut_here len at width first over.1) ∙ cut
     ]
 
+whole_or_cut : (cut : Option ℕ) → (cut ≡ None) ⊎ ((place : ℕ) × (cut ≡ Some place))
+whole_or_cut None = inl refl
+whole_or_cut (Some place) = inr (place, refl)
+
 cut_somewhere : (cut : Option ℕ) (fault : WireFault) → option_map (λ place. Truncated place) cut ≡ Some fault → (place : ℕ) × (cut ≡ Some place) × (fault ≡ Truncated place)
 cut_somewhere None fault same = absurd (cc)
 cut_somewhere (Some place) fault same = (place, refl, cc)
@@ -89,14 +93,22 @@ fault_before len at first others fault cut =
     let place = cut_somewhere (first_cut len at first) fault cut in
     ap (option_map (λ place. Truncated place)) (cut_before len at place.0 first others place.1 ∙ sym place.1) ∙ cut
 
--- where spans and the others behind them end
-pub ends_behind : (len at end last : ℕ) (first others : List ℕ) → EndsAt len at first (Ok end) → EndsAt len end others (Ok last) → EndsAt len at (first ++ others) (Ok last)
-ends_behind len at end last first others one two =
-    let all = sum-append first others in
-    (
+-- spans that end, and what holds of the others behind them
+pub ends_on : (len at end : ℕ) (first others : List ℕ) (r : Result ℕ WireFault) → EndsAt len at first (Ok end) → EndsAt len end others r → EndsAt len at (first ++ others) r
+ends_on len at end first others (Ok last) one two =
+    let all = sum-append first others in (
       cut_behind_whole len at first others one.0 ∙ ap (λ (n : ℕ). first_cut len n others) (sym one.1) ∙ two.0,
       omega (arith, one.1, two.1, all),
     )
+ends_on len at end first others (Err fault) one two = fault_behind len at end first others fault one two
+
+-- spans that are whole are so in two parts
+pub whole_parts : (len at : ℕ) (first others : List ℕ) → first_cut len at (first ++ others) ≡ None → (first_cut len at first ≡ None) × (first_cut len (at + sum first) others ≡ None)
+whole_parts len at first others whole =
+    elim (whole_or_cut (first_cut len at first)) [
+      | inl none ↦ (none, sym (cut_behind_whole len at first others none) ∙ whole)
+      | inr some ↦ (let cut = cut_before len at some.0 first others some.1 in absurd (cc))
+    ]
 
 -- spans end within the bytes
 pub ends_within : (len at : ℕ) (widths : List ℕ) → at ≤ len → first_cut len at widths ≡ None → at + sum widths ≤ len
@@ -105,6 +117,10 @@ ends_within len at (width ∷ widths) within whole =
     let fits = first_whole len at width widths whole in
     let rest = ends_within len (at + width) widths fits (sym (step len at width widths fits) ∙ whole) in
     let all = sum-cons width widths in omega (arith, rest, all)
+
+pub end_within : (len at end : ℕ) (widths : List ℕ) → at ≤ len → EndsAt len at widths (Ok end) → end ≤ len
+end_within len at end widths within ends =
+    let all = ends_within len at widths within ends.0 in omega (arith, all, ends.1)
 
 -- Spans of one width up to the end of the message: where they aren't all whole, the first that isn't stands
 -- behind as many as fit.

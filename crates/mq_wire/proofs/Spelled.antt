@@ -68,7 +68,7 @@ uncut : (cut : Option ℕ) → option_map (λ at. Truncated at) cut ≡ None →
 uncut None none = refl
 uncut (Some at) none = absurd (cc)
 
-no_fault_within : (family : Family) (bytes : List ℕ) (kind : MessageType) → HasLength family kind (length bytes) → first_cut (length bytes) 0 (spans_of family kind bytes) ≡ None → fault_within family bytes kind ≡ None
+pub no_fault_within : (family : Family) (bytes : List ℕ) (kind : MessageType) → HasLength family kind (length bytes) → first_cut (length bytes) 0 (spans_of family kind bytes) ≡ None → fault_within family bytes kind ≡ None
 no_fault_within family bytes kind fits whole =
     let no_fault = no_length_fault family kind (length bytes) fits in rw (no_fault, whole) refl
 
@@ -99,8 +99,7 @@ reads number family pseudo bytes kind (Err fault) long right listed reads_err = 
 -- what bytes are read as is a message exactly where they spell it, and a fault exactly where it is theirs
 pub exact_message : (number : ℕ → ℕ) (family : Family) (pseudo bytes : List ℕ) (r : Result (Message ℕ) WireFault) → ((a : ℕ) → number a ≡ a) → ReadsAs number family pseudo bytes r → (m : Message ℕ) → (r ≡ Ok m) ↔ Spells family pseudo bytes m
 exact_message number family pseudo bytes (Ok n) own reads m =
-    let spelled_n : Spells family pseudo bytes n = subst (λ (x : Message ℕ). Spells family pseudo bytes x) (numbered_same number own n) reads in
-    (
+    let spelled_n : Spells family pseudo bytes n = subst (λ (x : Message ℕ). Spells family pseudo bytes x) (numbered_same number own n) reads in (
       λ e. let same : n ≡ m = cc in subst (λ (x : Message ℕ). Spells family pseudo bytes x) same spelled_n,
       λ s. ap Ok (same_message family pseudo bytes n m spelled_n s),
     )

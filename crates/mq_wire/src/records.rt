@@ -83,6 +83,7 @@ impl<'a, K: WireKey> Records<'a, K> {
     }
 
     /// How many are left.
+    #[tactic(auto, using(crate::proofs::RecordLists::length_records))]
     pub fn len(&self) -> usize
         ensures { result ≡ length self.now }
     {

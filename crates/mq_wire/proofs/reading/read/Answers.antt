@@ -1,19 +1,26 @@
-use Rattle.std.proofs.Common.{◌≡◌, [], sym, refl}
-use Rattle.mq_wire.specs.Family.{Igmp}
-use Rattle.mq_wire.proofs.Faults.{short, wrong, unknown}
+use Rattle.std.proofs.Common.{◌≡◌, ◌≤◌, [], length, sym, refl}
+use Rattle.std.proofs.lemmas.Result.{err_from_is_err_and}
+use Rattle.mq_wire.proofs.Cuts.{header}
+use Rattle.mq_wire.proofs.Faults.{header_cut, wrong, unknown}
 use Rattle.mq_wire.proofs.Spelled.{reads}
-use Rattle.mq_wire.proofs.igmp.read.Goals as goal
+use Rattle.mq_wire.proofs.reading.read.Goals as goal
 
-pub returns-then-bytes-lt-GROUP : goal.returns-then-bytes-lt-GROUP
-returns-then-bytes-lt-GROUP c = rw c.min.ensures (short Igmp [] c.args.bytes.now c.if-bytes-lt-GROUP.true)
+pub returns-in_err-fields_end : goal.returns-in_err-fields_end
+returns-in_err-fields_end g c =
+    let p = err_from_is_err_and c.from_residual.result c.from_residual.ensures.1 in
+    rw (p.1, p.2) (header_cut g.K.FamilyKey.FAMILY c.args.pseudo.now c.args.bytes.now c.in_err-fields_end.field-0.0 c.in_err-fields_end.ensures)
 
-pub returns-then-not-checksum_ok : goal.returns-then-not-checksum_ok
-returns-then-not-checksum_ok c =
-    wrong Igmp [] c.args.bytes.now c.if-bytes-lt-GROUP.false (λ right. let told : c.checksum_ok.result ≡ _ = c.checksum_ok.ensures.1 right in cc)
+pub returns-then-not-is_right_behind : goal.returns-then-not-is_right_behind
+returns-then-not-is_right_behind g c =
+    let long : 4 ≤ length c.args.bytes.now = header (length c.args.bytes.now) [] c.in_ok-fields_end.ensures.0 in
+    wrong g.K.FamilyKey.FAMILY c.args.pseudo.now c.args.bytes.now long (λ right. let told : c.is_right_behind.result ≡ _ = c.is_right_behind.ensures.1 right in cc)
 
 pub returns-in-Some : goal.returns-in-Some
-returns-in-Some c =
-    reads Igmp [] c.args.bytes.now c.in-Some.kind c.read_within.result c.if-bytes-lt-GROUP.false (c.if-not-checksum_ok.ensures.0 refl) (sym c.in-Some.ensures) c.read_within.ensures
+returns-in-Some g c =
+    let long : 4 ≤ length c.args.bytes.now = header (length c.args.bytes.now) [] c.in_ok-fields_end.ensures.0 in
+    reads g.K.Key.number g.K.FamilyKey.FAMILY c.args.pseudo.now c.args.bytes.now c.in-Some.kind c.read_within.result long (c.if-not-is_right_behind.ensures.0 refl) (sym c.in-Some.ensures) c.read_within.ensures
 
 pub returns-in-None : goal.returns-in-None
-returns-in-None c = unknown Igmp [] c.args.bytes.now c.if-bytes-lt-GROUP.false (c.if-not-checksum_ok.ensures.0 refl) (sym c.in-None.ensures)
+returns-in-None g c =
+    let long : 4 ≤ length c.args.bytes.now = header (length c.args.bytes.now) [] c.in_ok-fields_end.ensures.0 in
+    unknown g.K.FamilyKey.FAMILY c.args.pseudo.now c.args.bytes.now long (c.if-not-is_right_behind.ensures.0 refl) (sym c.in-None.ensures)
