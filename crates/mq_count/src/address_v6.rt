@@ -1,6 +1,6 @@
 //! The address of IPv6.
 
-ghost use Rattle.std.specs.Prelude.{◌≡◌};
+ghost use Rattle.std.specs.Prelude.{◌≡◌, nat_eq};
 ghost use Rattle.std.specs.Int.{w128, to_be_bytes, from_be_bytes};
 
 use crate::keys::Key;
@@ -43,6 +43,13 @@ impl Addr6 {
         ensures { result ≡ to_be_bytes w128 self }
     {
         self.number.to_be_bytes()
+    }
+
+    /// Whether it is the unspecified address, ::. That is a test of its octets and no counted comparison.
+    pub const fn is_unspecified(self) -> bool
+        ensures { result ≡ nat_eq self 0 }
+    {
+        self.number == 0
     }
 }
 

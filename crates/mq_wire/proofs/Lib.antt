@@ -4,8 +4,11 @@ pub mod CodeValues
 pub mod Cuts
 pub mod Faults
 pub mod FoundCodes
+pub mod Queried
+pub mod RecordLists
+pub mod Spans
 pub mod Spelled
 pub mod Sums
-pub mod SumsBehind
 pub mod WideSums
+pub mod Written
 pub mod WrittenParts

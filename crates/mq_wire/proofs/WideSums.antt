@@ -6,7 +6,7 @@ use Rattle.byteorder.specs.Endian.{big_number}
 use Rattle.mq_wire.specs.Checksum.{sum_of_words, ones_complement}
 
 -- multiples of 65535 make no difference to a sum that isn't zero
-pub more_carries : (n k : ℕ) → (n ≡ 0 → k ≡ 0) → ones_complement (n + 65535 * k) ≡ ones_complement n
+more_carries : (n k : ℕ) → (n ≡ 0 → k ≡ 0) → ones_complement (n + 65535 * k) ≡ ones_complement n
 more_carries n k none =
     elim (eqb_tells n 0) [
       | inl zero ↦ (let same : n + 65535 * k ≡ n = (let no_k = none zero.1 in omega (arith, no_k)) in ap ones_complement same)

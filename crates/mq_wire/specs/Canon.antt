@@ -14,11 +14,11 @@ use Rattle.mq_wire.specs.Codes.{code8_of, code16_of}
 use Rattle.mq_wire.specs.Family.{Family, Igmp, Mld, address_width}
 use Rattle.mq_wire.specs.PseudoHeader.{pseudo_header}
 
--- type, response and group, with a checksum of 0. The response is in whole tenths of a second in IGMP, and in
--- milliseconds in MLD.
-abbrev pub query_head : Family → (group response : ℕ) → List ℕ
-query_head Igmp group response = 0x11 ∷ code8_of (response / 100) ∷ 0 ∷ 0 ∷ big_bytes 4 group
-query_head Mld group response = 130 ∷ 0 ∷ 0 ∷ 0 ∷ big_bytes 2 (code16_of response) ++ 0 ∷ 0 ∷ big_bytes 16 group
+-- what stands before the group, with a checksum of 0: the type, and the response in whole tenths of a second in
+-- IGMP, in milliseconds in MLD
+abbrev pub first_bytes : Family → (response : ℕ) → List ℕ
+first_bytes Igmp response = 0x11 ∷ code8_of (response / 100) ∷ 0 ∷ 0 ∷ []
+first_bytes Mld response = 130 ∷ 0 ∷ 0 ∷ 0 ∷ big_bytes 2 (code16_of response) ++ 0 ∷ 0 ∷ []
 
 -- the S flag, the fifth bit from the highest, and the QRV in the three lowest
 abbrev pub flags_byte : Bool → ℕ → ℕ
@@ -39,7 +39,8 @@ behind_group family (Current fields) = fields_bytes (address_width family) field
 -- the whole query with a checksum of 0
 abbrev pub without_checksum : Family → Query ℕ → List ℕ
 without_checksum family query =
-    query_head family query.group query.response ++ behind_group family query.version
+    first_bytes family query.response ++ big_bytes (address_width family) query.group
+    ++ behind_group family query.version
 
 -- all nodes of an IPv6 link, ff02::1, to which general queries go (RFC 3810 section 5.1.15)
 abbrev pub all_nodes : ℕ

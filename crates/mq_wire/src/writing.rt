@@ -3,22 +3,78 @@
 ghost use Rattle.std.specs.Prelude.{◌≡◌, ◌≤◌, ◌+◌, ◌*◌, ◌%◌, ◌++◌, length, drop};
 ghost use Rattle.std.specs.List.{flat_map};
 ghost use Rattle.byteorder.specs.Endian.{big_bytes};
-ghost use Rattle.mq_wire.specs.Canon.{canon, flags_byte, fields_bytes, with_checksum, IsCurrent, source_count, Writes};
-ghost use Rattle.mq_wire.specs.Family.{Igmp};
+ghost use Rattle.mq_wire.specs.Canon.{flags_byte, fields_bytes, with_checksum, Writes};
 
 use crate::checksum::checksum_behind;
 use crate::codes::code8;
-use crate::query::{QuerierFields, Query, QueryVersion};
+use crate::query::{FLAGS_TO_COUNT, QuerierFields};
 use crate::sources::Sources;
 use crate::wire_key::WireKey;
 use byteorder::{BigEndian, ByteOrder};
-use mq_count::Addr4;
 
 /// Where the checksum stands in a message.
 const CHECKSUM: usize = 2;
 
-/// How many bytes the flags, the interval code and the number of sources take.
-const FLAGS_TO_COUNT: usize = 4;
+/// The bytes that were lent are too few for a query.
+#[derive(Clone, Copy, Debug, PartialEq, Eq)]
+pub struct Small {
+    /// How many bytes the query has.
+    pub needed: usize,
+}
+
+/// Writes a query behind these first bytes, with the checksum that it has behind `pseudo`.
+pub(crate) fn write_query<K: WireKey>(
+    head: &[u8],
+    group: K,
+    fields: &QuerierFields<'_, K>,
+    pseudo: &[u8],
+    out: &mut [u8],
+) -> Result<usize, Small>
+    requires header { 4 ≤ length head.now }
+    requires short { length head.now ≤ 8 }
+    requires even { length pseudo.now % 2 ≡ 0 }
+    requires counted { length fields.now.sources ≤ 65535 }
+    ensures { Writes (with_checksum pseudo.now (head.now ++ big_bytes K.WIDTH (K.number group) ++ fields_bytes K.WIDTH fields.now)) out.old out.new result }
+{
+    let needed = query_length(head, fields);
+    if out.len() < needed {
+        return Err(Small { needed });
+    }
+    let message = &mut out[..needed];
+    write_unsigned(head, group, fields, message);
+    sign(pseudo, message);
+    Ok(needed)
+}
+
+/// How many bytes a query has with these first bytes.
+pub(crate) fn query_length<K: WireKey>(head: &[u8], fields: &QuerierFields<'_, K>) -> usize
+    requires short { length head.now ≤ 8 }
+    requires counted { length fields.now.sources ≤ 65535 }
+    ensures { result ≡ length head.now + K.WIDTH + 4 + length fields.now.sources * K.WIDTH }
+{
+    head.len() + K::WIDTH + FLAGS_TO_COUNT + fields.sources.len() * K::WIDTH
+}
+
+/// Writes a query with a checksum of 0 behind these first bytes.
+fn write_unsigned<K: WireKey>(head: &[u8], group: K, fields: &QuerierFields<'_, K>, out: &mut [u8])
+    requires counted { length fields.now.sources ≤ 65535 }
+    requires room { length head.now + K.WIDTH + 4 + length fields.now.sources * K.WIDTH ≡ length out.old }
+    ensures { out.new ≡ head.now ++ big_bytes K.WIDTH (K.number group) ++ fields_bytes K.WIDTH fields.now }
+{
+    let group_end = write_group(head, group, out);
+    write_fields(fields, &mut out[group_end..]);
+}
+
+/// Writes the group behind these first bytes, and answers how many bytes that is.
+fn write_group<K: WireKey>(head: &[u8], group: K, out: &mut [u8]) -> usize
+    requires { length head.now + K.WIDTH ≤ length out.old }
+    ensures end { result ≡ length head.now + K.WIDTH }
+    ensures text { out.new ≡ head.now ++ big_bytes K.WIDTH (K.number group) ++ drop result out.old }
+{
+    out[..head.len()].copy_from_slice(head);
+    group.write(&mut out[head.len()..]);
+    head.len() + K::WIDTH
+}
 
 /// Writes each source at the front.
 fn write_sources<K: WireKey>(sources: Sources<'_, K>, out: &mut [u8])
@@ -64,71 +120,4 @@ fn sign(pseudo: &[u8], message: &mut [u8])
 {
     let checksum = checksum_behind(pseudo, message);
     BigEndian::write_u16(&mut message[CHECKSUM..], checksum);
-}
-
-/// The bytes that were lent are too few for a query.
-#[derive(Clone, Copy, Debug, PartialEq, Eq)]
-pub struct Small {
-    /// How many bytes the query has.
-    pub needed: usize,
-}
-
-/// Writes a query of IGMPv3 at the front of `out`, leaves the bytes behind it, and answers how many bytes
-/// it has: its response is lowered to a whole tenth of a second that a code has, and its interval to a value
-/// of a code, in seconds. The query is of version 3 with at most 65535 sources.
-pub fn write_igmp(query: &Query<'_, Addr4>, out: &mut [u8]) -> Result<usize, Small>
-    requires version { IsCurrent query.now.version }
-    requires counted { source_count query.now.version ≤ 65535 }
-    ensures { Writes (canon Igmp 0 query.now) out.old out.new result }
-{
-    let QueryVersion::Current(fields) = &query.version else {
-        return Ok(0);
-    };
-    let head = [0x11, code8(query.response / 100), 0, 0];
-    write_query(&head, query.group, fields, &[], out)
-}
-
-/// Writes a query behind these first bytes, with the checksum that it has behind `pseudo`.
-fn write_query<K: WireKey>(
-    head: &[u8],
-    group: K,
-    fields: &QuerierFields<'_, K>,
-    pseudo: &[u8],
-    out: &mut [u8],
-) -> Result<usize, Small>
-    requires header { 4 ≤ length head.now }
-    requires short { length head.now ≤ 8 }
-    requires even { length pseudo.now % 2 ≡ 0 }
-    requires counted { length fields.now.sources ≤ 65535 }
-    ensures { Writes (with_checksum pseudo.now (head.now ++ big_bytes K.WIDTH (K.number group) ++ fields_bytes K.WIDTH fields.now)) out.old out.new result }
-{
-    let needed = head.len() + K::WIDTH + FLAGS_TO_COUNT + fields.sources.len() * K::WIDTH;
-    if out.len() < needed {
-        return Err(Small { needed });
-    }
-    let message = &mut out[..needed];
-    write_unsigned(head, group, fields, message);
-    sign(pseudo, message);
-    Ok(needed)
-}
-
-/// Writes a query with a checksum of 0 behind these first bytes.
-fn write_unsigned<K: WireKey>(head: &[u8], group: K, fields: &QuerierFields<'_, K>, out: &mut [u8])
-    requires counted { length fields.now.sources ≤ 65535 }
-    requires room { length head.now + K.WIDTH + 4 + length fields.now.sources * K.WIDTH ≡ length out.old }
-    ensures { out.new ≡ head.now ++ big_bytes K.WIDTH (K.number group) ++ fields_bytes K.WIDTH fields.now }
-{
-    let group_end = write_group(head, group, out);
-    write_fields(fields, &mut out[group_end..]);
-}
-
-/// Writes the group behind these first bytes, and answers how many bytes that is.
-fn write_group<K: WireKey>(head: &[u8], group: K, out: &mut [u8]) -> usize
-    requires { length head.now + K.WIDTH ≤ length out.old }
-    ensures end { result ≡ length head.now + K.WIDTH }
-    ensures text { out.new ≡ head.now ++ big_bytes K.WIDTH (K.number group) ++ drop result out.old }
-{
-    out[..head.len()].copy_from_slice(head);
-    group.write(&mut out[head.len()..]);
-    head.len() + K::WIDTH
 }

@@ -4,7 +4,7 @@ use Rattle.std.specs.List.{flat_map}
 use Rattle.std.specs.Fmt.{decimal}
 use Rattle.std.specs.Int.{w32, to_be_bytes}
 use Rattle.mq_wire.specs.declared.message.Message.{Message}
-use Rattle.mq_wire.specs.declared.message.Message.TheVariants.{Query as AQuery, OldReport, Leave}
+use Rattle.mq_wire.specs.declared.message.Message.TheVariants.{Query as AQuery, OldReport, Leave, Report}
 use Rattle.mq_count.specs.declared.versions.OlderVersion.{OlderVersion}
 use Rattle.mq_count.specs.declared.versions.OlderVersion.TheVariants.{V1, V2}
 use Rattle.mq_wire.specs.declared.query.Query.{Query}
@@ -61,6 +61,7 @@ abbrev pub message_text : Message ℕ → List ℕ
 message_text (AQuery query) = query_text query
 message_text (OldReport version group) = older_report_text version group
 message_text (Leave group) = leave_text group
+message_text (Report records) = codes "report v3"
 
 abbrev pub fault_text : WireFault → List ℕ
 fault_text (Truncated at) = codes "fault 1 truncated at " ++ decimal at

@@ -46,6 +46,7 @@ fn print_message<W: Write>(
             print(older_report_line(version, group).as_slice(), writer)
         }
         Message::Leave(group) => print(leave_line(group).as_slice(), writer),
+        Message::Report(_) => print(b"report v3\n", writer),
     }
 }
 

@@ -11,4 +11,4 @@ returns-then-out-needed g c =
     let query = length_query width group c.args.head.now c.args.fields.now in
     let text = c.args.head.now ++ big_bytes width group ++ fields_bytes width c.args.fields.now in
     let signed = length_with_checksum c.args.pseudo.now text (omega (arith, query, c.requires.header)) in
-    (rw (c.WIDTH.ensures, c.WIDTH-2.ensures, c.len.ensures) (sym (signed ∙ query)), c.if-out-needed.true, refl)
+    (c.query_length-needed.ensures ∙ sym (signed ∙ query), c.if-out-needed.true, refl)
