@@ -1,12 +1,12 @@
 -- What is written is the one spelling of the query.
-use Rattle.std.proofs.Common.{◌≡◌, ℕ, ◌+◌, ◌*◌, List, ◌++◌, length, ap, sym, subst, ◌∙◌, arith, refl}
+use Rattle.std.proofs.Common.{◌≡◌, ℕ, ◌+◌, ◌*◌, List, ◌++◌, length, ap, sym, ◌∙◌, refl}
 use Rattle.byteorder.specs.Endian.{big_bytes}
 use Rattle.mq_wire.specs.declared.query.Query.{Query}
 use Rattle.mq_wire.specs.declared.query.QuerierFields.{QuerierFields}
 use Rattle.mq_wire.specs.declared.query.QueryVersion.TheVariants.{Current}
 use Rattle.mq_wire.specs.Family.{Mld}
 use Rattle.mq_wire.specs.PseudoHeader.{pseudo_header}
-use Rattle.mq_wire.specs.Canon.{first_bytes, fields_bytes, with_checksum, mld_destination, canon, without_checksum}
+use Rattle.mq_wire.specs.Canon.{first_bytes, fields_bytes, with_checksum, mld_destination, covered_before, canon, without_checksum}
 use Rattle.mq_wire.proofs.WrittenParts.{length_query}
 
 -- an MLD query behind its pseudo-header, from what was computed
@@ -15,4 +15,6 @@ mld_written source query fields first pseudo destination len is_current is_first
     let message = first ++ big_bytes 16 query.group ++ fields_bytes 16 fields in
     let whole : message ≡ without_checksum Mld query = rw (is_first, is_current) refl in
     let long : len ≡ length (without_checksum Mld query) = is_len ∙ sym (length_query 16 query.group first fields) ∙ ap length whole in
-    rw (is_pseudo, is_destination, long, whole) refl
+    let before = covered_before Mld source query.group (length (without_checksum Mld query)) in
+    let covered : pseudo ≡ before = is_pseudo ∙ rw (is_destination, long) refl in
+    ap (λ (p : List ℕ). with_checksum p message) covered ∙ ap (λ (m : List ℕ). with_checksum before m) whole

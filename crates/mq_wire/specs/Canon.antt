@@ -1,7 +1,7 @@
 -- The one spelling in which a router writes a query of IGMPv3 or MLDv2 (RFC 3376 section 4.1, RFC 3810 section 5.1):
 -- reserved fields and the code of ICMPv6 are 0, times are lowered to values of codes, the message ends with its last
 -- source, and its checksum is in its field.
-use Rattle.std.specs.Prelude.{ℕ, ◌+◌, ◌-◌, ◌*◌, ◌/◌, ◌%◌, ◌==◌, Bool, true, false, if◌then◌else◌, ◌≡◌, ◌<◌, ◌≤◌, List, [], ◌∷◌, ◌++◌, length, drop, Result, Ok, Err}
+use Rattle.std.specs.Prelude.{ℕ, ◌+◌, ◌/◌, ◌%◌, ◌==◌, Bool, true, false, if◌then◌else◌, ◌≡◌, ◌<◌, ◌≤◌, List, [], ◌∷◌, ◌++◌, length, drop, Result, Ok, Err}
 use Rattle.std.specs.List.{flat_map}
 use Rattle.byteorder.specs.Endian.{big_bytes}
 use Rattle.mq_wire.specs.declared.query.Query.{Query}

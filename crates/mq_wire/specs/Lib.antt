@@ -7,5 +7,6 @@ pub mod Numbered
 pub mod PseudoHeader
 pub mod Queries
 pub mod Records
+pub mod RoundTrip
 pub mod Sources
 pub mod Spelling

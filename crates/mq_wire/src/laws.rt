@@ -3,6 +3,7 @@
 
 ghost use Rattle.mq_wire.specs.Checksum.{RightWithItsChecksum};
 ghost use Rattle.mq_wire.specs.Codes.{CodesComeBack, CodesAreGreatest, value8, value16, code8_of, code16_of};
+ghost use Rattle.mq_wire.specs.RoundTrip.{ReadsBack, ValuesOfCodesStay, ChecksumIsBelow};
 ghost use Rattle.mq_wire.specs.Spelling.{OneMessage, NoFaultWhereSpelled, SpelledWhereNoFault};
 
 /// The code for a value that a code has is that code.
@@ -20,6 +21,21 @@ pub fn codes_are_greatest()
 /// A message whose checksum field has its checksum is right.
 pub fn right_with_its_checksum()
     ensures { RightWithItsChecksum }
+{}
+
+/// What was written of a query is read as that query, with its response and its interval lowered to values of codes.
+pub fn written_is_read()
+    ensures { ReadsBack }
+{}
+
+/// A response and an interval that a code has are not lowered.
+pub fn values_of_codes_stay()
+    ensures { ValuesOfCodesStay }
+{}
+
+/// The checksum that is written is below 65535.
+pub fn checksum_is_below()
+    ensures { ChecksumIsBelow }
 {}
 
 /// No bytes spell two messages.

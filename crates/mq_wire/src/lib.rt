@@ -12,7 +12,9 @@
 //!
 //! - To read: `read_igmp`, which answers a `Message` or a `WireFault`. It takes no memory; a query's
 //!   `Sources` stay in the bytes.
-//! - Codes of times: `resp8` and `code8`.
+//! - To write a query of IGMPv3 or MLDv2: `write_igmp` and `write_mld`, at the front of bytes that are lent; where
+//!   these are too few, `Small` says how many it has, and they stay as they were.
+//! - Codes of times: `resp8`, `code8`, `resp16` and `code16`.
 //! - Checksums: `checksum_ok` and `checksum_of`.
 //! - Addresses: `WireKey`.
 //! - Laws, functions that do nothing: `laws`.
@@ -37,11 +39,12 @@ pub mod writing;
 
 pub use checksum::{checksum_of, checksum_ok};
 pub use codes::{code8, code16, resp8, resp16};
-pub use igmp::read_igmp;
+pub use igmp::{read_igmp, write_igmp};
 pub use message::{Message, WireFault};
-pub use mld::read_mld;
+pub use mld::{read_mld, write_mld};
 pub use mq_count::OlderVersion;
 pub use query::{Qrv, QuerierFields, Query, QueryVersion};
 pub use records::{RecordView, Records};
 pub use sources::Sources;
 pub use wire_key::WireKey;
+pub use writing::Small;

@@ -70,11 +70,7 @@ fn pseudo_header(source: Addr6, destination: Addr6, length: usize) -> [u8; 40]
 /// answers how many bytes it has: its response is lowered to a value of a code, in milliseconds, and its interval
 /// to one in seconds. The checksum covers a pseudo-header with that source and with the group as the destination, or
 /// with ff02::1 where the group is zero. The query is of version 2 with at most 65535 sources.
-pub fn write_mld(
-    source: Addr6,
-    query: &Query<'_, Addr6>,
-    out: &mut [u8],
-) -> Result<usize, Small>
+pub fn write_mld(source: Addr6, query: &Query<'_, Addr6>, out: &mut [u8]) -> Result<usize, Small>
     requires version { IsCurrent query.now.version }
     requires counted { source_count query.now.version ≤ 65535 }
     ensures { Writes (canon_of Mld source query.now) out.old out.new result }

@@ -1,4 +1,4 @@
-use Rattle.std.proofs.Common.{◌≡◌, List, ℕ, refl, subst}
+use Rattle.std.proofs.Common.{List, ℕ, subst}
 use Rattle.mq_wire.specs.Canon.{Writes}
 use Rattle.mq_wire.proofs.Written.{mld_written}
 use Rattle.mq_wire.proofs.mld.write_mld.Goals as goal

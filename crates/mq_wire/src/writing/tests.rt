@@ -1,0 +1,98 @@
+//! Queries as they are written, and bytes that are too few.
+
+use crate::{
+    Qrv, QuerierFields, Query, QueryVersion, Small, Sources, WireKey, code16, resp16, write_igmp,
+    write_mld,
+};
+use mq_count::{Addr4, Addr6};
+
+/// A query with a robustness variable of 2 and an interval of 125 seconds.
+fn query<'a, K: WireKey>(
+    group: K,
+    response: u32,
+    suppress: bool,
+    sources: &'a [K],
+) -> Query<'a, K> {
+    Query {
+        group,
+        response,
+        version: QueryVersion::Current(QuerierFields {
+            suppress,
+            robustness: Qrv::new(2),
+            interval: 125,
+            sources: Sources::lent(sources),
+        }),
+    }
+}
+
+#[test]
+fn writes_igmp(rt: HostRuntime) {
+    let group = Addr4::from_octets([232, 1, 1, 1]);
+    let sources = [
+        Addr4::from_octets([10, 0, 0, 1]),
+        Addr4::from_octets([10, 0, 0, 2]),
+    ];
+    let table: [(Query<'_, Addr4>, &[u8]); 4] = [
+        (
+            query(Addr4::default(), 10000, false, &[]),
+            b"\x11\x64\xec\x1e\0\0\0\0\x02\x7d\0\0",
+        ),
+        (
+            query(Addr4::from_octets([239, 1, 2, 3]), 1000, true, &[]),
+            b"\x11\x0a\xf3\x73\xef\x01\x02\x03\x0a\x7d\0\0",
+        ),
+        (
+            query(group, 1000, false, &sources[..1]),
+            b"\x11\x0a\xf9\x73\xe8\x01\x01\x01\x02\x7d\0\x01\x0a\0\0\x01",
+        ),
+        // The response is lowered to a whole tenth of a second.
+        (
+            query(group, 1099, false, &sources),
+            b"\x11\x0a\xef\x70\xe8\x01\x01\x01\x02\x7d\0\x02\x0a\0\0\x01\x0a\0\0\x02",
+        ),
+    ];
+    for (query, want) in &table {
+        let mut out = [0xee; 24];
+        assert_eq!(rt; write_igmp(query, &mut out), Ok(want.len()));
+        assert_eq!(rt; &out[..want.len()], *want);
+        assert!(rt; out[want.len()..].iter().all(|byte| *byte == 0xee));
+    }
+}
+
+#[test]
+fn writes_mld(rt: HostRuntime) {
+    let mut own = [0; 16];
+    own[0] = 0xfe;
+    own[1] = 0x80;
+    own[15] = 1;
+    let mut want = [0; 28];
+    want[..6].copy_from_slice(b"\x82\0\x56\x96\x27\x10");
+    want[24..26].copy_from_slice(b"\x02\x7d");
+    let mut out = [0xee; 30];
+    let general = query(Addr6::default(), 10000, false, &[]);
+    assert_eq!(rt;
+        write_mld(Addr6::from_octets(own), &general, &mut out),
+        Ok(28)
+    );
+    assert!(rt; out[..28] == want.as_slice());
+    assert!(rt; out[28..] == [0xee; 2].as_slice());
+}
+
+#[test]
+fn leaves_bytes_that_are_too_few(rt: HostRuntime) {
+    let general = query(Addr4::default(), 10000, false, &[]);
+    let mut out = [0xee; 11];
+    assert_eq!(rt; write_igmp(&general, &mut out), Err(Small { needed: 12 }));
+    assert_eq!(rt; out, [0xee; 11]);
+}
+
+#[test]
+fn knows_codes_of_16_bits(rt: HostRuntime) {
+    for (code, value) in [(0, 0), (0x7fff, 32767), (0x8000, 32768), (0xffff, 8387584)] {
+        assert_eq!(rt; resp16(code), value);
+        assert_eq!(rt; code16(value), code);
+    }
+    for (value, code) in [(32775, 0x8000), (32776, 0x8001), (9000000, 0xffff)] {
+        assert_eq!(rt; code16(value), code);
+    }
+}
