@@ -74,8 +74,8 @@ fn writes_mld(rt: HostRuntime) {
         write_mld(Addr6::from_octets(own), &general, &mut out),
         Ok(28)
     );
-    assert!(rt; out[..28] == want.as_slice());
-    assert!(rt; out[28..] == [0xee; 2].as_slice());
+    assert_eq!(rt; &out[..28], &want[..]);
+    assert_eq!(rt; (out[28], out[29]), (0xee, 0xee));
 }
 
 #[test]
