@@ -47,8 +47,10 @@ pub fn read_mld(
     destination: Addr6,
     bytes: &[u8],
 ) -> Result<Message<'_, Addr6>, WireFault>
-    ensures message { (message : MessageOf ℕ) → (result ≡ Ok message) ↔ Spells Mld (spec.pseudo_header source destination (length bytes.entry.now)) bytes.entry.now message }
-    ensures fault { (fault : Fault) → (result ≡ Err fault) ↔ (fault_of Mld (spec.pseudo_header source destination (length bytes.entry.now)) bytes.entry.now ≡ Some fault) }
+    ensures message { (message : MessageOf ℕ) → (result ≡ Ok message) ↔
+        Spells Mld (spec.pseudo_header source destination (length bytes.entry.now)) bytes.entry.now message }
+    ensures fault { (fault : Fault) → (result ≡ Err fault) ↔
+        (fault_of Mld (spec.pseudo_header source destination (length bytes.entry.now)) bytes.entry.now ≡ Some fault) }
 {
     read(&pseudo_header(source, destination, bytes.len()), bytes)
 }
