@@ -20,9 +20,11 @@ run: bin/mquerier
 test:
 	@tools/gate
 
-# What reserved storage costs at several sizes. No part of the gate.
-bench:
+# What reserved storage costs at several sizes, and how fast captures are listed beside tcpdump, which has to be there.
+# No part of the gate.
+bench: bin/mquerier
 	bench/run
+	bench/show
 
 install: bin/mquerier
 	install -d $(DESTDIR)$(PREFIX)/bin
