@@ -1,6 +1,6 @@
 //! The messages of MLD.
 
-ghost use Rattle.std.specs.Prelude.{◌≡◌, ◌≤◌, ◌↔◌, ℕ, length, refl};
+ghost use Rattle.std.specs.Prelude.{◌≡◌, ◌↔◌, ℕ, length, refl};
 ghost use Rattle.mq_wire.specs.Family.{Mld};
 ghost use Rattle.mq_wire.specs.PseudoHeader as spec;
 ghost use Rattle.mq_wire.specs.Spelling.{Spells, fault_of};
