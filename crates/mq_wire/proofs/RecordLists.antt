@@ -1,6 +1,7 @@
 -- Records one after the other.
 use Rattle.std.proofs.Common.{◌≡◌, ℕ, zero, suc, ◌+◌, ◌*◌, ◌-◌, ◌<◌, ◌≤◌, List, [], ◌∷◌, ◌++◌, length, Some, None, Result, Ok, Err, replicate, slice_index, sum, ap, sym, ◌∙◌, refl, arith}
 use Rattle.std.specs.Option.{option_map}
+use Rattle.std.proofs.Math.Nat.{sub-zero}
 use Rattle.mq_wire.specs.declared.message.WireFault.{WireFault}
 use Rattle.mq_wire.specs.declared.message.WireFault.TheVariants.{Truncated}
 use Rattle.mq_wire.specs.declared.records.RecordView.{RecordView}
@@ -14,7 +15,7 @@ length_records width (suc count) place bytes =
     let rest = length_records width count (record_end width place bytes) bytes in omega (arith, rest)
 
 -- how many bytes a record has
-pub record_length : (width place : ℕ) (bytes : List ℕ) → sum (record_spans width place bytes) ≡ 4 + width + source_count place bytes * width + auxiliary_length place bytes
+record_length : (width place : ℕ) (bytes : List ℕ) → sum (record_spans width place bytes) ≡ 4 + width + source_count place bytes * width + auxiliary_length place bytes
 record_length width place bytes =
     let n = source_count place bytes in
     let auxiliary = auxiliary_length place bytes in
@@ -23,7 +24,7 @@ record_length width place bytes =
     let sources = sum-replicate n width in omega (arith, parts, behind, sources)
 
 -- a record that is whole lies in the bytes
-pub record_fits : (width place : ℕ) (bytes : List ℕ) → first_cut (length bytes) place (record_spans width place bytes) ≡ None → place + (4 + width + source_count place bytes * width + auxiliary_length place bytes) ≤ length bytes
+record_fits : (width place : ℕ) (bytes : List ℕ) → first_cut (length bytes) place (record_spans width place bytes) ≡ None → place + (4 + width + source_count place bytes * width + auxiliary_length place bytes) ≤ length bytes
 record_fits width place bytes whole =
     let n = source_count place bytes in
     let begins = first_whole (length bytes) place 1 (1 ∷ 2 ∷ width ∷ (replicate n width ++ auxiliary_length place bytes ∷ [])) whole in
@@ -31,12 +32,12 @@ record_fits width place bytes whole =
     let long = record_length width place bytes in omega (arith, ends, long)
 
 -- the first of records, and the others
-pub first_record : (width count place : ℕ) (bytes : List ℕ) → 0 < count → records_at width count place bytes ≡ record_at width place bytes ∷ records_at width (count - 1) (record_end width place bytes) bytes
+first_record : (width count place : ℕ) (bytes : List ℕ) → 0 < count → records_at width count place bytes ≡ record_at width place bytes ∷ records_at width (count - 1) (record_end width place bytes) bytes
 first_record width zero place bytes some = absurd (omega arith)
 first_record width (suc count) place bytes some =
     let less : suc count - 1 ≡ count = omega arith in rw less refl
 
-pub first_spans : (width count place : ℕ) (bytes : List ℕ) → 0 < count → spans_of_records width count place bytes ≡ record_spans width place bytes ++ spans_of_records width (count - 1) (record_end width place bytes) bytes
+first_spans : (width count place : ℕ) (bytes : List ℕ) → 0 < count → spans_of_records width count place bytes ≡ record_spans width place bytes ++ spans_of_records width (count - 1) (record_end width place bytes) bytes
 first_spans width zero place bytes some = absurd (omega arith)
 first_spans width (suc count) place bytes some =
     let less : suc count - 1 ≡ count = omega arith in rw less refl
@@ -63,6 +64,11 @@ sources_cut width place w sources n bytes fault is_w is_n head middle =
     let middle_now : EndsAt (length bytes) sources (replicate (source_count place bytes) width) (Err fault) = rw is_n at middle in
     let behind = fault_before (length bytes) sources (replicate (source_count place bytes) width) (auxiliary_length place bytes ∷ []) fault middle_now in
     ends_on (length bytes) place sources (1 ∷ 1 ∷ 2 ∷ width ∷ []) (replicate (source_count place bytes) width ++ auxiliary_length place bytes ∷ []) (Err fault) head_now behind
+
+-- before the walk over records
+pub no_record_yet : (width count place : ℕ) (bytes : List ℕ) → first_cut (length bytes) place (spans_of_records width count place bytes) ≡ first_cut (length bytes) place (spans_of_records width (count - 0) place bytes)
+no_record_yet width count place bytes =
+    ap (λ (n : ℕ). first_cut (length bytes) place (spans_of_records width n place bytes)) (sym (sub-zero count))
 
 -- A walk over records that has come to `end`: all of them are whole where those from there on are.
 pub one_more_record : (width count place done end next : ℕ) (bytes : List ℕ) → first_cut (length bytes) place (spans_of_records width count place bytes) ≡ first_cut (length bytes) end (spans_of_records width (count - done) end bytes) → done < count → EndsAt (length bytes) end (record_spans width end bytes) (Ok next) → first_cut (length bytes) place (spans_of_records width count place bytes) ≡ first_cut (length bytes) next (spans_of_records width (count - (done + 1)) next bytes)
