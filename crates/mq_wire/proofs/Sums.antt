@@ -30,7 +30,7 @@ completes_to_multiple sum =
     ]
 
 -- the sum of words of bytes before others, so many that a word ends where the others begin
-sum_of_both : (before bytes : List ℕ) → length before % 2 ≡ 0 → sum_of_words (before ++ bytes) ≡ sum_of_words before + sum_of_words bytes
+pub sum_of_both : (before bytes : List ℕ) → length before % 2 ≡ 0 → sum_of_words (before ++ bytes) ≡ sum_of_words before + sum_of_words bytes
 sum_of_both [] bytes even = omega arith
 sum_of_both (high ∷ []) bytes odd = absurd (omega arith)
 sum_of_both (high ∷ low ∷ before) bytes even =
