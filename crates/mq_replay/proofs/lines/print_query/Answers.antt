@@ -1,8 +1,8 @@
 use Rattle.std.proofs.Common.{◌∙◌, codes}
 use Rattle.std.proofs.lemmas.Result.{err_from_is_err_and}
-use Rattle.mquerier.specs.Text.{query_head, sources_text}
-use Rattle.mquerier.proofs.Pieces.{head_begun, sources_begun, all_printed}
-use Rattle.mquerier.proofs.lines.print_query.Goals as goal
+use Rattle.mq_replay.specs.Text.{query_head, sources_text}
+use Rattle.mq_replay.proofs.Pieces.{head_begun, sources_begun, all_printed}
+use Rattle.mq_replay.proofs.lines.print_query.Goals as goal
 
 pub returns-in_err-print-clause-text : goal.returns-in_err-print-clause-text
 returns-in_err-print-clause-text g c =

@@ -2,8 +2,8 @@ use Rattle.std.proofs.Common.{◌≡◌, ℕ, List, ◌++◌}
 use Rattle.std.specs.List.{flat_map}
 use Rattle.std.specs.Io.KnownBytes.{Appends}
 use Rattle.mq_count.specs.Streams.{inner_of, has_failed}
-use Rattle.mquerier.specs.Text.{source_text}
-use Rattle.mquerier.proofs.lines.print_sources.Given as goal
+use Rattle.mq_replay.specs.Text.{source_text}
+use Rattle.mq_replay.proofs.lines.print_sources.Given as goal
 
 -- what was written so far and the sources that are left are the whole text
 abbrev pub invariant-loop-source : goal.invariant-loop-source

@@ -2,7 +2,7 @@
 
 ghost use Rattle.std.specs.Prelude.{◌≡◌, ◌||◌, is_err};
 ghost use Rattle.mq_count.specs.Streams.{inner_of, has_failed};
-ghost use Rattle.mquerier.specs.Printing.{Prints};
+ghost use Rattle.mq_replay.specs.Printing.{Prints};
 
 use mq_count::Watched;
 use std::io::Write;

@@ -1,8 +1,8 @@
 use Rattle.std.proofs.Common.{◌∙◌, arith}
 use Rattle.std.proofs.lemmas.Result.{err_from_is_err_and}
 use Rattle.std.proofs.lemmas.Bool.Decides.{nat_tests}
-use Rattle.mquerier.proofs.Pieces.{next_printed, next_broken_off}
-use Rattle.mquerier.proofs.lines.print_sources.Goals as goal
+use Rattle.mq_replay.proofs.Pieces.{next_printed, next_broken_off}
+use Rattle.mq_replay.proofs.lines.print_sources.Goals as goal
 
 pub loop-source-preserved : goal.loop-source-preserved
 loop-source-preserved g c =

@@ -3,8 +3,8 @@
 ghost use Rattle.std.specs.Prelude.{◌≡◌, ◌≤◌, ◌+◌, ◌++◌, codes, length};
 ghost use Rattle.std.specs.Fmt.{decimal};
 ghost use Rattle.arrayvec.specs.ArrayVec.{array_vec_len};
-ghost use Rattle.mquerier.specs.Text.{address_text, flag_text, older_report_text, leave_text, fault_text, line_of};
-ghost use Rattle.mquerier.specs.Text as spec;
+ghost use Rattle.mq_replay.specs.Text.{address_text, flag_text, older_report_text, leave_text, fault_text, line_of};
+ghost use Rattle.mq_replay.specs.Text as spec;
 
 use arrayvec::ArrayVec;
 use mq_count::{Addr4, write_decimal};

@@ -3,9 +3,9 @@
 ghost use Rattle.std.specs.Prelude.{◌≡◌, ◌||◌, is_err};
 ghost use Rattle.std.specs.List.{flat_map};
 ghost use Rattle.mq_count.specs.Streams.{inner_of, has_failed};
-ghost use Rattle.mquerier.specs.Line.{PrintsLine};
-ghost use Rattle.mquerier.specs.Printing.{Prints};
-ghost use Rattle.mquerier.specs.Text.{line_of, message_text, query_text, sources_text, source_text as text_of_source};
+ghost use Rattle.mq_replay.specs.Line.{PrintsLine};
+ghost use Rattle.mq_replay.specs.Printing.{Prints};
+ghost use Rattle.mq_replay.specs.Text.{line_of, message_text, query_text, sources_text, source_text as text_of_source};
 
 use crate::printing::{LineFault, print};
 use crate::text::{fault_line, leave_line, older_report_line, query_head, source_text};

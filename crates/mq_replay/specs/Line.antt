@@ -1,13 +1,12 @@
 -- The line of a message's bytes.
 use Rattle.std.specs.Prelude.{◌≡◌, ℕ, Bool, true, false, List, [], Option, Some, Result, Ok, Err}
 use Rattle.std.specs.Io.KnownBytes.{Appends}
-use Rattle.hex.specs.Hex.{decode_of}
 use Rattle.mq_wire.specs.declared.message.Message.{Message}
 use Rattle.mq_wire.specs.declared.message.WireFault.{WireFault}
 use Rattle.mq_wire.specs.Family.{Igmp}
 use Rattle.mq_wire.specs.Spelling.{Spells, fault_of}
-use Rattle.mquerier.specs.Printing.{GrowsByBeginning}
-use Rattle.mquerier.specs.Text.{message_text, fault_text, line_of}
+use Rattle.mq_replay.specs.Printing.{GrowsByBeginning}
+use Rattle.mq_replay.specs.Text.{message_text, fault_text, line_of}
 
 -- The line of bytes: that of the message that they spell, or else that of their fault. The flag tells which.
 abbrev pub IsLineOf : List ℕ → Bool → List ℕ → Type 0
@@ -25,11 +24,3 @@ pub record PrintsLine {E : Type 0} (old new : Option (List ℕ)) (bytes : List �
   pub line : List ℕ
   pub is_line : IsLineOf bytes flag line
   pub printed : Answers old new flag line answer
-
--- the line of the bytes that this text is the hexadecimal of was printed, and it has this flag
-pub record PrintsHexLine (old new : Option (List ℕ)) (text : List ℕ) (flag : Bool) : Type 0 where
-  pub bytes : List ℕ
-  pub line : List ℕ
-  pub decoded : decode_of text ≡ Ok bytes
-  pub is_line : IsLineOf bytes flag line
-  pub grows : Appends old new line

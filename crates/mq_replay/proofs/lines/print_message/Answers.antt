@@ -1,7 +1,7 @@
 use Rattle.std.proofs.Common.{◌∙◌, sym, ap}
-use Rattle.mquerier.specs.Text.{line_of, message_text}
-use Rattle.mquerier.proofs.Pieces.{printed_as}
-use Rattle.mquerier.proofs.lines.print_message.Goals as goal
+use Rattle.mq_replay.specs.Text.{line_of, message_text}
+use Rattle.mq_replay.proofs.Pieces.{printed_as}
+use Rattle.mq_replay.proofs.lines.print_message.Goals as goal
 
 pub returns-in-Leave-clause-text : goal.returns-in-Leave-clause-text
 returns-in-Leave-clause-text g c =

@@ -1,7 +1,7 @@
 use Rattle.std.proofs.Common.{◌≡◌, ℕ, List, ◌++◌, length}
 use Rattle.std.specs.Io.KnownBytes.{Appends}
 use Rattle.mq_count.specs.Streams.{inner_of, has_failed}
-use Rattle.mquerier.proofs.printing.print.Given as goal
+use Rattle.mq_replay.proofs.printing.print.Given as goal
 
 -- what was written so far and what is left are the text
 abbrev pub invariant-loop-rest : goal.invariant-loop-rest

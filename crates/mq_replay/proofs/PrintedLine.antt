@@ -1,7 +1,7 @@
 -- Printing the line of a datagram.
 use Rattle.std.proofs.Common.{◌≡◌, ℕ, Bool, List, Option, Ok, Err, refl}
-use Rattle.mquerier.specs.Line.{PrintsLine, IsLineOf}
-use Rattle.mquerier.specs.Printing.{GrowsByBeginning}
+use Rattle.mq_replay.specs.Line.{PrintsLine, IsLineOf}
+use Rattle.mq_replay.specs.Printing.{GrowsByBeginning}
 use Rattle.std.specs.Io.KnownBytes.{Appends}
 
 pub printed_line : {E : Type 0} (old new : Option (List ℕ)) (bytes : List ℕ) (flag : Bool) (line text : List ℕ) → IsLineOf bytes flag line → text ≡ line → Appends old new text → PrintsLine {E = E} old new bytes (Ok flag)

@@ -3,8 +3,8 @@ use Rattle.std.proofs.Common.{◌≡◌, ℕ, List, ◌∷◌, ◌++◌, Option,
 use Rattle.std.specs.Io.KnownBytes.{Appends}
 use Rattle.std.proofs.KnownBytes.{Appends-trans}
 use Rattle.std.specs.List.{flat_map}
-use Rattle.mquerier.specs.Text.{source_text}
-use Rattle.mquerier.specs.Printing.{GrowsByBeginning, Prints}
+use Rattle.mq_replay.specs.Text.{source_text}
+use Rattle.mq_replay.specs.Printing.{GrowsByBeginning, Prints}
 
 -- what broke off in the first piece broke off in the whole text
 pub broken_off : (old new : Option (List ℕ)) (piece rest : List ℕ) → GrowsByBeginning old new piece → GrowsByBeginning old new (piece ++ rest)

@@ -1,8 +1,8 @@
 use Rattle.std.proofs.Common.{◌∙◌, refl, true, false}
 use Rattle.std.proofs.lemmas.Result.{err_from_is_err_and}
-use Rattle.mquerier.specs.Text.{line_of, message_text, fault_text}
-use Rattle.mquerier.proofs.PrintedLine.{printed_line, begun_line}
-use Rattle.mquerier.proofs.lines.igmp_line.Goals as goal
+use Rattle.mq_replay.specs.Text.{line_of, message_text, fault_text}
+use Rattle.mq_replay.proofs.PrintedLine.{printed_line, begun_line}
+use Rattle.mq_replay.proofs.lines.igmp_line.Goals as goal
 
 pub returns-in_err-print_message-in-Ok-clause-line : goal.returns-in_err-print_message-in-Ok-clause-line
 returns-in_err-print_message-in-Ok-clause-line g c =

@@ -1,0 +1,17 @@
+//! What is printed of messages: their lines, and those of their faults.
+//!
+//! ```text
+//! let mut output = Watched::new(writer);
+//! igmp_line(body, &mut output)    // Ok(true): the line of a message; Ok(false): that of a fault
+//! ```
+//!
+//! - Lines: `igmp_line`.
+//! - Printing on a watched writer: `print`, and `LineFault`, which says that a write failed.
+#![tactic(auto)]
+
+mod lines;
+mod printing;
+mod text;
+
+pub use lines::igmp_line;
+pub use printing::{LineFault, print};
