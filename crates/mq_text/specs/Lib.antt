@@ -1,0 +1,2 @@
+pub mod AddressV4
+pub mod AddressV6
