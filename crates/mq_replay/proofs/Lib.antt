@@ -1,2 +1,2 @@
-pub mod PrintedLine
-pub mod Pieces
+pub mod Passing
+pub mod Answered

@@ -14,3 +14,15 @@ pub record GrowsByBeginning (old new : Option (List ℕ)) (text : List ℕ) : Ty
 abbrev pub Prints : {T E : Type 0} → Option (List ℕ) → Option (List ℕ) → List ℕ → Result T E → Type 0
 Prints old new text (Ok x) = Appends old new text
 Prints old new text (Err e) = GrowsByBeginning old new text
+
+-- A text went to a writer by way of a buffer: of what the buffer held and the text behind it a beginning was
+-- written, and the rest is what the buffer holds then.
+pub record Passes (old new : Option (List ℕ)) (held left text : List ℕ) : Type 0 where
+  pub written : List ℕ
+  pub parts : held ++ text ≡ written ++ left
+  pub grows : Appends old new written
+
+-- the text went there, or a beginning of all that was to be written, and then a fault came
+abbrev pub Puts : {T E : Type 0} → (old new : Option (List ℕ)) → (held left text : List ℕ) → Result T E → Type 0
+Puts old new held left text (Ok x) = Passes old new held left text
+Puts old new held left text (Err e) = GrowsByBeginning old new (held ++ text)

@@ -9,9 +9,11 @@
 //! - Printing on a watched writer: `print`, and `LineFault`, which says that a write failed.
 #![tactic(auto)]
 
+mod buffer;
+mod line_key;
 mod lines;
+mod pieces;
 mod printing;
-mod text;
 
 pub use lines::igmp_line;
 pub use printing::{LineFault, print};
