@@ -1,7 +1,7 @@
 -- Addresses that stand one after the other.
 use Rattle.std.proofs.Common.{◌≡◌, ◌<◌, ◌≤◌, ◌-◌, ◌+◌, ℕ, zero, suc, List, ◌∷◌, length, take, drop, refl, arith}
 use Rattle.byteorder.specs.Endian.{big_from, big_number}
-use Rattle.std.proofs.lemmas.List.{get_or-take}
+use Rattle.std.proofs.lemmas.List.{get_or-take, length-drop, take_all}
 use Rattle.mq_wire.specs.Fields.{addresses}
 
 -- a number of n bytes reads no byte past them
@@ -22,3 +22,13 @@ first_address width zero bytes some = absurd (omega arith)
 first_address width (suc count) bytes some =
     let read = big_from-take 0 width width bytes (omega arith) in
     let less : suc count - 1 ≡ count = omega arith in rw (read, less) refl
+
+-- all bytes behind a place, and how many these are
+pub all_behind : (place : ℕ) (bytes : List ℕ) → take (length bytes - place) (drop place bytes) ≡ drop place bytes
+all_behind place bytes =
+    let behind = length-drop place bytes in take_all (length bytes - place) (drop place bytes) (omega (arith, behind))
+
+pub bytes_behind : (place n : ℕ) (bytes : List ℕ) → place + n ≤ length bytes → n ≤ length (take (length bytes - place) (drop place bytes))
+bytes_behind place n bytes within =
+    let behind = length-drop place bytes in
+    let all = all_behind place bytes in rw all (omega (arith, behind))

@@ -39,6 +39,10 @@ short family pseudo (a ∷ b ∷ []) h = refl
 short family pseudo (a ∷ b ∷ c ∷ []) h = refl
 short family pseudo (a ∷ b ∷ c ∷ d ∷ bytes) h = absurd (omega arith)
 
+pub header_cut : (family : Family) (pseudo bytes : List ℕ) (fault : WireFault) → cut_in bytes (1 ∷ 1 ∷ 2 ∷ []) ≡ Some fault → fault_of family pseudo bytes ≡ Some fault
+unfolding fault_of
+header_cut family pseudo bytes fault cut = rw cut refl
+
 -- the type, the code and the checksum are whole
 header_whole : (bytes : List ℕ) → 4 ≤ length bytes → cut_in bytes (1 ∷ 1 ∷ 2 ∷ []) ≡ None
 header_whole bytes long = grind (arith, nat_tests)

@@ -4,6 +4,9 @@ pub mod CodeLaws
 pub mod CodeValues
 pub mod Cuts
 pub mod Faults
+pub mod Queried
+pub mod RecordLists
+pub mod Spans
 pub mod Spelled
 pub mod Sums
 pub mod WideSums

@@ -1,5 +1,5 @@
 -- Sums of words with one word changed, and one's complement sums.
-use Rattle.std.proofs.Common.{◌≡◌, ◌≤◌, ℕ, ◌+◌, ◌-◌, ◌*◌, ◌/◌, ◌%◌, ◌<◌, inl, inr, List, [], ◌∷◌, length, ap, ◌∙◌, arith, refl}
+use Rattle.std.proofs.Common.{◌≡◌, ◌≤◌, ℕ, ◌+◌, ◌-◌, ◌*◌, ◌/◌, ◌%◌, ◌<◌, inl, inr, List, [], ◌∷◌, ◌++◌, length, ap, sym, ◌∙◌, arith, refl}
 use Rattle.std.proofs.Math.Nat.{div-add-mod, mul-mod_right}
 use Rattle.std.proofs.lemmas.Bool.Decides.{nat_tests, eqb_tells}
 use Rattle.mq_wire.specs.Checksum.{sum_of_words, ones_complement, with_field, checksum_of, IsRight}
@@ -39,3 +39,20 @@ completed_is_right bytes long =
       some = rw sum (completes (sum_of_words (with_field 0 0 bytes)));
       divisible = rw sum (completes_to_multiple (sum_of_words (with_field 0 0 bytes)));
     }
+
+-- the sum of words of bytes before others, so many that a word ends where the others begin
+sum_of_both : (before bytes : List ℕ) → length before % 2 ≡ 0 → sum_of_words (before ++ bytes) ≡ sum_of_words before + sum_of_words bytes
+sum_of_both [] bytes even = omega arith
+sum_of_both (high ∷ []) bytes odd = absurd (omega arith)
+sum_of_both (high ∷ low ∷ before) bytes even =
+    let rest = sum_of_both before bytes (omega arith) in omega (arith, rest)
+
+-- one's complement sums add up
+sums_add_up : (a b : ℕ) → ones_complement (ones_complement a + ones_complement b) ≡ ones_complement (a + b)
+sums_add_up a b = grind (arith, nat_tests)
+
+pub sum_of_parts : (before bytes : List ℕ) (a b sum : ℕ) → length before % 2 ≡ 0 → a ≡ ones_complement (sum_of_words before) → b ≡ ones_complement (sum_of_words bytes) → sum ≡ ones_complement (a + b) → sum ≡ ones_complement (sum_of_words (before ++ bytes))
+sum_of_parts before bytes a b sum even is_a is_b is_sum =
+    let both = sum_of_both before bytes even in
+    let parts = sums_add_up (sum_of_words before) (sum_of_words bytes) in
+    is_sum ∙ rw (is_a, is_b) (parts ∙ ap ones_complement (sym both))

@@ -2,6 +2,9 @@ pub mod Checksum
 pub mod Codes
 pub mod Family
 pub mod Fields
+pub mod Numbered
+pub mod PseudoHeader
 pub mod Queries
+pub mod Records
 pub mod Sources
 pub mod Spelling

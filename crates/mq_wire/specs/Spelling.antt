@@ -2,33 +2,37 @@
 -- 5). What a message says follows from its bytes alone: its type, its length and its counts say which fields
 -- it has, and each field stands at its place.
 use Rattle.std.specs.Prelude.{◌≡◌, ◌⊎◌, ◌≤◌, ℕ, ◌+◌, nat_le, ◌==◌, ◌||◌, if◌then◌else◌, List, [], ◌∷◌, ◌++◌, Option, None, Some, Result, Ok, Err, length, slice_index, option_and_then}
-use Rattle.std.specs.Option.{option_map}
 use Rattle.mq_count.specs.declared.versions.OlderVersion.TheVariants.{V1, V2}
 use Rattle.mq_wire.specs.declared.message.Message.{Message}
-use Rattle.mq_wire.specs.declared.message.Message.TheVariants.{Query, OldReport, Leave}
+use Rattle.mq_wire.specs.declared.message.Message.TheVariants.{Query, OldReport, Leave, Report}
 use Rattle.mq_wire.specs.declared.message.MessageType.{MessageType}
-use Rattle.mq_wire.specs.declared.message.MessageType.TheVariants.{Query as QueryType, OlderReport as OlderReportType, Leave as LeaveType}
+use Rattle.mq_wire.specs.declared.message.MessageType.TheVariants.{Query as QueryType, OlderReport as OlderReportType, Leave as LeaveType, Report as ReportType}
 use Rattle.mq_wire.specs.declared.message.WireFault.{WireFault}
-use Rattle.mq_wire.specs.declared.message.WireFault.TheVariants.{Truncated, Checksum, UnknownType, QueryLength}
+use Rattle.mq_wire.specs.declared.message.WireFault.TheVariants.{Checksum, UnknownType, QueryLength}
 use Rattle.mq_wire.specs.declared.query.Query.{Query as QueryOf}
+use Rattle.mq_wire.specs.declared.records.RecordView.{RecordView}
 use Rattle.mq_wire.specs.Checksum.{IsRight, is_right}
 use Rattle.mq_wire.specs.Family.{Family, Igmp, Mld, address_width, group_place, group_end}
-use Rattle.mq_wire.specs.Fields.{number_at, first_cut}
+use Rattle.mq_wire.specs.Fields.{number_at, first_cut, cut_from}
+use Rattle.mq_wire.specs.Numbered.{numbered_message, numbered_query}
 use Rattle.mq_wire.specs.Queries.{query_of, older_spans, query_spans}
+use Rattle.mq_wire.specs.Records.{report_spans, report_records}
 
--- The types that are listed. IGMP: RFC 1112 appendix I (0x12), RFC 2236 section 2.1 (0x11, 0x12, 0x16, 0x17). MLD:
--- RFC 2710 section 3.1 (130, 131, 132).
+-- The types that are listed. IGMP: RFC 1112 appendix I (0x12), RFC 2236 section 2.1 (0x11, 0x12, 0x16, 0x17), RFC
+-- 3376 section 4 (0x22). MLD: RFC 2710 section 3.1 (130, 131, 132), RFC 3810 section 5.2 (143).
 abbrev pub type_named : Family → ℕ → Option MessageType
 type_named Igmp code =
     if code == 0x11 then Some QueryType
     else if code == 0x12 then Some (OlderReportType V1)
     else if code == 0x16 then Some (OlderReportType V2)
     else if code == 0x17 then Some LeaveType
+    else if code == 0x22 then Some ReportType
     else None
 type_named Mld code =
     if code == 130 then Some QueryType
     else if code == 131 then Some (OlderReportType V1)
     else if code == 132 then Some LeaveType
+    else if code == 143 then Some ReportType
     else None
 
 -- the type of a message, its first byte
@@ -41,12 +45,14 @@ abbrev pub HasLength : Family → MessageType → ℕ → Type 0
 HasLength family QueryType len = (len ≡ group_end family) ⊎ (group_end family + 4 ≤ len)
 HasLength family (OlderReportType version) len = Unit {0}
 HasLength family LeaveType len = Unit {0}
+HasLength family ReportType len = Unit {0}
 
 -- the widths of a message's fields, one after the other
 abbrev pub spans_of : Family → MessageType → List ℕ → List ℕ
 spans_of family QueryType bytes = if length bytes == group_end family then older_spans family else query_spans family bytes
 spans_of family (OlderReportType version) bytes = older_spans family
 spans_of family LeaveType bytes = older_spans family
+spans_of family ReportType bytes = report_spans family bytes
 
 -- the group of a Report of an older version, and of a Leave or Done
 abbrev pub group_of : Family → List ℕ → ℕ
@@ -57,6 +63,7 @@ abbrev pub message_of : Family → MessageType → List ℕ → Message ℕ
 message_of family QueryType bytes = Query (query_of family bytes)
 message_of family (OlderReportType version) bytes = OldReport version (group_of family bytes)
 message_of family LeaveType bytes = Leave (group_of family bytes)
+message_of family ReportType bytes = Report (report_records family bytes)
 
 -- The bytes spell the message; bytes after its last field are free, but are under the checksum. The checksum
 -- covers the pseudo-header before the bytes, which has no bytes in IGMP.
@@ -70,7 +77,7 @@ pub record Spells (family : Family) (pseudo bytes : List ℕ) (message : Message
 
 -- the fault of bytes in which one of these spans isn't whole: the place where the first such begins
 abbrev pub cut_in : List ℕ → List ℕ → Option WireFault
-cut_in bytes widths = option_map (λ at. Truncated at) (first_cut (length bytes) 0 widths)
+cut_in bytes widths = cut_from (length bytes) 0 widths
 
 -- the fault of a checksum that is wrong
 abbrev pub wrong_checksum : List ℕ → Option WireFault
@@ -86,6 +93,7 @@ abbrev pub wrong_length : Family → MessageType → ℕ → Option WireFault
 wrong_length family QueryType len = if len == group_end family || nat_le (group_end family + 4) len then None else Some QueryLength
 wrong_length family (OlderReportType version) len = None
 wrong_length family LeaveType len = None
+wrong_length family ReportType len = None
 
 -- the first of these faults that holds
 abbrev pub first_of : List (Option WireFault) → Option WireFault
@@ -109,20 +117,32 @@ fault_of family pseudo bytes = first_of (
     ∷ option_and_then (fault_within family bytes) (type_named family (type_of bytes))
     ∷ [])
 
--- What bytes are read as: a message that they spell, or else their fault.
-abbrev pub ReadsAs : Family → (pseudo bytes : List ℕ) → Result (Message ℕ) WireFault → Type 0
-ReadsAs family pseudo bytes (Ok message) = Spells family pseudo bytes message
-ReadsAs family pseudo bytes (Err fault) = fault_of family pseudo bytes ≡ Some fault
+-- What bytes are read as: a message that they spell, or else their fault. An address may have any type, of which
+-- the first argument tells the number.
+abbrev pub ReadsAs : {K : Type 0} → (K → ℕ) → Family → (pseudo bytes : List ℕ) → Result (Message K) WireFault → Type 0
+ReadsAs number family pseudo bytes (Ok message) = Spells family pseudo bytes (numbered_message number message)
+ReadsAs number family pseudo bytes (Err fault) = fault_of family pseudo bytes ≡ Some fault
 
 -- what bytes of a listed type are read as, whose checksum is right
-abbrev pub ReadsWithin : Family → MessageType → List ℕ → Result (Message ℕ) WireFault → Type 0
-ReadsWithin family kind bytes (Ok message) = (fault_within family bytes kind ≡ None) × (message ≡ message_of family kind bytes)
-ReadsWithin family kind bytes (Err fault) = fault_within family bytes kind ≡ Some fault
+abbrev pub ReadsWithin : {K : Type 0} → (K → ℕ) → Family → MessageType → List ℕ → Result (Message K) WireFault → Type 0
+ReadsWithin number family kind bytes (Ok message) =
+    (fault_within family bytes kind ≡ None) × (numbered_message number message ≡ message_of family kind bytes)
+ReadsWithin number family kind bytes (Err fault) = fault_within family bytes kind ≡ Some fault
 
 -- the same for a query
-abbrev pub ReadsQuery : Family → List ℕ → Result (QueryOf ℕ) WireFault → Type 0
-ReadsQuery family bytes (Ok query) = (fault_within family bytes QueryType ≡ None) × (query ≡ query_of family bytes)
-ReadsQuery family bytes (Err fault) = fault_within family bytes QueryType ≡ Some fault
+abbrev pub ReadsQuery : {K : Type 0} → (K → ℕ) → Family → List ℕ → Result (QueryOf K) WireFault → Type 0
+ReadsQuery number family bytes (Ok query) = (fault_within family bytes QueryType ≡ None) × (numbered_query number query ≡ query_of family bytes)
+ReadsQuery number family bytes (Err fault) = fault_within family bytes QueryType ≡ Some fault
+
+-- the same for the group of a message of one group
+abbrev pub ReadsGroup : {K : Type 0} → (K → ℕ) → Family → List ℕ → Result K WireFault → Type 0
+ReadsGroup number family bytes (Ok group) = (cut_in bytes (older_spans family) ≡ None) × (number group ≡ group_of family bytes)
+ReadsGroup number family bytes (Err fault) = cut_in bytes (older_spans family) ≡ Some fault
+
+-- the same for the records of a Report
+abbrev pub ReadsReport : Family → List ℕ → Result (List (RecordView ℕ)) WireFault → Type 0
+ReadsReport family bytes (Ok records) = (cut_in bytes (report_spans family bytes) ≡ None) × (records ≡ report_records family bytes)
+ReadsReport family bytes (Err fault) = cut_in bytes (report_spans family bytes) ≡ Some fault
 
 -- no bytes spell two messages
 abbrev pub OneMessage : Type 0

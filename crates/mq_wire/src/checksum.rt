@@ -1,7 +1,7 @@
 //! The checksum of a message (RFC 1112 appendix I, RFC 2236 section 2.3; RFC 3376 sections 4.1.2 and
 //! 4.2.2).
 
-ghost use Rattle.std.specs.Prelude.{◌≡◌, ◌↔◌, ◌+◌, ◌*◌, ◌≤◌, ◌<◌, ◌^◌, IsTrue, length};
+ghost use Rattle.std.specs.Prelude.{◌≡◌, ◌↔◌, ◌+◌, ◌*◌, ◌≤◌, ◌<◌, ◌^◌, ◌%◌, ◌++◌, IsTrue, length};
 ghost use Rattle.mq_wire.specs.Checksum.{IsRight, ones_complement, sum_of_words};
 ghost use Rattle.mq_wire.specs.Checksum as spec;
 
@@ -28,7 +28,23 @@ pub fn checksum_of(message: &[u8]) -> u16
 pub fn checksum_ok(message: &[u8]) -> bool
     ensures { IsTrue result ↔ IsRight message.now }
 {
-    sum_of(message) == u16::MAX
+    is_right_behind(&[], message)
+}
+
+/// Whether the checksum of a message is right that covers `before` too, a pseudo-header.
+pub(crate) fn is_right_behind(before: &[u8], message: &[u8]) -> bool
+    requires { length before.now % 2 ≡ 0 }
+    ensures { IsTrue result ↔ IsRight (before.now ++ message.now) }
+{
+    sum_behind(before, message) == u16::MAX
+}
+
+/// The one's complement sum of the 16-bit words of `before` and of a message.
+fn sum_behind(before: &[u8], message: &[u8]) -> u16
+    requires { length before.now % 2 ≡ 0 }
+    ensures { result ≡ ones_complement (sum_of_words (before.now ++ message.now)) }
+{
+    add(sum_of(before), sum_of(message))
 }
 
 /// The one's complement sum of the 16-bit words.

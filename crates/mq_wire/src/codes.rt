@@ -1,8 +1,8 @@
-//! The codes of times: the maximum response code of a query (RFC 3376 section 4.1.1) and the querier's
-//! query interval code (RFC 3376 section 4.1.7, RFC 3810 section 5.1.9).
+//! The codes of times: the maximum response code of a query (RFC 3376 section 4.1.1, RFC 3810 section
+//! 5.1.3) and the querier's query interval code (RFC 3376 section 4.1.7, RFC 3810 section 5.1.9).
 
 ghost use Rattle.std.specs.Prelude.{◌≡◌, ◌≤◌};
-ghost use Rattle.mq_wire.specs.Codes.{IsCodeFor, value8};
+ghost use Rattle.mq_wire.specs.Codes.{IsCodeFor, value8, value16};
 
 /// The value of an 8-bit code, in the unit of its field: tenths of a second, or seconds. A code below
 /// 128 is its own value, and the greatest value is 31744.
@@ -16,6 +16,20 @@ pub fn resp8(code: u8) -> u32
     let mantissa = u32::from(code % 16);
     let exponent = code / 16 % 8;
     (mantissa + 16) << (exponent + 3)
+}
+
+/// The value of a 16-bit code in milliseconds. A code below 32768 is its own value, and the greatest value
+/// is 8387584.
+pub fn resp16(code: u16) -> u32
+    ensures value { result ≡ value16 code }
+    ensures greatest { result ≤ 8387584 }
+{
+    if code < 32768 {
+        return u32::from(code);
+    }
+    let mantissa = u32::from(code % 4096);
+    let exponent = code / 4096 % 8;
+    (mantissa + 4096) << (exponent + 3)
 }
 
 /// The 8-bit code whose value is the greatest not above `value`.

@@ -20,21 +20,27 @@
 
 pub mod checksum;
 pub mod codes;
+mod family;
 mod fields;
 pub mod igmp;
 pub mod laws;
 pub mod message;
+pub mod mld;
 pub mod query;
+mod reading;
+pub mod records;
 pub mod sources;
 #[cfg(test)]
 mod tests;
 pub mod wire_key;
 
 pub use checksum::{checksum_of, checksum_ok};
-pub use codes::{code8, resp8};
+pub use codes::{code8, resp8, resp16};
 pub use igmp::read_igmp;
 pub use message::{Message, WireFault};
+pub use mld::read_mld;
 pub use mq_count::OlderVersion;
 pub use query::{Qrv, QuerierFields, Query, QueryVersion};
+pub use records::{RecordView, Records};
 pub use sources::Sources;
 pub use wire_key::WireKey;

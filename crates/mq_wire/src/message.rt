@@ -1,6 +1,7 @@
 //! The messages, and the faults of bytes that spell none.
 
 use crate::query::Query;
+use crate::records::Records;
 use crate::wire_key::WireKey;
 use mq_count::OlderVersion;
 
@@ -12,8 +13,12 @@ pub enum Message<'a, K: WireKey> {
     /// A Report of an older version for a group: a host wants it, from every source (RFC 2236 section
     /// 2.1, RFC 3376 section 7.3.2).
     OldReport(OlderVersion, K),
-    /// A Leave for a group (RFC 2236 section 3): a host of an older version wants it no longer.
+    /// A Leave for a group (RFC 2236 section 3), or a Done (RFC 2710 section 3.1): a host of an older
+    /// version wants it no longer.
     Leave(K),
+    /// A Report of IGMPv3 or MLDv2: what a host wants of each group that a record names (RFC 3376
+    /// section 4.2, RFC 3810 section 5.2).
+    Report(Records<'a, K>),
 }
 
 /// What the type of a message says that it is.
@@ -22,6 +27,7 @@ pub(crate) enum MessageType {
     Query,
     OlderReport(OlderVersion),
     Leave,
+    Report,
 }
 
 /// Why bytes spell no message: the first of these that holds, in this order, but that a field after

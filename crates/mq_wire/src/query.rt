@@ -4,7 +4,7 @@ ghost use Rattle.std.specs.Prelude.{◌≡◌, ◌≤◌, ◌+◌, nat_lt, if◌
 ghost use Rattle.mq_wire.specs.Queries.{FieldsAt};
 
 use crate::codes::resp8;
-use crate::fields::number_at;
+use crate::fields::{addresses_end, number_at};
 use crate::message::WireFault;
 use crate::sources::Sources;
 use crate::wire_key::WireKey;
@@ -82,7 +82,7 @@ impl Qrv {
 }
 
 /// How many bytes the flags, the interval code and the number of sources take.
-const FLAGS_TO_COUNT: usize = 4;
+pub(crate) const FLAGS_TO_COUNT: usize = 4;
 
 /// What a query of IGMPv3 or MLDv2 says behind the group, which ends at `place`.
 pub(crate) fn fields_at<K: WireKey>(
@@ -94,17 +94,11 @@ pub(crate) fn fields_at<K: WireKey>(
 {
     let flags = bytes[place];
     let count = number_at(bytes, place + 2);
-    let (_, addresses) = bytes.split_at(place + FLAGS_TO_COUNT);
-    let whole = addresses.len() / K::WIDTH;
-    if whole < usize::from(count) {
-        return Err(WireFault::Truncated {
-            at: place + FLAGS_TO_COUNT + whole * K::WIDTH,
-        });
-    }
+    addresses_end::<K>(bytes, place + FLAGS_TO_COUNT, count)?;
     Ok(QuerierFields {
         suppress: flags / 8 % 2 == 1,
         robustness: Qrv::new(flags % 8),
         interval: resp8(bytes[place + 1]),
-        sources: Sources::in_place(count, addresses),
+        sources: Sources::in_place(count, &bytes[place + FLAGS_TO_COUNT..]),
     })
 }
