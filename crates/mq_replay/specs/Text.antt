@@ -1,5 +1,5 @@
 -- The texts of messages and faults.
-use Rattle.std.specs.Prelude.{ℕ, Bool, true, false, length, List, [], ◌++◌, if◌then◌else◌, codes, Result, Ok, Err}
+use Rattle.std.specs.Prelude.{ℕ, ◌==◌, Bool, true, false, length, List, [], ◌++◌, if◌then◌else◌, codes, Result, Ok, Err}
 use Rattle.std.specs.List.{flat_map}
 use Rattle.std.specs.Fmt.{decimal}
 use Rattle.mq_count.specs.declared.versions.OlderVersion.{OlderVersion}
@@ -7,12 +7,13 @@ use Rattle.mq_count.specs.declared.versions.OlderVersion.TheVariants.{V1, V2}
 use Rattle.mq_text.specs.AddressV4.{v4_text}
 use Rattle.mq_text.specs.AddressV6.{v6_text}
 use Rattle.mq_wire.specs.declared.message.Message.{Message}
-use Rattle.mq_wire.specs.declared.message.Message.TheVariants.{Query as AQuery, OldReport, Leave}
+use Rattle.mq_wire.specs.declared.message.Message.TheVariants.{Query as AQuery, OldReport, Leave, Report}
 use Rattle.mq_wire.specs.declared.query.Query.{Query}
 use Rattle.mq_wire.specs.declared.query.QueryVersion.{QueryVersion}
 use Rattle.mq_wire.specs.declared.query.QueryVersion.TheVariants.{Older, Current}
 use Rattle.mq_wire.specs.declared.message.WireFault.{WireFault}
 use Rattle.mq_wire.specs.declared.message.WireFault.TheVariants.{Truncated, Checksum, UnknownType, QueryLength}
+use Rattle.mq_wire.specs.declared.records.RecordView.{RecordView}
 use Rattle.mq_wire.specs.Family.{Family, Igmp, Mld}
 
 abbrev pub address_text : Family → ℕ → List ℕ
@@ -72,11 +73,37 @@ abbrev pub query_sources : QueryVersion ℕ → List ℕ
 query_sources (Older version) = []
 query_sources (Current fields) = fields.sources
 
+-- the type of a record by its name (RFC 3376 section 4.2.12, RFC 3810 section 5.2.12), or else by its number
+abbrev pub kind_text : ℕ → List ℕ
+kind_text kind =
+    if kind == 1 then codes "IS_IN"
+    else if kind == 2 then codes "IS_EX"
+    else if kind == 3 then codes "TO_IN"
+    else if kind == 4 then codes "TO_EX"
+    else if kind == 5 then codes "ALLOW"
+    else if kind == 6 then codes "BLOCK"
+    else codes "TYPE " ++ decimal kind
+
+-- a record of a Report after a space, in brackets, and what of it stands before its sources
+abbrev pub record_head : Family → RecordView ℕ → List ℕ
+record_head family view = codes " [" ++ kind_text view.kind ++ codes " " ++ address_text family view.group
+
+abbrev pub record_text : Family → RecordView ℕ → List ℕ
+record_text family view = record_head family view ++ (sources_text family view.sources ++ codes "]")
+
+-- what a Report of the family's own version says before its records
+abbrev pub report_head : Family → ℕ → List ℕ
+report_head family count = codes "report v" ++ decimal (current_version family) ++ codes " records " ++ decimal count
+
+abbrev pub records_text : Family → List (RecordView ℕ) → List ℕ
+records_text family records = flat_map (record_text family) records
+
 abbrev pub message_text : Family → Message ℕ → List ℕ
 message_text family (AQuery query) = query_head family query ++ sources_text family (query_sources query.version)
 message_text family (OldReport version group) =
     codes "report v" ++ decimal (older_version version) ++ codes " group " ++ address_text family group
 message_text family (Leave group) = codes "leave group " ++ address_text family group
+message_text family (Report records) = report_head family (length records) ++ records_text family records
 
 abbrev pub fault_text : WireFault → List ℕ
 fault_text (Truncated at) = codes "fault 1 truncated at " ++ decimal at

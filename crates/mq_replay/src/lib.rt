@@ -2,10 +2,11 @@
 //!
 //! ```text
 //! let mut output = Watched::new(writer);
-//! igmp_line(body, &mut output)    // Ok(true): the line of a message; Ok(false): that of a fault
+//! igmp_line(body, &mut output)                         // Ok(true): the line of a message; Ok(false): that of a fault
+//! mld_line(source, destination, body, &mut output)     // the same of MLD, whose checksum covers the addresses
 //! ```
 //!
-//! - Lines: `igmp_line`.
+//! - Lines: `igmp_line`, `mld_line`.
 //! - Printing on a watched writer: `print`, and `LineFault`, which says that a write failed.
 #![tactic(auto)]
 
@@ -15,5 +16,5 @@ mod lines;
 mod pieces;
 mod printing;
 
-pub use lines::igmp_line;
+pub use lines::{igmp_line, mld_line};
 pub use printing::{LineFault, print};

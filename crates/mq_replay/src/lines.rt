@@ -1,19 +1,26 @@
 //! The line of a message.
 
-ghost use Rattle.std.specs.Prelude.{◌≡◌, ◌++◌, ◌||◌, [], codes, is_err, is_ok};
+ghost use Rattle.std.specs.Prelude.{◌≡◌, ◌++◌, ◌||◌, [], codes, is_err, is_ok, length};
 ghost use Rattle.mq_count.specs.Streams.{inner_of, has_failed};
-ghost use Rattle.mq_wire.specs.Family.{Igmp};
+ghost use Rattle.mq_wire.specs.Family.{Igmp, Mld};
+ghost use Rattle.mq_wire.specs.Numbered.{numbered_message, numbered_record, numbered_version};
+ghost use Rattle.mq_wire.specs.PseudoHeader.{pseudo_header};
 ghost use Rattle.mq_replay.specs.Line.{AnswersBy, PrintsLine, PutsLine};
-ghost use Rattle.mq_replay.specs.Numbered.{numbered_answer, numbered_message, numbered_version};
+ghost use Rattle.mq_replay.specs.Numbered.{numbered_answer};
 ghost use Rattle.mq_replay.specs.Printing.{Puts};
-ghost use Rattle.mq_replay.specs.Text.{answer_text, line_of, message_text, query_sources, sources_text};
+ghost use Rattle.mq_replay.specs.Text.{answer_text, line_of, message_text, query_sources, record_text, records_text, sources_text};
 
 use crate::buffer::{Buffer, flush, make_room, put};
 use crate::line_key::LineKey;
-use crate::pieces::{put_fault, put_leave, put_older_report, put_query_head, put_source};
+use crate::pieces::{
+    put_fault, put_leave, put_older_report, put_query_head, put_record_head, put_report_head,
+    put_source,
+};
 use crate::printing::LineFault;
-use mq_count::Watched;
-use mq_wire::{Message, QueryVersion, Sources, WireFault, read_igmp};
+use mq_count::{Addr6, Watched};
+use mq_wire::{
+    Message, QueryVersion, RecordView, Records, Sources, WireFault, read_igmp, read_mld,
+};
 use std::io::Write;
 
 /// Writes one line: what the bytes of an IGMP datagram say, without the IP header, and answers true;
@@ -29,6 +36,23 @@ pub fn igmp_line<W: Write>(body: &[u8], writer: &mut Watched<W>) -> Result<bool,
     Ok(is_message)
 }
 
+/// Writes one line: what the bytes of an MLD datagram say, without the IPv6 header, or their fault, as
+/// `igmp_line`. The checksum covers the source and the destination of the datagram.
+pub fn mld_line<W: Write>(
+    source: Addr6,
+    destination: Addr6,
+    body: &[u8],
+    writer: &mut Watched<W>,
+) -> Result<bool, LineFault>
+    ensures line { PrintsLine (W.contents (inner_of writer.old)) (W.contents (inner_of writer.new)) Mld (pseudo_header source destination (length body.now)) body.now result }
+    ensures failed { has_failed writer.new ≡ has_failed writer.old || is_err result }
+{
+    let mut buffer = Buffer::new();
+    let is_message = put_mld(source, destination, body, &mut buffer, writer)?;
+    flush(&mut buffer, writer)?;
+    Ok(is_message)
+}
+
 /// Puts the line of an IGMP datagram.
 pub(crate) fn put_igmp<W: Write>(
     body: &[u8],
@@ -39,6 +63,20 @@ pub(crate) fn put_igmp<W: Write>(
     ensures failed { has_failed writer.new ≡ has_failed writer.old || is_err result }
 {
     put_answer(read_igmp(body), buffer, writer)
+}
+
+/// Puts the line of an MLD datagram.
+pub(crate) fn put_mld<W: Write>(
+    source: Addr6,
+    destination: Addr6,
+    body: &[u8],
+    buffer: &mut Buffer,
+    writer: &mut Watched<W>,
+) -> Result<bool, LineFault>
+    ensures line { PutsLine (W.contents (inner_of writer.old)) (W.contents (inner_of writer.new)) buffer.old.items buffer.new.items Mld (pseudo_header source destination (length body.now)) body.now result }
+    ensures failed { has_failed writer.new ≡ has_failed writer.old || is_err result }
+{
+    put_answer(read_mld(source, destination, body), buffer, writer)
 }
 
 /// Puts the line of what was read, and answers whether that is a message.
@@ -98,6 +136,10 @@ fn put_message<K: LineKey, W: Write>(
             put_leave(buffer, group);
             Ok(())
         }
+        Message::Report(records) => {
+            put_report_head::<K>(buffer, records.len());
+            put_records(records, buffer, writer)
+        }
     }
 }
 
@@ -114,6 +156,38 @@ fn put_query_sources<K: LineKey, W: Write>(
         QueryVersion::Older(_) => Ok(()),
         QueryVersion::Current(fields) => put_sources(fields.sources, buffer, writer),
     }
+}
+
+/// Puts each record after a space, in brackets.
+fn put_records<K: LineKey, W: Write>(
+    records: Records<'_, K>,
+    buffer: &mut Buffer,
+    writer: &mut Watched<W>,
+) -> Result<(), LineFault>
+    ensures text { Puts (W.contents (inner_of writer.old)) (W.contents (inner_of writer.new)) buffer.old.items buffer.new.items (records_text K.family records.entry) result }
+    ensures failed { has_failed writer.new ≡ has_failed writer.old || is_err result }
+{
+    for view in records {
+        put_record(view, buffer, writer)?;
+    }
+    Ok(())
+}
+
+/// Puts a record after a space, in brackets.
+fn put_record<K: LineKey, W: Write>(
+    view: RecordView<'_, K>,
+    buffer: &mut Buffer,
+    writer: &mut Watched<W>,
+) -> Result<(), LineFault>
+    ensures text { Puts (W.contents (inner_of writer.old)) (W.contents (inner_of writer.new)) buffer.old.items buffer.new.items (record_text K.family (numbered_record K.number view.entry)) result }
+    ensures failed { has_failed writer.new ≡ has_failed writer.old || is_err result }
+{
+    make_room(buffer, writer)?;
+    put_record_head(buffer, view.kind, view.group);
+    put_sources(view.sources, buffer, writer)?;
+    make_room(buffer, writer)?;
+    put(buffer, b"]");
+    Ok(())
 }
 
 /// Puts each source after a space.

@@ -3,8 +3,8 @@
 ghost use Rattle.std.specs.Prelude.{◌≡◌, ◌≤◌, ◌+◌, ◌++◌, codes, length};
 ghost use Rattle.std.specs.Fmt.{decimal};
 ghost use Rattle.arrayvec.specs.ArrayVec.{array_vec_len};
-ghost use Rattle.mq_replay.specs.Numbered.{numbered_message, numbered_query, numbered_version};
-ghost use Rattle.mq_replay.specs.Text.{address_text, flag_text, response_text, fault_text};
+ghost use Rattle.mq_wire.specs.Numbered.{numbered_query, numbered_version};
+ghost use Rattle.mq_replay.specs.Text.{address_text, flag_text, kind_text, response_text, fault_text};
 ghost use Rattle.mq_replay.specs.Text as spec;
 
 use crate::buffer::{Buffer, put, put_decimal};
@@ -88,6 +88,48 @@ pub(crate) fn put_leave<K: LineKey>(buffer: &mut Buffer, group: K)
 {
     put(buffer, b"leave group ");
     put_address(buffer, group);
+}
+
+/// Puts what a Report of the family's own version says at the end, before its records.
+pub(crate) fn put_report_head<K: LineKey>(buffer: &mut Buffer, count: usize)
+    requires { array_vec_len buffer.old + 100 ≤ 4096 }
+    ensures { buffer.new.items ≡ buffer.old.items ++ spec.report_head K.family count }
+{
+    put(buffer, b"report v");
+    put_decimal(buffer, u64::from(K::current_version()));
+    put(buffer, b" records ");
+    put_decimal(buffer, count as u64);
+}
+
+/// Puts what a record says at the end, before its sources.
+pub(crate) fn put_record_head<K: LineKey>(buffer: &mut Buffer, kind: u8, group: K)
+    requires { array_vec_len buffer.old + 100 ≤ 4096 }
+    ensures { buffer.new.items ≡ buffer.old.items ++ (codes " [" ++ kind_text kind ++ codes " " ++ address_text K.family (K.number group)) }
+{
+    put(buffer, b" [");
+    put_kind(buffer, kind);
+    put(buffer, b" ");
+    put_address(buffer, group);
+}
+
+/// Puts the type of a record at the end.
+fn put_kind(buffer: &mut Buffer, kind: u8)
+    requires { array_vec_len buffer.old + 25 ≤ 4096 }
+    ensures text { buffer.new.items ≡ buffer.old.items ++ kind_text kind }
+    ensures room { array_vec_len buffer.new ≤ array_vec_len buffer.old + 25 }
+{
+    match kind {
+        1 => put(buffer, b"IS_IN"),
+        2 => put(buffer, b"IS_EX"),
+        3 => put(buffer, b"TO_IN"),
+        4 => put(buffer, b"TO_EX"),
+        5 => put(buffer, b"ALLOW"),
+        6 => put(buffer, b"BLOCK"),
+        _ => {
+            put(buffer, b"TYPE ");
+            put_decimal(buffer, u64::from(kind));
+        }
+    }
 }
 
 /// Puts what a fault is at the end, with its number and its place.
