@@ -13,8 +13,13 @@
 mod buffer;
 mod line_key;
 mod lines;
+mod listing;
+mod moments;
 mod pieces;
 mod printing;
+mod replay_fault;
 
 pub use lines::{igmp_line, mld_line};
+pub use listing::show;
 pub use printing::{LineFault, print};
+pub use replay_fault::ReplayFault;
