@@ -13,7 +13,9 @@ mod address_text;
 mod address_v4;
 mod address_v6;
 pub mod laws;
+mod reading;
 
 pub use address_text::AddressText;
 pub use address_v4::v4_text;
 pub use address_v6::v6_text;
+pub use reading::{read_v4, read_v6};
