@@ -1,3 +1,4 @@
+pub mod FileHeader
 pub mod Filled
 pub mod Headers
 pub mod OneCapture

@@ -16,7 +16,7 @@ use Rattle.mq_pcap.specs.Reading.{Reads}
 use Rattle.mq_pcap.proofs.Filled.{Takes-trans}
 
 -- a number is in the bytes that it has
-number_in-append : (order : Endian) (n : ℕ) (xs ys : List ℕ) → n ≤ length xs → number_in order n (xs ++ ys) ≡ number_in order n xs
+pub number_in-append : (order : Endian) (n : ℕ) (xs ys : List ℕ) → n ≤ length xs → number_in order n (xs ++ ys) ≡ number_in order n xs
 number_in-append Big n xs ys fits = big_from-append n xs ys fits
 number_in-append Little n xs ys fits = little_from-append n xs ys fits
 
@@ -38,9 +38,9 @@ none_failed : {E : Type 0} (old mid new : Source) (header body : List ℕ) (coun
 none_failed old mid new header body count answer first second = rw (← or-false old.failed, ← first.failed) second.failed
 
 pub record_read : {E : Type 0} (form : Form) (number : ℕ) (old mid new : Source) (header body rest : List ℕ) (count n m stamp : ℕ) →
-    number < endless → length header ≡ 16 → 16 ≤ count → n ≡ captured_length form header → n ≤ most_bytes → length body ≡ n → n ≤ m → stamp ≡ stamp_of form header →
+    number < endless → length header ≡ 16 → 16 ≤ count → n ≡ captured_length form header → (within : n ≤ most_bytes) → length body ≡ n → n ≤ m → stamp ≡ stamp_of form header →
     Fills {E = E} old mid header (Ok count) → Fills {E = E} mid new body (Ok m) →
-    Reads form number old new (body ++ rest) (Ok (Some (record { stamp_ms = stamp; length = n })))
+    Reads form number old new (body ++ rest) (Ok (Some (record { stamp_ms = stamp; length = n; within = within })))
 record_read form number old mid new header body rest count n m stamp few size whole announced within length_is filled at first second =
     let lent = take_at body rest n length_is in
     record {

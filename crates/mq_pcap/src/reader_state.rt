@@ -12,6 +12,7 @@ pub struct Packet {
     pub stamp_ms: u64,
     /// How many bytes were captured, at most 262144.
     pub length: usize,
+    ghost within: { length ≤ 262144 },
 }
 
 /// How far a reader is.

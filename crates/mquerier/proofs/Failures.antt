@@ -1,6 +1,6 @@
 -- What printing a failure's line comes to.
 use Rattle.std.proofs.Common.{◌≡◌, ◌||◌, Bool, true, false, List, ℕ, Option, Result, Ok, Err, is_err, inl, inr, ◌∙◌, refl}
-use Rattle.mquerier.specs.Printing.{Prints}
+use Rattle.mq_replay.specs.Printing.{Prints}
 use Rattle.mquerier.specs.declared.program.Failure.{Failure}
 use Rattle.mquerier.specs.Status.{Told, failure_line}
 

@@ -1,3 +1,1 @@
-pub mod PrintedLine
 pub mod Failures
-pub mod Pieces

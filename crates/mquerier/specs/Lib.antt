@@ -1,4 +1,2 @@
-pub mod Line
-pub mod Printing
+pub mod HexLine
 pub mod Status
-pub mod Text

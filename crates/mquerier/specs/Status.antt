@@ -6,8 +6,8 @@ use Rattle.mq_command.specs.declared.Request.{Request}
 use Rattle.mq_command.specs.declared.Request.TheVariants.{Message}
 use Rattle.mquerier.specs.declared.program.Failure.{Failure}
 use Rattle.mquerier.specs.declared.program.Failure.TheVariants.{NotHex, Memory, Write}
-use Rattle.mquerier.specs.Line.{PrintsHexLine}
-use Rattle.mquerier.specs.Printing.{GrowsByBeginning}
+use Rattle.mquerier.specs.HexLine.{PrintsHexLine}
+use Rattle.mq_replay.specs.Printing.{GrowsByBeginning}
 
 -- 2 for a fault of the command line, 1 for one of memory or the output
 abbrev pub status_of : Failure → ℕ

@@ -5,18 +5,13 @@
 //! report v2 group 239.1.2.3
 //! ```
 //!
-//! `igmp_line` writes the line of one message; `run` does what the command line asks for, over any
-//! streams; `main` runs it on the program's own words and streams.
+//! `run` does what the command line asks for, over any streams; `main` runs it on the program's own words
+//! and streams.
 #![tactic(auto)]
 
-mod lines;
-mod printing;
 mod program;
-mod text;
 
-pub use lines::igmp_line;
 use mq_count::Watched;
-pub use printing::LineFault;
 pub use program::{perform, run};
 use std::io::{BufWriter, ErrorKind, Write};
 use std::process::ExitCode;

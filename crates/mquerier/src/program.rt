@@ -3,15 +3,14 @@
 ghost use Rattle.std.specs.Prelude.{◌≡◌, ◌≤◌, Err, true, IfOk, IsErr};
 ghost use Rattle.hex.specs.Hex.{decode_of};
 ghost use Rattle.mq_count.specs.Streams.{inner_of, has_failed};
-ghost use Rattle.mquerier.specs.Line.{PrintsHexLine};
+ghost use Rattle.mquerier.specs.HexLine.{PrintsHexLine};
 ghost use Rattle.mquerier.specs.Status.{Stream, status_of, Told, hex_of, IsFaulty, Performs, Runs};
 
-use crate::lines::igmp_line;
-use crate::printing::print;
 use clap::error::ErrorKind;
 use hex::FromHexError;
 use mq_command::{Request, request_of};
 use mq_count::Watched;
+use mq_replay::{igmp_line, print};
 use std::alloc::Global;
 use std::convert::AsStr;
 use std::io::{Read, Write};

@@ -1,0 +1,5 @@
+pub mod Answered
+pub mod Packets
+pub mod Passing
+pub mod ReadSoFar
+pub mod Shown

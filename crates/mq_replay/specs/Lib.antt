@@ -1,0 +1,6 @@
+pub mod Line
+pub mod Listing
+pub mod Numbered
+pub mod Printing
+pub mod Putting
+pub mod Text

@@ -1,0 +1,25 @@
+//! What is printed of messages: their lines, and those of their faults.
+//!
+//! ```text
+//! let mut output = Watched::new(writer);
+//! igmp_line(body, &mut output)                         // Ok(true): the line of a message; Ok(false): that of a fault
+//! mld_line(source, destination, body, &mut output)     // the same of MLD, whose checksum covers the addresses
+//! ```
+//!
+//! - Lines: `igmp_line`, `mld_line`.
+//! - Printing on a watched writer: `print`, and `LineFault`, which says that a write failed.
+#![tactic(auto)]
+
+mod buffer;
+mod line_key;
+mod lines;
+mod listing;
+mod moments;
+mod pieces;
+mod printing;
+mod replay_fault;
+
+pub use lines::{igmp_line, mld_line};
+pub use listing::show;
+pub use printing::{LineFault, print};
+pub use replay_fault::ReplayFault;

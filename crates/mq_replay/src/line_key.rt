@@ -1,0 +1,62 @@
+//! What the lines know of an address.
+
+ghost use Rattle.std.specs.Prelude.{◌≡◌};
+ghost use Rattle.mq_wire.specs.Family.{Family, Igmp, Mld};
+ghost use Rattle.mq_replay.specs.Text.{address_text};
+ghost use Rattle.mq_replay.specs.Text as spec;
+
+use mq_count::{Addr4, Addr6};
+use mq_text::{AddressText, v4_text, v6_text};
+use mq_wire::{OlderVersion, WireKey};
+
+/// An address as a line has it, and what the lines of its family have besides.
+pub(crate) trait LineKey: WireKey {
+    ghost family: { Family };
+
+    /// The address as text.
+    fn text(self) -> AddressText
+        ensures { result.items ≡ address_text family (Self.number self) };
+
+    /// The family's own version: 3 of IGMP, 2 of MLD.
+    fn current_version() -> u8
+        ensures { result ≡ spec.current_version family };
+
+    /// Whether a query of an older version has a response.
+    fn has_response(version: OlderVersion) -> bool
+        ensures { result ≡ spec.has_response family version };
+}
+
+impl LineKey for Addr4 {
+    ghost family = { Igmp };
+
+    fn text(self) -> AddressText {
+        v4_text(self)
+    }
+
+    fn current_version() -> u8 {
+        3
+    }
+
+    fn has_response(version: OlderVersion) -> bool {
+        match version {
+            OlderVersion::V1 => false,
+            OlderVersion::V2 => true,
+        }
+    }
+}
+
+impl LineKey for Addr6 {
+    ghost family = { Mld };
+
+    fn text(self) -> AddressText {
+        v6_text(self)
+    }
+
+    fn current_version() -> u8 {
+        2
+    }
+
+    fn has_response(_version: OlderVersion) -> bool {
+        true
+    }
+}

@@ -1,0 +1,38 @@
+//! Why a capture was not shown to its end.
+
+ghost use Rattle.std.specs.Prelude.{◌≡◌};
+ghost use Rattle.mq_replay.specs.declared.replay_fault.ReplayFault.TheVariants.{Pcap, Write};
+
+use crate::printing::LineFault;
+use mq_pcap::PcapFault;
+use thiserror::Error;
+
+/// Why a capture was not shown to its end.
+#[derive(Clone, Copy, Debug, PartialEq, Eq, Error)]
+pub enum ReplayFault {
+    /// The capture has a fault, or a read of it failed.
+    #[error("{0}")]
+    Pcap(PcapFault),
+    /// A write failed, or took none of the bytes that it was given.
+    #[error("write failed")]
+    Write,
+    /// A growth was refused.
+    #[error("out of memory")]
+    Memory,
+}
+
+impl From<PcapFault> for ReplayFault {
+    ghost from_gives = { λ fault it. it ≡ Pcap fault };
+
+    fn from(fault: PcapFault) -> ReplayFault {
+        ReplayFault::Pcap(fault)
+    }
+}
+
+impl From<LineFault> for ReplayFault {
+    ghost from_gives = { λ _ it. it ≡ Write };
+
+    fn from(_fault: LineFault) -> ReplayFault {
+        ReplayFault::Write
+    }
+}

@@ -1,0 +1,3 @@
+pub mod Hexadecimal
+pub mod LongestRun
+pub mod Spelled

@@ -1,0 +1,3 @@
+pub mod AddressV4
+pub mod AddressV6
+pub mod Reading

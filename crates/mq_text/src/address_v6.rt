@@ -1,0 +1,137 @@
+//! The text of an IPv6 address.
+
+ghost use Rattle.std.specs.Prelude.{◌≡◌, ◌≤◌, ◌<◌, ◌+◌, ◌*◌, ◌++◌, false, drop, length};
+ghost use Rattle.std.specs.Fmt.{digit_glyph};
+ghost use Rattle.arrayvec.specs.ArrayVec.{array_vec_len};
+ghost use Rattle.mq_text.specs.AddressV6.{groups_of, hexadecimal, four_digits, with_colons, shortened, v6_text as spec};
+ghost use Rattle.mq_text.specs.AddressV6 as words;
+
+use crate::address_text::{AddressText, put};
+use mq_count::Addr6;
+
+/// Consecutive groups of an address: the place of the first, and how many they are.
+#[derive(Clone, Copy)]
+struct Run {
+    place: usize,
+    count: usize,
+}
+
+/// An IPv6 address as groups of 16 bits in lower-case hexadecimal with colons between them; the longest run of
+/// two or more zero groups, the first of those that are as long, is `::`.
+#[tactic(auto, unfolding(crate::specs::AddressV6::shortened))]
+pub fn v6_text(address: Addr6) -> AddressText
+    ensures { result.items ≡ spec address }
+{
+    let groups = groups(address);
+    let run = longest_zeros(&groups);
+    let mut text = AddressText::new();
+    if run.count < 2 {
+        put_groups(&mut text, &groups);
+    } else {
+        put_groups(&mut text, &groups[..run.place]);
+        put(&mut text, b"::");
+        put_groups(&mut text, &groups[run.place + run.count..]);
+    }
+    text
+}
+
+/// The eight groups of an address.
+fn groups(address: Addr6) -> [u16; 8]
+    ensures { result ≡ groups_of address }
+{
+    let [a, b, c, d, e, f, g, h, i, j, k, l, m, n, o, p] = address.octets();
+    [
+        group(a, b),
+        group(c, d),
+        group(e, f),
+        group(g, h),
+        group(i, j),
+        group(k, l),
+        group(m, n),
+        group(o, p),
+    ]
+}
+
+/// The group of two octets.
+fn group(high: u8, low: u8) -> u16
+    ensures { result ≡ high * 256 + low }
+{
+    u16::from(high) * 256 + u16::from(low)
+}
+
+/// The longest run of zero groups, the first of those that are as long.
+fn longest_zeros(groups: &[u16; 8]) -> Run
+    ensures run { result ≡ words.longest_zeros groups.now }
+    ensures within { result.place + result.count ≤ 8 }
+{
+    let mut run = Run { place: 8, count: 0 };
+    let mut zeros = 0;
+    let mut place = 8;
+    while place > 0 {
+        place -= 1;
+        zeros = if groups[place] == 0 { zeros + 1 } else { 0 };
+        if run.count <= zeros {
+            run = Run {
+                place,
+                count: zeros,
+            };
+        }
+    }
+    run
+}
+
+/// Puts groups at the end, with colons between them.
+fn put_groups(text: &mut AddressText, groups: &[u16])
+    requires { array_vec_len text.old + 5 * length groups.now ≤ 40 }
+    ensures text { text.new.items ≡ text.old.items ++ with_colons groups.now }
+    ensures room { array_vec_len text.new ≤ array_vec_len text.old + 5 * length groups.now }
+{
+    let [group, others @ ..] = groups else {
+        return;
+    };
+    put_hexadecimal(text, *group);
+    if !others.is_empty() {
+        put(text, b":");
+        put_groups(text, others);
+    }
+}
+
+/// Puts a number at the end, in lower-case hexadecimal.
+fn put_hexadecimal(text: &mut AddressText, number: u16)
+    requires { array_vec_len text.old + 4 ≤ 39 }
+    ensures text { text.new.items ≡ text.old.items ++ hexadecimal number }
+    ensures room { array_vec_len text.new ≤ array_vec_len text.old + 4 }
+{
+    let digits = [
+        digit(number / 4096),
+        digit(number / 256 % 16),
+        digit(number / 16 % 16),
+        digit(number % 16),
+    ];
+    put(text, &digits[leading_zeros(number)..]);
+}
+
+/// How many of a number's four hexadecimal digits are leading zeros.
+fn leading_zeros(number: u16) -> usize
+    ensures digits { hexadecimal number ≡ drop result (four_digits number) }
+    ensures few { result ≤ 3 }
+{
+    match number {
+        0..16 => 3,
+        16..256 => 2,
+        256..4096 => 1,
+        _ => 0,
+    }
+}
+
+/// The digit of a number below 16.
+fn digit(number: u16) -> u8
+    requires { number < 16 }
+    ensures { result ≡ digit_glyph false number }
+{
+    if number < 10 {
+        b'0' + number as u8
+    } else {
+        b'a' + (number - 10) as u8
+    }
+}
