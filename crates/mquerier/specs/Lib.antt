@@ -1,2 +1,4 @@
+pub mod Failures
 pub mod HexLine
 pub mod Status
+pub mod Working

@@ -9,13 +9,18 @@
 //! and streams.
 #![tactic(auto)]
 
+mod failure;
 mod program;
+mod work;
 
 use mq_count::Watched;
 pub use program::{perform, run};
-use std::io::{BufWriter, ErrorKind, Write};
+use std::io::{BufReader, BufWriter, ErrorKind, Write};
 use std::process::ExitCode;
 use std::{env, io};
+
+/// How many bytes are read at once.
+const INPUT: usize = 65_536;
 
 fn main(rt: HostRuntime) -> ExitCode {
     let status = run_on_host(&rt).unwrap_or_else(|error| {
@@ -38,7 +43,7 @@ fn run_on_host(rt: &HostRuntime) -> io::Result<u8> {
     for word in env::args(rt)? {
         words.push(word)?;
     }
-    let mut input = Watched::new(rt.stdin());
+    let mut input = Watched::new(BufReader::with_capacity(INPUT, alloc, rt.stdin())?);
     let mut output = Watched::new(BufWriter::new(alloc, rt.stdout())?);
     let mut errors = Watched::new(rt.stderr());
     Ok(run(alloc, &words, &mut input, &mut output, &mut errors))

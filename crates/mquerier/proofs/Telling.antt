@@ -1,8 +1,9 @@
 -- What printing a failure's line comes to.
 use Rattle.std.proofs.Common.{◌≡◌, ◌||◌, Bool, true, false, List, ℕ, Option, Result, Ok, Err, is_err, inl, inr, ◌∙◌, refl}
 use Rattle.mq_replay.specs.Printing.{Prints}
-use Rattle.mquerier.specs.declared.program.Failure.{Failure}
-use Rattle.mquerier.specs.Status.{Told, failure_line}
+use Rattle.mquerier.specs.declared.failure.Failure.{Failure}
+use Rattle.mquerier.specs.Failures.{failure_line}
+use Rattle.mquerier.specs.Status.{Told}
 
 or_true : (b : Bool) → (b || true) ≡ true
 or_true true = refl

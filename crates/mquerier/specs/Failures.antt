@@ -1,0 +1,38 @@
+-- The failures of the program: their statuses, and what standard error is told.
+use Rattle.std.specs.Prelude.{ℕ, List, ◌++◌, codes}
+use Rattle.std.specs.Fmt.{decimal}
+use Rattle.mq_pcap.specs.declared.fault.PcapFault.{PcapFault}
+use Rattle.mq_pcap.specs.declared.fault.PcapFault.TheVariants as fault
+use Rattle.mquerier.specs.declared.failure.Failure.{Failure}
+use Rattle.mquerier.specs.declared.failure.Failure.TheVariants.{NoAddresses, NotAnAddress, NotHex, Capture, Memory, Write}
+
+-- 2 for a fault of the command line, 1 for one of the input, the output or memory
+abbrev pub status_of : Failure → ℕ
+status_of NoAddresses = 2
+status_of NotAnAddress = 2
+status_of NotHex = 2
+status_of (Capture f) = 1
+status_of Memory = 1
+status_of Write = 1
+
+-- a fault of a capture, by its number
+abbrev pub capture_text : PcapFault → List ℕ
+capture_text fault.Read = codes "capture fault 1"
+capture_text fault.Magic = codes "capture fault 2"
+capture_text fault.Version = codes "capture fault 3"
+capture_text fault.LinkType = codes "capture fault 4"
+capture_text (fault.CutHeader number) = codes "capture fault 5" ++ codes " at record " ++ decimal number
+capture_text (fault.CutData number) = codes "capture fault 6" ++ codes " at record " ++ decimal number
+capture_text (fault.TooLong number) = codes "capture fault 7" ++ codes " at record " ++ decimal number
+capture_text fault.Endless = codes "capture fault 8"
+
+abbrev pub failure_text : Failure → List ℕ
+failure_text NoAddresses = codes "--from and --to are needed for mld"
+failure_text NotAnAddress = codes "not an address"
+failure_text NotHex = codes "not hex"
+failure_text (Capture f) = capture_text f
+failure_text Memory = codes "out of memory"
+failure_text Write = codes "write failed"
+
+abbrev pub failure_line : Failure → List ℕ
+failure_line failure = codes "mquerier: " ++ failure_text failure ++ codes "\n"

@@ -1,0 +1,114 @@
+//! Why the program did not do what it was asked for, and what standard error is told.
+
+ghost use Rattle.std.specs.Prelude.{◌≡◌, ◌≤◌, ◌+◌, ◌++◌, codes, length};
+ghost use Rattle.std.specs.Fmt.{decimal};
+ghost use Rattle.arrayvec.specs.ArrayVec.{array_vec_len};
+ghost use Rattle.mquerier.specs.Failures.{status_of, failure_line, failure_text, capture_text};
+
+use arrayvec::ArrayVec;
+use mq_count::write_decimal;
+use mq_pcap::PcapFault;
+
+/// The statuses of the program.
+pub const DONE: u8 = 0;
+
+pub const FAULTY: u8 = 1;
+
+pub const REFUSED: u8 = 2;
+
+/// The most bytes of a failure's line.
+const LINE: usize = 64;
+
+/// What standard error is told.
+pub type FailureLine = ArrayVec<u8, LINE>;
+
+/// Why the program did not do what it was asked for.
+#[derive(Clone, Copy, Debug, PartialEq, Eq)]
+pub enum Failure {
+    /// A message of MLD is asked for without the addresses of its packet.
+    NoAddresses,
+    /// A text isn't an address of the message's family.
+    NotAnAddress,
+    /// HEX isn't hexadecimal.
+    NotHex,
+    /// The capture has a fault, or a read of it failed.
+    Capture(PcapFault),
+    /// A growth was refused.
+    Memory,
+    /// A write to the output failed, or took nothing.
+    Write,
+}
+
+/// What standard error is told of a failure.
+pub fn line_of(failure: Failure) -> FailureLine
+    ensures { result.items ≡ failure_line failure }
+{
+    let mut line = FailureLine::new();
+    put(&mut line, b"mquerier: ");
+    put_failure(&mut line, failure);
+    put(&mut line, b"\n");
+    line
+}
+
+/// The status that a failure ends with.
+pub fn status_of_failure(failure: Failure) -> u8
+    ensures { result ≡ status_of failure }
+{
+    match failure {
+        Failure::NoAddresses | Failure::NotAnAddress | Failure::NotHex => REFUSED,
+        Failure::Capture(_) | Failure::Memory | Failure::Write => FAULTY,
+    }
+}
+
+fn put_failure(line: &mut FailureLine, failure: Failure)
+    requires { array_vec_len line.old ≡ 10 }
+    ensures text { line.new.items ≡ line.old.items ++ failure_text failure }
+    ensures room { array_vec_len line.new ≤ 60 }
+{
+    match failure {
+        Failure::NoAddresses => put(line, b"--from and --to are needed for mld"),
+        Failure::NotAnAddress => put(line, b"not an address"),
+        Failure::NotHex => put(line, b"not hex"),
+        Failure::Capture(fault) => put_capture(line, fault),
+        Failure::Memory => put(line, b"out of memory"),
+        Failure::Write => put(line, b"write failed"),
+    }
+}
+
+fn put_capture(line: &mut FailureLine, fault: PcapFault)
+    requires { array_vec_len line.old ≡ 10 }
+    ensures text { line.new.items ≡ line.old.items ++ capture_text fault }
+    ensures room { array_vec_len line.new ≤ 60 }
+{
+    match fault {
+        PcapFault::Read => put(line, b"capture fault 1"),
+        PcapFault::Magic => put(line, b"capture fault 2"),
+        PcapFault::Version => put(line, b"capture fault 3"),
+        PcapFault::LinkType => put(line, b"capture fault 4"),
+        PcapFault::CutHeader { number } => put_at_record(line, b"capture fault 5", number),
+        PcapFault::CutData { number } => put_at_record(line, b"capture fault 6", number),
+        PcapFault::TooLong { number } => put_at_record(line, b"capture fault 7", number),
+        PcapFault::Endless => put(line, b"capture fault 8"),
+    }
+}
+
+fn put_at_record(line: &mut FailureLine, fault: &[u8], number: u64)
+    requires start { array_vec_len line.old ≡ 10 }
+    requires short { length fault.now ≤ 15 }
+    ensures text { line.new.items ≡ line.old.items ++ (fault.now ++ codes " at record " ++ decimal number) }
+    ensures room { array_vec_len line.new ≤ 60 }
+{
+    put(line, fault);
+    put(line, b" at record ");
+    let mut digits = [0; 20];
+    let len = write_decimal(number, &mut digits);
+    put(line, &digits[..len]);
+}
+
+fn put(line: &mut FailureLine, text: &[u8])
+    requires { array_vec_len line.old + length text.now ≤ 64 }
+    ensures text { line.new.items ≡ line.old.items ++ text.now }
+    ensures room { array_vec_len line.new ≡ array_vec_len line.old + length text.now }
+{
+    line.try_extend_from_slice(text).unwrap()
+}

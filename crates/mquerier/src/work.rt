@@ -1,0 +1,177 @@
+//! The work that is asked for.
+
+ghost use Rattle.std.specs.Prelude.{◌≡◌, ◌||◌, true, false, MatchResult, is_err};
+ghost use Rattle.std.specs.Option.{option_copied};
+ghost use Rattle.std.specs.Io.KnownBytes.{Keeps};
+ghost use Rattle.hex.specs.Hex.{decode_of};
+ghost use Rattle.mq_command.specs.declared.Request.TheVariants.{Show};
+ghost use Rattle.mq_command.specs.declared.Protocol.TheVariants.{Igmp, Mld};
+ghost use Rattle.mq_count.specs.Streams.{inner_of, has_failed, taken_from};
+ghost use Rattle.mq_pcap.specs.Filling.{Source};
+ghost use Rattle.mquerier.specs.Status.{Input, Stream, IsNoAddress};
+ghost use Rattle.mquerier.specs.Working.{IsRefusal, IsUndecoded, Works, WorksOnMessage};
+
+use crate::failure::Failure;
+use hex::FromHexError;
+use mq_command::{Protocol, Request};
+use mq_count::Watched;
+use mq_replay::{ReplayFault, igmp_line, mld_line, show};
+use mq_text::{read_v4, read_v6};
+use std::alloc::Global;
+use std::io::{Read, Write};
+
+/// Does what is asked for. Of a message it answers whether the line is that of a message, or of a fault.
+pub fn work<R: Read, W: Write>(
+    alloc: Global,
+    request: &Request<'_>,
+    input: &mut Watched<R>,
+    output: &mut Watched<W>,
+) -> Result<bool, Failure>
+    ensures works { let inp : Input = record { old = record { ahead = R.remaining (inner_of input.old); taken = taken_from input.old; failed = has_failed input.old }; new = record { ahead = R.remaining (inner_of input.new); taken = taken_from input.new; failed = has_failed input.new } } in
+        let out : Stream = record { before = W.contents (inner_of output.old); after = W.contents (inner_of output.new); failed = has_failed output.new } in
+        Works request.now inp out result }
+    ensures untouched { IsRefusal result → output.new ≡ output.old }
+{
+    match request {
+        Request::Message {
+            protocol,
+            hex,
+            from,
+            to,
+        } => message(alloc, *protocol, hex, *from, *to, output),
+        Request::Show => listing(alloc, input, output),
+    }
+}
+
+/// Prints the line of a message.
+fn message<W: Write>(
+    alloc: Global,
+    protocol: Protocol,
+    hex: &str,
+    from: Option<&str>,
+    to: Option<&str>,
+    output: &mut Watched<W>,
+) -> Result<bool, Failure>
+    ensures works { let out : Stream = record { before = W.contents (inner_of output.old); after = W.contents (inner_of output.new); failed = has_failed output.new } in
+        WorksOnMessage protocol (option_copied from.entry) (option_copied to.entry) hex.now out result }
+    ensures untouched { IsRefusal result → output.new ≡ output.old }
+{
+    match protocol {
+        Protocol::Igmp => igmp_message(alloc, hex, from, to, output),
+        Protocol::Mld => mld_message(alloc, hex, from, to, output),
+    }
+}
+
+/// Prints the line of a message of IGMP.
+fn igmp_message<W: Write>(
+    alloc: Global,
+    hex: &str,
+    from: Option<&str>,
+    to: Option<&str>,
+    output: &mut Watched<W>,
+) -> Result<bool, Failure>
+    ensures works { let out : Stream = record { before = W.contents (inner_of output.old); after = W.contents (inner_of output.new); failed = has_failed output.new } in
+        WorksOnMessage Igmp (option_copied from.entry) (option_copied to.entry) hex.now out result }
+    ensures untouched { IsRefusal result → output.new ≡ output.old }
+{
+    if is_no_v4(from) || is_no_v4(to) {
+        return Err(Failure::NotAnAddress);
+    }
+    let bytes = decoded(alloc, hex)?;
+    let Ok(is_message) = igmp_line(&bytes, output) else {
+        return Err(Failure::Write);
+    };
+    flush(output)?;
+    Ok(is_message)
+}
+
+/// Whether a text is given that is no IPv4 address.
+fn is_no_v4(text: Option<&str>) -> bool
+    ensures yes { result ≡ true → IsNoAddress Igmp (option_copied text.entry) }
+    ensures no { result ≡ false → IsNoAddress Igmp (option_copied text.entry) → ⊥ }
+{
+    match text {
+        Some(text) => read_v4(text).is_none(),
+        None => false,
+    }
+}
+
+/// Prints the line of a message of MLD.
+fn mld_message<W: Write>(
+    alloc: Global,
+    hex: &str,
+    from: Option<&str>,
+    to: Option<&str>,
+    output: &mut Watched<W>,
+) -> Result<bool, Failure>
+    ensures works { let out : Stream = record { before = W.contents (inner_of output.old); after = W.contents (inner_of output.new); failed = has_failed output.new } in
+        WorksOnMessage Mld (option_copied from.entry) (option_copied to.entry) hex.now out result }
+    ensures untouched { IsRefusal result → output.new ≡ output.old }
+{
+    let Some(from) = from else {
+        return Err(Failure::NoAddresses);
+    };
+    let Some(to) = to else {
+        return Err(Failure::NoAddresses);
+    };
+    let Some(source) = read_v6(from) else {
+        return Err(Failure::NotAnAddress);
+    };
+    let Some(destination) = read_v6(to) else {
+        return Err(Failure::NotAnAddress);
+    };
+    let bytes = decoded(alloc, hex)?;
+    let Ok(is_message) = mld_line(source, destination, &bytes, output) else {
+        return Err(Failure::Write);
+    };
+    flush(output)?;
+    Ok(is_message)
+}
+
+/// The bytes of a hexadecimal text.
+fn decoded(alloc: Global, hex: &str) -> Result<Vec<u8>, Failure>
+    ensures { MatchResult result (λ bytes. decode_of hex.now ≡ Ok bytes.items) (IsUndecoded hex.now) }
+{
+    match hex::decode(alloc, hex) {
+        Ok(bytes) => Ok(bytes),
+        Err(FromHexError::OutOfMemory) => Err(Failure::Memory),
+        Err(_) => Err(Failure::NotHex),
+    }
+}
+
+/// Prints the listing of the capture that the input is.
+fn listing<R: Read, W: Write>(
+    alloc: Global,
+    input: &mut Watched<R>,
+    output: &mut Watched<W>,
+) -> Result<bool, Failure>
+    ensures works { let inp : Input = record { old = record { ahead = R.remaining (inner_of input.old); taken = taken_from input.old; failed = has_failed input.old }; new = record { ahead = R.remaining (inner_of input.new); taken = taken_from input.new; failed = has_failed input.new } } in
+        let out : Stream = record { before = W.contents (inner_of output.old); after = W.contents (inner_of output.new); failed = has_failed output.new } in
+        Works Show inp out result }
+    ensures accepted { IsRefusal result → ⊥ }
+{
+    match show(alloc, input, output) {
+        Ok(_) => {
+            flush(output)?;
+            Ok(true)
+        }
+        Err(ReplayFault::Pcap(fault)) => {
+            flush(output)?;
+            Err(Failure::Capture(fault))
+        }
+        Err(ReplayFault::Write) => Err(Failure::Write),
+        Err(ReplayFault::Memory) => Err(Failure::Memory),
+    }
+}
+
+/// Passes on all that the output holds back.
+fn flush<W: Write>(output: &mut Watched<W>) -> Result<(), Failure>
+    ensures bytes { Keeps (W.contents (inner_of output.old)) (W.contents (inner_of output.new)) }
+    ensures failed { has_failed output.new ≡ has_failed output.old || is_err result }
+    ensures write { (failure : Failure) → result ≡ Err failure → failure ≡ Failure.Write }
+{
+    match output.flush() {
+        Ok(()) => Ok(()),
+        Err(_) => Err(Failure::Write),
+    }
+}
