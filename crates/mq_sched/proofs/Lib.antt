@@ -11,4 +11,3 @@ pub mod Electing
 pub mod StayHeld
 pub mod Without
 pub mod RunsOfRounds
-pub mod RowSendings

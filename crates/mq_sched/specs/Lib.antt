@@ -3,6 +3,7 @@ pub mod Schedule
 pub mod StoredSchedule
 pub mod Runs
 pub mod Sending
+pub mod Sink
 pub mod Announcement
 pub mod Election
 pub mod StoredElection

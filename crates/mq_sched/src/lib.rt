@@ -14,6 +14,7 @@ pub mod laws;
 pub mod queries;
 pub mod roles;
 pub mod schedules;
+pub mod sinks;
 
 pub use announced::Announced;
 pub use deadlines::Deadlines;
@@ -21,6 +22,7 @@ pub use election::Election;
 pub use queries::QuerySchedule;
 pub use roles::OtherQuerier;
 pub use schedules::Schedule;
+pub use sinks::{QueryParts, Sink};
 
 #[cfg(test)]
 mod tests;

@@ -2,7 +2,8 @@
 
 ghost use Rattle.std.specs.Prelude.{◌≡◌, ◌+◌, ◌*◌, ◌^◌, ◌≤◌, Some};
 ghost use Rattle.mq_count.specs.Spending.{Spends};
-ghost use Rattle.mq_sched.specs.Schedule.{ScheduledGroup, no_schedule, some_source, has_sendings, settled};
+ghost use Rattle.mq_table.specs.Sendings.{some_source, has_sendings};
+ghost use Rattle.mq_sched.specs.Schedule.{ScheduledGroup, no_schedule, settled};
 ghost use Rattle.mq_sched.specs.StoredSchedule.{item_has_sendings};
 ghost use Rattle.std.specs.List.{list_any};
 ghost use Rattle.mq_sched.specs.Sending.{group_asked};

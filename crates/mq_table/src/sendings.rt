@@ -1,6 +1,6 @@
 //! Sendings of group-and-source-specific queries, which stand with the timers of the sources.
 
-ghost use Rattle.std.specs.Prelude.{◌≡◌, ℕ, ◌+◌, ◌*◌, ◌^◌, ◌<◌, ◌≤◌, true, if◌then◌else◌, Some, IsSome, length, map, vec_capacity, drop};
+ghost use Rattle.std.specs.Prelude.{◌≡◌, ℕ, ◌*◌, ◌^◌, ◌<◌, ◌≤◌, true, Some, IsSome, length, map, vec_capacity, drop};
 ghost use Rattle.std.specs.List.{list_any};
 ghost use Rattle.mq_count.specs.Spending.{Spends};
 ghost use Rattle.mq_sets.specs.Ascending.{IsAscending, set_of};
