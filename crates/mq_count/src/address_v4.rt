@@ -63,4 +63,6 @@ impl Key for Addr4 {
         m.count_comparison();
         self.number.cmp(&other.number)
     }
+
+    fn is_small() {}
 }

@@ -11,3 +11,5 @@ pub mod Electing
 pub mod StayHeld
 pub mod Without
 pub mod RunsOfRounds
+pub mod Collecting
+pub mod Room

@@ -4,6 +4,7 @@ pub mod StoredSchedule
 pub mod Runs
 pub mod Sending
 pub mod Sink
+pub mod Collected
 pub mod Announcement
 pub mod Election
 pub mod StoredElection

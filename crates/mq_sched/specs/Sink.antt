@@ -14,3 +14,7 @@ query_of number (Sources group s sources) = SourcesQuery (number group) s (map n
 abbrev pub Sends : {S : Type 0} → (takes : S → SentQuery → S → Type 0) → S → List SentQuery → S → Type 0
 Sends takes old [] new = old ≡ new
 Sends {S = S} takes old (query ∷ queries) new = (between : S) × takes old query between × Sends takes between queries new
+
+-- To hand over the queries `before` from the sink `old` on, it is enough to hand over `after` from `new` on.
+abbrev pub SendsOn : {S : Type 0} → (takes : S → SentQuery → S → Type 0) → S → List SentQuery → S → List SentQuery → Type 0
+SendsOn {S = S} takes old before new after = (end : S) → Sends takes new after end → Sends takes old before end

@@ -13,6 +13,7 @@ pub mod examples;
 pub mod laws;
 pub mod queries;
 pub mod roles;
+mod runs;
 pub mod schedules;
 pub mod sinks;
 
