@@ -1,6 +1,6 @@
 -- Lists in runs: what they are together, and how long each is.
 use Rattle.std.proofs.Common.{◌≡◌, ℕ, zero, suc, ◌+◌, ◌<◌, ◌≤◌, List, [], ◌∷◌, Bool, ◌++◌, length, take, drop, refl, ap, ◌∙◌, arith, length-drop}
-use Rattle.std.proofs.lemmas.List.{take-append-drop, take_at, drop_at, take_all, drop_all, length-append, length-take, length-take-le, get_or-take, get_or-drop}
+use Rattle.std.proofs.lemmas.List.{take-append-drop, take_at, drop_at, length-append, length-take, length-take-le, get_or-take, get_or-drop}
 use Rattle.std.specs.Prelude.{map as list_map}
 use Rattle.std.specs.List.{concat}
 use Rattle.std.specs.List.Sorted.{IsStrictlyIncreasing}
@@ -64,14 +64,6 @@ first_run n (x ∷ xs) rest positive long =
     let behind : drop n ((x ∷ xs) ++ rest) ≡ rest = drop_at (x ∷ xs) rest n long in
     (λ i. front i ∷ runs_within (length (xs ++ rest)) n (behind i))
     ∙ ap (λ runs. (x ∷ xs) ∷ runs) (same_within (length (xs ++ rest)) (length rest) n rest positive (omega (arith, length-append xs rest)) (omega arith))
-
--- what fits one run is one
-pub only_run : (n : ℕ) (run : List ℕ) → 0 < length run → length run ≤ n → runs_of n run ≡ run ∷ []
-only_run n [] some fits = absurd (omega arith)
-only_run n (x ∷ xs) some fits =
-    let front : take n (x ∷ xs) ≡ x ∷ xs = take_all n (x ∷ xs) fits in
-    let behind : drop n (x ∷ xs) ≡ [] = drop_all n (x ∷ xs) fits in
-    λ i. front i ∷ runs_within (length xs) n (behind i)
 
 -- a part of an ascending list ascends
 pub increasing-take : (n : ℕ) (xs : List ℕ) → IsStrictlyIncreasing xs → IsStrictlyIncreasing (take n xs)

@@ -15,6 +15,7 @@ pub mod queries;
 pub mod roles;
 mod runs;
 pub mod schedules;
+mod sending;
 pub mod sinks;
 
 pub use announced::Announced;

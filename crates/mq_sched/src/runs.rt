@@ -13,7 +13,7 @@ use mq_count::{Key, Meter, Moment};
 use mq_table::{Source, SourceTimer};
 
 /// The most sources that a message may hold: those of an IGMP query on an MTU of 1500.
-pub const MOST_PER_QUERY: usize = 366;
+const MOST_PER_QUERY: usize = 366;
 
 /// Sources that are collected for one message, fewer than it holds.
 #[derive(Drop)]

@@ -1,4 +1,4 @@
-use Rattle.std.proofs.Common.{◌≡◌, ◌<◌, true, false, ◌+◌, ◌++◌, ◌∙◌, List, [], length, drop, sym, ap, refl, arith, subst}
+use Rattle.std.proofs.Common.{◌<◌, ◌+◌, ◌++◌, ◌∙◌, length, drop, sym, ap, arith, subst}
 use Rattle.std.specs.Prelude.{map as list_map}
 use Rattle.std.proofs.lemmas.List.{append-nil, drop_all}
 use Rattle.mq_count.proofs.Spent.{Spends-join_within}

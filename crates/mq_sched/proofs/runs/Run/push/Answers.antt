@@ -1,4 +1,4 @@
-use Rattle.std.proofs.Common.{◌<◌, ◌∙◌, sym, arith}
+use Rattle.std.proofs.Common.{arith}
 use Rattle.mq_sched.proofs.Collecting.{full_is_sent}
 use Rattle.mq_sched.proofs.runs.Run.push.Goals as goal
 
