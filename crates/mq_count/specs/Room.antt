@@ -5,6 +5,5 @@ use Rattle.std.specs.Align.{type_align}
 use denote.RattleType.{RattleType}
 
 -- no more than 16 bytes each
-pub record IsSmall (R : RattleType) : Type 0 where
-  pub size : type_size R ≤ 16
-  pub align : type_align R ≤ 16
+abbrev pub IsSmall : RattleType → Type 0
+IsSmall R = (type_size R ≤ 16) × (type_align R ≤ 16)

@@ -11,7 +11,7 @@ use Rattle.mq_sched.proofs.runs.send_sources.Goals as goal
 use Rattle.mq_sched.proofs.runs.send_sources.Goals.{then-goes, else-goes}
 
 pub new-run-requires : goal.new-run-requires
-new-run-requires g c = room_for_run _ _ c.is_small.ensures.align c.is_small.ensures.size
+new-run-requires g c = room_for_run _ _ c.is_small.ensures.1 c.is_small.ensures.0
 
 pub loop-source-preserved : goal.loop-source-preserved
 loop-source-preserved g c =
