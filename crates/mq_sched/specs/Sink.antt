@@ -16,5 +16,6 @@ Sends takes old [] new = old ≡ new
 Sends {S = S} takes old (query ∷ queries) new = (between : S) × takes old query between × Sends takes between queries new
 
 -- To hand over the queries `before` from the sink `old` on, it is enough to hand over `after` from `new` on.
-abbrev pub SendsOn : {S : Type 0} → (takes : S → SentQuery → S → Type 0) → S → List SentQuery → S → List SentQuery → Type 0
+abbrev pub SendsOn : {S : Type 0} → (takes : S → SentQuery → S → Type 0)
+    → (old : S) (before : List SentQuery) (new : S) (after : List SentQuery) → Type 0
 SendsOn {S = S} takes old before new after = (end : S) → Sends takes new after end → Sends takes old before end

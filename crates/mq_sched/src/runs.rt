@@ -42,7 +42,8 @@ impl<K: Key> Run<K> {
 
     /// Sends what is collected, and collects for the next message.
     fn send<S: Sink<K>>(&mut self, sink: &mut S)
-        ensures sent { Sends S.takes sink.old (SourcesQuery (K.number self.old.group) self.old.s (map K.number self.old.sources.items) ∷ []) sink.new }
+        ensures sent { let query = SourcesQuery (K.number self.old.group) self.old.s (map K.number self.old.sources.items) in
+            Sends S.takes sink.old (query ∷ []) sink.new }
         ensures parts { self.new ≡ record self.old { sources = self.new.sources } }
         ensures empty { self.new.sources.items ≡ [] }
     {
@@ -58,9 +59,10 @@ impl<K: Key> Run<K> {
     fn push<S: Sink<K>>(&mut self, source: K, sink: &mut S)
         requires room { array_vec_len self.old.sources < self.old.per_query }
         requires most { self.old.per_query ≤ 366 }
-        ensures sent { (rest : List ℕ) → SendsOn S.takes
-            sink.old (sources_queries self.old.per_query (K.number self.old.group) self.old.s (map K.number self.old.sources.items ++ (K.number source ∷ rest)))
-            sink.new (sources_queries self.old.per_query (K.number self.old.group) self.old.s (map K.number self.new.sources.items ++ rest)) }
+        ensures sent { let queries = sources_queries self.old.per_query (K.number self.old.group) self.old.s in
+            (rest : List ℕ) → SendsOn S.takes
+            sink.old (queries (map K.number self.old.sources.items ++ (K.number source ∷ rest)))
+            sink.new (queries (map K.number self.new.sources.items ++ rest)) }
         ensures parts { self.new ≡ record self.old { sources = self.new.sources } }
         ensures room { array_vec_len self.new.sources < self.old.per_query }
     {
@@ -73,7 +75,8 @@ impl<K: Key> Run<K> {
     /// Sends what is still collected, if there is any.
     fn finish<S: Sink<K>>(mut self, sink: &mut S)
         requires { array_vec_len self.sources < self.per_query }
-        ensures { Sends S.takes sink.old (sources_queries self.per_query (K.number self.group) self.s (map K.number self.sources.items)) sink.new }
+        ensures { let collected = map K.number self.sources.items in
+            Sends S.takes sink.old (sources_queries self.per_query (K.number self.group) self.s collected) sink.new }
     {
         if !self.sources.is_empty() {
             self.send(sink);
@@ -108,7 +111,8 @@ pub(crate) fn send_sources<K: Key, S: Sink<K>>(
 )
     requires holds_one { 0 < per_query }
     requires most { per_query ≤ 366 }
-    ensures sent { Sends S.takes sink.old (sources_queries per_query (K.number group) s (going_with K.number limit s row.now)) sink.new }
+    ensures sent { let going = going_with K.number limit s row.now in
+        Sends S.takes sink.old (sources_queries per_query (K.number group) s going) sink.new }
     ensures spent { Spends 0 (length row.now) m.old m.new }
 {
     K::is_small();

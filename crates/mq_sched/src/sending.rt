@@ -1,9 +1,8 @@
 //! What is sent for a group at one moment.
 
-ghost use Rattle.std.specs.Prelude.{◌≡◌, ℕ, ◌+◌, ◌*◌, ◌^◌, ◌<◌, ◌≤◌, ◌-◌, if◌then◌else◌, nat_lt, Some, None};
+ghost use Rattle.std.specs.Prelude.{◌≡◌, ◌+◌, ◌-◌, ◌*◌, ◌^◌, ◌<◌, ◌≤◌, if◌then◌else◌, nat_lt};
 ghost use Rattle.mq_count.specs.Spending.{Spends};
-ghost use Rattle.mq_table.specs.Group.{GroupState, is_ahead, group_deadline};
-ghost use Rattle.mq_table.specs.Lowering.{lowered_to};
+ghost use Rattle.mq_table.specs.Group.{is_ahead, group_deadline};
 ghost use Rattle.mq_table.specs.Sendings.{sendings_counted};
 ghost use Rattle.mq_table.specs.Stored.{size_of};
 ghost use Rattle.mq_sched.specs.Schedule.{ScheduledGroup};
@@ -20,7 +19,9 @@ use mq_table::{FilterMode, Group, Timing};
 /// A query that was sent at `now`, if it is to go once more.
 fn counted(query: &QuerySchedule, now: Moment, timing: &Timing) -> Option<QuerySchedule>
     requires { now ≤ 2 ^ 53 }
-    ensures { result ≡ (if nat_lt 1 query.now.sendings then Some (record { sendings = query.now.sendings - 1; due = now + timing.now.last_member_interval }) else None) }
+    ensures { result ≡ (if nat_lt 1 query.now.sendings
+        then Some (record { sendings = query.now.sendings - 1; due = now + timing.now.last_member_interval })
+        else None) }
 {
     if 1 < query.sendings {
         Some(QuerySchedule {
@@ -89,8 +90,11 @@ impl Schedule {
         requires most { per_query ≤ 366 }
         ensures sent { let e : ScheduledGroup = record { group = group.old.state; schedule = self.old } in
             Sends S.takes sink.old (source_messages per_query timing.now now (K.number address) e) sink.new }
-        ensures group { group.new.state ≡ (if is_due now self.old.sources_due then sendings_counted group.old.state else group.old.state) }
-        ensures next { self.new ≡ record self.old { sources_due = if is_due now self.old.sources_due then sources_due_next timing.now now group.new.state else self.old.sources_due } }
+        ensures group { let due = is_due now self.old.sources_due in
+            group.new.state ≡ (if due then sendings_counted group.old.state else group.old.state) }
+        ensures next { let due = is_due now self.old.sources_due in
+            let next = if due then sources_due_next timing.now now group.new.state else self.old.sources_due in
+            self.new ≡ record self.old { sources_due = next } }
         ensures room { group.new.room ≡ group.old.room }
         ensures spent { Spends 0 (2 * size_of group.old.state + 1) m.old m.new }
     {

@@ -12,7 +12,8 @@ is_first number (x ∷ xs) n = number x == n
 -- the source, its timer asked for if it is among those asked for
 abbrev pub source_if_asked : {K : Type 0} → (K → ℕ) → (limit count : ℕ) → (ℕ → Bool) → Source K → Source K
 source_if_asked number limit count asked x =
-    record { address = x.address; timer = if asked (number x.address) then source_asked limit count x.timer else x.timer }
+    let timer = if asked (number x.address) then source_asked limit count x.timer else x.timer in
+    record { address = x.address; timer = timer }
 
 -- whether a source is asked for, and its timer is above the limit
 abbrev pub is_asked_above : {K : Type 0} → (K → ℕ) → (limit : ℕ) → (ℕ → Bool) → Source K → Bool

@@ -54,9 +54,12 @@ fn ask_each<K: Key>(
 ) -> bool
     requires sources_ascend { IsAscending (number_in K.number) sources.old.items }
     requires asked_ascend { IsAscending K.number asked.now }
-    requires held { (s : ℕ) → set_of K.number asked.now s ≡ true → set_of (number_in K.number) sources.old.items s ≡ true }
-    ensures items { sources.new.items ≡ map (source_if_asked K.number limit count (set_of K.number asked.now)) sources.old.items }
-    ensures some { result ≡ list_any (is_asked_above K.number limit (set_of K.number asked.now)) sources.old.items }
+    requires held { (s : ℕ) → set_of K.number asked.now s ≡ true
+        → set_of (number_in K.number) sources.old.items s ≡ true }
+    ensures items { let made = source_if_asked K.number limit count (set_of K.number asked.now) in
+        sources.new.items ≡ map made sources.old.items }
+    ensures some { let test = is_asked_above K.number limit (set_of K.number asked.now) in
+        result ≡ list_any test sources.old.items }
     ensures capacity { vec_capacity sources.new ≡ vec_capacity sources.old }
     ensures spent { Spends 0 (2 * length sources.old.items) m.old m.new }
 {
@@ -128,7 +131,8 @@ impl<K: Key> Group<K> {
         requires ascending { IsAscending K.number asked.now }
         requires held { (s : ℕ) → set_of K.number asked.now s ≡ true → IsSome (timer_at self.old.state s) }
         ensures state { self.new.state ≡ sendings_started timing.now now (set_of K.number asked.now) self.old.state }
-        ensures some { result ≡ some_source (set_of K.number asked.now ∩ above timing.now now self.old.state) self.old.state }
+        ensures some { let lowered = set_of K.number asked.now ∩ above timing.now now self.old.state in
+            result ≡ some_source lowered self.old.state }
         ensures room { self.new.room ≡ self.old.room }
         ensures spent { Spends 0 (2 * size_of self.old.state) m.old m.new }
     {

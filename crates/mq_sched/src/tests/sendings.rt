@@ -83,7 +83,8 @@ impl<'a, K: Key, S: Sink<K>> Sink<K> for Counting<'a, S> {
     ghost takes = { λ old query new. (new.inner.ghost_name ≡ old.inner.ghost_name) × S.takes old.inner.now query new.inner.now };
 
     fn send(&mut self, query: QueryParts<'_, K>) -> bool
-        ensures { (self.new.inner.ghost_name ≡ self.old.inner.ghost_name) × S.takes self.old.inner.now (query_of K.number query.entry) self.new.inner.now }
+        ensures { (self.new.inner.ghost_name ≡ self.old.inner.ghost_name)
+            × S.takes self.old.inner.now (query_of K.number query.entry) self.new.inner.now }
     {
         let answer = self.inner.send(query);
         if answer {
