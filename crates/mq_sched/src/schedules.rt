@@ -19,6 +19,12 @@ use std::marker::Model;
 /// The specific queries that are still to go for one group: its group-specific query, and from when
 /// on those for its sources. How many are to go for a source stands with the source's timer in its
 /// group. A contract sees it as the state of the definitions.
+///
+/// What starts queries: `start_group` and `start_sources`, where a record asks for them. What time
+/// does: `round`. What is dropped: `settle`, after each change of the group, and `clear`, where the
+/// router is no longer querier. What may be asked: `group_query`, `sources_due`. All take the group
+/// that the schedule is of. For a record the order is `settle`, `start_group`, `start_sources`,
+/// `round`; moments don't go back.
 #[derive(Clone, Copy)]
 pub struct Schedule {
     pub(crate) group_query: Option<QuerySchedule>,
