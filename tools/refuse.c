@@ -1,12 +1,12 @@
 /* Preloaded into a program, it refuses one of the calls for memory, reads and writes, or has each read
- * and write move one byte, and it counts these calls. The environment says which:
+ * and write move few bytes, and it counts these calls. The environment says which:
  *
  *   REFUSE_ALLOCATION=N   the Nth malloc, calloc, realloc or aligned_alloc answers null
  *   REFUSE_READ=N         the Nth read fails
  *   REFUSE_WRITE=N        the Nth write fails
  *   REFUSE_LATER=1        and so does each later write to its descriptor
  *   REFUSE_EMPTY=1        a refused write takes nothing in place of failing
- *   REFUSE_SECOND_BYTE=1  a read or write moves at most one byte
+ *   REFUSE_MOST=N         a read or write moves at most N bytes
  *   REFUSE_COUNTS=FILE    has the counts, four numbers of eight bytes: allocations, reads, writes, and
  *                         one more than the descriptor of the write that failed
  */
@@ -30,7 +30,8 @@ struct counts {
 
 static struct counts own, *counts = &own;
 static uint64_t refused_allocation, refused_read, refused_write;
-static int is_by_bytes, is_for_later, is_empty;
+static uint64_t most;
+static int is_for_later, is_empty;
 
 static uint64_t number(const char *name) {
     const char *text = getenv(name);
@@ -50,7 +51,7 @@ __attribute__((constructor)) static void begin(void) {
     refused_allocation = number("REFUSE_ALLOCATION");
     refused_read = number("REFUSE_READ");
     refused_write = number("REFUSE_WRITE");
-    is_by_bytes = number("REFUSE_SECOND_BYTE");
+    most = number("REFUSE_MOST");
     is_for_later = number("REFUSE_LATER");
     is_empty = number("REFUSE_EMPTY");
 }
@@ -86,7 +87,7 @@ void *aligned_alloc(size_t align, size_t size) {
 ssize_t read(int file, void *into, size_t size) {
     if (is_refused(&counts->reads, refused_read, EIO))
         return -1;
-    return syscall(SYS_read, file, into, is_by_bytes && size > 1 ? 1 : size);
+    return syscall(SYS_read, file, into, most && size > most ? most : size);
 }
 
 ssize_t write(int file, const void *from, size_t size) {
@@ -96,7 +97,7 @@ ssize_t write(int file, const void *from, size_t size) {
         errno = EIO;
         return is_empty ? 0 : -1;
     }
-    return syscall(SYS_write, file, from, is_by_bytes && size > 1 ? 1 : size);
+    return syscall(SYS_write, file, from, most && size > most ? most : size);
 }
 
 ssize_t __write(int file, const void *from, size_t size) {
