@@ -26,7 +26,7 @@ cut_at (suc n) (suc q) width len at whole cut less =
     let place : at + width + q * width ≡ at + suc q * width = omega arith in one ∙ rest ∙ ap Some place
 
 -- spans of one width that are all whole
-whole_at : (n width len at : ℕ) → at + n * width ≤ len → first_cut len at (replicate n width) ≡ None
+pub whole_at : (n width len at : ℕ) → at + n * width ≤ len → first_cut len at (replicate n width) ≡ None
 whole_at zero width len at whole = refl
 whole_at (suc n) width len at whole =
     step len at width (replicate n width) (omega arith) ∙ whole_at n width len (at + width) (omega arith)
