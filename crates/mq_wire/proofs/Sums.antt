@@ -37,7 +37,7 @@ sum_of_both (high ∷ low ∷ before) bytes even =
     let rest = sum_of_both before bytes (omega arith) in omega (arith, rest)
 
 -- one's complement sums add up
-sums_add_up : (a b : ℕ) → ones_complement (ones_complement a + ones_complement b) ≡ ones_complement (a + b)
+pub sums_add_up : (a b : ℕ) → ones_complement (ones_complement a + ones_complement b) ≡ ones_complement (a + b)
 sums_add_up a b = grind (arith, nat_tests)
 
 pub sum_of_parts : (before bytes : List ℕ) (a b sum : ℕ) → length before % 2 ≡ 0 → a ≡ ones_complement (sum_of_words before) → b ≡ ones_complement (sum_of_words bytes) → sum ≡ ones_complement (a + b) → sum ≡ ones_complement (sum_of_words (before ++ bytes))
