@@ -15,11 +15,6 @@ pub behind_group : (family : Family) (len : ℕ) (widths : List ℕ) → group_e
 behind_group Igmp len widths whole = grind (arith, nat_tests)
 behind_group Mld len widths whole = grind (arith, nat_tests)
 
--- the fields of such a message alone
-pub whole_older : (family : Family) (len : ℕ) → group_end family ≤ len → first_cut len 0 (older_spans family) ≡ None
-whole_older Igmp len whole = grind (arith, nat_tests)
-whole_older Mld len whole = grind (arith, nat_tests)
-
 -- the fields of a query of IGMPv3 or MLDv2, as far as the number of sources
 pub behind_count : (family : Family) (bytes : List ℕ) → group_end family + 4 ≤ length bytes → first_cut (length bytes) 0 (query_spans family bytes) ≡ first_cut (length bytes) (group_end family + 4) (source_spans (group_end family) (address_width family) bytes)
 behind_count family bytes whole =

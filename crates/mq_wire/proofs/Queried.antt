@@ -1,19 +1,18 @@
 -- What is read of a query is what its bytes say.
-use Rattle.std.proofs.Common.{◌≡◌, ◌+◌, ◌-◌, ◌≤◌, ℕ, List, ◌==◌, length, take, drop, true, false, inl, inr, Ok, None, ap, sym, ◌∙◌, refl, arith, eq-eqb, ne_eqb}
+use Rattle.std.proofs.Common.{◌≡◌, ◌+◌, ◌-◌, ◌≤◌, ℕ, List, ◌==◌, length, take, drop, false, inr, Ok, None, ap, sym, ◌∙◌, refl, arith, ne_eqb}
 use Rattle.byteorder.specs.Endian.{big_number}
-use Rattle.mq_count.specs.declared.versions.OlderVersion.{OlderVersion}
 use Rattle.mq_wire.specs.declared.message.MessageType.TheVariants.{Query}
 use Rattle.mq_wire.specs.declared.query.QuerierFields.{QuerierFields}
 use Rattle.mq_wire.specs.declared.query.Query.{Query as QueryOf}
 use Rattle.mq_wire.specs.declared.query.QueryVersion.{QueryVersion}
-use Rattle.mq_wire.specs.declared.query.QueryVersion.TheVariants.{Older, Current}
+use Rattle.mq_wire.specs.declared.query.QueryVersion.TheVariants.{Current}
 use Rattle.mq_wire.specs.Family.{Family, address_width, group_end, group_place}
 use Rattle.mq_wire.specs.Fields.{first_cut}
 use Rattle.mq_wire.specs.Numbered.{numbered_version}
-use Rattle.mq_wire.specs.Queries.{FieldsAt, older_query, current_query, older_response, older_version, current_response, query_of}
+use Rattle.mq_wire.specs.Queries.{FieldsAt, current_query, current_response, query_of}
 use Rattle.mq_wire.specs.Spelling.{ReadsQuery, group_of, spans_of}
 use Rattle.mq_wire.proofs.Addresses.{all_behind}
-use Rattle.mq_wire.proofs.Cuts.{whole_older, behind_count}
+use Rattle.mq_wire.proofs.Cuts.{behind_count}
 use Rattle.mq_wire.proofs.Spelled.{no_fault_within}
 
 -- the group, read at its place
@@ -25,15 +24,6 @@ group_read family bytes n width place is_width is_place read =
 
 same_query : (n response : ℕ) (version : QueryVersion ℕ) (query : QueryOf ℕ) → n ≡ query.group → response ≡ query.response → version ≡ query.version → ◌≡◌ {A = QueryOf ℕ} (record { group = n; response = response; version = version }) query
 same_query n response version query group is_response is_version = rw (group, is_response, is_version) refl
-
-pub older_read : {K : Type 0} (number : K → ℕ) (family : Family) (bytes : List ℕ) (group : K) (width place response : ℕ) (version : OlderVersion) → length bytes ≡ group_end family → width ≡ address_width family → place ≡ group_place family → number group ≡ big_number width (take (length bytes - place) (drop place bytes)) → response ≡ older_response family bytes → version ≡ older_version family bytes → ReadsQuery number family bytes (Ok (record { group = group; response = response; version = Older version }))
-older_read number family bytes group width place response version long is_width is_place read is_response is_version =
-    let test : (length bytes == group_end family) ≡ true = eq-eqb (length bytes) (group_end family) long in
-    let whole : first_cut (length bytes) 0 (spans_of family Query bytes) ≡ None = rw test (whole_older family (length bytes) (omega (arith, long))) in
-    let says : query_of family bytes ≡ older_query family bytes = rw test refl in (
-      no_fault_within family bytes Query (inl long) whole,
-      same_query (number group) response (Older version) (older_query family bytes) (group_read family bytes (number group) width place is_width is_place read) is_response (ap Older is_version) ∙ sym says,
-    )
 
 pub current_read : {K : Type 0} (number : K → ℕ) (family : Family) (bytes : List ℕ) (group : K) (width place end response : ℕ) (fields : QuerierFields K) → group_end family + 4 ≤ length bytes → width ≡ address_width family → place ≡ group_place family → end ≡ group_end family → number group ≡ big_number width (take (length bytes - place) (drop place bytes)) → response ≡ current_response family bytes → FieldsAt end width bytes (Ok fields) → ReadsQuery number family bytes (Ok (record { group = group; response = response; version = Current fields }))
 current_read {K} number family bytes group width place end response fields long is_width is_place is_end read is_response at =

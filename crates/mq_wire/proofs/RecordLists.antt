@@ -1,11 +1,12 @@
 -- Records one after the other.
 use Rattle.std.proofs.Common.{◌≡◌, ℕ, zero, suc, ◌+◌, ◌*◌, ◌-◌, ◌<◌, ◌≤◌, List, [], ◌∷◌, ◌++◌, length, Some, None, Result, Ok, Err, replicate, slice_index, sum, ap, sym, ◌∙◌, refl, arith}
 use Rattle.std.specs.Option.{option_map}
+use Rattle.std.proofs.Math.Nat.{sub-zero}
 use Rattle.mq_wire.specs.declared.message.WireFault.{WireFault}
 use Rattle.mq_wire.specs.declared.message.WireFault.TheVariants.{Truncated}
 use Rattle.mq_wire.specs.declared.records.RecordView.{RecordView}
 use Rattle.mq_wire.specs.Fields.{first_cut, cut_from, EndsAt}
-use Rattle.mq_wire.specs.Records.{record_spans, record_end, record_at, records_at, spans_of_records, source_count, auxiliary_length}
+use Rattle.mq_wire.specs.Records.{record_spans, record_end, record_at, records_at, spans_of_records, record_source_count, auxiliary_length}
 use Rattle.mq_wire.proofs.Spans.{cut_behind_whole, ends_on, ends_within, fault_before, first_whole, sum-append, sum-replicate, whole_parts}
 
 pub length_records : (width count place : ℕ) (bytes : List ℕ) → length (records_at width count place bytes) ≡ count
@@ -14,29 +15,29 @@ length_records width (suc count) place bytes =
     let rest = length_records width count (record_end width place bytes) bytes in omega (arith, rest)
 
 -- how many bytes a record has
-pub record_length : (width place : ℕ) (bytes : List ℕ) → sum (record_spans width place bytes) ≡ 4 + width + source_count place bytes * width + auxiliary_length place bytes
+record_length : (width place : ℕ) (bytes : List ℕ) → sum (record_spans width place bytes) ≡ 4 + width + record_source_count place bytes * width + auxiliary_length place bytes
 record_length width place bytes =
-    let n = source_count place bytes in
+    let n = record_source_count place bytes in
     let auxiliary = auxiliary_length place bytes in
     let parts = sum-append (1 ∷ 1 ∷ 2 ∷ width ∷ []) (replicate n width ++ auxiliary ∷ []) in
     let behind = sum-append (replicate n width) (auxiliary ∷ []) in
     let sources = sum-replicate n width in omega (arith, parts, behind, sources)
 
 -- a record that is whole lies in the bytes
-pub record_fits : (width place : ℕ) (bytes : List ℕ) → first_cut (length bytes) place (record_spans width place bytes) ≡ None → place + (4 + width + source_count place bytes * width + auxiliary_length place bytes) ≤ length bytes
+record_fits : (width place : ℕ) (bytes : List ℕ) → first_cut (length bytes) place (record_spans width place bytes) ≡ None → place + (4 + width + record_source_count place bytes * width + auxiliary_length place bytes) ≤ length bytes
 record_fits width place bytes whole =
-    let n = source_count place bytes in
+    let n = record_source_count place bytes in
     let begins = first_whole (length bytes) place 1 (1 ∷ 2 ∷ width ∷ (replicate n width ++ auxiliary_length place bytes ∷ [])) whole in
     let ends = ends_within (length bytes) place (record_spans width place bytes) (omega (arith, begins)) whole in
     let long = record_length width place bytes in omega (arith, ends, long)
 
 -- the first of records, and the others
-pub first_record : (width count place : ℕ) (bytes : List ℕ) → 0 < count → records_at width count place bytes ≡ record_at width place bytes ∷ records_at width (count - 1) (record_end width place bytes) bytes
+first_record : (width count place : ℕ) (bytes : List ℕ) → 0 < count → records_at width count place bytes ≡ record_at width place bytes ∷ records_at width (count - 1) (record_end width place bytes) bytes
 first_record width zero place bytes some = absurd (omega arith)
 first_record width (suc count) place bytes some =
     let less : suc count - 1 ≡ count = omega arith in rw less refl
 
-pub first_spans : (width count place : ℕ) (bytes : List ℕ) → 0 < count → spans_of_records width count place bytes ≡ record_spans width place bytes ++ spans_of_records width (count - 1) (record_end width place bytes) bytes
+first_spans : (width count place : ℕ) (bytes : List ℕ) → 0 < count → spans_of_records width count place bytes ≡ record_spans width place bytes ++ spans_of_records width (count - 1) (record_end width place bytes) bytes
 first_spans width zero place bytes some = absurd (omega arith)
 first_spans width (suc count) place bytes some =
     let less : suc count - 1 ≡ count = omega arith in rw less refl
@@ -49,20 +50,25 @@ first_is_whole width count place bytes some whole =
 
 -- The fields of a record in three parts: as far as its group, its sources, its auxiliary data. What was computed is told by
 -- equations.
-pub record_ends : (width place w sources auxiliary n words : ℕ) (bytes : List ℕ) (r : Result ℕ WireFault) → w ≡ width → n ≡ source_count place bytes → words ≡ auxiliary_length place bytes → EndsAt (length bytes) place (1 ∷ 1 ∷ 2 ∷ w ∷ []) (Ok sources) → EndsAt (length bytes) sources (replicate n width) (Ok auxiliary) → EndsAt (length bytes) auxiliary (words ∷ []) r → EndsAt (length bytes) place (record_spans width place bytes) r
+pub record_ends : (width place w sources auxiliary n words : ℕ) (bytes : List ℕ) (r : Result ℕ WireFault) → w ≡ width → n ≡ record_source_count place bytes → words ≡ auxiliary_length place bytes → EndsAt (length bytes) place (1 ∷ 1 ∷ 2 ∷ w ∷ []) (Ok sources) → EndsAt (length bytes) sources (replicate n width) (Ok auxiliary) → EndsAt (length bytes) auxiliary (words ∷ []) r → EndsAt (length bytes) place (record_spans width place bytes) r
 record_ends width place w sources auxiliary n words bytes r is_w is_n is_words head middle last =
     let head_now : EndsAt (length bytes) place (1 ∷ 1 ∷ 2 ∷ width ∷ []) (Ok sources) = rw is_w at head in
-    let middle_now : EndsAt (length bytes) sources (replicate (source_count place bytes) width) (Ok auxiliary) = rw is_n at middle in
+    let middle_now : EndsAt (length bytes) sources (replicate (record_source_count place bytes) width) (Ok auxiliary) = rw is_n at middle in
     let last_now : EndsAt (length bytes) auxiliary (auxiliary_length place bytes ∷ []) r = rw is_words at last in
-    let behind = ends_on (length bytes) sources auxiliary (replicate (source_count place bytes) width) (auxiliary_length place bytes ∷ []) r middle_now last_now in
-    ends_on (length bytes) place sources (1 ∷ 1 ∷ 2 ∷ width ∷ []) (replicate (source_count place bytes) width ++ auxiliary_length place bytes ∷ []) r head_now behind
+    let behind = ends_on (length bytes) sources auxiliary (replicate (record_source_count place bytes) width) (auxiliary_length place bytes ∷ []) r middle_now last_now in
+    ends_on (length bytes) place sources (1 ∷ 1 ∷ 2 ∷ width ∷ []) (replicate (record_source_count place bytes) width ++ auxiliary_length place bytes ∷ []) r head_now behind
 
-pub sources_cut : (width place w sources n : ℕ) (bytes : List ℕ) (fault : WireFault) → w ≡ width → n ≡ source_count place bytes → EndsAt (length bytes) place (1 ∷ 1 ∷ 2 ∷ w ∷ []) (Ok sources) → EndsAt (length bytes) sources (replicate n width) (Err fault) → EndsAt (length bytes) place (record_spans width place bytes) (Err fault)
+pub sources_cut : (width place w sources n : ℕ) (bytes : List ℕ) (fault : WireFault) → w ≡ width → n ≡ record_source_count place bytes → EndsAt (length bytes) place (1 ∷ 1 ∷ 2 ∷ w ∷ []) (Ok sources) → EndsAt (length bytes) sources (replicate n width) (Err fault) → EndsAt (length bytes) place (record_spans width place bytes) (Err fault)
 sources_cut width place w sources n bytes fault is_w is_n head middle =
     let head_now : EndsAt (length bytes) place (1 ∷ 1 ∷ 2 ∷ width ∷ []) (Ok sources) = rw is_w at head in
-    let middle_now : EndsAt (length bytes) sources (replicate (source_count place bytes) width) (Err fault) = rw is_n at middle in
-    let behind = fault_before (length bytes) sources (replicate (source_count place bytes) width) (auxiliary_length place bytes ∷ []) fault middle_now in
-    ends_on (length bytes) place sources (1 ∷ 1 ∷ 2 ∷ width ∷ []) (replicate (source_count place bytes) width ++ auxiliary_length place bytes ∷ []) (Err fault) head_now behind
+    let middle_now : EndsAt (length bytes) sources (replicate (record_source_count place bytes) width) (Err fault) = rw is_n at middle in
+    let behind = fault_before (length bytes) sources (replicate (record_source_count place bytes) width) (auxiliary_length place bytes ∷ []) fault middle_now in
+    ends_on (length bytes) place sources (1 ∷ 1 ∷ 2 ∷ width ∷ []) (replicate (record_source_count place bytes) width ++ auxiliary_length place bytes ∷ []) (Err fault) head_now behind
+
+-- before the walk over records
+pub no_record_yet : (width count place : ℕ) (bytes : List ℕ) → first_cut (length bytes) place (spans_of_records width count place bytes) ≡ first_cut (length bytes) place (spans_of_records width (count - 0) place bytes)
+no_record_yet width count place bytes =
+    ap (λ (n : ℕ). first_cut (length bytes) place (spans_of_records width n place bytes)) (sym (sub-zero count))
 
 -- A walk over records that has come to `end`: all of them are whole where those from there on are.
 pub one_more_record : (width count place done end next : ℕ) (bytes : List ℕ) → first_cut (length bytes) place (spans_of_records width count place bytes) ≡ first_cut (length bytes) end (spans_of_records width (count - done) end bytes) → done < count → EndsAt (length bytes) end (record_spans width end bytes) (Ok next) → first_cut (length bytes) place (spans_of_records width count place bytes) ≡ first_cut (length bytes) next (spans_of_records width (count - (done + 1)) next bytes)
@@ -88,7 +94,7 @@ all_records width count place done end bytes so_far no_more =
     so_far ∙ ap (λ (n : ℕ). first_cut (length bytes) end (spans_of_records width n end bytes)) none
 
 -- what was computed of a record that is whole lies in the bytes
-pub record_bounds : (width place w v n words : ℕ) (bytes : List ℕ) → w ≡ width → v ≡ width → n ≡ source_count place bytes → words ≡ slice_index bytes (place + 1) → first_cut (length bytes) place (record_spans width place bytes) ≡ None → place + 4 + w + n * v + 4 * words ≤ length bytes
+pub record_bounds : (width place w v n words : ℕ) (bytes : List ℕ) → w ≡ width → v ≡ width → n ≡ record_source_count place bytes → words ≡ slice_index bytes (place + 1) → first_cut (length bytes) place (record_spans width place bytes) ≡ None → place + 4 + w + n * v + 4 * words ≤ length bytes
 record_bounds width place w v n words bytes is_w is_v is_n is_words whole =
     let fits = record_fits width place bytes whole in rw (is_w, is_v, is_n, is_words) (omega (arith, fits))
 

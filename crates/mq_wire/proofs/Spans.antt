@@ -15,7 +15,7 @@ pub step : (len at width : ℕ) (widths : List ℕ) → at + width ≤ len → f
 step len at width widths whole = grind (arith, nat_tests)
 
 -- spans of one width: of n the one after q whole ones is cut
-pub cut_at : (n q width len at : ℕ) → at + q * width ≤ len → len < at + q * width + width → q < n → first_cut len at (replicate n width) ≡ Some (at + q * width)
+cut_at : (n q width len at : ℕ) → at + q * width ≤ len → len < at + q * width + width → q < n → first_cut len at (replicate n width) ≡ Some (at + q * width)
 cut_at zero q width len at whole cut less = absurd (omega arith)
 cut_at (suc n) zero width len at whole cut less =
     let test : nat_le (at + width) len ≡ false = grind (arith, nat_tests) in
@@ -26,13 +26,13 @@ cut_at (suc n) (suc q) width len at whole cut less =
     let place : at + width + q * width ≡ at + suc q * width = omega arith in one ∙ rest ∙ ap Some place
 
 -- spans of one width that are all whole
-pub whole_at : (n width len at : ℕ) → at + n * width ≤ len → first_cut len at (replicate n width) ≡ None
+whole_at : (n width len at : ℕ) → at + n * width ≤ len → first_cut len at (replicate n width) ≡ None
 whole_at zero width len at whole = refl
 whole_at (suc n) width len at whole =
     step len at width (replicate n width) (omega arith) ∙ whole_at n width len (at + width) (omega arith)
 
 -- one that isn't
-pub cut_here : (len at width : ℕ) (widths : List ℕ) → len < at + width → first_cut len at (width ∷ widths) ≡ Some at
+cut_here : (len at width : ℕ) (widths : List ℕ) → len < at + width → first_cut len at (width ∷ widths) ≡ Some at
 cut_here len at width widths cut = grind (arith, nat_tests)
 
 -- where the first span is whole
@@ -44,7 +44,7 @@ first_whole len at width widths whole =
     ]
 
 -- how many bytes spans take
-pub sum-cons : (width : ℕ) (widths : List ℕ) → sum (width ∷ widths) ≡ width + sum widths
+sum-cons : (width : ℕ) (widths : List ℕ) → sum (width ∷ widths) ≡ width + sum widths
 sum-cons width widths = let all = sum_by-append (λ n. n) (width ∷ []) widths in omega (arith, all)
 
 pub sum-append : (xs ys : List ℕ) → sum (xs ++ ys) ≡ sum xs + sum ys
@@ -63,7 +63,7 @@ cut_behind_whole len at (width ∷ first) others whole =
     step len at width (first ++ others) fits ∙ rest ∙ ap (λ (n : ℕ). first_cut len n others) place
 
 -- spans of which one is cut, before others
-pub cut_before : (len at place : ℕ) (first others : List ℕ) → first_cut len at first ≡ Some place → first_cut len at (first ++ others) ≡ Some place
+cut_before : (len at place : ℕ) (first others : List ℕ) → first_cut len at first ≡ Some place → first_cut len at (first ++ others) ≡ Some place
 cut_before len at place [] others cut = absurd (cc)
 cut_before len at place (width ∷ first) others cut =
     elim (leb_tells (at + width) len) [
@@ -83,7 +83,7 @@ cut_somewhere None fault same = absurd (cc)
 cut_somewhere (Some place) fault same = (place, refl, cc)
 
 -- where spans are whole, the first fault of them and of others is that of the others
-pub fault_behind : (len at end : ℕ) (first others : List ℕ) (fault : WireFault) → EndsAt len at first (Ok end) → cut_from len end others ≡ Some fault → cut_from len at (first ++ others) ≡ Some fault
+fault_behind : (len at end : ℕ) (first others : List ℕ) (fault : WireFault) → EndsAt len at first (Ok end) → cut_from len end others ≡ Some fault → cut_from len at (first ++ others) ≡ Some fault
 fault_behind len at end first others fault whole cut =
     ap (option_map (λ place. Truncated place)) (cut_behind_whole len at first others whole.0 ∙ ap (λ (n : ℕ). first_cut len n others) (sym whole.1)) ∙ cut
 
@@ -124,14 +124,14 @@ end_within len at end widths within ends =
 
 -- Spans of one width up to the end of the message: where they aren't all whole, the first that isn't stands
 -- behind as many as fit.
-pub cut_behind : (count width len at : ℕ) → 0 < width → at ≤ len → (len - at) / width < count → first_cut len at (replicate count width) ≡ Some (at + (len - at) / width * width)
+cut_behind : (count width len at : ℕ) → 0 < width → at ≤ len → (len - at) / width < count → first_cut len at (replicate count width) ≡ Some (at + (len - at) / width * width)
 cut_behind count width len at some within fewer =
     let fitting = (len - at) / width in
     let parts : fitting * width + (len - at) % width ≡ len - at = div-add-mod' (len - at) width in
     let rest : (len - at) % width < width = mod_below (len - at) width some in
     cut_at count fitting width len at (omega (arith, parts)) (omega (arith, parts, rest)) fewer
 
-pub whole_behind : (count width len at : ℕ) → 0 < width → at ≤ len → count ≤ (len - at) / width → count * width ≤ len - at
+whole_behind : (count width len at : ℕ) → 0 < width → at ≤ len → count ≤ (len - at) / width → count * width ≤ len - at
 whole_behind count width len at some within enough =
     let parts : (len - at) / width * width + (len - at) % width ≡ len - at = div-add-mod' (len - at) width in
     let all : count * width ≤ (len - at) / width * width = mul-le-mul_right width enough in omega (arith, parts, all)

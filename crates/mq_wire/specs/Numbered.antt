@@ -10,7 +10,12 @@ use Rattle.mq_wire.specs.declared.records.RecordView.{RecordView}
 abbrev pub numbered_version : {K : Type 0} → QueryVersion K → QueryVersion ℕ
 numbered_version (Older version) = Older version
 numbered_version (Current fields) =
-    Current (record { suppress = fields.suppress; robustness = fields.robustness; interval = fields.interval; sources = fields.sources })
+    Current (record {
+      suppress = fields.suppress;
+      robustness = fields.robustness;
+      interval = fields.interval;
+      sources = fields.sources;
+    })
 
 abbrev pub numbered_query : {K : Type 0} → (K → ℕ) → Query K → Query ℕ
 numbered_query number query =

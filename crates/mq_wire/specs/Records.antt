@@ -7,8 +7,8 @@ use Rattle.mq_wire.specs.declared.message.WireFault.{WireFault}
 use Rattle.mq_wire.specs.Fields.{number_at, addresses, first_cut, cut_from}
 
 -- how many sources the record at a place has
-abbrev pub source_count : (place : ℕ) → List ℕ → ℕ
-source_count place bytes = number_at (place + 2) 2 bytes
+abbrev pub record_source_count : (place : ℕ) → List ℕ → ℕ
+record_source_count place bytes = number_at (place + 2) 2 bytes
 
 -- how many bytes its auxiliary data has, whose length is told in words of 32 bits
 abbrev pub auxiliary_length : (place : ℕ) → List ℕ → ℕ
@@ -18,7 +18,7 @@ auxiliary_length place bytes = 4 * slice_index bytes (place + 1)
 -- sources, and its auxiliary data as one field
 abbrev pub record_spans : (width place : ℕ) → List ℕ → List ℕ
 record_spans width place bytes =
-    1 ∷ 1 ∷ 2 ∷ width ∷ replicate (source_count place bytes) width ++ auxiliary_length place bytes ∷ []
+    1 ∷ 1 ∷ 2 ∷ width ∷ replicate (record_source_count place bytes) width ++ auxiliary_length place bytes ∷ []
 
 -- where the next record begins
 abbrev pub record_end : (width place : ℕ) → List ℕ → ℕ
@@ -30,7 +30,7 @@ record_at width place bytes =
     record {
       kind = slice_index bytes place;
       group = number_at (place + 4) width bytes;
-      sources = addresses width (source_count place bytes) (drop (place + 4 + width) bytes);
+      sources = addresses width (record_source_count place bytes) (drop (place + 4 + width) bytes);
     }
 
 -- the widths of the fields of so many records, one after the other, of which the first begins at a place

@@ -1,7 +1,7 @@
 -- Which bytes spell which message, and the fault of bytes that spell none (RFC 3376 section 4, RFC 3810 section
 -- 5). What a message says follows from its bytes alone: its type, its length and its counts say which fields
 -- it has, and each field stands at its place.
-use Rattle.std.specs.Prelude.{◌≡◌, ◌⊎◌, ◌≤◌, ℕ, ◌+◌, nat_le, ◌==◌, ◌||◌, if◌then◌else◌, List, [], ◌∷◌, ◌++◌, Option, None, Some, Result, Ok, Err, length, slice_index, option_and_then}
+use Rattle.std.specs.Prelude.{◌≡◌, ◌⊎◌, ◌≤◌, ℕ, ◌+◌, nat_le, ◌==◌, ◌||◌, if◌then◌else◌, Bool, true, false, List, [], ◌∷◌, ◌++◌, Option, None, Some, Result, Ok, Err, length, slice_index, option_and_then}
 use Rattle.mq_count.specs.declared.versions.OlderVersion.TheVariants.{V1, V2}
 use Rattle.mq_wire.specs.declared.message.Message.{Message}
 use Rattle.mq_wire.specs.declared.message.Message.TheVariants.{Query, OldReport, Leave, Report}
@@ -133,6 +133,12 @@ ReadsWithin number family kind bytes (Err fault) = fault_within family bytes kin
 abbrev pub ReadsQuery : {K : Type 0} → (K → ℕ) → Family → List ℕ → Result (QueryOf K) WireFault → Type 0
 ReadsQuery number family bytes (Ok query) = (fault_within family bytes QueryType ≡ None) × (numbered_query number query ≡ query_of family bytes)
 ReadsQuery number family bytes (Err fault) = fault_within family bytes QueryType ≡ Some fault
+
+-- what the length of a query says: that it is one of an older version, or not, or that no version has it
+abbrev pub LengthSays : Family → ℕ → Result Bool WireFault → Type 0
+LengthSays family len (Ok true) = len ≡ group_end family
+LengthSays family len (Ok false) = group_end family + 4 ≤ len
+LengthSays family len (Err fault) = wrong_length family QueryType len ≡ Some fault
 
 -- the same for the group of a message of one group
 abbrev pub ReadsGroup : {K : Type 0} → (K → ℕ) → Family → List ℕ → Result K WireFault → Type 0

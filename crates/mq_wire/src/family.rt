@@ -1,6 +1,6 @@
 //! What the messages of IGMP and of MLD differ in.
 
-ghost use Rattle.std.specs.Prelude.{◌≡◌, ◌≤◌, ◌+◌, ℕ, length};
+ghost use Rattle.std.specs.Prelude.{◌≡◌, ◌≤◌, ℕ, length};
 ghost use Rattle.mq_wire.specs.Family.{Family, address_width, group_place};
 ghost use Rattle.mq_wire.specs.Family as family;
 ghost use Rattle.mq_wire.specs.Fields.{EndsAt};

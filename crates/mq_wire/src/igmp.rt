@@ -1,6 +1,6 @@
 //! The messages of IGMP.
 
-ghost use Rattle.std.specs.Prelude.{◌≡◌, ◌≤◌, ◌↔◌, ℕ, [], length, refl};
+ghost use Rattle.std.specs.Prelude.{◌≡◌, ◌↔◌, ℕ, [], refl};
 ghost use Rattle.mq_wire.specs.Family.{Igmp};
 ghost use Rattle.mq_wire.specs.Spelling.{Spells, fault_of};
 ghost use Rattle.mq_wire.specs.declared.message.Message.{Message as MessageOf};

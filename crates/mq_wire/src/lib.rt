@@ -1,18 +1,22 @@
-//! The messages of IGMP (RFC 3376) as they stand in a datagram, without the IP header.
+//! The messages of IGMP (RFC 3376) and of MLD (RFC 3810) as they stand in a datagram, without the IP
+//! header.
 //!
 //! ```text
 //! match read_igmp(bytes) {
 //!     Ok(Message::Query(query)) => ..                // a router asks: query.group, query.response
-//!     Ok(Message::OldReport(version, group)) => ..   // a host of version 1 or 2 wants the group
-//!     Ok(Message::Leave(group)) => ..                // a host of version 2 wants it no longer
+//!     Ok(Message::OldReport(version, group)) => ..   // a host of an older version wants the group
+//!     Ok(Message::Leave(group)) => ..                // a host of an older version wants it no longer
+//!     Ok(Message::Report(records)) => {
+//!         for record in records { .. }               // record.kind, record.group, record.sources
+//!     }
 //!     Err(WireFault::Truncated { at }) => ..         // the field that begins at `at` is cut
 //!     Err(fault) => ..                               // a wrong checksum, an unknown type
 //! }
 //! ```
 //!
-//! - To read: `read_igmp`, which answers a `Message` or a `WireFault`. It takes no memory; a query's
-//!   `Sources` stay in the bytes.
-//! - Codes of times: `resp8` and `code8`.
+//! - To read: `read_igmp`, and `read_mld` with the packet's addresses. They answer a `Message` or a
+//!   `WireFault`, and take no memory; `Sources` and `Records` stay in the bytes.
+//! - Codes of times: `resp8`, `resp16` and `code8`.
 //! - Checksums: `checksum_ok` and `checksum_of`.
 //! - Addresses: `WireKey`.
 //! - Laws, functions that do nothing: `laws`.

@@ -1,6 +1,6 @@
 //! The messages of MLD.
 
-ghost use Rattle.std.specs.Prelude.{◌≡◌, ◌≤◌, ◌↔◌, ℕ, length, refl};
+ghost use Rattle.std.specs.Prelude.{◌≡◌, ◌↔◌, ℕ, length, refl};
 ghost use Rattle.mq_wire.specs.Family.{Mld};
 ghost use Rattle.mq_wire.specs.PseudoHeader as spec;
 ghost use Rattle.mq_wire.specs.Spelling.{Spells, fault_of};
@@ -40,8 +40,10 @@ pub fn read_mld(
     destination: Addr6,
     bytes: &[u8],
 ) -> Result<Message<'_, Addr6>, WireFault>
-    ensures message { (message : MessageOf ℕ) → (result ≡ Ok message) ↔ Spells Mld (spec.pseudo_header source destination (length bytes.entry.now)) bytes.entry.now message }
-    ensures fault { (fault : Fault) → (result ≡ Err fault) ↔ (fault_of Mld (spec.pseudo_header source destination (length bytes.entry.now)) bytes.entry.now ≡ Some fault) }
+    ensures message { (message : MessageOf ℕ) → (result ≡ Ok message) ↔
+        Spells Mld (spec.pseudo_header source destination (length bytes.entry.now)) bytes.entry.now message }
+    ensures fault { (fault : Fault) → (result ≡ Err fault) ↔
+        (fault_of Mld (spec.pseudo_header source destination (length bytes.entry.now)) bytes.entry.now ≡ Some fault) }
 {
     read(&pseudo_header(source, destination, bytes.len()), bytes)
 }

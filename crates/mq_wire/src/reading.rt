@@ -1,7 +1,7 @@
 //! The reading of messages of either family.
 
-ghost use Rattle.std.specs.Prelude.{◌≡◌, ◌≤◌, ◌%◌, length};
-ghost use Rattle.mq_wire.specs.Spelling.{ReadsAs, ReadsWithin, ReadsQuery, ReadsGroup, ReadsReport};
+ghost use Rattle.std.specs.Prelude.{◌≡◌, ◌%◌, length};
+ghost use Rattle.mq_wire.specs.Spelling.{ReadsAs, ReadsWithin, ReadsQuery, ReadsGroup, ReadsReport, LengthSays};
 
 use crate::checksum::is_right_behind;
 use crate::family::FamilyKey;
@@ -56,12 +56,9 @@ fn group<K: FamilyKey>(bytes: &[u8]) -> Result<K, WireFault>
 fn query<K: FamilyKey>(bytes: &[u8]) -> Result<Query<'_, K>, WireFault>
     ensures { ReadsQuery K.number K.FAMILY bytes.entry.now result }
 {
-    let length = bytes.len();
-    if length != K::GROUP_END && length < K::GROUP_END + FLAGS_TO_COUNT {
-        return Err(WireFault::QueryLength);
-    }
+    let is_older = is_older::<K>(bytes.len())?;
     let group = K::read(&bytes[K::GROUP..]);
-    if length == K::GROUP_END {
+    if is_older {
         return Ok(Query {
             group,
             response: K::older_response(bytes),
@@ -74,6 +71,19 @@ fn query<K: FamilyKey>(bytes: &[u8]) -> Result<Query<'_, K>, WireFault>
         response: K::current_response(bytes),
         version: QueryVersion::Current(fields),
     })
+}
+
+/// Whether a query of so many bytes is one of an older version; an error where no version has its length.
+fn is_older<K: FamilyKey>(length: usize) -> Result<bool, WireFault>
+    ensures { LengthSays K.FAMILY length result }
+{
+    if length == K::GROUP_END {
+        return Ok(true);
+    }
+    if length < K::GROUP_END + FLAGS_TO_COUNT {
+        return Err(WireFault::QueryLength);
+    }
+    Ok(false)
 }
 
 /// The records of a Report of IGMPv3 or MLDv2.

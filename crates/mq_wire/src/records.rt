@@ -49,7 +49,8 @@ impl<'a, K: WireKey> Model for Records<'a, K> {
 
     ghost view = { λ r. records_at K.WIDTH r.left r.place r.bytes.now };
 
-    ghost invariant = { λ r. first_cut (length r.bytes.now) r.place (spans_of_records K.WIDTH r.left r.place r.bytes.now) ≡ None };
+    ghost invariant = { λ r.
+        first_cut (length r.bytes.now) r.place (spans_of_records K.WIDTH r.left r.place r.bytes.now) ≡ None };
 }
 
 /// Where the group of a record begins, behind its type, the length of its auxiliary data and the number

@@ -1,6 +1,5 @@
-use Rattle.std.proofs.Common.{length, ap, refl, rules}
+use Rattle.std.proofs.Common.{refl}
 use Rattle.mq_wire.specs.Family.{Mld}
-use Rattle.mq_wire.specs.PseudoHeader.{pseudo_header}
 use Rattle.mq_wire.proofs.Spelled.{exact_message, exact_fault}
 use Rattle.mq_wire.proofs.mld.read_mld.Goals as goal
 

@@ -1,13 +1,12 @@
 use Rattle.std.proofs.Common.{refl}
-use Rattle.std.proofs.Math.Nat.{sub-zero}
 use Rattle.std.proofs.lemmas.Result.{err_from_is_err_and}
 use Rattle.mq_wire.specs.Records.{record_spans}
-use Rattle.mq_wire.proofs.RecordLists.{one_more_record, record_cut, all_records}
+use Rattle.mq_wire.proofs.RecordLists.{no_record_yet, one_more_record, record_cut, all_records}
 use Rattle.mq_wire.proofs.Spans.{end_within}
 use Rattle.mq_wire.proofs.records.Records.read_at.Goals as goal
 
 pub loop-init : goal.loop-init
-loop-init g c = let all = sub-zero c.args.count in record { cut = rw all refl; within = c.requires }
+loop-init g c = record { cut = no_record_yet g.K.WireKey.WIDTH c.args.count c.args.place c.args.bytes.now; within = c.requires }
 
 pub record_end-requires : goal.record_end-requires
 record_end-requires g c = c.loop.invariant.within
