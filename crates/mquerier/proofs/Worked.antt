@@ -1,7 +1,7 @@
 -- What the work on a message comes to.
-use Rattle.std.proofs.Common.{◌≡◌, ℕ, Bool, List, Bor, Option, None, Some, Result, Ok, Err, inl, inr, refl, ap, subst, arith, length}
+use Rattle.std.proofs.Common.{◌≡◌, ℕ, Bool, List, Bor, Option, Some, Result, Ok, Err, inl, inr, arith, length}
 use Rattle.std.specs.Option.{option_copied}
-use Rattle.std.specs.Io.KnownBytes.{Appends, Keeps}
+use Rattle.std.specs.Io.KnownBytes.{Keeps}
 use Rattle.std.proofs.KnownBytes.{Appends-kept}
 use Rattle.hex.specs.Hex.{decode_of}
 use Rattle.mq_command.specs.declared.Protocol.{Protocol}
@@ -13,7 +13,7 @@ use Rattle.mq_wire.specs.Family.{Family}
 use Rattle.mquerier.specs.declared.failure.Failure.{Failure}
 use Rattle.mquerier.specs.declared.failure.Failure.TheVariants.{NoAddresses, NotAnAddress, NotHex, Capture, Memory, Write}
 use Rattle.mquerier.specs.HexLine.{PrintsHexLine}
-use Rattle.mquerier.specs.Status.{Input, Stream, AreMissing, IsNoAddress}
+use Rattle.mquerier.specs.Status.{Input, Stream}
 use Rattle.mquerier.specs.Working.{IsUndecoded, Works, WorksOnMessage}
 
 pub worked : (protocol : Protocol) (hex : Bor (List ℕ)) (from to : Option (Bor (List ℕ))) (input : Input) (output : Stream) (r : Result Bool Failure)

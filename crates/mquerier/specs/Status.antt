@@ -1,5 +1,5 @@
 -- What the program does of what is asked for, and its status.
-use Rattle.std.specs.Prelude.{◌≡◌, ◌≤◌, ◌⊎◌, ℕ, Bool, true, false, List, [], Option, None, Some, Result, Ok, Err, IsErr}
+use Rattle.std.specs.Prelude.{◌≡◌, ◌≤◌, ◌⊎◌, ℕ, Bool, true, false, List, [], Option, None, Some, Ok, Err, IsErr}
 use Rattle.std.specs.Option.{option_copied}
 use Rattle.std.specs.Io.KnownBytes.{Appends}
 use Rattle.hex.specs.Hex.{decode_of}
@@ -8,7 +8,6 @@ use Rattle.mq_command.specs.declared.Protocol.TheVariants.{Igmp, Mld}
 use Rattle.mq_command.specs.declared.Request.{Request}
 use Rattle.mq_command.specs.declared.Request.TheVariants.{Message, Show}
 use Rattle.mq_pcap.specs.Filling.{Source}
-use Rattle.mq_replay.specs.declared.replay_fault.ReplayFault.{ReplayFault}
 use Rattle.mq_replay.specs.declared.replay_fault.ReplayFault.TheVariants as shown
 use Rattle.mq_replay.specs.Listing.{Shows}
 use Rattle.mq_replay.specs.Printing.{GrowsByBeginning}

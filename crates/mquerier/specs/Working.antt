@@ -3,9 +3,8 @@ use Rattle.std.specs.Prelude.{◌≡◌, Bool, List, ℕ, Option, Result, Ok, Er
 use Rattle.hex.specs.Hex.{decode_of}
 use Rattle.mq_command.specs.declared.Protocol.{Protocol}
 use Rattle.mq_command.specs.declared.Request.{Request}
-use Rattle.mq_command.specs.declared.Request.TheVariants.{Show}
 use Rattle.mquerier.specs.declared.failure.Failure.{Failure}
-use Rattle.mquerier.specs.declared.failure.Failure.TheVariants.{NoAddresses, NotAnAddress, NotHex, Capture, Memory, Write}
+use Rattle.mquerier.specs.declared.failure.Failure.TheVariants.{NotHex, Memory}
 use Rattle.mquerier.specs.Failures.{status_of}
 use Rattle.mquerier.specs.Status.{Input, Stream, IsDone, IsRefused, IsRefusedMessage, IsBroken, IsBrokenOff, PrintsMessage}
 

@@ -43,7 +43,7 @@ fn run_on_host(rt: &HostRuntime) -> io::Result<u8> {
     for word in env::args(rt)? {
         words.push(word)?;
     }
-    let mut input = Watched::new(BufReader::with_capacity(INPUT, alloc, rt.stdin())?);
+    let mut input = Watched::new(BufReader::with_capacity(alloc, INPUT, rt.stdin())?);
     let mut output = Watched::new(BufWriter::new(alloc, rt.stdout())?);
     let mut errors = Watched::new(rt.stderr());
     Ok(run(alloc, &words, &mut input, &mut output, &mut errors))
