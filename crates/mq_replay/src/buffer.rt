@@ -8,7 +8,7 @@ ghost use Rattle.mq_replay.specs.Printing.{Puts};
 
 use crate::printing::{LineFault, print};
 use arrayvec::ArrayVec;
-use mq_count::{Watched, write_decimal};
+use mq_count::Watched;
 use std::io::Write;
 
 /// How many bytes a buffer holds.
@@ -53,9 +53,21 @@ pub(crate) fn put_decimal(buffer: &mut Buffer, number: u64)
     ensures text { buffer.new.items ≡ buffer.old.items ++ decimal number }
     ensures room { array_vec_len buffer.new ≤ array_vec_len buffer.old + 20 }
 {
-    let mut digits = [0; 20];
-    let len = write_decimal(number, &mut digits);
-    put(buffer, &digits[..len]);
+    put_digits(buffer, number);
+}
+
+/// Puts the digits of a number at the end.
+fn put_digits(buffer: &mut Buffer, number: u64)
+    requires { array_vec_len buffer.old + length (decimal number) ≤ 4096 }
+    ensures text { buffer.new.items ≡ buffer.old.items ++ decimal number }
+    ensures room { array_vec_len buffer.new ≡ array_vec_len buffer.old + length (decimal number) }
+{
+    if number < 10 {
+        buffer.push(b'0' + number as u8);
+        return;
+    }
+    put_digits(buffer, number / 10);
+    buffer.push(b'0' + (number % 10) as u8);
 }
 
 /// Puts a text at the end.
