@@ -1,5 +1,5 @@
 -- What is read of a query is what its bytes say.
-use Rattle.std.proofs.Common.{◌≡◌, ◌+◌, ◌-◌, ◌≤◌, ℕ, List, ◌==◌, length, take, drop, false, inr, Ok, None, ap, sym, ◌∙◌, refl, arith, ne_eqb}
+use Rattle.std.proofs.Common.{◌≡◌, ◌+◌, ◌-◌, ◌%◌, ◌≤◌, ℕ, List, ◌==◌, nat_lt, if◌then◌else◌, length, slice_index, take, drop, replicate, false, inr, Ok, None, ap, sym, ◌∙◌, refl, arith, ne_eqb}
 use Rattle.byteorder.specs.Endian.{big_number}
 use Rattle.mq_wire.specs.declared.message.MessageType.TheVariants.{Query}
 use Rattle.mq_wire.specs.declared.query.QuerierFields.{QuerierFields}
@@ -7,13 +7,27 @@ use Rattle.mq_wire.specs.declared.query.Query.{Query as QueryOf}
 use Rattle.mq_wire.specs.declared.query.QueryVersion.{QueryVersion}
 use Rattle.mq_wire.specs.declared.query.QueryVersion.TheVariants.{Current}
 use Rattle.mq_wire.specs.Family.{Family, address_width, group_end, group_place}
-use Rattle.mq_wire.specs.Fields.{first_cut}
+use Rattle.std.proofs.lemmas.Bool.Decides.{nat_tests}
+use Rattle.mq_wire.specs.Codes.{value8}
+use Rattle.mq_wire.specs.Fields.{addresses, first_cut, number_at}
 use Rattle.mq_wire.specs.Numbered.{numbered_version}
-use Rattle.mq_wire.specs.Queries.{FieldsAt, current_query, current_response, query_of}
+use Rattle.mq_wire.specs.Queries.{FieldsAt, current_query, current_response, query_of, suppress_of}
 use Rattle.mq_wire.specs.Spelling.{ReadsQuery, group_of, spans_of}
 use Rattle.mq_wire.proofs.Addresses.{all_behind}
 use Rattle.mq_wire.proofs.Cuts.{behind_count}
 use Rattle.mq_wire.proofs.Spelled.{no_fault_within}
+
+-- what stands behind the group of a query of IGMPv3 or MLDv2, from what was read of it
+pub fields_read : {K : Type 0} (place width : ℕ) (bytes : List ℕ) (robustness interval count : ℕ) (sources : List ℕ) → count ≡ number_at (place + 2) 2 bytes → first_cut (length bytes) (place + 4) (replicate count width) ≡ None → robustness ≡ (if nat_lt 7 (slice_index bytes place % 8) then 0 else slice_index bytes place % 8) → interval ≡ value8 (slice_index bytes (place + 1)) → sources ≡ addresses width count (take (length bytes - (place + 4)) (drop (place + 4) bytes)) → FieldsAt {K = K} place width bytes (Ok (record { suppress = suppress_of (slice_index bytes place); robustness = robustness; interval = interval; sources = sources }))
+fields_read place width bytes robustness interval count sources is_count whole is_robustness is_interval are_sources =
+    let test : nat_lt 7 (slice_index bytes place % 8) ≡ false = grind (arith, nat_tests) in
+    let is_number : robustness ≡ slice_index bytes place % 8 = rw test at is_robustness in
+    let are_addresses : sources ≡ addresses width (number_at (place + 2) 2 bytes) (drop (place + 4) bytes) =
+    are_sources ∙ ap (addresses width count) (all_behind (place + 4) bytes)
+    ∙ ap (λ (n : ℕ). addresses width n (drop (place + 4) bytes)) is_count in (
+      ap (λ (n : ℕ). first_cut (length bytes) (place + 4) (replicate n width)) (sym is_count) ∙ whole,
+      rw (is_number, is_interval, are_addresses) refl,
+    )
 
 -- the group, read at its place
 group_read : (family : Family) (bytes : List ℕ) (n width place : ℕ) → width ≡ address_width family → place ≡ group_place family → n ≡ big_number width (take (length bytes - place) (drop place bytes)) → n ≡ group_of family bytes

@@ -1,9 +1,9 @@
-use Rattle.std.proofs.Common.{◌≡◌, ◌+◌, ◌*◌, ◌%◌, ℕ, drop, replicate, length, sym, ap, ◌∙◌, refl, arith, slice_index, nat_lt, false}
-use Rattle.std.proofs.lemmas.Bool.Decides.{nat_tests}
+use Rattle.std.proofs.Common.{◌+◌, ◌*◌, ℕ, replicate, length, sym, ap, ◌∙◌, arith}
 use Rattle.std.proofs.lemmas.Result.{err_from_is_err_and}
-use Rattle.mq_wire.specs.Fields.{number_at, addresses, first_cut, cut_from}
+use Rattle.mq_wire.specs.Fields.{cut_from}
 use Rattle.mq_wire.proofs.Spans.{ends_within, sum-replicate}
-use Rattle.mq_wire.proofs.Addresses.{all_behind, bytes_behind}
+use Rattle.mq_wire.proofs.Addresses.{bytes_behind}
+use Rattle.mq_wire.proofs.Queried.{fields_read}
 use Rattle.mq_wire.proofs.query.fields_at.Goals as goal
 
 pub returns-in_err-addresses_end : goal.returns-in_err-addresses_end
@@ -20,14 +20,4 @@ in_place-requires g c =
 
 pub returns : goal.returns
 returns g c =
-    let width = g.K.WireKey.WIDTH in
-    let bytes = c.args.bytes.now in
-    let count = number_at (c.args.place + 2) 2 bytes in
-    let test : nat_lt 7 (slice_index bytes c.args.place % 8) ≡ false = grind (arith, nat_tests) in
-    let robustness : c.new.result ≡ slice_index bytes c.args.place % 8 = rw test at c.new.ensures in
-    let sources : c.in_place.result ≡ addresses width count (drop (c.args.place + 4) bytes) =
-    c.in_place.ensures ∙ ap (addresses width c.number_at-count.result) (all_behind (c.args.place + 4) bytes)
-    ∙ ap (λ (n : ℕ). addresses width n (drop (c.args.place + 4) bytes)) c.number_at-count.ensures in (
-      ap (λ (n : ℕ). first_cut (length bytes) (c.args.place + 4) (replicate n width)) (sym c.number_at-count.ensures) ∙ c.in_ok-addresses_end.ensures.0,
-      rw (robustness, c.resp8.ensures.value, sources) refl,
-    )
+    fields_read c.args.place g.K.WireKey.WIDTH c.args.bytes.now c.new.result c.resp8.result c.number_at-count.result c.in_place.result c.number_at-count.ensures c.in_ok-addresses_end.ensures.0 c.new.ensures c.resp8.ensures.value c.in_place.ensures
