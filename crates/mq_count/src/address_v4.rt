@@ -70,4 +70,6 @@ impl Key for Addr4 {
         m.count_comparison();
         self.number.cmp(&other.number)
     }
+
+    fn is_small() {}
 }

@@ -12,8 +12,9 @@ use Rattle.mq_table.specs.declared.timing.Timing.{Timing}
 use Rattle.mq_table.specs.Sets.{Set, ◌∩◌, ◌∖◌}
 use Rattle.mq_table.specs.Group.{GroupState, group_deadline, is_ahead}
 use Rattle.mq_table.specs.Lowering.{lowered_to}
-use Rattle.mq_sched.specs.Schedule.{ScheduledGroup, has_sendings}
-use Rattle.mq_sched.specs.Sending.{SentQuery, GeneralQuery, GroupQuery, SourcesQuery, above, is_due, group_due, sources_where, sources_queries, source_messages, group_messages, messages_due}
+use Rattle.mq_table.specs.Sendings.{has_sendings, above}
+use Rattle.mq_sched.specs.Schedule.{ScheduledGroup}
+use Rattle.mq_sched.specs.Sending.{SentQuery, GeneralQuery, GroupQuery, SourcesQuery, is_due, group_due, sources_where, sources_queries, source_messages, group_messages, messages_due}
 use Rattle.mq_sched.specs.Laws.{AscendIn}
 use Rattle.mq_sched.specs.Runs.{runs_within}
 use Rattle.std.proofs.lemmas.List.{length-take}

@@ -14,9 +14,10 @@ use Rattle.mq_table.specs.Lowering.{lowered_to}
 use Rattle.mq_table.specs.Laws.{IsNoLater}
 use Rattle.mq_table.proofs.Maps.{get-kept}
 use Rattle.mq_table.proofs.Lower.{group_no_later}
-use Rattle.mq_sched.specs.Schedule.{ScheduledGroup, some_source}
+use Rattle.mq_table.specs.Sendings.{some_source, source_asked}
+use Rattle.mq_sched.specs.Schedule.{ScheduledGroup}
 use Rattle.mq_sched.proofs.Rounds.{among-keys}
-use Rattle.mq_sched.specs.Sending.{group_asked, source_asked, sources_asked, acted}
+use Rattle.mq_sched.specs.Sending.{group_asked, sources_asked, acted}
 
 -- the timer of a source after sources were asked for
 pub timer_at-sources_asked : (timing : Timing) (now : ℕ) (asked : Set) (e : ScheduledGroup) (s : ℕ) → timer_at (sources_asked timing now asked e).group s ≡ cond (asked s) (option_map (source_asked (lowered_to timing now) (last_member_count timing)) (timer_at e.group s)) (timer_at e.group s)

@@ -18,8 +18,9 @@ use Rattle.mq_table.specs.Lowering.{lowered_to, mode_lowered}
 use Rattle.mq_table.specs.Examples.{default_timing, naming}
 use Rattle.mq_table.specs.Table.{GroupChange}
 use Rattle.mq_table.proofs.Maps.{keys-from_entries, kept-from_entries}
+use Rattle.mq_table.specs.Sendings.{source_asked, source_counted, sendings_counted}
 use Rattle.mq_sched.specs.Schedule.{QuerySchedule, ScheduleState, ScheduledGroup, settled}
-use Rattle.mq_sched.specs.Sending.{SentQuery, GroupQuery, source_asked, source_counted, sources_asked, group_asked, after_change, is_due, group_due, sources_queries, messages_due, group_counted, sources_counted, sources_due_next, after_round}
+use Rattle.mq_sched.specs.Sending.{SentQuery, GroupQuery, sources_asked, group_asked, after_change, is_due, group_due, sources_queries, messages_due, group_counted, sources_due_next, after_round}
 use Rattle.mq_sched.specs.Examples.{Sends, the_group, per_query}
 
 -- the sources of a group, each once and ascending, with their timers
@@ -104,7 +105,7 @@ left_by timing now mode es v1 v2 schedule =
     (left_with mode (counted es) v1 v2 (group_counted timing now schedule.group_query) (next_by timing now (keys_of (counted es)) (λ s. find nat_cmp s (counted es))))
     (left_with mode es v1 v2 (group_counted timing now schedule.group_query) schedule.sources_due)
 
-left-cases : (timing : Timing) (now : ℕ) (mode : FilterMode) (es : Sources) (v1 v2 : Option ℕ) (q : Option QuerySchedule) (d : Option ℕ) → T (is_sorted nat_cmp (counted es)) → (due : Bool) → ◌≡◌ {A = ScheduledGroup} (record { group = cond due (sources_counted (known mode es v1 v2)) (known mode es v1 v2); schedule = record { group_query = q; sources_due = cond due (sources_due_next timing now (cond due (sources_counted (known mode es v1 v2)) (known mode es v1 v2))) d } }) (cond due (left_with mode (counted es) v1 v2 q (next_by timing now (keys_of (counted es)) (λ s. find nat_cmp s (counted es)))) (left_with mode es v1 v2 q d))
+left-cases : (timing : Timing) (now : ℕ) (mode : FilterMode) (es : Sources) (v1 v2 : Option ℕ) (q : Option QuerySchedule) (d : Option ℕ) → T (is_sorted nat_cmp (counted es)) → (due : Bool) → ◌≡◌ {A = ScheduledGroup} (record { group = cond due (sendings_counted (known mode es v1 v2)) (known mode es v1 v2); schedule = record { group_query = q; sources_due = cond due (sources_due_next timing now (cond due (sendings_counted (known mode es v1 v2)) (known mode es v1 v2))) d } }) (cond due (left_with mode (counted es) v1 v2 q (next_by timing now (keys_of (counted es)) (λ s. find nat_cmp s (counted es)))) (left_with mode es v1 v2 q d))
 left-cases timing now mode es v1 v2 q d sorted true =
     ap (λ m. state m) (kept-from_entries (λ _. source_counted) es)
     ∙ (λ i. left_with mode (counted es) v1 v2 q (next_by timing now (keys-from_entries (counted es) sorted i) (λ s. map.get-from_entries nat_cmp_total (counted es) s i)))

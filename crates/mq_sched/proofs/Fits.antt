@@ -22,8 +22,9 @@ use Rattle.mq_table.specs.Lowering.{lowered_to, mode_lowered}
 use Rattle.mq_table.proofs.Maps.{get-kept}
 use Rattle.mq_table.proofs.Groups.{same_sources}
 use Rattle.mq_table.proofs.Lines.{timer_at-change_of}
-use Rattle.mq_sched.specs.Schedule.{QuerySchedule, ScheduleState, ScheduledGroup, some_source, has_sendings, IsScheduleOf, settled, source_cleared, cleared}
-use Rattle.mq_sched.specs.Sending.{above, group_asked, source_asked, sources_asked, acted, is_due, group_counted, sources_counted, sources_due_next, after_round}
+use Rattle.mq_table.specs.Sendings.{some_source, has_sendings, source_cleared, above, source_asked, sendings_counted}
+use Rattle.mq_sched.specs.Schedule.{QuerySchedule, ScheduleState, ScheduledGroup, IsScheduleOf, settled, cleared}
+use Rattle.mq_sched.specs.Sending.{group_asked, sources_asked, acted, is_due, group_counted, sources_due_next, after_round}
 use Rattle.mq_sched.proofs.Asked.{some_source-from, some_source-gives, timer_at-sources_asked}
 
 some_if : {X : Type 0} (b : Bool) (x : X) → is_some (cond b (Some x) None) ≡ b
@@ -111,7 +112,7 @@ fits_after_round timing now e fits = record {
   sources_sendings = by_due (is_due now e.schedule.sources_due);
 }
   where
-    mode_stays : (b : Bool) → (cond b (sources_counted e.group) e.group).mode ≡ Include → e.group.mode ≡ Include
+    mode_stays : (b : Bool) → (cond b (sendings_counted e.group) e.group).mode ≡ Include → e.group.mode ≡ Include
     mode_stays true m = m
     mode_stays false m = m
 
@@ -124,8 +125,8 @@ fits_after_round timing now e fits = record {
         by_tests true false e = tt
         by_tests false more e = some
 
-    by_due : (b : Bool) → (let g = cond b (sources_counted e.group) e.group in is_some (cond b (sources_due_next timing now g) e.schedule.sources_due) ≡ some_source (has_sendings g) g)
-    by_due true = some_if (some_source (has_sendings (sources_counted e.group)) (sources_counted e.group)) (now + timing.last_member_interval)
+    by_due : (b : Bool) → (let g = cond b (sendings_counted e.group) e.group in is_some (cond b (sources_due_next timing now g) e.schedule.sources_due) ≡ some_source (has_sendings g) g)
+    by_due true = some_if (some_source (has_sendings (sendings_counted e.group)) (sendings_counted e.group)) (now + timing.last_member_interval)
     by_due false = fits.sources_sendings
 
 -- asking for the group

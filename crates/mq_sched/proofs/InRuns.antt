@@ -1,6 +1,6 @@
 -- Lists in runs: what they are together, and how long each is.
 use Rattle.std.proofs.Common.{◌≡◌, ℕ, zero, suc, ◌+◌, ◌<◌, ◌≤◌, List, [], ◌∷◌, Bool, ◌++◌, length, take, drop, refl, ap, ◌∙◌, arith, length-drop}
-use Rattle.std.proofs.lemmas.List.{take-append-drop, length-take, length-take-le, get_or-take, get_or-drop}
+use Rattle.std.proofs.lemmas.List.{take-append-drop, take_at, drop_at, length-append, length-take, length-take-le, get_or-take, get_or-drop}
 use Rattle.std.specs.Prelude.{map as list_map}
 use Rattle.std.specs.List.{concat}
 use Rattle.std.specs.List.Sorted.{IsStrictlyIncreasing}
@@ -47,6 +47,23 @@ fits_within (suc most) n group flag (x ∷ xs) = (omega (arith, length-take n (x
 -- no run is longer than one message holds
 pub fits : (n group : ℕ) (flag : Bool) (xs : List ℕ) → AllFit n (sources_queries n group flag xs)
 fits n group flag xs = fits_within (length xs) n group flag xs
+
+-- more runs are allowed than there are
+same_within : (most more n : ℕ) (xs : List ℕ) → 0 < n → length xs ≤ most → length xs ≤ more → runs_within most n xs ≡ runs_within more n xs
+same_within most more n [] positive enough also = refl
+same_within zero more n (x ∷ xs) positive enough also = absurd (omega arith)
+same_within (suc most) zero n (x ∷ xs) positive enough also = absurd (omega arith)
+same_within (suc most) (suc more) n (x ∷ xs) positive enough also =
+    ap (λ runs. take n (x ∷ xs) ∷ runs) (same_within most more n (drop n (x ∷ xs)) positive (shorter n most x xs positive enough) (shorter n more x xs positive also))
+
+-- a full run is the first, whatever follows
+pub first_run : (n : ℕ) (run rest : List ℕ) → 0 < n → length run ≡ n → runs_of n (run ++ rest) ≡ run ∷ runs_of n rest
+first_run n [] rest positive long = absurd (omega arith)
+first_run n (x ∷ xs) rest positive long =
+    let front : take n ((x ∷ xs) ++ rest) ≡ x ∷ xs = take_at (x ∷ xs) rest n long in
+    let behind : drop n ((x ∷ xs) ++ rest) ≡ rest = drop_at (x ∷ xs) rest n long in
+    (λ i. front i ∷ runs_within (length (xs ++ rest)) n (behind i))
+    ∙ ap (λ runs. (x ∷ xs) ∷ runs) (same_within (length (xs ++ rest)) (length rest) n rest positive (omega (arith, length-append xs rest)) (omega arith))
 
 -- a part of an ascending list ascends
 pub increasing-take : (n : ℕ) (xs : List ℕ) → IsStrictlyIncreasing xs → IsStrictlyIncreasing (take n xs)

@@ -11,4 +11,5 @@ pub mod Electing
 pub mod StayHeld
 pub mod Without
 pub mod RunsOfRounds
-pub mod RowSendings
+pub mod Collecting
+pub mod Room

@@ -15,8 +15,9 @@ use Rattle.mq_table.specs.declared.timers.SourceTimer.TheVariants.{Stopped, Runn
 use Rattle.mq_table.specs.Group.{GroupState, timer_at, deadline_of, group_deadline, sendings_of, is_ahead}
 use Rattle.mq_table.specs.Lowering.{lowered_to}
 use Rattle.mq_table.proofs.Maps.{get-kept}
-use Rattle.mq_sched.specs.Schedule.{QuerySchedule, query_sendings, ScheduledGroup, some_source, has_sendings, IsScheduleOf}
-use Rattle.mq_sched.specs.Sending.{SentQuery, GeneralQuery, GroupQuery, SourcesQuery, above, is_due, group_due, sources_where, sources_queries, group_messages, source_messages, messages_due, group_counted, source_counted, sources_counted, sources_due_next, after_round}
+use Rattle.mq_table.specs.Sendings.{some_source, has_sendings, above, source_counted, sendings_counted}
+use Rattle.mq_sched.specs.Schedule.{QuerySchedule, query_sendings, ScheduledGroup, IsScheduleOf}
+use Rattle.mq_sched.specs.Sending.{SentQuery, GeneralQuery, GroupQuery, SourcesQuery, is_due, group_due, sources_where, sources_queries, group_messages, source_messages, messages_due, group_counted, sources_due_next, after_round}
 use Rattle.mq_sched.specs.Runs.{runs_of}
 use Rattle.mq_sched.proofs.InRuns.{together}
 use Rattle.mq_sched.specs.Laws.{asked_in, asks_group, IsQuietAt}
@@ -146,7 +147,7 @@ asks_group-messages_due n timing now group e =
     second false = refl
 
 abbrev group_after : Bool → GroupState → GroupState
-group_after due g = cond due (sources_counted g) g
+group_after due g = cond due (sendings_counted g) g
 
 -- the new timer of a source after a round
 pub timer_at-after_round : (timing : Timing) (now : ℕ) (e : ScheduledGroup) (s : ℕ) → timer_at (after_round timing now e).group s ≡ cond (is_due now e.schedule.sources_due) (option_map source_counted (timer_at e.group s)) (timer_at e.group s)
@@ -225,10 +226,10 @@ quiet_after_round timing now e positive = record { group = of_group e.schedule.g
     of_group None = tt
     of_group (Some q) = counted_after q (leb q.due now) refl
 
-    of_sources : (due : Option ℕ) → IfSome (cond (is_due now due) (sources_due_next timing now (cond (is_due now due) (sources_counted e.group) e.group)) due) (λ due. now < due)
+    of_sources : (due : Option ℕ) → IfSome (cond (is_due now due) (sources_due_next timing now (cond (is_due now due) (sendings_counted e.group) e.group)) due) (λ due. now < due)
     of_sources None = tt
-    of_sources (Some due) = elim (leb due now) as (λ b. leb due now ≡ b → IfSome (cond b (sources_due_next timing now (cond b (sources_counted e.group) e.group)) (Some due)) (λ due. now < due)) [
-      | true ↦ λ _. elim (some_source (has_sendings (sources_counted e.group)) (sources_counted e.group)) as (λ b. IfSome (cond b (Some (now + timing.last_member_interval)) None) (λ due. now < due)) [ true ↦ omega arith | false ↦ tt ]
+    of_sources (Some due) = elim (leb due now) as (λ b. leb due now ≡ b → IfSome (cond b (sources_due_next timing now (cond b (sendings_counted e.group) e.group)) (Some due)) (λ due. now < due)) [
+      | true ↦ λ _. elim (some_source (has_sendings (sendings_counted e.group)) (sendings_counted e.group)) as (λ b. IfSome (cond b (Some (now + timing.last_member_interval)) None) (λ due. now < due)) [ true ↦ omega arith | false ↦ tt ]
       | false ↦ λ h. leb-false due now h
     ] refl
 

@@ -5,9 +5,9 @@ use Rattle.std.specs.List.{concat}
 use Rattle.mq_table.specs.Sets.{◌∩◌, ◌∖◌}
 use Rattle.mq_table.specs.Group.{is_ahead, group_deadline}
 use Rattle.mq_table.specs.Lowering.{lowered_to}
+use Rattle.mq_table.specs.Sendings.{has_sendings, above}
 use Rattle.mq_sched.specs.Runs.{runs_of, AllButLast}
-use Rattle.mq_sched.specs.Schedule.{has_sendings}
-use Rattle.mq_sched.specs.Sending.{SentQuery, GeneralQuery, GroupQuery, SourcesQuery, above, is_due, group_due, sources_where, sources_queries, group_messages, source_messages}
+use Rattle.mq_sched.specs.Sending.{SentQuery, GeneralQuery, GroupQuery, SourcesQuery, is_due, group_due, sources_where, sources_queries, group_messages, source_messages}
 use Rattle.mq_sched.specs.Laws.{Round, queries_of, set_runs, clear_runs, set_sources, clear_sources, AllFit}
 use Rattle.mq_sched.proofs.InRuns.{together, full, fits}
 

@@ -8,8 +8,9 @@ use Rattle.mq_table.specs.Group.{is_running, IsWellFormed}
 use Rattle.mq_table.specs.Timing.{last_member_count}
 use Rattle.mq_table.specs.Lowering.{lowered_to}
 use Rattle.mq_table.proofs.Held.{IsWellFormed-replaced, IsWellFormed-group_lowered}
-use Rattle.mq_sched.specs.Schedule.{ScheduledGroup, source_cleared, cleared}
-use Rattle.mq_sched.specs.Sending.{group_asked, source_asked, sources_asked, acted, is_due, source_counted, sources_counted, after_round}
+use Rattle.mq_table.specs.Sendings.{source_cleared, source_asked, source_counted, sendings_counted}
+use Rattle.mq_sched.specs.Schedule.{ScheduledGroup, cleared}
+use Rattle.mq_sched.specs.Sending.{group_asked, sources_asked, acted, is_due, after_round}
 
 asked_runs : (limit count : ℕ) (b : Bool) (t : SourceTimer) → is_running (Some (cond b (source_asked limit count t) t)) ≡ is_running (Some t)
 asked_runs limit count false t = refl
@@ -35,7 +36,7 @@ counted_runs (Running d n) = refl
 pub held_after_round : (timing : Timing) (now : ℕ) (e : ScheduledGroup) → IsWellFormed e.group → IsWellFormed (after_round timing now e).group
 held_after_round timing now e held = by_due (is_due now e.schedule.sources_due)
   where
-    by_due : (b : Bool) → IsWellFormed (cond b (sources_counted e.group) e.group)
+    by_due : (b : Bool) → IsWellFormed (cond b (sendings_counted e.group) e.group)
     by_due true = IsWellFormed-replaced e.group e.group.mode (λ s. source_counted) (λ m. m) (λ s t. counted_runs t) held
     by_due false = held
 

@@ -4,8 +4,9 @@ use Rattle.std.specs.List.{list_any}
 use Rattle.std.specs.List.Sorted.{IsStrictlyIncreasing}
 use Rattle.mq_table.specs.declared.timing.Timing.{Timing}
 use Rattle.mq_table.specs.Sets.{Set, ◌∩◌, ◌∖◌}
-use Rattle.mq_sched.specs.Schedule.{ScheduleState, ScheduledGroup, has_sendings, IsScheduleOf}
-use Rattle.mq_sched.specs.Sending.{SentQuery, GeneralQuery, GroupQuery, SourcesQuery, above, acted, is_due, sources_where, messages_due, after_round}
+use Rattle.mq_table.specs.Sendings.{has_sendings, above}
+use Rattle.mq_sched.specs.Schedule.{ScheduleState, ScheduledGroup, IsScheduleOf}
+use Rattle.mq_sched.specs.Sending.{SentQuery, GeneralQuery, GroupQuery, SourcesQuery, acted, is_due, sources_where, messages_due, after_round}
 
 -- a round of a group with an address, at a moment, in messages of what one holds
 pub record Round : Type 0 where

@@ -3,6 +3,8 @@ pub mod Schedule
 pub mod StoredSchedule
 pub mod Runs
 pub mod Sending
+pub mod Sink
+pub mod Collected
 pub mod Announcement
 pub mod Election
 pub mod StoredElection

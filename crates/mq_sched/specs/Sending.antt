@@ -4,15 +4,13 @@ use Rattle.std.specs.Prelude.{ℕ, ◌+◌, ◌-◌, Bool, true, false, if◌the
 use Rattle.std.specs.FinMap as map
 use Rattle.mq_table.specs.declared.timing.Timing.{Timing}
 use Rattle.mq_table.specs.Sets.{Set, ◌∩◌, ◌∖◌}
-use Rattle.mq_table.specs.Maps.{kept}
-use Rattle.mq_table.specs.declared.timers.SourceTimer.{SourceTimer}
-use Rattle.mq_table.specs.declared.timers.SourceTimer.TheVariants.{Stopped, Running}
-use Rattle.mq_table.specs.Group.{GroupState, is_include, is_ahead, group_deadline, deadline_of, timer_at}
+use Rattle.mq_table.specs.Group.{GroupState, is_include, is_ahead, group_deadline}
 use Rattle.mq_table.specs.Timing.{last_member_count}
 use Rattle.mq_table.specs.Table.{GroupChange}
 use Rattle.mq_table.specs.Lowering.{lowered_to, group_lowered}
+use Rattle.mq_table.specs.Sendings.{some_source, has_sendings, above, sendings_started, sendings_counted}
 use Rattle.mq_sched.specs.Runs.{runs_of}
-use Rattle.mq_sched.specs.Schedule.{QuerySchedule, ScheduleState, ScheduledGroup, some_source, has_sendings, settled}
+use Rattle.mq_sched.specs.Schedule.{QuerySchedule, ScheduleState, ScheduledGroup, settled}
 
 -- A query that a router sends: general, to a group, or to a group for some of its sources, which
 -- ascend (RFC 3376 section 4.1.11, RFC 3810 section 5.1.13). `s` is the flag Suppress Router-Side Processing:
@@ -21,10 +19,6 @@ pub data SentQuery : Type 0 where
   GeneralQuery : SentQuery
   GroupQuery : (group : ℕ) (s : Bool) → SentQuery
   SourcesQuery : (group : ℕ) (s : Bool) (sources : List ℕ) → SentQuery
-
--- the sources whose timer is above the last member query time
-abbrev pub above : Timing → ℕ → GroupState → Set
-above timing now g s = is_ahead (lowered_to timing now) (deadline_of (timer_at g s))
 
 -- Send Q(G): the group timer is lowered, and as many queries as the last member query count are to
 -- go, the first now. INCLUDE has no group timer, and no line of the tables asks for its group.
@@ -40,22 +34,14 @@ group_asked timing now e = record {
   };
 }
 
-abbrev pub source_asked : ℕ → ℕ → SourceTimer → SourceTimer
-source_asked limit count Stopped = Stopped
-source_asked limit count (Running d n) = if nat_lt limit d then Running limit count else Running d n
-
 -- Send Q(G,asked): each source asked for whose timer is above the last member query time is lowered to
 -- it and gets the last member query count of sendings. If there is one, a sending is due now; else the
 -- schedule stays.
 abbrev pub sources_asked : Timing → ℕ → Set → ScheduledGroup → ScheduledGroup
 sources_asked timing now asked e =
     let g = e.group in
-    let limit = lowered_to timing now in
-    let count = last_member_count timing in
     record {
-      group = record g {
-        sources = kept (λ s timer. Some (if asked s then source_asked limit count timer else timer)) g.sources;
-      };
+      group = sendings_started timing now asked g;
       schedule = record {
         group_query = e.schedule.group_query;
         sources_due = if some_source (asked ∩ above timing now g) g then Some now else e.schedule.sources_due;
@@ -125,13 +111,6 @@ group_counted timing now (Some q) =
     else None)
     else Some q
 
-abbrev pub source_counted : SourceTimer → SourceTimer
-source_counted Stopped = Stopped
-source_counted (Running d n) = Running d (n - 1)
-
-abbrev pub sources_counted : GroupState → GroupState
-sources_counted g = record g { sources = kept (λ s timer. Some (source_counted timer)) g.sources }
-
 -- when the sources are due next, if one has a sending to go
 abbrev pub sources_due_next : Timing → ℕ → GroupState → Option ℕ
 sources_due_next timing now g =
@@ -141,7 +120,7 @@ sources_due_next timing now g =
 abbrev pub after_round : Timing → ℕ → ScheduledGroup → ScheduledGroup
 after_round timing now e =
     let due = is_due now e.schedule.sources_due in
-    let g = if due then sources_counted e.group else e.group in
+    let g = if due then sendings_counted e.group else e.group in
     record {
       group = g;
       schedule = record {

@@ -6,8 +6,9 @@ ghost use Rattle.mq_table.specs.Group.{GroupState, timer_at, deadline_of, sendin
 ghost use Rattle.mq_table.specs.Expiry.{expired};
 ghost use Rattle.mq_table.specs.Laws.{Arrival, group_after, IsNoLater};
 ghost use Rattle.std.specs.List.{concat};
+ghost use Rattle.mq_table.specs.Sendings.{has_sendings};
 ghost use Rattle.mq_sched.specs.Runs.{AllButLast};
-ghost use Rattle.mq_sched.specs.Schedule.{query_sendings, ScheduleState, ScheduledGroup, has_sendings, IsScheduleOf, settled, cleared};
+ghost use Rattle.mq_sched.specs.Schedule.{query_sendings, ScheduleState, ScheduledGroup, IsScheduleOf, settled, cleared};
 ghost use Rattle.mq_sched.specs.Sending.{is_due, group_due, messages_due};
 ghost use Rattle.mq_sched.specs.Election.{ElectionState, ticked, next_moment};
 ghost use Rattle.mq_sched.specs.Laws.{Round, queries_of, state_after, Asking, after_asking, IsFitting, asked_in, asks_group, IsQuietAt, AscendIn, set_runs, clear_runs, set_sources, clear_sources, AllFit};

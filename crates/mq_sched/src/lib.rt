@@ -13,7 +13,10 @@ pub mod examples;
 pub mod laws;
 pub mod queries;
 pub mod roles;
+mod runs;
 pub mod schedules;
+mod sending;
+pub mod sinks;
 
 pub use announced::Announced;
 pub use deadlines::Deadlines;
@@ -21,6 +24,7 @@ pub use election::Election;
 pub use queries::QuerySchedule;
 pub use roles::OtherQuerier;
 pub use schedules::Schedule;
+pub use sinks::{QueryParts, Sink};
 
 #[cfg(test)]
 mod tests;

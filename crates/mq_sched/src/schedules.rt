@@ -1,11 +1,15 @@
 //! What is still to go for one group.
 
-ghost use Rattle.std.specs.Prelude.{◌≡◌, ◌+◌, ◌*◌, ◌^◌, ◌≤◌, Some};
+ghost use Rattle.std.specs.Prelude.{◌≡◌, ℕ, ◌+◌, ◌*◌, ◌^◌, ◌≤◌, true, Some, IsSome};
 ghost use Rattle.mq_count.specs.Spending.{Spends};
-ghost use Rattle.mq_sched.specs.Schedule.{ScheduledGroup, no_schedule, some_source, has_sendings, settled};
+ghost use Rattle.mq_sets.specs.Ascending.{IsAscending, set_of};
+ghost use Rattle.mq_table.specs.Group.{timer_at};
+ghost use Rattle.mq_table.specs.Stored.{size_of};
+ghost use Rattle.mq_table.specs.Sendings.{some_source, has_sendings};
+ghost use Rattle.mq_sched.specs.Schedule.{ScheduledGroup, no_schedule, settled, cleared};
 ghost use Rattle.mq_sched.specs.StoredSchedule.{item_has_sendings};
 ghost use Rattle.std.specs.List.{list_any};
-ghost use Rattle.mq_sched.specs.Sending.{group_asked};
+ghost use Rattle.mq_sched.specs.Sending.{group_asked, sources_asked};
 
 use crate::queries::QuerySchedule;
 use mq_count::{Key, Meter, Moment};
@@ -17,8 +21,8 @@ use std::marker::Model;
 /// group. A contract sees it as the state of the definitions.
 #[derive(Clone, Copy)]
 pub struct Schedule {
-    group_query: Option<QuerySchedule>,
-    sources_due: Option<Moment>,
+    pub(crate) group_query: Option<QuerySchedule>,
+    pub(crate) sources_due: Option<Moment>,
 }
 
 impl Model for Schedule {
@@ -94,6 +98,42 @@ impl Schedule {
             self.sources_due = None;
         }
     }
+
+    /// Starts the group-and-source-specific query for sources that the group holds: those whose
+    /// timers are above the last member query time are lowered to it, the last member query count of
+    /// sendings are to go for each, and the first is due at once. Where there is none, all stays (RFC
+    /// 3376 section 6.6.3.2, RFC 3810 section 7.6.3.2). At most two comparisons for each source.
+    pub fn start_sources<K: Key>(
+        &mut self,
+        group: &mut Group<K>,
+        asked: &[K],
+        now: Moment,
+        timing: &Timing,
+        m: &mut Meter,
+    )
+        requires in_range { now ≤ 2 ^ 53 }
+        requires ascending { IsAscending K.number asked.now }
+        requires held { (s : ℕ) → set_of K.number asked.now s ≡ true → IsSome (timer_at group.old.state s) }
+        ensures asked { let e : ScheduledGroup = record { group = group.old.state; schedule = self.old } in
+            record { group = group.new.state; schedule = self.new } ≡ sources_asked timing.now now (set_of K.number asked.now) e }
+        ensures room { group.new.room ≡ group.old.room }
+        ensures spent { Spends 0 (2 * size_of group.old.state) m.old m.new }
+    {
+        if group.start_sendings(asked, now, timing, m) {
+            self.sources_due = Some(now);
+        }
+    }
+
+    /// Drops all that was to go, as a router does that is no longer querier; no timer changes (RFC 3376
+    /// section 6.6.2, RFC 3810 section 7.6.2). No comparison.
+    pub fn clear<K: Key>(&mut self, group: &mut Group<K>)
+        ensures cleared { let e : ScheduledGroup = record { group = group.old.state; schedule = self.old } in
+            record { group = group.new.state; schedule = self.new } ≡ cleared e }
+        ensures room { group.new.room ≡ group.old.room }
+    {
+        group.clear_sendings();
+        *self = Schedule::none();
+    }
 }
 
 /// Whether some source of the list has a sending to go.
@@ -107,7 +147,7 @@ fn any_has_sendings<K: Key>(row: &[Source<K>]) -> bool
 }
 
 /// Whether some source of the group has a sending to go.
-fn has_sendings<K: Key>(group: &Group<K>) -> bool
+pub(crate) fn has_sendings<K: Key>(group: &Group<K>) -> bool
     ensures { result ≡ some_source (has_sendings group.now.state) group.now.state }
 {
     any_has_sendings(group.sources())

@@ -2,6 +2,8 @@
 
 ghost use Rattle.std.specs.Prelude.{◌≤◌, ◌^◌, IfOk};
 
+mod sendings;
+
 use crate::{Announced, Election, Schedule};
 use mq_count::{Addr4, Addr6, Key, Meter, Moment};
 use mq_table::{FilterMode, Group, Head, Source, Timing};
@@ -165,6 +167,7 @@ fn expect_group_query<K: Key>(alloc: Global) -> Result<(), Fail> {
 fn igmp(rt: HostRuntime) -> Result<(), Fail> {
     let [low, own, high] = [2, 9, 200].map(|last| Addr4::from_octets([10, 0, 0, last]));
     expect_group_query::<Addr4>(rt.alloc())?;
+    sendings::expect_all::<Addr4>(rt.alloc())?;
     expect_startup(own)?;
     expect_queries_heard(low, own, high)
 }
@@ -175,6 +178,7 @@ fn mld(rt: HostRuntime) -> Result<(), Fail> {
         Addr6::from_octets([0xfe, 0x80, 0, 0, 0, 0, 0, 0, 0, 0, 0, 0, 0, 0, 0, last])
     });
     expect_group_query::<Addr6>(rt.alloc())?;
+    sendings::expect_all::<Addr6>(rt.alloc())?;
     expect_startup(own)?;
     expect_queries_heard(low, own, high)
 }

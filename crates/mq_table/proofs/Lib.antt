@@ -6,7 +6,10 @@ pub mod Composed
 pub mod Ahead
 pub mod Lower
 pub mod SourceLists
+pub mod Rows
+pub mod InOrder
 pub mod Pushed
 pub mod Changed
 pub mod MadeLists
+pub mod Asking
 pub mod Ended

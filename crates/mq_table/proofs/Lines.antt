@@ -120,6 +120,26 @@ kept_then gmi (Exclude d) Block s t a = each_case (λ t a. (line_at gmi (Exclude
 kept_then gmi (Exclude d) ToEx s t a = each_case (λ t a. (line_at gmi (Exclude d) ToEx t a).restart s ≡ false → (line_at gmi (Exclude d) ToEx t a).copy s ≡ false → (e : ℕ) → deadline_of (timer_then gmi (Exclude d) ToEx s t a) ≡ Some e → deadline_of t ≡ Some e) (both _ (λ r c e h. cc) (λ r c e h. cc)) (both _ (λ r c e h. cc) (λ r c e h. cc)) (λ d n. both _ (λ r c e h. cc) (λ r c e h. cc)) t a
 kept_then gmi (Exclude d) ToIn s t a = each_case (λ t a. (line_at gmi (Exclude d) ToIn t a).restart s ≡ false → (line_at gmi (Exclude d) ToIn t a).copy s ≡ false → (e : ℕ) → deadline_of (timer_then gmi (Exclude d) ToIn s t a) ≡ Some e → deadline_of t ≡ Some e) (both _ (λ r c e h. cc) (λ r c e h. cc)) (both _ (λ r c e h. cc) (λ r c e h. cc)) (λ d n. both _ (λ r c e h. cc) (λ r c e h. cc)) t a
 
+-- a source that a record asks for is one that the new group has
+asked_then : (gmi : ℕ) (mode : FilterMode) (kind : Kind) (s : ℕ) (t : Option SourceTimer) (a : Bool) → (line_at gmi mode kind t a).query s ≡ true → IsSome (timer_then gmi mode kind s t a)
+asked_then gmi Include IsIn s t a = each_case (λ t a. (line_at gmi Include IsIn t a).query s ≡ true → IsSome (timer_then gmi Include IsIn s t a)) (both _ (λ q. cc) (λ q. cc)) (both _ (λ q. cc) (λ q. cc)) (λ d n. both _ (λ q. cc) (λ q. cc)) t a
+asked_then gmi Include IsEx s t a = each_case (λ t a. (line_at gmi Include IsEx t a).query s ≡ true → IsSome (timer_then gmi Include IsEx s t a)) (both _ (λ q. cc) (λ q. cc)) (both _ (λ q. cc) (λ q. cc)) (λ d n. both _ (λ q. cc) (λ q. cc)) t a
+asked_then gmi Include Allow s t a = each_case (λ t a. (line_at gmi Include Allow t a).query s ≡ true → IsSome (timer_then gmi Include Allow s t a)) (both _ (λ q. cc) (λ q. cc)) (both _ (λ q. cc) (λ q. cc)) (λ d n. both _ (λ q. cc) (λ q. cc)) t a
+asked_then gmi Include Block s t a = each_case (λ t a. (line_at gmi Include Block t a).query s ≡ true → IsSome (timer_then gmi Include Block s t a)) (both _ (λ q. cc) (λ q. cc)) (both _ (λ q. cc) (λ q. cc)) (λ d n. both _ (λ q. cc) (λ q. cc)) t a
+asked_then gmi Include ToEx s t a = each_case (λ t a. (line_at gmi Include ToEx t a).query s ≡ true → IsSome (timer_then gmi Include ToEx s t a)) (both _ (λ q. cc) (λ q. cc)) (both _ (λ q. cc) (λ q. cc)) (λ d n. both _ (λ q. cc) (λ q. cc)) t a
+asked_then gmi Include ToIn s t a = each_case (λ t a. (line_at gmi Include ToIn t a).query s ≡ true → IsSome (timer_then gmi Include ToIn s t a)) (both _ (λ q. cc) (λ q. cc)) (both _ (λ q. cc) (λ q. cc)) (λ d n. both _ (λ q. cc) (λ q. cc)) t a
+asked_then gmi (Exclude d) IsIn s t a = each_case (λ t a. (line_at gmi (Exclude d) IsIn t a).query s ≡ true → IsSome (timer_then gmi (Exclude d) IsIn s t a)) (both _ (λ q. cc) (λ q. cc)) (both _ (λ q. cc) (λ q. cc)) (λ d n. both _ (λ q. cc) (λ q. cc)) t a
+asked_then gmi (Exclude d) IsEx s t a = each_case (λ t a. (line_at gmi (Exclude d) IsEx t a).query s ≡ true → IsSome (timer_then gmi (Exclude d) IsEx s t a)) (both _ (λ q. cc) (λ q. cc)) (both _ (λ q. cc) (λ q. cc)) (λ d n. both _ (λ q. cc) (λ q. cc)) t a
+asked_then gmi (Exclude d) Allow s t a = each_case (λ t a. (line_at gmi (Exclude d) Allow t a).query s ≡ true → IsSome (timer_then gmi (Exclude d) Allow s t a)) (both _ (λ q. cc) (λ q. cc)) (both _ (λ q. cc) (λ q. cc)) (λ d n. both _ (λ q. cc) (λ q. cc)) t a
+asked_then gmi (Exclude d) Block s t a = each_case (λ t a. (line_at gmi (Exclude d) Block t a).query s ≡ true → IsSome (timer_then gmi (Exclude d) Block s t a)) (both _ (λ q. cc) (λ q. cc)) (both _ (λ q. cc) (λ q. cc)) (λ d n. both _ (λ q. cc) (λ q. cc)) t a
+asked_then gmi (Exclude d) ToEx s t a = each_case (λ t a. (line_at gmi (Exclude d) ToEx t a).query s ≡ true → IsSome (timer_then gmi (Exclude d) ToEx s t a)) (both _ (λ q. cc) (λ q. cc)) (both _ (λ q. cc) (λ q. cc)) (λ d n. both _ (λ q. cc) (λ q. cc)) t a
+asked_then gmi (Exclude d) ToIn s t a = each_case (λ t a. (line_at gmi (Exclude d) ToIn t a).query s ≡ true → IsSome (timer_then gmi (Exclude d) ToIn s t a)) (both _ (λ q. cc) (λ q. cc)) (both _ (λ q. cc) (λ q. cc)) (λ d n. both _ (λ q. cc) (λ q. cc)) t a
+
+pub asked_is_held : (timing : Timing) (now : ℕ) (g : GroupState) (kind : Kind) (named : NamedSources) (s : ℕ) → (change_of timing now g kind named).query s ≡ true → IsSome (timer_at (change_of timing now g kind named).group s)
+asked_is_held timing now g kind named s =
+    at_source_of (λ _ _ query _ t. query ≡ true → IsSome t) timing now g kind named s
+    (asked_then (now + membership_interval timing) g.mode kind s (timer_at g s) (set.contains named s))
+
 -- the timer of a source that the record doesn't name is as it was, or the source is gone
 others_then : (gmi : ℕ) (mode : FilterMode) (kind : Kind) (s : ℕ) (t : Option SourceTimer) → (timer_then gmi mode kind s t false ≡ t) ⊎ (timer_then gmi mode kind s t false ≡ None)
 others_then gmi Include IsIn s None = inl refl

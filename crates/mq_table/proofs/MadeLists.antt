@@ -1,7 +1,8 @@
 -- Lists of sources that are made of other lists, source by source.
 use Rattle.std.proofs.Common.{◌≡◌, ℕ, zero, suc, ◌+◌, ◌≤◌, ◌<◌, ◌==◌, false, cond, List, [], ◌∷◌, ◌++◌, length, set, get_or, take, drop, Option, None, Some, refl, sym, ap, ◌∙◌, arith, ⊎_elim}
+use Rattle.std.specs.Prelude.{map as list_map}
 use Rattle.std.specs.List.{All, filter_map, cons_option}
-use Rattle.std.proofs.lemmas.List.{append-nil, take_more, take_more_set, drop_more, drop-set-lt}
+use Rattle.std.proofs.lemmas.List.{append-nil, take_all, take_more, take_more_set, drop_more, drop-set-lt}
 use Rattle.std.specs.Option.{option_map, option_and_then, option_to_list, IfSome}
 use Rattle.std.proofs.lemmas.Bool.{eq-eqb}
 use Rattle.std.proofs.lemmas.Bool.Decides.{eqb_tells}
@@ -86,7 +87,7 @@ unlowered timing now n g absent =
 -- is the list when the items before `place` have been passed and `left` of them are left.
 module _ {X : Type 0} (rule : X → Option X) (initial xs : List X) (left place : ℕ) (held : X) (behind : left ≤ place) (within : place < length initial) (long : length xs ≡ length initial) (made : take left xs ≡ filter_map rule (take place initial)) (rest : drop place xs ≡ drop place initial) (is_held : held ≡ get_or xs place held) where
   -- the item at the place, and those behind it, are as they were
-  as_they_were : (get_or xs place held ≡ get_or initial place held) × (drop (place + 1) xs ≡ drop (place + 1) initial)
+  pub as_they_were : (get_or xs place held ≡ get_or initial place held) × (drop (place + 1) xs ≡ drop (place + 1) initial)
   as_they_were =
       let here : get_or xs place held ∷ drop (place + 1) xs ≡ get_or initial place held ∷ drop (place + 1) initial = sym (drop_more xs place held (omega arith)) ∙ rest ∙ drop_more initial place held within in
       (cc, cc)
@@ -112,3 +113,13 @@ module _ {X : Type 0} (rule : X → Option X) (initial xs : List X) (left place 
 
   pub rest_after_none : drop (place + 1) xs ≡ drop (place + 1) initial
   rest_after_none = as_they_were.1
+
+-- a rule that makes something of each item is a function
+pub made_of_all : {X : Type 0} (f : X → X) (xs : List X) → filter_map (λ x. Some (f x)) xs ≡ list_map f xs
+made_of_all f [] = refl
+made_of_all f (x ∷ xs) = ap (λ ys. f x ∷ ys) (made_of_all f xs)
+
+-- a pass to the end has made what a function makes of each item
+pub all_made : {X : Type 0} (f : X → X) (initial xs : List X) (place : ℕ) → length initial ≤ place → length xs ≡ length initial → take place xs ≡ filter_map (λ x. Some (f x)) (take place initial) → xs ≡ list_map f initial
+all_made f initial xs place to_end long made =
+    sym (take_all place xs (omega arith)) ∙ made ∙ ap (filter_map (λ x. Some (f x))) (take_all place initial to_end) ∙ made_of_all f initial

@@ -10,6 +10,8 @@ pub mod MergedRecord
 pub mod OlderHosts
 pub mod Expiry
 pub mod Lowering
+pub mod Sendings
+pub mod AskedSources
 pub mod MadeSources
 pub mod Examples
 pub mod Laws

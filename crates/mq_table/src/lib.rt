@@ -14,6 +14,7 @@ mod merged_records;
 pub mod older_hosts;
 mod recording;
 mod rules;
+mod sendings;
 pub mod sources;
 pub mod timers;
 pub mod timing;

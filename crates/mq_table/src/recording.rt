@@ -1,8 +1,9 @@
 //! Records, applied to a group.
 
-ghost use Rattle.std.specs.Prelude.{◌≡◌, ℕ, ◌+◌, ◌^◌, ◌≤◌, ◌<◌, min, length, vec_capacity, IfOk, OnOk, OnErr};
+ghost use Rattle.std.specs.Prelude.{◌≡◌, ℕ, ◌+◌, ◌^◌, ◌≤◌, ◌<◌, true, min, length, vec_capacity, IsSome, IfOk, OnOk, OnErr};
 ghost use Rattle.mq_count.specs.Spending.{Spends};
 ghost use Rattle.mq_sets.specs.Ascending.{IsAscending, set_of};
+ghost use Rattle.mq_table.specs.Group.{timer_at};
 ghost use Rattle.mq_table.specs.Table.{change_of};
 ghost use Rattle.mq_table.specs.Stored.{named_in, size_of};
 
@@ -18,7 +19,7 @@ use std::alloc::Global;
 
 impl<K: Key> Group<K> {
     /// Applies a record and takes no memory: the new group is written into `into`, and the sources
-    /// for which the record sends a query into `asked`, ascending; both have room for the sources
+    /// for which the record sends a query into `asked`, ascending, each of which the new group has; both have room for the sources
     /// of the group and of the record together. Answers whether the record sends a query to the
     /// group.
     pub fn apply_into(
@@ -42,6 +43,7 @@ impl<K: Key> Group<K> {
         ensures query_group { let change = change_of timing.now now self.now.state kind (named_in K.number named.now.members) in
             result ≡ change.query_group }
         ensures ascending { IsAscending K.number asked.new.items }
+        ensures held { (s : ℕ) → set_of K.number asked.new.items s ≡ true → IsSome (timer_at into.new.state s) }
         ensures room { into.old.room ≤ into.new.room }
         ensures asked_room { vec_capacity asked.old ≤ vec_capacity asked.new }
 
@@ -83,6 +85,7 @@ impl<K: Key> Group<K> {
         ensures query_group { let change = change_of timing.now now self.now.state kind (named_in K.number named.now.members) in
             IfOk result (λ c. c.query_group ≡ change.query_group) }
         ensures ascending { IfOk result (λ c. IsAscending K.number c.query.items) }
+        ensures held { IfOk result (λ c. (s : ℕ) → set_of K.number c.query.items s ≡ true → IsSome (timer_at c.group.state s)) }
         ensures memory { let change = change_of timing.now now self.now.state kind (named_in K.number named.now.members) in
             OnErr result (0 < size_of change.group) }
 

@@ -9,7 +9,8 @@ use Rattle.mq_table.specs.Examples.{default_timing, until, group_in, naming, inc
 use Rattle.mq_table.proofs.Maps.{get-by_rule, keys-from_entries, kept-from_entries}
 use Rattle.mq_table.specs.Table.{change_of}
 use Rattle.mq_table.proofs.Groups.{same_group}
-use Rattle.mq_sched.specs.Schedule.{no_schedule, source_cleared}
+use Rattle.mq_table.specs.Sendings.{source_cleared}
+use Rattle.mq_sched.specs.Schedule.{no_schedule}
 use Rattle.mq_sched.specs.Sending.{after_change}
 use Rattle.mq_sched.specs.Examples.{blocked}
 use Rattle.mq_sched.proofs.Explicit.{change_is, change_leaves}

@@ -1,12 +1,14 @@
-use Rattle.std.proofs.Common.{◌+◌, ◌∙◌, List, Result, Ok, Err, ap, refl, arith}
+use Rattle.std.proofs.Common.{◌+◌, ◌∙◌, sym, subst, IsSome, List, Result, Ok, Err, ap, refl, arith}
 use Rattle.std.specs.List.{filter_map}
 use Rattle.std.specs.Result.{OnErr}
 use Rattle.mq_sets.specs.Merging.{merged_lists}
 use Rattle.mq_table.specs.declared.rules.Rule.{Rule}
 use Rattle.mq_table.specs.declared.sources.Source.{Source}
 use Rattle.mq_table.specs.AtSource.{mode_after}
-use Rattle.mq_table.specs.Stored.{number_in, size_of}
+use Rattle.mq_table.specs.Stored.{number_in, named_in, size_of}
 use Rattle.mq_table.specs.MergedRecord.{source_made}
+use Rattle.mq_table.specs.Group.{GroupState, timer_at}
+use Rattle.mq_table.proofs.Lines.{asked_is_held}
 use Rattle.mq_table.proofs.SourceLists.{len-timers_in}
 use Rattle.mq_table.proofs.Changed.{made_ascends, asked_ascends, recorded_group, recorded_query, recorded_query_group}
 use Rattle.mq_table.proofs.group.Group.apply.Goals as goal
@@ -73,3 +75,8 @@ returns-in_err-push_changes-clause-memory g c =
     let same = recorded_group g.K.Key.number c.args.timing.now c.args.now c.self.inside.mode c.args.kind c.self.inside.v1 c.self.inside.v2 c.self.inside.sources.items c.args.named.now.members c.self.invariant up c.args.self.now.state c.after.result end (ap (λ s. s.state) c.self.view_is) (mode_after c.after.result c.self.inside.mode c.args.kind) left refl refl in
     let size = len-timers_in number left (made_ascends number rule c.self.inside.sources.items c.args.named.now.members c.self.invariant up) in
     on_error c.from_residual.result (omega (arith, some, ap size_of same, size))
+
+pub returns-clause-held : goal.returns-clause-held
+returns-clause-held g c s is_asked =
+    let P : GroupState → Type 0 = λ g. IsSome (timer_at g s) in
+    subst P (sym (returns-clause-group g c)) (asked_is_held c.args.timing.now c.args.now c.args.self.now.state c.args.kind (named_in g.K.Key.number c.args.named.now.members) s (sym (returns-clause-query g c s) ∙ is_asked))

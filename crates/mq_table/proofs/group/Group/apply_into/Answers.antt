@@ -1,10 +1,12 @@
-use Rattle.std.proofs.Common.{◌≡◌, ◌+◌, length, vec_capacity, ap, ◌∙◌, arith}
+use Rattle.std.proofs.Common.{◌≡◌, ◌+◌, length, vec_capacity, IsSome, ap, sym, subst, ◌∙◌, arith}
 use Rattle.std.specs.List.{filter_map}
 use Rattle.mq_sets.specs.Ascending.{IsAscending}
 use Rattle.mq_sets.specs.Merging.{merged_lists}
 use Rattle.mq_table.specs.Timing.{membership_interval}
-use Rattle.mq_table.specs.Stored.{number_in, size_of}
+use Rattle.mq_table.specs.Stored.{number_in, named_in, size_of}
 use Rattle.mq_table.specs.MergedRecord.{source_made, source_asked}
+use Rattle.mq_table.specs.Group.{GroupState, timer_at}
+use Rattle.mq_table.proofs.Lines.{asked_is_held}
 use Rattle.mq_table.proofs.SourceLists.{len-timers_in}
 use Rattle.mq_table.proofs.Changed.{made_ascends, asked_ascends, recorded_group, recorded_query, recorded_query_group}
 use Rattle.mq_table.proofs.group.Group.apply_into.Given.{Over}
@@ -60,3 +62,8 @@ pub returns-clause-spent : goal.returns-clause-spent
 returns-clause-spent g c =
     let size : size_of c.args.self.now.state ≡ length c.self.inside.sources.items = rw (← c.self.view_is) (len-timers_in g.K.Key.number c.self.inside.sources.items c.self.invariant) in
     rw size (rw (c.unwrap.ensures, c.as_slice-held.ensures.value, c.as_slice.ensures.members) at c.push_changes.ensures.compares)
+
+pub returns-clause-held : goal.returns-clause-held
+returns-clause-held g c s is_asked =
+    let P : GroupState → Type 0 = λ g. IsSome (timer_at g s) in
+    subst P (sym (returns-clause-group g c)) (asked_is_held c.args.timing.now c.args.now c.args.self.now.state c.args.kind (named_in g.K.Key.number c.args.named.now.members) s (sym (returns-clause-query g c s) ∙ is_asked))
