@@ -16,7 +16,7 @@ use Rattle.std.specs.FinMap.Entries.{below_all, same_entries}
 use Rattle.mq_table.specs.Maps.{with_entry, kept}
 use Rattle.mq_table.proofs.Maps.{get-kept}
 
-pub filtered : {X : Type 0} → (ℕ → X → Option X) → List (ℕ × X) → List (ℕ × X)
+abbrev pub filtered : {X : Type 0} → (ℕ → X → Option X) → List (ℕ × X) → List (ℕ × X)
 filtered f [] = []
 filtered f (e ∷ es) = with_entry e.0 (f e.0 e.1) (filtered f es)
 
@@ -37,7 +37,6 @@ below-entry x k None es here rest = rest
 below-entry x k (Some y) es here rest = both (is_lt (nat_cmp x k)) (below_all nat_cmp x es) here rest
 
 below-filtered : {X : Type 0} (x : ℕ) (f : ℕ → X → Option X) (es : List (ℕ × X)) → T (below_all nat_cmp x es) → T (below_all nat_cmp x (filtered f es))
-unfolding filtered
 below-filtered x f [] h = tt
 below-filtered x f (e ∷ es) h = below-entry x e.0 (f e.0 e.1) (filtered f es) (first (is_lt (nat_cmp x e.0)) (below_all nat_cmp x es) h) (below-filtered x f es (second (is_lt (nat_cmp x e.0)) (below_all nat_cmp x es) h))
 
@@ -46,7 +45,6 @@ sorted-entry k None es here rest = rest
 sorted-entry k (Some y) es here rest = both (below_all nat_cmp k es) (is_sorted nat_cmp es) here rest
 
 sorted-filtered : {X : Type 0} (f : ℕ → X → Option X) (es : List (ℕ × X)) → T (is_sorted nat_cmp es) → T (is_sorted nat_cmp (filtered f es))
-unfolding filtered
 sorted-filtered f [] h = tt
 sorted-filtered f (e ∷ es) h = sorted-entry e.0 (f e.0 e.1) (filtered f es) (below-filtered e.0 f es (first (below_all nat_cmp e.0 es) (is_sorted nat_cmp es) h)) (sorted-filtered f es (second (below_all nat_cmp e.0 es) (is_sorted nat_cmp es) h))
 
@@ -73,7 +71,6 @@ find-entry f e es fs q below rest (Some y) true is same = ap (λ b. cond b (Some
 find-entry f e es fs q below rest (Some y) false is same = ap (λ b. cond b (Some y) (find nat_cmp q fs)) same ∙ rest
 
 find-filtered : {X : Type 0} (f : ℕ → X → Option X) (es : List (ℕ × X)) (q : ℕ) → T (is_sorted nat_cmp es) → find nat_cmp q (filtered f es) ≡ option_and_then (f q) (find nat_cmp q es)
-unfolding filtered
 find-filtered f [] q h = refl
 find-filtered f (e ∷ es) q h = find-entry f e es (filtered f es) q (first (below_all nat_cmp e.0 es) (is_sorted nat_cmp es) h) (find-filtered f es q (second (below_all nat_cmp e.0 es) (is_sorted nat_cmp es) h)) (f e.0 e.1) (eq_by_cmp nat_cmp q e.0) refl refl
 
@@ -89,7 +86,6 @@ abbrev values_of : {X : Type 0} → List (ℕ × X) → List X
 values_of es = list_map (λ (e : ℕ × _). e.1) es
 
 sum-filtered : {X : Type 0} (w : X → ℕ) (f : ℕ → X → Option X) → ((k : ℕ) (x : X) → IfSome (f k x) (λ y. w y ≤ w x)) → (es : List (ℕ × X)) → sum_by w (values_of (filtered f es)) ≤ sum_by w (values_of es)
-unfolding filtered
 sum-filtered w f no_more [] = omega arith
 sum-filtered {X = X} w f no_more (e ∷ es) =
     let rest : sum_by w (values_of (filtered f es)) ≤ sum_by w (values_of es) = sum-filtered w f no_more es in
@@ -101,7 +97,6 @@ sum-filtered {X = X} w f no_more (e ∷ es) =
     by_value (Some y) h rest = subst (λ n. n ≤ w e.1 + sum_by w (values_of es)) (sym (sum_by-cons w y (values_of (filtered f es)))) (omega arith)
 
 length-filtered : {X : Type 0} (f : ℕ → X → Option X) (es : List (ℕ × X)) → length (filtered f es) ≤ length es
-unfolding filtered
 length-filtered f [] = omega arith
 length-filtered {X = X} f (e ∷ es) = by_value (f e.0 e.1) (length-filtered f es)
   where

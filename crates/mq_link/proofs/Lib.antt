@@ -12,6 +12,8 @@ pub mod Later
 pub mod Counting
 pub mod Outlets
 pub mod Named
+pub mod Filters
+pub mod Runs
 pub mod Known
 pub mod KnownGroups
 pub mod KnownSendings

@@ -10,7 +10,7 @@ use Rattle.mq_link.specs.Counters.{Counters, Verdict, Applied, Ignored, Refused,
 use Rattle.mq_link.specs.State.{LinkState}
 use Rattle.mq_link.specs.Tick.{Step, tick_of}
 use Rattle.mq_link.specs.Record.{OlderJoin, OlderLeave, Outcomes, stated, all_judged, alone}
-use Rattle.mq_link.specs.Receive.{Envelope, Receipt, with_outcomes, setting_of, counting_read, taken_in, taken_or_dropped, drop_reason, read_of, covered_before}
+use Rattle.mq_link.specs.Receive.{Envelope, Receipt, with_outcomes, setting_of, counting_read, taken_in, taken_or_dropped, drop_reason, read_of, pseudo_of}
 use Rattle.mq_link.specs.Run.{Event, Tick, Datagram, step_of, answer_to}
 use Rattle.mq_link.specs.Laws.{unanswered}
 
@@ -64,7 +64,7 @@ decided_alike config envelope step (Ok message) None = taken_alike config envelo
 alike_step : (config : Configuration) (event : Event) (state : LinkState) → (unanswered (step_of config event state).state ≡ unanswered (step_of config event (unanswered state)).state) × ((step_of config event state).queries ≡ (step_of config event (unanswered state)).queries) × ((step_of config event state).timing ≡ (step_of config event (unanswered state)).timing) × (answer_to config event state ≡ answer_to config event (unanswered state))
 alike_step config (Tick now) state = (refl, refl, refl, refl)
 alike_step config (Datagram envelope bytes now) state =
-    let read = read_of config.family (covered_before config.family envelope bytes) bytes in
+    let read = read_of config.family (pseudo_of config.family envelope bytes) bytes in
     let h = decided_alike config envelope (tick_of config now state) read (drop_reason config envelope read) in
     (h.state, h.queries, h.timing, ap Some h.answer)
 

@@ -6,7 +6,7 @@ use Rattle.mq_link.specs.declared.answers.Received.{Received}
 use Rattle.mq_link.specs.Configuration.{Configuration}
 use Rattle.mq_link.specs.Counters.{Verdict}
 use Rattle.mq_link.specs.Record.{Setting}
-use Rattle.mq_link.specs.Receive.{Envelope, read_of, covered_before}
+use Rattle.mq_link.specs.Receive.{Envelope, read_of, pseudo_of}
 use Rattle.mq_link.specs.Examples.{ListedGroups, ListedLink, as_groups, TicksTo, Comes, Becomes, BecomeAll}
 use Rattle.mq_link.proofs.KnownLinks.{tick_in, tick-known}
 use Rattle.mq_link.proofs.KnownRecords.{judged_known, judged-known, all_judged_known, all_judged-known}
@@ -25,12 +25,12 @@ ticks_to config now before queries after q g e l = record {
 
 -- what is computed of a datagram
 abbrev pub received : Configuration → Envelope → List ℕ → ℕ → ListedLink → KnownReceipt
-received config envelope bytes now before = receipt_known config envelope (read_of config.family (covered_before config.family envelope bytes) bytes) now before
+received config envelope bytes now before = receipt_known config envelope (read_of config.family (pseudo_of config.family envelope bytes) bytes) now before
 
 pub comes : (config : Configuration) (envelope : Envelope) (bytes : List ℕ) (now : ℕ) (before : ListedLink) (answer : Received) (queries : List SentQuery) (after : ListedLink)
     → (let r = received config envelope bytes now before in (r.answer ≡ answer) → (r.step.queries ≡ queries) → (r.step.link.groups ≡ after.groups) → (r.step.link.election ≡ after.election) → (r.step.link.last ≡ after.last) → Comes config envelope bytes now before answer queries after)
 comes config envelope bytes now before answer queries after a q g e l =
-    let is = receipt-known config envelope (read_of config.family (covered_before config.family envelope bytes) bytes) now before in
+    let is = receipt-known config envelope (read_of config.family (pseudo_of config.family envelope bytes) bytes) now before in
     record {
       answer_is = ap (λ r. r.answer) is ∙ a;
       leaves = record {

@@ -14,7 +14,7 @@ use Rattle.mq_link.specs.State.{Groups, LinkState, with_group}
 use Rattle.mq_link.specs.Tick.{Step}
 use Rattle.mq_link.specs.Record.{Outcome, Setting, changed_by, after_sending}
 use Rattle.mq_link.specs.Receive.{Receipt}
-use Rattle.mq_link.specs.Run.{Happening}
+use Rattle.mq_link.specs.Run.{Event, Happening}
 
 -- a state but for what was counted
 abbrev pub uncounted : LinkState → LinkState
@@ -95,3 +95,8 @@ would_be at group groups change = after_sending at (changed_by at group groups c
 
 abbrev pub would_leave : Setting → ℕ → Groups → GroupChange → Groups
 would_leave at group groups change = with_group groups group (would_be at group groups change)
+
+-- the events of happenings, with the outlet's answers
+abbrev pub events_of : List Happening → List (Event × List Bool)
+events_of [] = []
+events_of (h ∷ hs) = (h.event, h.answers) ∷ events_of hs

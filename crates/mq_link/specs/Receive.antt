@@ -37,9 +37,9 @@ pub record Envelope : Type 0 where
   pub alert : Bool
 
 -- what the checksum covers before the message
-abbrev pub covered_before : Family → Envelope → List ℕ → List ℕ
-covered_before Igmp envelope bytes = []
-covered_before Mld envelope bytes = pseudo_header envelope.source envelope.destination (length bytes)
+abbrev pub pseudo_of : Family → Envelope → List ℕ → List ℕ
+pseudo_of Igmp envelope bytes = []
+pseudo_of Mld envelope bytes = pseudo_header envelope.source envelope.destination (length bytes)
 
 -- what they say, where their type is listed
 abbrev pub message_in : Family → List ℕ → Option (Message ℕ)
@@ -177,5 +177,5 @@ receipt_after config envelope read tick = taken_or_dropped config envelope tick 
 -- A datagram at a moment: first what a tick does then; then it is read, and dropped, or taken.
 abbrev pub receipt_of : Configuration → Envelope → List ℕ → (now : ℕ) → LinkState → Receipt
 receipt_of config envelope bytes now state =
-    receipt_after config envelope (read_of config.family (covered_before config.family envelope bytes) bytes)
+    receipt_after config envelope (read_of config.family (pseudo_of config.family envelope bytes) bytes)
     (tick_of config now state)

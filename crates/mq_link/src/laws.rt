@@ -1,11 +1,14 @@
 //! Laws of the definitions of a link. No function here does anything: its contract is the law, for every
 //! configuration, state and event.
 
-ghost use Rattle.std.specs.Prelude.{◌≡◌, ◌↔◌, ◌<◌, ◌≤◌, ◌+◌, ◌||◌, nat_lt, ℕ, Bool, true, false, not, List, [], length, Option, Some, None, Ok};
+ghost use Rattle.std.specs.Prelude.{◌≡◌, ◌↔◌, ◌<◌, ◌≤◌, ◌+◌, ◌||◌, nat_lt, ℕ, Bool, true, false, not, List, [], length, Option, Some, None, Ok, Err};
 ghost use Rattle.std.specs.List.{count_by};
 ghost use Rattle.std.specs.FinMap as map;
 ghost use Rattle.mq_count.specs.Streams.{counted_on};
 ghost use Rattle.mq_wire.specs.declared.message.Message.{Message};
+ghost use Rattle.mq_wire.specs.declared.message.WireFault.{WireFault};
+ghost use Rattle.mq_wire.specs.Family.{Family};
+ghost use Rattle.mq_wire.specs.Spelling.{Spells, fault_of};
 ghost use Rattle.mq_wire.specs.declared.query.Query.{Query};
 ghost use Rattle.mq_wire.specs.declared.records.RecordView.{RecordView};
 ghost use Rattle.mq_table.specs.declared.kind.Kind.{Kind};
@@ -18,14 +21,14 @@ ghost use Rattle.mq_link.specs.declared.answers.DropReason.{DropReason};
 ghost use Rattle.mq_link.specs.declared.answers.Received.TheVariants.{Dropped};
 ghost use Rattle.mq_link.specs.Configuration.{Configuration, IsFaultless};
 ghost use Rattle.mq_link.specs.Counters.{Refused, is_applied};
-ghost use Rattle.mq_link.specs.State.{Groups, LinkState, IsWellFormed, link_at, sources_of, sources_in, schedules_in};
+ghost use Rattle.mq_link.specs.State.{Groups, LinkState, IsWellFormed, forwards, link_at, sources_of, sources_in, schedules_in};
 ghost use Rattle.mq_link.specs.Tick.{Step, moment_of, tick_of, next_of};
 ghost use Rattle.mq_link.specs.Record.{Setting, Statement, Seen, Stops, GoesOn, entrance, is_repeated, limit_passed, change_in, stated, judged};
 ghost use Rattle.mq_link.specs.Heard.{query_heard};
-ghost use Rattle.mq_link.specs.Receive.{Envelope, read_of, covered_before, receipt_of};
+ghost use Rattle.mq_link.specs.Receive.{Envelope, read_of, pseudo_of, receipt_of};
 ghost use Rattle.mq_link.specs.Run.{Event, Happening, answered, step_of, answer_to, HandsOut, Run};
 ghost use Rattle.mq_link.specs.Sent.{Outgoing};
-ghost use Rattle.mq_link.specs.Laws.{AllAfter, ChangesNothing, IsOnlyCounted, DifferAt, IsGivenWhere, waited, CountsAnswer, records_in, CountsRecords, unanswered, would_be, would_leave};
+ghost use Rattle.mq_link.specs.Laws.{AllAfter, ChangesNothing, IsOnlyCounted, DifferAt, IsGivenWhere, waited, CountsAnswer, records_in, CountsRecords, events_of, unanswered, would_be, would_leave};
 
 /// A link is well-formed at its start and stays so, whatever it is handed: its groups are as they may be held and
 /// within the limits, and a router that isn't querier has nothing to send.
@@ -39,6 +42,27 @@ pub fn links_keep_form_and_limits()
         → IsWellFormed config (receipt_of config envelope bytes now state).step.state }
     ensures run { (config : Configuration) (start : ℕ) (happenings : List Happening)
         → IsFaultless config → Run config start happenings → AllAfter (IsWellFormed config) happenings }
+{}
+
+/// A run is determined by its events and the outlet's answers: no two are of the same.
+pub fn one_run()
+    ensures { (config : Configuration) (start : ℕ) (a b : List Happening)
+        → Run config start a → Run config start b → events_of a ≡ events_of b → a ≡ b }
+{}
+
+/// The bytes of a datagram are read as the message that they spell, or as their fault.
+pub fn bytes_are_read_as_what_they_spell()
+    ensures message { (family : Family) (pseudo bytes : List ℕ) (message : Message ℕ)
+        → (read_of family pseudo bytes ≡ Ok message) ↔ Spells family pseudo bytes message }
+    ensures fault { (family : Family) (pseudo bytes : List ℕ) (fault : WireFault)
+        → (read_of family pseudo bytes ≡ Err fault) ↔ (fault_of family pseudo bytes ≡ Some fault) }
+{}
+
+/// What is forwarded doesn't depend on how often one ticks: a tick between leaves what the later one leaves alone.
+pub fn filters_stay_whatever_the_ticks()
+    ensures { (config : Configuration) (a b : ℕ) (state : LinkState) (group source : ℕ) → a ≤ b
+        → forwards (tick_of config b (tick_of config a state).state).state group source
+        ≡ forwards (tick_of config b state).state group source }
 {}
 
 /// A record that is refused or ignored changes no group and sends nothing; so does an older Report, a Leave or a Done.
@@ -148,7 +172,7 @@ pub fn each_datagram_is_counted_once()
         → CountsAnswer (receipt_of config envelope bytes now state).answer state.counters
         (receipt_of config envelope bytes now state).step.state.counters }
     ensures records { (config : Configuration) (envelope : Envelope) (bytes : List ℕ) (now : ℕ) (state : LinkState)
-        (message : Message ℕ) → read_of config.family (covered_before config.family envelope bytes) bytes ≡ Ok message
+        (message : Message ℕ) → read_of config.family (pseudo_of config.family envelope bytes) bytes ≡ Ok message
         → CountsRecords (records_in message) (receipt_of config envelope bytes now state).answer }
     ensures queries { (config : Configuration) (step : Step) (messages : List Outgoing) (answers : List Bool)
         (after : LinkState) → HandsOut config step messages answers after

@@ -1,7 +1,7 @@
 use Rattle.std.proofs.Common.{Ok, ap, sym, ◌∙◌, subst, length}
 use Rattle.std.proofs.lemmas.List.{length-map}
 use Rattle.mq_link.specs.Tick.{tick_of}
-use Rattle.mq_link.specs.Receive.{read_of, covered_before, drop_reason, receipt_after}
+use Rattle.mq_link.specs.Receive.{read_of, pseudo_of, drop_reason, receipt_after}
 use Rattle.mq_link.specs.Sent.{outgoing}
 use Rattle.mq_link.specs.Laws.{records_in, CountsRecords}
 use Rattle.mq_link.proofs.Counting.{decided_received, decided_counted, decided_records, two_answers}
@@ -9,12 +9,12 @@ use Rattle.mq_link.proofs.laws.each_datagram_is_counted_once.Goals as goal
 
 pub returns-clause-received : goal.returns-clause-received
 returns-clause-received c config envelope bytes now state =
-    let read = read_of config.family (covered_before config.family envelope bytes) bytes in
+    let read = read_of config.family (pseudo_of config.family envelope bytes) bytes in
     decided_received config envelope (tick_of config now state) read (drop_reason config envelope read)
 
 pub returns-clause-answer : goal.returns-clause-answer
 returns-clause-answer c config envelope bytes now state =
-    let read = read_of config.family (covered_before config.family envelope bytes) bytes in
+    let read = read_of config.family (pseudo_of config.family envelope bytes) bytes in
     decided_counted config envelope (tick_of config now state) read (drop_reason config envelope read)
 
 pub returns-clause-records : goal.returns-clause-records

@@ -2,7 +2,7 @@ use Rattle.std.proofs.Common.{ℕ, List, [], ◌∷◌, sym, subst}
 use Rattle.mq_link.specs.Configuration.{Configuration, IsFaultless}
 use Rattle.mq_link.specs.State.{LinkState, IsWellFormed, link_at}
 use Rattle.mq_link.specs.Tick.{moment_of, tick_of}
-use Rattle.mq_link.specs.Receive.{Envelope, receipt_of, read_of, covered_before}
+use Rattle.mq_link.specs.Receive.{Envelope, receipt_of, read_of, pseudo_of}
 use Rattle.mq_link.specs.Run.{Happening, Event, Tick, Datagram, step_of, RunFrom}
 use Rattle.mq_link.specs.Laws.{AllAfter}
 use Rattle.mq_link.proofs.Faultless.{timing_in_range, IsWellFormed-link_at}
@@ -15,7 +15,7 @@ after_tick config now state faultless h = IsWellFormed-tick_at config (moment_of
 
 after_datagram : (config : Configuration) (envelope : Envelope) (bytes : List ℕ) (now : ℕ) (state : LinkState) → IsFaultless config → IsWellFormed config state → IsWellFormed config (receipt_of config envelope bytes now state).step.state
 after_datagram config envelope bytes now state faultless h =
-    let before = covered_before config.family envelope bytes in
+    let before = pseudo_of config.family envelope bytes in
     IsWellFormed-receipt_after config envelope (read_of config.family before bytes) (tick_of config now state) (timing_in_range config faultless) (carried_where_read config.family before bytes) (after_tick config now state faultless h)
 
 after_event : (config : Configuration) (event : Event) (state : LinkState) → IsFaultless config → IsWellFormed config state → IsWellFormed config (step_of config event state).state
