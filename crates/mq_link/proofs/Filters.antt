@@ -175,8 +175,8 @@ unfolding bare_at
 same_filters config a b state group source before =
     sym (bare_forwards (group_at (tick_at config b (tick_at config a state).state).state.groups group).group source)
     ∙ ap (λ g. forwards_in g source) (
-        ticked_at config b (tick_at config a state).state group
-        ∙ ap (expired b) (ticked_at config a state group)
-        ∙ expired-expired (bare_at state.groups group) a b before
-        ∙ sym (ticked_at config b state group))
+    ticked_at config b (tick_at config a state).state group
+    ∙ ap (expired b) (ticked_at config a state group)
+    ∙ expired-expired (bare_at state.groups group) a b before
+    ∙ sym (ticked_at config b state group))
     ∙ bare_forwards (group_at (tick_at config b state).state.groups group).group source

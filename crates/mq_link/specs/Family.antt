@@ -39,7 +39,7 @@ is_router_address Igmp address = nat_lt 0 address && nat_lt (first_octet Igmp ad
 is_router_address Mld address = is_link_local address
 
 -- The range of groups that may be kept for source-specific multicast: 232.0.0.0/8, and ff3x::/32 for each scope x
--- (RFC 4604 section 1).
+-- (RFC 4604 section 2).
 abbrev pub in_source_specific_range : Family → ℕ → Bool
 in_source_specific_range Igmp group = first_octet Igmp group == 232
 in_source_specific_range Mld group =
