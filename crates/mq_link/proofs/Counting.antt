@@ -12,11 +12,11 @@ use Rattle.mq_link.specs.declared.answers.DropReason.{DropReason}
 use Rattle.mq_link.specs.declared.answers.Received.{Received}
 use Rattle.mq_link.specs.declared.answers.Received.TheVariants.{Taken, Dropped}
 use Rattle.mq_link.specs.Configuration.{Configuration}
-use Rattle.mq_link.specs.Counters.{Counters, Verdict, Applied, Ignored, Refused, count_dropped, count_verdict, count_verdicts, is_applied, is_ignored, is_refused}
+use Rattle.mq_link.specs.Counters.{Counters, counted_at, kind_number, Verdict, Applied, Ignored, Refused, count_dropped, count_verdict, count_verdicts, is_applied, is_ignored, is_refused}
 use Rattle.mq_link.specs.State.{Groups}
 use Rattle.mq_link.specs.Tick.{Step}
 use Rattle.mq_link.specs.Record.{Setting, OlderJoin, OlderLeave, Outcomes, stated, Seen, seen_after, judged, all_judged, alone}
-use Rattle.mq_link.specs.Receive.{Envelope, with_outcomes, setting_of, count_read, counting_read, taken_in, taken_or_dropped, reason_of_fault}
+use Rattle.mq_link.specs.Receive.{kind_of, Envelope, with_outcomes, setting_of, count_read, counting_read, taken_in, taken_or_dropped, reason_of_fault}
 use Rattle.mq_link.specs.Laws.{CountsDropped, CountsTaken, CountsAnswer, records_in, CountsRecords}
 
 -- counts of verdicts
@@ -155,3 +155,21 @@ two_answers (b ∷ answers) =
     one_or_other : (b : Bool) → cond b 1 0 + cond (not b) 1 0 ≡ 1
     one_or_other true = refl
     one_or_other false = refl
+
+-- a message that was spelled is counted as one of its kind
+verdicts_spelled : (vs : List Verdict) (c : Counters) → (count_verdicts vs c).spelled ≡ c.spelled
+verdicts_spelled [] c = refl
+verdicts_spelled (Applied ∷ vs) c = verdicts_spelled vs (count_verdict Applied c)
+verdicts_spelled (Ignored ∷ vs) c = verdicts_spelled vs (count_verdict Ignored c)
+verdicts_spelled (Refused name ∷ vs) c = verdicts_spelled vs (count_verdict (Refused name) c)
+
+taken_spelled : (config : Configuration) (envelope : Envelope) (message : Message ℕ) (step : Step) → (taken_in config envelope message step).step.state.counters.spelled ≡ step.state.counters.spelled
+unfolding taken_in
+taken_spelled config envelope (QueryMessage query) step = refl
+taken_spelled config envelope (OldReport version group) step = verdicts_spelled (alone (stated (setting_of config step.state) group (OlderJoin version) step.state.groups)).verdicts step.state.counters
+taken_spelled config envelope (LeaveMessage group) step = verdicts_spelled (alone (stated (setting_of config step.state) group OlderLeave step.state.groups)).verdicts step.state.counters
+taken_spelled config envelope (ReportMessage records) step = verdicts_spelled (all_judged (setting_of config step.state) map.empty records step.state.groups).verdicts step.state.counters
+
+pub decided_spelled : (config : Configuration) (envelope : Envelope) (step : Step) (message : Message ℕ) (by : Option DropReason) → (taken_or_dropped config envelope step (Ok message) by).step.state.counters.spelled ≡ counted_at kind_number (kind_of message) 1 step.state.counters.spelled
+decided_spelled config envelope step message (Some reason) = refl
+decided_spelled config envelope step message None = taken_spelled config envelope message (counting_read (Ok message) step)

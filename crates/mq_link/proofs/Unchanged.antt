@@ -112,6 +112,11 @@ others_heard config now source query state keeps other apart =
     others_lowered (heard config.timing config.own now source (announced_by query.version) state.election).timing now query (cond (loses_role config.own source state.election.role) (groups_cleared state.groups) state.groups) other apart
     ∙ ap (λ b. map.get (cond b (groups_cleared state.groups) state.groups) other) keeps
 
+pub others_after_loss : (config : Configuration) (now source : ℕ) (query : Query ℕ) (state : LinkState) → loses_role config.own source state.election.role ≡ true → DifferAt query.group (groups_cleared state.groups) (query_heard config now source query state).groups
+others_after_loss config now source query state loses other apart =
+    others_lowered (heard config.timing config.own now source (announced_by query.version) state.election).timing now query (cond (loses_role config.own source state.election.role) (groups_cleared state.groups) state.groups) other apart
+    ∙ ap (λ b. map.get (cond b (groups_cleared state.groups) state.groups) other) loses
+
 -- a datagram that is dropped
 not_dropped : (config : Configuration) (envelope : Envelope) (message : Message ℕ) (step : Step) (reason : DropReason) → (taken_in config envelope message step).answer ≡ Dropped reason → ⊥
 unfolding taken_in

@@ -3,11 +3,14 @@ use Rattle.std.proofs.Common.{◌≡◌, ℕ, List, [], ap, ◌∙◌}
 use Rattle.mq_wire.specs.declared.records.RecordView.{RecordView}
 use Rattle.mq_sched.specs.Sending.{SentQuery}
 use Rattle.mq_link.specs.declared.answers.Received.{Received}
+use Rattle.mq_link.specs.declared.answers.DropReason.{DropReason}
+use Rattle.mq_link.specs.declared.answers.MessageKind.{MessageKind}
+use Rattle.mq_link.specs.declared.answers.Refusal.{Refusal}
 use Rattle.mq_link.specs.Configuration.{Configuration}
 use Rattle.mq_link.specs.Counters.{Verdict}
 use Rattle.mq_link.specs.Record.{Setting}
 use Rattle.mq_link.specs.Receive.{Envelope, read_of, pseudo_of}
-use Rattle.mq_link.specs.Examples.{ListedGroups, ListedLink, as_groups, TicksTo, Comes, Becomes, BecomeAll}
+use Rattle.mq_link.specs.Examples.{ListedGroups, ListedLink, as_groups, TicksTo, Comes, Becomes, BecomeAll, CountsTo, counts_of}
 use Rattle.mq_link.proofs.KnownLinks.{tick_in, tick-known}
 use Rattle.mq_link.proofs.KnownRecords.{judged_known, judged-known, all_judged_known, all_judged-known}
 use Rattle.mq_link.proofs.KnownReceipts.{KnownReceipt, receipt_known, receipt-known}
@@ -60,3 +63,9 @@ become_all at rs before verdicts queries after v g q =
       groups = ap (λ o. o.groups) is ∙ ap as_groups g;
       queries_sent = ap (λ o. o.queries) is ∙ q;
     }
+
+pub counts_to : (config : Configuration) (envelope : Envelope) (bytes : List ℕ) (now : ℕ) (before : ListedLink) (reason : DropReason) (kind : MessageKind) (name : Refusal) (counts : List ℕ)
+    → (let r = received config envelope bytes now before in (counts_of reason kind name r.step.link.counters ≡ counts) → CountsTo config envelope bytes now before reason kind name counts)
+counts_to config envelope bytes now before reason kind name counts c = record {
+  counts_are = ap (λ r. counts_of reason kind name r.step.state.counters) (receipt-known config envelope (read_of config.family (pseudo_of config.family envelope bytes) bytes) now before) ∙ c;
+}

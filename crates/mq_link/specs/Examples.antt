@@ -1,6 +1,6 @@
 -- The words of the worked examples of a link. Groups and links are listed: each source with its timer, each group with
 -- its sources and what is due for it.
-use Rattle.std.specs.Prelude.{◌≡◌, ℕ, zero, suc, ◌+◌, ◌*◌, ◌/◌, ◌%◌, ◌^◌, Bool, true, false, List, [], ◌∷◌, ◌++◌, map as list_map, Option, None, Some}
+use Rattle.std.specs.Prelude.{◌≡◌, ℕ, zero, suc, ◌+◌, ◌-◌, ◌*◌, ◌/◌, ◌%◌, ◌^◌, Bool, true, false, List, [], ◌∷◌, ◌++◌, map as list_map, Option, None, Some}
 use Rattle.std.specs.FinMap as map
 use Rattle.mq_wire.specs.Family.{Igmp, Mld}
 use Rattle.mq_wire.specs.declared.records.RecordView.{RecordView}
@@ -17,6 +17,9 @@ use Rattle.mq_sched.specs.Election.{ElectionState, Querier, Other}
 use Rattle.mq_sched.specs.Examples.{robust}
 use Rattle.mq_link.specs.declared.configuration.Limits.{Limits}
 use Rattle.mq_link.specs.declared.answers.Received.{Received}
+use Rattle.mq_link.specs.declared.answers.DropReason.{DropReason}
+use Rattle.mq_link.specs.declared.answers.MessageKind.{MessageKind}
+use Rattle.mq_link.specs.declared.answers.Refusal.{Refusal}
 use Rattle.mq_link.specs.Configuration.{Configuration}
 use Rattle.mq_link.specs.Counters.{Counters, Verdict, no_counts}
 use Rattle.mq_link.specs.State.{Groups, LinkState}
@@ -241,3 +244,18 @@ sources_to (suc n) = sources_to n ++ suc n ∷ []
 
 abbrev pub each_as : SourceTimer → List ℕ → List (ℕ × SourceTimer)
 each_as timer sources = list_map (λ (s : ℕ). (s, timer)) sources
+
+-- A datagram leaves these counts: received; dropped, in all and for a reason; spelled of a kind; records applied, ignored
+-- and refused; refused by a name.
+abbrev pub counts_of : DropReason → MessageKind → Refusal → Counters → List ℕ
+counts_of reason kind name c =
+    c.received ∷ c.dropped ∷ c.dropped_by reason ∷ c.spelled kind ∷ c.applied ∷ c.ignored ∷ c.refused ∷ c.refused_by name ∷ []
+
+pub record CountsTo (config : Configuration) (envelope : Envelope) (bytes : List ℕ) (now : ℕ) (before : ListedLink)
+    (reason : DropReason) (kind : MessageKind) (name : Refusal) (counts : List ℕ) : Type 0 where
+  pub counts_are :
+      counts_of reason kind name (receipt_of config envelope bytes now (as_link before)).step.state.counters ≡ counts
+
+-- a link that has counted as far as it goes
+abbrev pub worn : ListedLink → ListedLink
+worn l = record l { counters = record no_counts { received = 2 ^ 64 - 1; dropped = 2 ^ 64 - 2 } }

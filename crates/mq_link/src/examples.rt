@@ -12,10 +12,11 @@ ghost use Rattle.mq_table.specs.declared.timers.SourceTimer.TheVariants.{Stopped
 ghost use Rattle.mq_table.specs.Examples.{default_timing, until};
 ghost use Rattle.mq_sched.specs.Examples.{the_group, scheduled, announced_timing};
 ghost use Rattle.mq_sched.specs.Sending.{GeneralQuery, GroupQuery, SourcesQuery};
+ghost use Rattle.mq_link.specs.Counters.{no_counts, count_answers};
 ghost use Rattle.mq_link.specs.State.{link_at};
-ghost use Rattle.mq_link.specs.Examples.{igmp, limited, source_specific_igmp, host, ipv4, from, octets, listed, listed_due, listed_v2, listed_v1, early, late, after, as_link, querier, other, TicksTo, Comes};
+ghost use Rattle.mq_link.specs.Examples.{igmp, limited, source_specific_igmp, host, ipv4, from, octets, listed, listed_due, listed_v2, listed_v1, early, late, after, as_link, querier, other, worn, TicksTo, Comes, CountsTo};
 
-use crate::answers::{DropReason, Received};
+use crate::answers::{DropReason, MessageKind, Received, Refusal};
 
 pub mod families;
 pub mod records;
@@ -257,4 +258,39 @@ pub fn a_datagram_dropped()
     // A query of a length that no version has.
     ensures length { Comes igmp (from 2) (octets 10 0x1164ee9b000000000000) 1000 (early 0 [])
         (Received.Dropped DropReason.QueryLength) [] (early 1000 []) }
+{}
+
+/// What is counted: received; dropped, in all and for a reason; spelled of a kind; records applied, ignored and refused;
+/// refused by a name. A counter that is as far as a u64 goes stays.
+pub fn what_is_counted()
+    ensures repeated { CountsTo igmp (from 1)
+        (octets 56 0x220043e80000000606000000e801010106000000e801010106000000e801010106000000e801010106000000e801010106000000e8010101)
+        2000
+        (early 1000 ((the_group, listed Include ((host 1, until 261000) ∷ [])) ∷ []))
+        DropReason.Truncated MessageKind.Report Refusal.Repeated
+        (1 ∷ 0 ∷ 0 ∷ 1 ∷ 4 ∷ 0 ∷ 2 ∷ 2 ∷ []) }
+    ensures cut { CountsTo igmp (from 1) (octets 16 0x2200effa0000000105000001e8010101) 1000 (early 0 [])
+        DropReason.Truncated MessageKind.Report Refusal.Repeated
+        (1 ∷ 1 ∷ 1 ∷ 0 ∷ 0 ∷ 0 ∷ 0 ∷ 0 ∷ []) }
+    // A query that is dropped is still one that was spelled.
+    ensures own { CountsTo igmp (from 9) (octets 12 0x1164eb5f00000000033c0000) 5000 (early 0 [])
+        DropReason.OwnOrZero MessageKind.Query Refusal.Long
+        (1 ∷ 1 ∷ 1 ∷ 1 ∷ 0 ∷ 0 ∷ 0 ∷ 0 ∷ []) }
+    ensures older { CountsTo igmp (from 2) (octets 8 0x1100eeff00000000) 5000 (early 0 [])
+        DropReason.OlderQuery MessageKind.OlderQuery Refusal.Long
+        (1 ∷ 1 ∷ 1 ∷ 1 ∷ 0 ∷ 0 ∷ 0 ∷ 0 ∷ []) }
+    ensures reported { CountsTo igmp (from 1) (octets 8 0x1600f8faef010203) 1000 (early 0 [])
+        DropReason.BadGroup MessageKind.OlderReport Refusal.Groups
+        (1 ∷ 0 ∷ 0 ∷ 1 ∷ 1 ∷ 0 ∷ 0 ∷ 0 ∷ []) }
+    ensures left { CountsTo source_specific_igmp (from 1) (octets 8 0x1700fffce8010101) 2000 (early 1000 [])
+        DropReason.BadGroup MessageKind.Leave Refusal.Groups
+        (1 ∷ 0 ∷ 0 ∷ 1 ∷ 0 ∷ 1 ∷ 0 ∷ 0 ∷ []) }
+    ensures worn_out { CountsTo igmp (from 1) (octets 16 0x2200effa0000000105000001e8010101) 1000 (worn (early 0 []))
+        DropReason.Truncated MessageKind.Report Refusal.Repeated
+        (18446744073709551615 ∷ 18446744073709551615 ∷ 1 ∷ 0 ∷ 0 ∷ 0 ∷ 0 ∷ 0 ∷ []) }
+{}
+
+/// The outlet took the first of two queries: one is sent, and one isn't.
+pub fn what_the_outlet_answered()
+    ensures { count_answers (true ∷ false ∷ []) no_counts ≡ record no_counts { sent = 1; unsent = 1 } }
 {}

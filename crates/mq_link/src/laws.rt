@@ -20,12 +20,12 @@ ghost use Rattle.mq_link.specs.declared.answers.Refusal.{Refusal};
 ghost use Rattle.mq_link.specs.declared.answers.DropReason.{DropReason};
 ghost use Rattle.mq_link.specs.declared.answers.Received.TheVariants.{Dropped};
 ghost use Rattle.mq_link.specs.Configuration.{Configuration, IsFaultless};
-ghost use Rattle.mq_link.specs.Counters.{Refused, is_applied};
+ghost use Rattle.mq_link.specs.Counters.{Refused, is_applied, counted_at, kind_number};
 ghost use Rattle.mq_link.specs.State.{Groups, LinkState, IsWellFormed, forwards, link_at, sources_of, sources_in, schedules_in};
 ghost use Rattle.mq_link.specs.Tick.{Step, moment_of, tick_of, next_of};
 ghost use Rattle.mq_link.specs.Record.{Setting, Statement, Seen, Stops, GoesOn, entrance, is_repeated, limit_passed, change_in, stated, judged};
-ghost use Rattle.mq_link.specs.Heard.{query_heard};
-ghost use Rattle.mq_link.specs.Receive.{Envelope, read_of, pseudo_of, receipt_of};
+ghost use Rattle.mq_link.specs.Heard.{groups_cleared, query_heard};
+ghost use Rattle.mq_link.specs.Receive.{Envelope, read_of, pseudo_of, kind_of, receipt_of};
 ghost use Rattle.mq_link.specs.Run.{Event, Happening, answered, step_of, answer_to, HandsOut, Run};
 ghost use Rattle.mq_link.specs.Sent.{Outgoing};
 ghost use Rattle.mq_link.specs.Laws.{AllAfter, ChangesNothing, IsOnlyCounted, DifferAt, IsGivenWhere, waited, CountsAnswer, records_in, CountsRecords, events_of, unanswered, would_be, would_leave};
@@ -108,7 +108,8 @@ pub fn other_routers_send_nothing()
         → (receipt_of config envelope bytes now state).step.queries ≡ [] }
 {}
 
-/// A record leaves every group but its own as it was, and so does a query that is heard, where the role isn't lost by it.
+/// A record leaves every group but its own as it was, and so does a query that is heard; where the role is lost by it,
+/// the others lose what was to go for them, and no more.
 pub fn other_groups_stay()
     ensures record_of { (at : Setting) (seen : Seen) (r : RecordView ℕ) (groups : Groups)
         → DifferAt r.group groups (judged at seen r groups).groups }
@@ -117,6 +118,9 @@ pub fn other_groups_stay()
     ensures query { (config : Configuration) (now source : ℕ) (query : Query ℕ) (state : LinkState)
         → loses_role config.own source state.election.role ≡ false
         → DifferAt query.group state.groups (query_heard config now source query state).groups }
+    ensures role_lost { (config : Configuration) (now source : ℕ) (query : Query ℕ) (state : LinkState)
+        → loses_role config.own source state.election.role ≡ true
+        → DifferAt query.group (groups_cleared state.groups) (query_heard config now source query state).groups }
 {}
 
 /// The name of a limit is given exactly where the groups that a record would leave pass that limit, and none before it in
@@ -162,7 +166,8 @@ pub fn other_refusals()
         → (stated at group statement groups).verdict ≡ Refused Refusal.Memory → ⊥ }
 {}
 
-/// Each datagram is counted once: as received, and as its answer says; a message that is taken has as many records applied,
+/// Each datagram is counted once: as received, as its answer says, and, where it spells a message, as one of its kind,
+/// dropped or not. A message that is taken has as many records applied,
 /// ignored and refused as it has records. Each query handed out is counted as sent or as unsent.
 pub fn each_datagram_is_counted_once()
     ensures received { (config : Configuration) (envelope : Envelope) (bytes : List ℕ) (now : ℕ) (state : LinkState)
@@ -174,6 +179,10 @@ pub fn each_datagram_is_counted_once()
     ensures records { (config : Configuration) (envelope : Envelope) (bytes : List ℕ) (now : ℕ) (state : LinkState)
         (message : Message ℕ) → read_of config.family (pseudo_of config.family envelope bytes) bytes ≡ Ok message
         → CountsRecords (records_in message) (receipt_of config envelope bytes now state).answer }
+    ensures kind { (config : Configuration) (envelope : Envelope) (bytes : List ℕ) (now : ℕ) (state : LinkState)
+        (message : Message ℕ) → read_of config.family (pseudo_of config.family envelope bytes) bytes ≡ Ok message
+        → (receipt_of config envelope bytes now state).step.state.counters.spelled
+        ≡ counted_at kind_number (kind_of message) 1 state.counters.spelled }
     ensures queries { (config : Configuration) (step : Step) (messages : List Outgoing) (answers : List Bool)
         (after : LinkState) → HandsOut config step messages answers after
         → count_by (λ b. b) answers + count_by not answers ≡ length step.queries }
