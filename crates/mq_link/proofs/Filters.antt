@@ -11,12 +11,12 @@ use Rattle.mq_table.specs.declared.timers.FilterMode.TheVariants.{Include, Exclu
 use Rattle.mq_table.specs.declared.timers.SourceTimer.{SourceTimer}
 use Rattle.mq_table.specs.declared.timers.SourceTimer.TheVariants.{Stopped, Running}
 use Rattle.mq_table.specs.Maps.{kept}
-use Rattle.mq_table.specs.Group.{GroupState, is_include, is_running, is_stopped, vacant, is_vacant, timer_at, wants, forwards_in}
+use Rattle.mq_table.specs.Group.{GroupState, is_include, vacant, is_vacant, timer_at, wants, forwards_in}
 use Rattle.mq_table.specs.Expiry.{ahead, mode_expired, at_zero, source_expired, held_or_vacant, expired}
 use Rattle.mq_table.proofs.Maps.{get-kept}
 use Rattle.mq_table.proofs.Groups.{same_sources}
 use Rattle.mq_table.proofs.Composed.{expired-expired}
-use Rattle.mq_sched.specs.Schedule.{ScheduledGroup, settled, source_cleared}
+use Rattle.mq_sched.specs.Schedule.{ScheduledGroup, source_cleared}
 use Rattle.mq_sched.specs.Sending.{is_due, source_counted, sources_counted, after_round}
 use Rattle.mq_sched.specs.Election.{ticked}
 use Rattle.mq_link.specs.Configuration.{Configuration}

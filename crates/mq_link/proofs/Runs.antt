@@ -1,17 +1,15 @@
 -- A run is determined by its events and the outlet's answers; bytes are read as what they spell.
-use Rattle.std.proofs.Common.{◌≡◌, ◌↔◌, ℕ, Bool, refl, List, [], ◌∷◌, ◌++◌, Option, None, Some, Result, Ok, Err, sym, ap, ◌∙◌, subst}
-use Rattle.std.specs.Prelude.{map as list_map}
+use Rattle.std.proofs.Common.{◌≡◌, ◌↔◌, ℕ, Bool, refl, List, [], ◌∷◌, Option, None, Some, Result, Ok, Err, sym, ap, ◌∙◌, subst}
 use Rattle.std.specs.Option.{option_map}
 use Rattle.mq_wire.specs.declared.message.Message.{Message}
 use Rattle.mq_wire.specs.declared.message.WireFault.{WireFault}
 use Rattle.mq_wire.specs.Family.{Family}
-use Rattle.mq_wire.specs.Spelling.{Spells, type_named, type_of, message_of, fault_of}
+use Rattle.mq_wire.specs.Spelling.{Spells, message_of, fault_of}
 use Rattle.mq_wire.proofs.Spelled.{no_fault, spelled}
-use Rattle.mq_link.specs.declared.answers.Received.{Received}
 use Rattle.mq_link.specs.Configuration.{Configuration}
 use Rattle.mq_link.specs.State.{LinkState}
 use Rattle.mq_link.specs.Receive.{message_in, unless_faulty, read_of}
-use Rattle.mq_link.specs.Sent.{Outgoing, outgoing_of}
+use Rattle.mq_link.specs.Sent.{outgoing_of}
 use Rattle.mq_link.specs.Run.{Event, Happening, Happens, step_of, answer_to, answered, RunFrom}
 use Rattle.mq_link.specs.Laws.{events_of}
 
