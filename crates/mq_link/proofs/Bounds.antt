@@ -13,9 +13,10 @@ use Rattle.mq_table.specs.Stored.{size_of}
 use Rattle.mq_table.specs.Expiry.{mode_expired, source_expired, ahead, expired}
 use Rattle.mq_table.specs.Lowering.{lowered_by_query, lowered_to, source_lowered}
 use Rattle.mq_table.proofs.Maps.{get-kept}
+use Rattle.mq_table.specs.Sendings.{some_source, has_sendings, source_cleared, source_counted, sendings_counted}
 use Rattle.mq_sched.specs.declared.queries.QuerySchedule.{QuerySchedule}
-use Rattle.mq_sched.specs.Schedule.{ScheduleState, ScheduledGroup, some_source, has_sendings, settled, source_cleared, cleared}
-use Rattle.mq_sched.specs.Sending.{is_due, source_counted, sources_counted, sources_due_next, group_counted, after_round}
+use Rattle.mq_sched.specs.Schedule.{ScheduleState, ScheduledGroup, settled, cleared}
+use Rattle.mq_sched.specs.Sending.{is_due, sources_due_next, group_counted, after_round}
 use Rattle.mq_link.specs.declared.configuration.Limits.{Limits}
 use Rattle.mq_link.specs.State.{Groups, unheld, sources_of, one_if, schedules_of, AreWithin}
 use Rattle.mq_link.specs.Tick.{group_expired, if_held}
@@ -76,7 +77,7 @@ counted_at_most timing now (Some q) = by_due (leb q.due now) (ltb 1 q.sendings)
     by_due true false = omega arith
     by_due false more = omega arith
 
-pub round_size : (g : GroupState) (due : Bool) → size_of (cond due (sources_counted g) g) ≤ size_of g
+pub round_size : (g : GroupState) (due : Bool) → size_of (cond due (sendings_counted g) g) ≤ size_of g
 round_size g true = len-kept (λ s timer. Some (source_counted timer)) g.sources
 round_size g false = omega arith
 
@@ -94,7 +95,7 @@ round_no_more timing now e = record {
   sources = round_size e.group (is_due now e.schedule.sources_due);
   schedules =
       let a = counted_at_most timing now e.schedule.group_query in
-      let b = round_due timing now (cond (is_due now e.schedule.sources_due) (sources_counted e.group) e.group) e.schedule.sources_due in
+      let b = round_due timing now (cond (is_due now e.schedule.sources_due) (sendings_counted e.group) e.group) e.schedule.sources_due in
       omega arith;
 }
 

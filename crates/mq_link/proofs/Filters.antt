@@ -16,8 +16,9 @@ use Rattle.mq_table.specs.Expiry.{ahead, mode_expired, at_zero, source_expired, 
 use Rattle.mq_table.proofs.Maps.{get-kept}
 use Rattle.mq_table.proofs.Groups.{same_sources}
 use Rattle.mq_table.proofs.Composed.{expired-expired}
-use Rattle.mq_sched.specs.Schedule.{ScheduledGroup, source_cleared}
-use Rattle.mq_sched.specs.Sending.{is_due, source_counted, sources_counted, after_round}
+use Rattle.mq_table.specs.Sendings.{source_cleared, source_counted, sendings_counted}
+use Rattle.mq_sched.specs.Schedule.{ScheduledGroup}
+use Rattle.mq_sched.specs.Sending.{is_due, after_round}
 use Rattle.mq_sched.specs.Election.{ticked}
 use Rattle.mq_link.specs.Configuration.{Configuration}
 use Rattle.mq_link.specs.State.{Groups, LinkState, unheld, group_at, forwards}
@@ -49,7 +50,7 @@ cleared_counted None = refl
 cleared_counted (Some Stopped) = refl
 cleared_counted (Some (Running d n)) = refl
 
-bare_counted : (g : GroupState) (due : Bool) → bare (cond due (sources_counted g) g) ≡ bare g
+bare_counted : (g : GroupState) (due : Bool) → bare (cond due (sendings_counted g) g) ≡ bare g
 bare_counted g true = λ i. record {
   mode = g.mode;
   sources = same_sources (kept clear (kept (λ s timer. Some (source_counted timer)) g.sources)) (kept clear g.sources) (λ s.

@@ -16,8 +16,9 @@ use Rattle.mq_table.specs.Expiry.{mode_expired, source_expired, ahead, expired}
 use Rattle.mq_table.specs.Lowering.{lowered_by_query, lowered_to, mode_lowered, source_lowered, sources_lowered}
 use Rattle.mq_table.proofs.Maps.{get-kept}
 use Rattle.mq_table.proofs.Held.{IsAnyGroup-expired, IsWellFormed-group_lowered, IsWellFormed-sources_lowered}
-use Rattle.mq_sched.specs.Schedule.{ScheduleState, ScheduledGroup, no_schedule, some_source, has_sendings, settled, IsScheduleOf, cleared}
-use Rattle.mq_sched.specs.Sending.{is_due, sources_counted, group_counted, sources_due_next, after_round}
+use Rattle.mq_table.specs.Sendings.{some_source, has_sendings, sendings_counted}
+use Rattle.mq_sched.specs.Schedule.{ScheduleState, ScheduledGroup, no_schedule, settled, IsScheduleOf, cleared}
+use Rattle.mq_sched.specs.Sending.{is_due, group_counted, sources_due_next, after_round}
 use Rattle.mq_sched.proofs.Fits.{fits_after_expiry, fits_after_round, fits_cleared, sendings_before}
 use Rattle.mq_sched.proofs.StayHeld.{held_after_round, held_cleared}
 use Rattle.mq_link.specs.Configuration.{Configuration}
@@ -102,7 +103,7 @@ silent_expired now group e h = elim (is_vacant (expired now e.group)) as (λ b. 
 ]
 
 -- rounds
-specific_round : (g : GroupState) (due : Bool) → IsSourceSpecific g → IsSourceSpecific (cond due (sources_counted g) g)
+specific_round : (g : GroupState) (due : Bool) → IsSourceSpecific g → IsSourceSpecific (cond due (sendings_counted g) g)
 specific_round g true h = record { include = h.include; no_v1 = h.no_v1; no_v2 = h.no_v2 }
 specific_round g false h = h
 
@@ -120,7 +121,7 @@ silent_round timing now group e h = record { schedule = ap left h.schedule }
     left : ScheduleState → ScheduleState
     left schedule = record {
       group_query = group_counted timing now schedule.group_query;
-      sources_due = cond (is_due now schedule.sources_due) (sources_due_next timing now (cond (is_due now schedule.sources_due) (sources_counted e.group) e.group)) schedule.sources_due;
+      sources_due = cond (is_due now schedule.sources_due) (sources_due_next timing now (cond (is_due now schedule.sources_due) (sendings_counted e.group) e.group)) schedule.sources_due;
     }
 
 -- the loss of the role

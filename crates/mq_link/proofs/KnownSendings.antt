@@ -13,9 +13,10 @@ use Rattle.mq_table.specs.Sets.{Set}
 use Rattle.mq_table.specs.Group.{is_include, is_ahead, deadline_of, sendings_of, group_deadline}
 use Rattle.mq_table.specs.Timing.{last_member_count}
 use Rattle.mq_table.specs.Lowering.{lowered_to, mode_lowered, source_lowered, lowered_by_query}
+use Rattle.mq_table.specs.Sendings.{source_cleared, source_asked, source_counted, sendings_counted}
 use Rattle.mq_sched.specs.declared.queries.QuerySchedule.{QuerySchedule}
-use Rattle.mq_sched.specs.Schedule.{ScheduleState, ScheduledGroup, no_schedule, source_cleared, cleared}
-use Rattle.mq_sched.specs.Sending.{SentQuery, GroupQuery, source_asked, source_counted, sources_asked, acted, after_change, is_due, group_due, sources_queries, messages_due, group_counted, sources_counted, sources_due_next, after_round}
+use Rattle.mq_sched.specs.Schedule.{ScheduleState, ScheduledGroup, no_schedule, cleared}
+use Rattle.mq_sched.specs.Sending.{SentQuery, GroupQuery, sources_asked, acted, after_change, is_due, group_due, sources_queries, messages_due, group_counted, sources_due_next, after_round}
 use Rattle.mq_link.proofs.Known.{Entries, keys-known, kept_in, kept-known}
 use Rattle.mq_link.proofs.KnownGroups.{Known, KnownChange, as_held, as_change, group_of, timer_in, ascending, any_sending, settled_in, settled-known}
 
@@ -129,7 +130,7 @@ round-known timing now k = by_due (is_due now k.schedule.sources_due)
     counted : FinMap nat_cmp SourceTimer → Option ℕ → ScheduledGroup
     counted sources due = record { group = record { mode = k.mode; sources = sources; v1 = k.v1; v2 = k.v2 }; schedule = record { group_query = q; sources_due = due } }
 
-    by_due : (due : Bool) → ◌≡◌ {A = ScheduledGroup} (let g = cond due (sources_counted (group_of k)) (group_of k) in record { group = g; schedule = record { group_query = q; sources_due = cond due (sources_due_next timing now g) k.schedule.sources_due } }) (as_held (cond due (record { mode = k.mode; sources = counted_in k; v1 = k.v1; v2 = k.v2; schedule = record { group_query = q; sources_due = next_by timing now (ascending (counted_in k)) (timer_in (counted_in k)) } }) (record { mode = k.mode; sources = k.sources; v1 = k.v1; v2 = k.v2; schedule = record { group_query = q; sources_due = k.schedule.sources_due } })))
+    by_due : (due : Bool) → ◌≡◌ {A = ScheduledGroup} (let g = cond due (sendings_counted (group_of k)) (group_of k) in record { group = g; schedule = record { group_query = q; sources_due = cond due (sources_due_next timing now g) k.schedule.sources_due } }) (as_held (cond due (record { mode = k.mode; sources = counted_in k; v1 = k.v1; v2 = k.v2; schedule = record { group_query = q; sources_due = next_by timing now (ascending (counted_in k)) (timer_in (counted_in k)) } }) (record { mode = k.mode; sources = k.sources; v1 = k.v1; v2 = k.v2; schedule = record { group_query = q; sources_due = k.schedule.sources_due } })))
     by_due true =
         ap (λ m. counted m (next_by timing now (map.keys m) (map.get m))) (kept-known (λ s timer. Some (source_counted timer)) k.sources)
         ∙ (λ i. counted (map.from_entries (counted_in k)) (next_by timing now (keys-known (counted_in k) i) (λ s. map.get-from_entries nat_cmp_total (counted_in k) s i)))

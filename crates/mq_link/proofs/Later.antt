@@ -10,8 +10,9 @@ use Rattle.mq_table.specs.Expiry.{expired}
 use Rattle.mq_table.specs.Laws.{AllAhead}
 use Rattle.mq_table.proofs.Maps.{get-kept}
 use Rattle.mq_table.proofs.Ahead.{AllAhead-expired}
+use Rattle.mq_table.specs.Sendings.{sendings_counted}
 use Rattle.mq_sched.specs.Schedule.{ScheduledGroup}
-use Rattle.mq_sched.specs.Sending.{is_due, sources_counted, after_round}
+use Rattle.mq_sched.specs.Sending.{is_due, after_round}
 use Rattle.mq_sched.specs.Election.{ElectionState, ticked, next_moment}
 use Rattle.mq_sched.proofs.Rounds.{quiet_after_round, deadlines_stay}
 use Rattle.mq_sched.proofs.Electing.{later_moment}
@@ -42,7 +43,7 @@ all_ahead : (m : ℕ) (groups : Groups) → All (λ _ e. AllAhead m e.group) (gr
 unfolding groups_expired
 all_ahead m groups = all_then (λ _ _. Unit {0}) (λ _ e. AllAhead m e.group) (λ _ e. if_held (group_expired m e)) groups (λ _ e _. ahead_expired m e) (λ _ _ _. tt)
 
-same_heads : (g : GroupState) (due : Bool) → (m : ℕ) → AllAhead m g → (let left = cond due (sources_counted g) g in IfSome (group_deadline left.mode) (λ d. m < d) × IfSome left.v1 (λ d. m < d) × IfSome left.v2 (λ d. m < d))
+same_heads : (g : GroupState) (due : Bool) → (m : ℕ) → AllAhead m g → (let left = cond due (sendings_counted g) g in IfSome (group_deadline left.mode) (λ d. m < d) × IfSome left.v1 (λ d. m < d) × IfSome left.v2 (λ d. m < d))
 same_heads g true m h = (h.group, h.v1, h.v2)
 same_heads g false m h = (h.group, h.v1, h.v2)
 

@@ -1,5 +1,5 @@
 -- Exactly where each name of a refusal is given.
-use Rattle.std.proofs.Common.{◌≡◌, ◌↔◌, ℕ, ◌≤◌, Bool, true, false, cond, ◌||◌, refl, List, [], ◌∷◌, Option, None, Some, sym, ap, ◌∙◌, arith, ltb}
+use Rattle.std.proofs.Common.{◌≡◌, ◌↔◌, ℕ, ◌≤◌, Bool, true, false, cond, ◌||◌, refl, List, [], ◌∷◌, Option, None, Some, sym, ap, ◌∙◌, arith, ltb, not, length}
 use Rattle.std.proofs.lemmas.Bool.Decides.{nat_tests}
 use Rattle.std.specs.FinMap as map
 use Rattle.std.specs.FinSet as set
@@ -12,9 +12,11 @@ use Rattle.mq_link.specs.declared.configuration.Limits.{Limits}
 use Rattle.mq_link.specs.declared.answers.Refusal.{Refusal}
 use Rattle.mq_link.specs.declared.answers.Refusal.TheVariants.{Long, Repeated, Groups as TooManyGroups, GroupSources, Sources, Scheduled, Memory}
 use Rattle.mq_link.specs.Tests.{first_named}
-use Rattle.mq_link.specs.Counters.{Refused}
+use Rattle.mq_link.specs.Family.{is_admitted}
+use Rattle.mq_link.specs.Configuration.{Configuration}
+use Rattle.mq_link.specs.Counters.{Ignored, Refused}
 use Rattle.mq_link.specs.State.{Groups, sources_of, sources_in, schedules_in}
-use Rattle.mq_link.specs.Record.{Statement, RecordOf, limit_passed, Setting, leaving, unless_passed, sent_at_once, changed_by, changed_or_refused, change_in, stated, Seen, Entrance, Stops, GoesOn, entrance, is_repeated, judged_from, judged}
+use Rattle.mq_link.specs.Record.{Statement, RecordOf, limit_passed, Setting, leaving, unless_passed, sent_at_once, changed_by, changed_or_refused, change_in, stated, Seen, Entrance, Stops, GoesOn, entrance, is_repeated, judged_from, judged, entrance_as, kind_named}
 use Rattle.mq_link.specs.Laws.{IsGivenWhere, would_be, would_leave}
 
 first_given : (a b c d : Bool) → IsGivenWhere (first_named ((TooManyGroups, a) ∷ (GroupSources, b) ∷ (Sources, c) ∷ (Scheduled, d) ∷ [])) TooManyGroups false a
@@ -105,7 +107,7 @@ unfolding stated
 stated_names at group st groups name h = changed_names at group groups (change_in at group st groups) name h
 
 -- a record that goes on is refused as one that is repeated exactly where four records met its group
-pub repeated_given : (at : Setting) (seen : Seen) (r : RecordView ℕ) (groups : Groups) (kind : Kind) → entrance at.config r ≡ GoesOn kind → ((judged at seen r groups).verdict ≡ Refused Repeated) ↔ (is_repeated groups seen r.group ≡ true)
+repeated_given : (at : Setting) (seen : Seen) (r : RecordView ℕ) (groups : Groups) (kind : Kind) → entrance at.config r ≡ GoesOn kind → ((judged at seen r groups).verdict ≡ Refused Repeated) ↔ (is_repeated groups seen r.group ≡ true)
 unfolding judged
 repeated_given at seen r groups kind is =
     let same = ap (λ e. (judged_from at seen r groups e).verdict) is in
@@ -117,7 +119,7 @@ repeated_given at seen r groups kind is =
     by_test false = (λ h. absurd ((stated_names at r.group (RecordOf kind (set.from_list r.sources)) groups Repeated h).1 refl), λ h. cc)
 
 -- a record that stops early is refused for its length alone
-pub long_given : (at : Setting) (seen : Seen) (r : RecordView ℕ) (groups : Groups) → ((judged at seen r groups).verdict ≡ Refused Long) ↔ (entrance at.config r ≡ Stops (Refused Long))
+long_given : (at : Setting) (seen : Seen) (r : RecordView ℕ) (groups : Groups) → ((judged at seen r groups).verdict ≡ Refused Long) ↔ (entrance at.config r ≡ Stops (Refused Long))
 unfolding judged
 long_given at seen r groups = by_entrance (entrance at.config r)
   where
@@ -128,3 +130,55 @@ long_given at seen r groups = by_entrance (entrance at.config r)
     by_entrance : (entered : Entrance) → ((judged_from at seen r groups entered).verdict ≡ Refused Long) ↔ (entered ≡ Stops (Refused Long))
     by_entrance (Stops verdict) = (λ h. ap Stops h, λ h. cc)
     by_entrance (GoesOn kind) = (λ h. absurd (by_test (is_repeated groups seen r.group) kind h), λ h. cc)
+
+-- what a record enters with
+enters : (config : Configuration) (r : RecordView ℕ) (kind : Kind) → kind_named r.kind ≡ Some kind → is_admitted config.family r.group ≡ true → entrance config r ≡ cond (ltb config.limits.group_sources (length r.sources)) (Stops (Refused Long)) (GoesOn kind)
+enters config r kind named admitted =
+    ap (entrance_as config r) named
+    ∙ ap (λ b. cond (not b) (Stops Ignored) (cond (ltb config.limits.group_sources (length r.sources)) (Stops (Refused Long)) (GoesOn kind))) admitted
+
+stops_if : (b : Bool) (kind : Kind) → (cond b (Stops (Refused Long)) (GoesOn kind) ≡ Stops (Refused Long)) ↔ (b ≡ true)
+stops_if true kind = (λ _. refl, λ _. refl)
+stops_if false kind = (λ h. cc, λ h. cc)
+
+pub too_long : (at : Setting) (seen : Seen) (r : RecordView ℕ) (groups : Groups) (kind : Kind) → kind_named r.kind ≡ Some kind → is_admitted at.config.family r.group ≡ true → ((judged at seen r groups).verdict ≡ Refused Long) ↔ (ltb at.config.limits.group_sources (length r.sources) ≡ true)
+too_long at seen r groups kind named admitted =
+    let e = enters at.config r kind named admitted in
+    let given = long_given at seen r groups in
+    let stops = stops_if (ltb at.config.limits.group_sources (length r.sources)) kind in
+    (λ v. stops.0 (sym e ∙ given.0 v), λ long. given.1 (e ∙ stops.1 long))
+
+pub repeats : (at : Setting) (seen : Seen) (r : RecordView ℕ) (groups : Groups) (kind : Kind) → kind_named r.kind ≡ Some kind → is_admitted at.config.family r.group ≡ true → ltb at.config.limits.group_sources (length r.sources) ≡ false → ((judged at seen r groups).verdict ≡ Refused Repeated) ↔ (is_repeated groups seen r.group ≡ true)
+repeats at seen r groups kind named admitted short = repeated_given at seen r groups kind (enters at.config r kind named admitted ∙ ap (λ b. cond b (Stops (Refused Long)) (GoesOn kind)) short)
+
+ignored_if : (at : Setting) (seen : Seen) (r : RecordView ℕ) (groups : Groups) → entrance at.config r ≡ Stops Ignored → (judged at seen r groups).verdict ≡ Ignored
+unfolding judged
+ignored_if at seen r groups is = ap (λ e. (judged_from at seen r groups e).verdict) is
+
+pub unknown_ignored : (at : Setting) (seen : Seen) (r : RecordView ℕ) (groups : Groups) → kind_named r.kind ≡ None → (judged at seen r groups).verdict ≡ Ignored
+unknown_ignored at seen r groups none = ignored_if at seen r groups (ap (entrance_as at.config r) none)
+
+pub unadmitted_ignored : (at : Setting) (seen : Seen) (r : RecordView ℕ) (groups : Groups) → is_admitted at.config.family r.group ≡ false → (judged at seen r groups).verdict ≡ Ignored
+unadmitted_ignored at seen r groups apart = ignored_if at seen r groups (by_kind (kind_named r.kind))
+  where
+    by_kind : (kind : Option Kind) → entrance_as at.config r kind ≡ Stops Ignored
+    by_kind None = refl
+    by_kind (Some kind) = ap (λ b. cond (not b) (Stops Ignored) (cond (ltb at.config.limits.group_sources (length r.sources)) (Stops (Refused Long)) (GoesOn kind))) apart
+
+-- want of memory is never named
+pub never_memory : (at : Setting) (seen : Seen) (r : RecordView ℕ) (groups : Groups) → (judged at seen r groups).verdict ≡ Refused Memory → ⊥
+unfolding judged
+never_memory at seen r groups = by_kind (kind_named r.kind)
+  where
+    goes_on : (b : Bool) (kind : Kind) → (cond b (leaving groups (Refused Repeated)) (stated at r.group (RecordOf kind (set.from_list r.sources)) groups)).verdict ≡ Refused Memory → ⊥
+    goes_on true kind h = cc
+    goes_on false kind h = (stated_names at r.group (RecordOf kind (set.from_list r.sources)) groups Memory h).2 refl
+
+    by_tests : (admitted long : Bool) (kind : Kind) → (judged_from at seen r groups (cond (not admitted) (Stops Ignored) (cond long (Stops (Refused Long)) (GoesOn kind)))).verdict ≡ Refused Memory → ⊥
+    by_tests false long kind h = cc
+    by_tests true true kind h = cc
+    by_tests true false kind h = goes_on (is_repeated groups seen r.group) kind h
+
+    by_kind : (kind : Option Kind) → (judged_from at seen r groups (entrance_as at.config r kind)).verdict ≡ Refused Memory → ⊥
+    by_kind None h = cc
+    by_kind (Some kind) h = by_tests (is_admitted at.config.family r.group) (ltb at.config.limits.group_sources (length r.sources)) kind h

@@ -19,9 +19,10 @@ use Rattle.mq_table.specs.Laws.{AllAhead}
 use Rattle.mq_table.proofs.Maps.{get-kept}
 use Rattle.mq_table.proofs.Groups.{same_sources}
 use Rattle.mq_table.proofs.Held.{get_of_empty}
+use Rattle.mq_table.specs.Sendings.{some_source, has_sendings, sendings_counted}
 use Rattle.mq_sched.specs.declared.queries.QuerySchedule.{QuerySchedule}
-use Rattle.mq_sched.specs.Schedule.{ScheduleState, ScheduledGroup, some_source, has_sendings, settled, IsScheduleOf}
-use Rattle.mq_sched.specs.Sending.{GeneralQuery, is_due, group_due, sources_counted, sources_due_next, group_counted, messages_due, after_round}
+use Rattle.mq_sched.specs.Schedule.{ScheduleState, ScheduledGroup, settled, IsScheduleOf}
+use Rattle.mq_sched.specs.Sending.{GeneralQuery, is_due, group_due, sources_due_next, group_counted, messages_due, after_round}
 use Rattle.mq_sched.specs.Election.{Role, Querier, Other, ElectionState, deadline_ended, returned, general_is_due, after_general, ticked, general_messages, next_moment}
 use Rattle.mq_sched.specs.Laws.{IsQuietAt}
 use Rattle.mq_sched.proofs.Rounds.{quiet_is_silent}
@@ -200,10 +201,10 @@ same_count timing m (Some q) h = ap (λ b. cond b (cond (ltb 1 q.sendings) (Some
 
 same_round : (timing : Timing) (m : ℕ) (e : ScheduledGroup) → IsQuietAt m e.schedule → after_round timing m e ≡ e
 same_round timing m e h = λ i. record {
-  group = cond (not_due m e.schedule.sources_due h.sources i) (sources_counted e.group) e.group;
+  group = cond (not_due m e.schedule.sources_due h.sources i) (sendings_counted e.group) e.group;
   schedule = record {
     group_query = same_count timing m e.schedule.group_query h.group i;
-    sources_due = cond (not_due m e.schedule.sources_due h.sources i) (sources_due_next timing m (cond (not_due m e.schedule.sources_due h.sources i) (sources_counted e.group) e.group)) e.schedule.sources_due;
+    sources_due = cond (not_due m e.schedule.sources_due h.sources i) (sources_due_next timing m (cond (not_due m e.schedule.sources_due h.sources i) (sendings_counted e.group) e.group)) e.schedule.sources_due;
   };
 }
 

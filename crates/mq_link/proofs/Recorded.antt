@@ -27,8 +27,9 @@ use Rattle.mq_table.specs.Table.{NamedSources, GroupChange, line, change_of}
 use Rattle.mq_table.specs.OlderHosts.{hosts_of, translated, translated_change, older_host, older_report}
 use Rattle.mq_table.specs.Lowering.{lowered_to}
 use Rattle.mq_table.proofs.Held.{IsAnyGroup-change_of, IsWellFormed-older_report}
-use Rattle.mq_sched.specs.Schedule.{ScheduleState, ScheduledGroup, no_schedule, has_sendings, settled, IsScheduleOf}
-use Rattle.mq_sched.specs.Sending.{acted, after_change, is_due, sources_counted, after_round}
+use Rattle.mq_table.specs.Sendings.{has_sendings, sendings_counted}
+use Rattle.mq_sched.specs.Schedule.{ScheduleState, ScheduledGroup, no_schedule, settled, IsScheduleOf}
+use Rattle.mq_sched.specs.Sending.{acted, after_change, is_due, after_round}
 use Rattle.mq_sched.specs.Election.{is_querier}
 use Rattle.mq_sched.proofs.Fits.{fits_after_record, fits_acted, fits_after_round}
 use Rattle.mq_sched.proofs.StayHeld.{held_acted, held_after_round}
@@ -160,11 +161,11 @@ acted_size false timing now asks query e = omega arith
 acted_size true timing now true query e = len-kept _ e.group.sources
 acted_size true timing now false query e = len-kept _ e.group.sources
 
-round_include : (g : GroupState) (due : Bool) → is_include (cond due (sources_counted g) g).mode ≡ is_include g.mode
+round_include : (g : GroupState) (due : Bool) → is_include (cond due (sendings_counted g) g).mode ≡ is_include g.mode
 round_include g true = refl
 round_include g false = refl
 
-round_v1 : (g : GroupState) (due : Bool) → ((cond due (sources_counted g) g).v1 ≡ g.v1) × ((cond due (sources_counted g) g).v2 ≡ g.v2)
+round_v1 : (g : GroupState) (due : Bool) → ((cond due (sendings_counted g) g).v1 ≡ g.v1) × ((cond due (sendings_counted g) g).v2 ≡ g.v2)
 round_v1 g true = (refl, refl)
 round_v1 g false = (refl, refl)
 
@@ -186,7 +187,7 @@ still_vacant q timing now asks query e h =
     let empty : size_of e.group ≡ 0 = eqb-true (size_of e.group) 0 (right_true (is_include e.group.mode) (eqb (size_of e.group) 0) h) in
     let asked = acted_size q timing now asks query e in
     let sent = round_size a.group (is_due now a.schedule.sources_due) in
-    vacant_from (cond (is_due now a.schedule.sources_due) (sources_counted a.group) a.group) (round_include a.group (is_due now a.schedule.sources_due) ∙ acted_include q timing now asks query e ∙ include) (omega arith)
+    vacant_from (cond (is_due now a.schedule.sources_due) (sendings_counted a.group) a.group) (round_include a.group (is_due now a.schedule.sources_due) ∙ acted_include q timing now asks query e ∙ include) (omega arith)
 
 -- what is left of a group after a change and what it sends
 pub sound_after : (config : Configuration) (group : ℕ) (q : Bool) (timing : Timing) (now : ℕ) (change : GroupChange) (schedule : ScheduleState) → 0 < timing.robustness → is_admitted config.family group ≡ true → IsSound config group schedule change → (let left = after_round timing now (after_change q timing now change schedule) in is_vacant left.group ≡ false → IsHeldAs config group left)

@@ -257,5 +257,5 @@ pub record CountsTo (config : Configuration) (envelope : Envelope) (bytes : List
       counts_of reason kind name (receipt_of config envelope bytes now (as_link before)).step.state.counters ≡ counts
 
 -- a link that has counted as far as it goes
-abbrev pub worn : ListedLink → ListedLink
-worn l = record l { counters = record no_counts { received = 2 ^ 64 - 1; dropped = 2 ^ 64 - 2 } }
+abbrev pub with_full_counters : ListedLink → ListedLink
+with_full_counters l = record l { counters = record no_counts { received = 2 ^ 64 - 1; dropped = 2 ^ 64 - 2 } }

@@ -14,7 +14,7 @@ ghost use Rattle.mq_sched.specs.Examples.{the_group, scheduled, announced_timing
 ghost use Rattle.mq_sched.specs.Sending.{GeneralQuery, GroupQuery, SourcesQuery};
 ghost use Rattle.mq_link.specs.Counters.{no_counts, count_answers};
 ghost use Rattle.mq_link.specs.State.{link_at};
-ghost use Rattle.mq_link.specs.Examples.{igmp, limited, source_specific_igmp, host, ipv4, from, octets, listed, listed_due, listed_v2, listed_v1, early, late, after, as_link, querier, other, worn, TicksTo, Comes, CountsTo};
+ghost use Rattle.mq_link.specs.Examples.{igmp, limited, source_specific_igmp, host, ipv4, from, octets, listed, listed_due, listed_v2, listed_v1, early, late, after, as_link, querier, other, with_full_counters, TicksTo, Comes, CountsTo};
 
 use crate::answers::{DropReason, MessageKind, Received, Refusal};
 
@@ -285,7 +285,7 @@ pub fn what_is_counted()
     ensures left { CountsTo source_specific_igmp (from 1) (octets 8 0x1700fffce8010101) 2000 (early 1000 [])
         DropReason.BadGroup MessageKind.Leave Refusal.Groups
         (1 ∷ 0 ∷ 0 ∷ 1 ∷ 0 ∷ 1 ∷ 0 ∷ 0 ∷ []) }
-    ensures worn_out { CountsTo igmp (from 1) (octets 16 0x2200effa0000000105000001e8010101) 1000 (worn (early 0 []))
+    ensures full { CountsTo igmp (from 1) (octets 16 0x2200effa0000000105000001e8010101) 1000 (with_full_counters (early 0 []))
         DropReason.Truncated MessageKind.Report Refusal.Repeated
         (18446744073709551615 ∷ 18446744073709551615 ∷ 1 ∷ 0 ∷ 0 ∷ 0 ∷ 0 ∷ 0 ∷ []) }
 {}

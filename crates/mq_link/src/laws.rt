@@ -1,7 +1,7 @@
 //! Laws of the definitions of a link. No function here does anything: its contract is the law, for every
 //! configuration, state and event.
 
-ghost use Rattle.std.specs.Prelude.{◌≡◌, ◌↔◌, ◌<◌, ◌≤◌, ◌+◌, ◌||◌, nat_lt, ℕ, Bool, true, false, not, List, [], length, Option, Some, None, Ok, Err};
+ghost use Rattle.std.specs.Prelude.{◌≡◌, ◌↔◌, ◌<◌, ◌≤◌, ◌+◌, ◌&&◌, ◌||◌, nat_lt, nat_le, ℕ, Bool, true, false, not, List, [], length, Option, Some, None, Ok, Err};
 ghost use Rattle.std.specs.List.{count_by};
 ghost use Rattle.std.specs.FinMap as map;
 ghost use Rattle.mq_count.specs.Streams.{counted_on};
@@ -19,11 +19,12 @@ ghost use Rattle.mq_link.specs.declared.configuration.Limits.{Limits};
 ghost use Rattle.mq_link.specs.declared.answers.Refusal.{Refusal};
 ghost use Rattle.mq_link.specs.declared.answers.DropReason.{DropReason};
 ghost use Rattle.mq_link.specs.declared.answers.Received.TheVariants.{Dropped};
+ghost use Rattle.mq_link.specs.Family.{is_admitted};
 ghost use Rattle.mq_link.specs.Configuration.{Configuration, IsFaultless};
-ghost use Rattle.mq_link.specs.Counters.{Refused, is_applied, counted_at, kind_number};
+ghost use Rattle.mq_link.specs.Counters.{Ignored, Refused, is_applied, counted_at, kind_number};
 ghost use Rattle.mq_link.specs.State.{Groups, LinkState, IsWellFormed, forwards, link_at, sources_of, sources_in, schedules_in};
 ghost use Rattle.mq_link.specs.Tick.{Step, moment_of, tick_of, next_of};
-ghost use Rattle.mq_link.specs.Record.{Setting, Statement, Seen, Stops, GoesOn, entrance, is_repeated, limit_passed, change_in, stated, judged};
+ghost use Rattle.mq_link.specs.Record.{Setting, Statement, Seen, met, kind_named, limit_passed, change_in, stated, judged};
 ghost use Rattle.mq_link.specs.Heard.{groups_cleared, query_heard};
 ghost use Rattle.mq_link.specs.Receive.{Envelope, read_of, pseudo_of, kind_of, receipt_of};
 ghost use Rattle.mq_link.specs.Run.{Event, Happening, answered, step_of, answer_to, HandsOut, Run};
@@ -153,15 +154,25 @@ pub fn limits_are_named_in_their_order()
         → limit_passed limits groups changed ≡ None }
 {}
 
-/// A record is too long exactly where it names more sources than a group may have, and is for a group that is admitted; it
-/// is repeated exactly where four records met its group, which is held. Memory is never named.
+/// A record of an unknown type or for a group that isn't admitted is ignored. Of the others one is too long exactly where
+/// it names more sources than a group may have, and one that isn't is repeated exactly where four records of its datagram
+/// met its group, which is held. Memory is never named.
 pub fn other_refusals()
-    ensures long { (at : Setting) (seen : Seen) (r : RecordView ℕ) (groups : Groups)
+    ensures unknown { (at : Setting) (seen : Seen) (r : RecordView ℕ) (groups : Groups)
+        → kind_named r.kind ≡ None → (judged at seen r groups).verdict ≡ Ignored }
+    ensures not_admitted { (at : Setting) (seen : Seen) (r : RecordView ℕ) (groups : Groups)
+        → is_admitted at.config.family r.group ≡ false → (judged at seen r groups).verdict ≡ Ignored }
+    ensures long { (at : Setting) (seen : Seen) (r : RecordView ℕ) (groups : Groups) (kind : Kind)
+        → kind_named r.kind ≡ Some kind → is_admitted at.config.family r.group ≡ true
         → ((judged at seen r groups).verdict ≡ Refused Refusal.Long)
-        ↔ (entrance at.config r ≡ Stops (Refused Refusal.Long)) }
+        ↔ (nat_lt at.config.limits.group_sources (length r.sources) ≡ true) }
     ensures repeated { (at : Setting) (seen : Seen) (r : RecordView ℕ) (groups : Groups) (kind : Kind)
-        → entrance at.config r ≡ GoesOn kind
-        → ((judged at seen r groups).verdict ≡ Refused Refusal.Repeated) ↔ (is_repeated groups seen r.group ≡ true) }
+        → kind_named r.kind ≡ Some kind → is_admitted at.config.family r.group ≡ true
+        → nat_lt at.config.limits.group_sources (length r.sources) ≡ false
+        → ((judged at seen r groups).verdict ≡ Refused Refusal.Repeated)
+        ↔ ((map.contains_key groups r.group && nat_le 4 (met seen r.group)) ≡ true) }
+    ensures no_memory { (at : Setting) (seen : Seen) (r : RecordView ℕ) (groups : Groups)
+        → (judged at seen r groups).verdict ≡ Refused Refusal.Memory → ⊥ }
     ensures memory { (at : Setting) (group : ℕ) (statement : Statement) (groups : Groups)
         → (stated at group statement groups).verdict ≡ Refused Refusal.Memory → ⊥ }
 {}

@@ -28,6 +28,6 @@ pub returns-clause-left : goal.returns-clause-left
 unfolding read_of fault_of
 returns-clause-left c = counts_to _ _ _ _ _ _ _ _ _ refl
 
-pub returns-clause-worn_out : goal.returns-clause-worn_out
+pub returns-clause-full : goal.returns-clause-full
 unfolding read_of fault_of
-returns-clause-worn_out c = counts_to _ _ _ _ _ _ _ _ _ refl
+returns-clause-full c = counts_to _ _ _ _ _ _ _ _ _ refl
