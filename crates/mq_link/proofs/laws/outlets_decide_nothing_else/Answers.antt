@@ -1,0 +1,14 @@
+use Rattle.mq_link.proofs.Outlets.{same_step}
+use Rattle.mq_link.proofs.laws.outlets_decide_nothing_else.Goals as goal
+
+pub returns-clause-state : goal.returns-clause-state
+returns-clause-state c config event a b is = (same_step config event a b is).0
+
+pub returns-clause-queries : goal.returns-clause-queries
+returns-clause-queries c config event a b is = (same_step config event a b is).1
+
+pub returns-clause-timing : goal.returns-clause-timing
+returns-clause-timing c config event a b is = (same_step config event a b is).2
+
+pub returns-clause-answer : goal.returns-clause-answer
+returns-clause-answer c config event a b is = (same_step config event a b is).3

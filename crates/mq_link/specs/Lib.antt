@@ -1,0 +1,14 @@
+pub mod Tests
+pub mod Family
+pub mod Configuration
+pub mod Counters
+pub mod State
+pub mod Tick
+pub mod Record
+pub mod Heard
+pub mod Receive
+pub mod Sent
+pub mod Run
+pub mod Cost
+pub mod Laws
+pub mod Examples

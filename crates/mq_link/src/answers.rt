@@ -1,0 +1,77 @@
+//! What becomes of datagrams and their records.
+
+/// What became of a datagram.
+#[derive(Clone, Copy, Debug, PartialEq, Eq)]
+pub enum Received {
+    /// It was taken: so many of its records were applied, ignored and refused. An older Report, a
+    /// Leave or a Done counts as one record, a query has none.
+    Taken {
+        /// How many records were applied, also where they changed nothing.
+        applied: u32,
+        /// How many say nothing for this link.
+        ignored: u32,
+        /// How many were refused, each for a limit that it met.
+        refused: u32,
+    },
+    /// It was dropped, for the reason of the lowest number that holds.
+    Dropped(DropReason),
+}
+
+/// Why a datagram is dropped, in the order of their numbers, 1 to 10.
+#[derive(Clone, Copy, Debug, PartialEq, Eq)]
+pub enum DropReason {
+    /// A field isn't whole.
+    Truncated,
+    /// The checksum is wrong.
+    Checksum,
+    /// The type is none that is listed.
+    UnknownType,
+    /// A query has a length that no version has.
+    QueryLength,
+    /// MLD: the source isn't a link-local address (RFC 3810 sections 5.1.14 and 5.2.13).
+    BadSource,
+    /// MLD: the hop limit isn't 1 (RFC 3810 section 7.4).
+    HopLimit,
+    /// MLD: the packet has no Router Alert option (RFC 3810 section 7.4).
+    NoAlert,
+    /// A query from the router's own address, or in IGMP from 0.0.0.0.
+    OwnOrZero,
+    /// A query of IGMPv1, whose routers elect no querier.
+    OlderQuery,
+    /// An older Report, a Leave or a Done for a group that isn't admitted.
+    BadGroup,
+}
+
+/// Why a record is refused, in the order of their numbers, 1 to 7.
+#[derive(Clone, Copy, Debug, PartialEq, Eq)]
+pub enum Refusal {
+    /// It names more sources than a group may have.
+    Long,
+    /// Four records of its datagram have met its group, which is held.
+    Repeated,
+    /// There would be more groups than the limit.
+    Groups,
+    /// Its group would have more sources than the limit.
+    GroupSources,
+    /// There would be more sources in all than the limit.
+    Sources,
+    /// There would be more schedules of specific queries than the limit.
+    Scheduled,
+    /// Memory ran out. All storage is reserved at the start, so it is never answered.
+    Memory,
+}
+
+/// What a datagram spells, as it is counted, dropped ones included.
+#[derive(Clone, Copy, Debug, PartialEq, Eq)]
+pub enum MessageKind {
+    /// A query of IGMPv3 or MLDv2.
+    Query,
+    /// A query of an older version.
+    OlderQuery,
+    /// A Report of an older version.
+    OlderReport,
+    /// A Leave or a Done.
+    Leave,
+    /// A Report of IGMPv3 or MLDv2.
+    Report,
+}

@@ -1,0 +1,49 @@
+//! What a link is configured with.
+
+/// How much a link may hold at most.
+#[derive(Clone, Copy, Debug, PartialEq, Eq)]
+pub struct Limits {
+    /// How many groups, from 1 to 65535.
+    pub groups: u32,
+    /// How many sources a group may have, from 1 to 1024.
+    pub group_sources: u32,
+    /// How many sources all groups may have together, from 1 to 65535.
+    pub sources: u32,
+    /// How many schedules of specific queries there may be, from 1 to 65535. A group has two at most: one
+    /// for itself, and one for its sources.
+    pub scheduled: u32,
+}
+
+/// The name of a limit.
+#[derive(Clone, Copy, Debug, PartialEq, Eq)]
+pub enum LimitName {
+    /// `groups`.
+    Groups,
+    /// `group_sources`.
+    GroupSources,
+    /// `sources`.
+    Sources,
+    /// `scheduled`.
+    Scheduled,
+}
+
+/// Why a configuration may not be: the first of these that holds.
+#[derive(Clone, Copy, Debug, PartialEq, Eq)]
+pub enum ConfigFault {
+    /// The robustness variable is outside of 1 to 7.
+    Robustness,
+    /// The query interval is outside of 1 to 31744 seconds.
+    QueryInterval,
+    /// The query response interval is below one unit of its code, not below the query interval, or above the
+    /// greatest value of the code.
+    ResponseInterval,
+    /// The last member query interval is below one unit of its code or above the greatest value of the code.
+    LastMember,
+    /// A limit is out of its range.
+    Limit {
+        /// The first such limit.
+        which: LimitName,
+    },
+    /// The router's own address is none that it may send queries from.
+    OwnAddress,
+}
