@@ -12,9 +12,9 @@ all: bin/mquerier
 bin/mquerier: $(SOURCES)
 	@tools/build $(FIRST_PATH)
 
-# The line of one message.
+# The listing of a capture.
 run: bin/mquerier
-	@bin/mquerier $(FIRST_PATH)
+	@bin/mquerier show < samples/igmp.pcap
 
 # The whole gate. Its last line counts what passed.
 test:

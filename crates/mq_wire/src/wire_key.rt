@@ -33,6 +33,11 @@ pub trait WireKey: Key {
     ghost has_bytes: { 0 < WIDTH };
 
     ghost few_bytes: { WIDTH ≤ 16 };
+
+    // A query holds a source at least, and no more than 366.
+    ghost some_sources: { 0 < PER_QUERY };
+
+    ghost few_sources: { PER_QUERY ≤ 366 };
 }
 
 impl WireKey for Addr4 {
@@ -45,6 +50,10 @@ impl WireKey for Addr4 {
     ghost has_bytes = { lit< tt };
 
     ghost few_bytes = { lit≤ tt };
+
+    ghost some_sources = { lit< tt };
+
+    ghost few_sources = { lit≤ tt };
 
     const PER_QUERY: usize = 366;
 
@@ -67,6 +76,10 @@ impl WireKey for Addr6 {
     ghost has_bytes = { lit< tt };
 
     ghost few_bytes = { lit≤ tt };
+
+    ghost some_sources = { lit< tt };
+
+    ghost few_sources = { lit≤ tt };
 
     const PER_QUERY: usize = 89;
 
