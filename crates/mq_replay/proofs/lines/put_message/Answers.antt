@@ -23,3 +23,7 @@ pub returns-in-Report-clause-text : goal.returns-in-Report-clause-text
 returns-in-Report-clause-text g c =
     let head = report_head g.K.LineKey.family (length c.in-Report.records) in
     rw c.in-Report.is (then_put _ _ _ _ _ _ head _ _ (held_more _ _ _ _ _ [] head c.in_ok-make_room.ensures.text (c.put_report_head.ensures ∙ ap (λ (n : ℕ). c.make_room.new.buffer.items ++ report_head g.K.LineKey.family n) c.len.ensures)) c.put_records.ensures.text)
+
+pub returns-in-OldReport-clause-text : goal.returns-in-OldReport-clause-text
+returns-in-OldReport-clause-text g c =
+    rw c.in-OldReport.is (held_more _ _ _ _ _ [] _ c.in_ok-make_room.ensures.text c.put_older_report.ensures)
