@@ -1,25 +1,22 @@
 //! Text on its way to a writer.
 
 ghost use Rattle.std.specs.Prelude.{◌≡◌, ◌≤◌, ◌+◌, ◌++◌, ◌||◌, [], IfOk, is_err, length};
-ghost use Rattle.std.specs.Fmt.{decimal};
 ghost use Rattle.arrayvec.specs.ArrayVec.{array_vec_len};
 ghost use Rattle.mq_count.specs.Streams.{inner_of, has_failed};
 ghost use Rattle.mq_replay.specs.Printing.{Puts};
 
 use crate::printing::{LineFault, print};
-use arrayvec::ArrayVec;
 use mq_count::Watched;
+use mq_text::Text;
+pub(crate) use mq_text::{put, put_decimal};
 use std::io::Write;
-
-/// How many bytes a buffer holds.
-const BUFFER: usize = 4096;
 
 /// The most bytes that are put into a buffer between two calls of `make_room`. The longest piece is the
 /// beginning of a record's line up to the first source of its message, with no more than 250.
 const PIECE: usize = 256;
 
 /// Text that is put together and then written at once.
-pub(crate) type Buffer = ArrayVec<u8, BUFFER>;
+pub(crate) type Buffer = Text;
 
 /// Writes what the buffer holds, where it hasn't room for a piece.
 pub(crate) fn make_room<W: Write>(
@@ -45,36 +42,4 @@ pub(crate) fn flush<W: Write>(buffer: &mut Buffer, writer: &mut Watched<W>) -> R
     print(buffer.as_slice(), writer)?;
     buffer.clear();
     Ok(())
-}
-
-/// Puts a number at the end, in decimal.
-pub(crate) fn put_decimal(buffer: &mut Buffer, number: u64)
-    requires { array_vec_len buffer.old + 20 ≤ 4096 }
-    ensures text { buffer.new.items ≡ buffer.old.items ++ decimal number }
-    ensures room { array_vec_len buffer.new ≤ array_vec_len buffer.old + 20 }
-{
-    put_digits(buffer, number);
-}
-
-/// Puts the digits of a number at the end.
-fn put_digits(buffer: &mut Buffer, number: u64)
-    requires { array_vec_len buffer.old + length (decimal number) ≤ 4096 }
-    ensures text { buffer.new.items ≡ buffer.old.items ++ decimal number }
-    ensures room { array_vec_len buffer.new ≡ array_vec_len buffer.old + length (decimal number) }
-{
-    if number < 10 {
-        buffer.push(b'0' + number as u8);
-        return;
-    }
-    put_digits(buffer, number / 10);
-    buffer.push(b'0' + (number % 10) as u8);
-}
-
-/// Puts a text at the end.
-pub(crate) fn put(buffer: &mut Buffer, text: &[u8])
-    requires { array_vec_len buffer.old + length text.now ≤ 4096 }
-    ensures text { buffer.new.items ≡ buffer.old.items ++ text.now }
-    ensures room { array_vec_len buffer.new ≡ array_vec_len buffer.old + length text.now }
-{
-    buffer.try_extend_from_slice(text).unwrap()
 }

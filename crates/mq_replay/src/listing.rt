@@ -194,7 +194,7 @@ fn put_said<W: Write>(
 
 /// Puts the source of a packet with a message, and the message's protocol.
 fn put_sender<K: LineKey>(buffer: &mut Buffer, source: K, protocol: &[u8])
-    requires { array_vec_len buffer.old + 39 + length protocol.now ≤ 4096 }
+    requires { array_vec_len buffer.old + 40 + length protocol.now ≤ 4096 }
     ensures { buffer.new.items ≡ buffer.old.items ++ (address_text K.family (K.number source) ++ protocol.now) }
 {
     put_address(buffer, source);

@@ -63,7 +63,7 @@ fn number_of(version: OlderVersion) -> u8
 
 /// Puts a source at the end, after a space.
 pub(crate) fn put_source<K: LineKey>(buffer: &mut Buffer, source: K)
-    requires { array_vec_len buffer.old + 40 ≤ 4096 }
+    requires { array_vec_len buffer.old + 41 ≤ 4096 }
     ensures { buffer.new.items ≡ buffer.old.items ++ spec.source_text K.family (K.number source) }
 {
     put(buffer, b" ");
@@ -178,9 +178,9 @@ fn put_fields<K: LineKey>(buffer: &mut Buffer, fields: &QuerierFields<'_, K>)
 
 /// Puts an address at the end.
 pub(crate) fn put_address<K: LineKey>(buffer: &mut Buffer, address: K)
-    requires { array_vec_len buffer.old + 39 ≤ 4096 }
+    requires { array_vec_len buffer.old + 40 ≤ 4096 }
     ensures text { buffer.new.items ≡ buffer.old.items ++ address_text K.family (K.number address) }
-    ensures room { array_vec_len buffer.new ≤ array_vec_len buffer.old + 39 }
+    ensures room { array_vec_len buffer.new ≤ array_vec_len buffer.old + 40 }
 {
-    put(buffer, address.text().as_slice());
+    address.put(buffer);
 }

@@ -1,48 +1,57 @@
 //! The text of an IPv4 address.
 
-ghost use Rattle.std.specs.Prelude.{◌≡◌, ◌≤◌, ◌+◌, ◌++◌, length};
+ghost use Rattle.std.specs.Prelude.{◌≡◌, ◌≤◌, ◌<◌, ◌+◌, ◌++◌};
 ghost use Rattle.std.specs.Fmt.{decimal};
 ghost use Rattle.arrayvec.specs.ArrayVec.{array_vec_len};
-ghost use Rattle.mq_text.specs.AddressV4.{v4_text as spec};
+ghost use Rattle.mq_text.specs.AddressV4.{v4_text};
 
-use crate::address_text::{AddressText, put};
+use crate::text::{Text, put};
 use mq_count::Addr4;
 
-/// An IPv4 address as four decimal numbers, as `10.0.0.1`.
-pub fn v4_text(address: Addr4) -> AddressText
-    ensures { result.items ≡ spec address }
+/// Puts an IPv4 address at the end, as four decimal numbers with dots between them.
+pub fn put_v4(text: &mut Text, address: Addr4)
+    requires { array_vec_len text.old + 15 ≤ 4096 }
+    ensures text { text.new.items ≡ text.old.items ++ v4_text address }
+    ensures room { array_vec_len text.new ≤ array_vec_len text.old + 15 }
 {
-    let mut text = AddressText::new();
     let [a, b, c, d] = address.octets();
-    put_octet(&mut text, a);
-    put(&mut text, b".");
-    put_octet(&mut text, b);
-    put(&mut text, b".");
-    put_octet(&mut text, c);
-    put(&mut text, b".");
-    put_octet(&mut text, d);
-    text
+    put_octet(text, a);
+    put(text, b".");
+    put_octet(text, b);
+    put(text, b".");
+    put_octet(text, c);
+    put(text, b".");
+    put_octet(text, d);
 }
 
 /// Puts an octet at the end, in decimal.
-fn put_octet(text: &mut AddressText, octet: u8)
-    requires { array_vec_len text.old + 3 ≤ 39 }
+fn put_octet(text: &mut Text, octet: u8)
+    requires { array_vec_len text.old + 3 ≤ 4096 }
     ensures text { text.new.items ≡ text.old.items ++ decimal octet }
     ensures room { array_vec_len text.new ≤ array_vec_len text.old + 3 }
 {
-    put_digits(text, octet);
-}
-
-/// Puts the digits of an octet at the end.
-fn put_digits(text: &mut AddressText, octet: u8)
-    requires { array_vec_len text.old + length (decimal octet) ≤ 39 }
-    ensures text { text.new.items ≡ text.old.items ++ decimal octet }
-    ensures room { array_vec_len text.new ≡ array_vec_len text.old + length (decimal octet) }
-{
     if octet < 10 {
-        text.push(b'0' + octet);
+        put(text, &[digit(octet)]);
         return;
     }
-    put_digits(text, octet / 10);
-    text.push(b'0' + octet % 10);
+    if octet < 100 {
+        put(text, &[digit(octet / 10), digit(octet % 10)]);
+        return;
+    }
+    put(
+        text,
+        &[
+            digit(octet / 100),
+            digit(octet / 10 % 10),
+            digit(octet % 10),
+        ],
+    );
+}
+
+/// The digit of a number below 10.
+fn digit(number: u8) -> u8
+    requires { number < 10 }
+    ensures { result ≡ 48 + number }
+{
+    b'0' + number
 }

@@ -3,10 +3,10 @@
 ghost use Rattle.std.specs.Prelude.{◌≡◌, ◌≤◌, ◌<◌, ◌+◌, ◌*◌, ◌++◌, false, drop, length};
 ghost use Rattle.std.specs.Fmt.{digit_glyph};
 ghost use Rattle.arrayvec.specs.ArrayVec.{array_vec_len};
-ghost use Rattle.mq_text.specs.AddressV6.{groups_of, hexadecimal, four_digits, with_colons, shortened, v6_text as spec};
+ghost use Rattle.mq_text.specs.AddressV6.{groups_of, hexadecimal, four_digits, with_colons, shortened, v6_text};
 ghost use Rattle.mq_text.specs.AddressV6 as words;
 
-use crate::address_text::{AddressText, put};
+use crate::text::{Text, put};
 use mq_count::Addr6;
 
 /// Consecutive groups of an address: the place of the first, and how many they are.
@@ -16,23 +16,23 @@ struct Run {
     count: usize,
 }
 
-/// An IPv6 address as groups of 16 bits in lower-case hexadecimal with colons between them; the longest run of
-/// two or more zero groups, the first of those that are as long, is `::`.
+/// Puts an IPv6 address at the end, as groups of 16 bits in lower-case hexadecimal with colons between them; the
+/// longest run of two or more zero groups, the first of those that are as long, is `::`.
 #[tactic(auto, unfolding(crate::specs::AddressV6::shortened))]
-pub fn v6_text(address: Addr6) -> AddressText
-    ensures { result.items ≡ spec address }
+pub fn put_v6(text: &mut Text, address: Addr6)
+    requires { array_vec_len text.old + 40 ≤ 4096 }
+    ensures text { text.new.items ≡ text.old.items ++ v6_text address }
+    ensures room { array_vec_len text.new ≤ array_vec_len text.old + 40 }
 {
     let groups = groups(address);
     let run = longest_zeros(&groups);
-    let mut text = AddressText::new();
     if run.count < 2 {
-        put_groups(&mut text, &groups);
-    } else {
-        put_groups(&mut text, &groups[..run.place]);
-        put(&mut text, b"::");
-        put_groups(&mut text, &groups[run.place + run.count..]);
+        put_groups(text, &groups);
+        return;
     }
-    text
+    put_groups(text, &groups[..run.place]);
+    put(text, b"::");
+    put_groups(text, &groups[run.place + run.count..]);
 }
 
 /// The eight groups of an address.
@@ -81,8 +81,8 @@ fn longest_zeros(groups: &[u16; 8]) -> Run
 }
 
 /// Puts groups at the end, with colons between them.
-fn put_groups(text: &mut AddressText, groups: &[u16])
-    requires { array_vec_len text.old + 5 * length groups.now ≤ 40 }
+fn put_groups(text: &mut Text, groups: &[u16])
+    requires { array_vec_len text.old + 5 * length groups.now ≤ 4096 }
     ensures text { text.new.items ≡ text.old.items ++ with_colons groups.now }
     ensures room { array_vec_len text.new ≤ array_vec_len text.old + 5 * length groups.now }
 {
@@ -97,8 +97,8 @@ fn put_groups(text: &mut AddressText, groups: &[u16])
 }
 
 /// Puts a number at the end, in lower-case hexadecimal.
-fn put_hexadecimal(text: &mut AddressText, number: u16)
-    requires { array_vec_len text.old + 4 ≤ 39 }
+fn put_hexadecimal(text: &mut Text, number: u16)
+    requires { array_vec_len text.old + 4 ≤ 4096 }
     ensures text { text.new.items ≡ text.old.items ++ hexadecimal number }
     ensures room { array_vec_len text.new ≤ array_vec_len text.old + 4 }
 {

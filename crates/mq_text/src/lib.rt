@@ -1,21 +1,23 @@
 //! Addresses as texts, of both families.
 //!
 //! ```text
-//! v4_text(Addr4::from_octets([239, 1, 2, 3])).as_slice()    // b"239.1.2.3"
-//! v6_text(address).as_slice()                               // b"ff0e::1234"
+//! let mut text = Text::new();
+//! put_v4(&mut text, Addr4::from_octets([239, 1, 2, 3]));    // b"239.1.2.3"
+//! put_v6(&mut text, address);                               // and behind it b"ff0e::1234"
 //! ```
 //!
-//! - To write: `v4_text` and `v6_text`, without memory.
+//! - To write at the end of a `Text`, without memory: `put_v4`, `put_v6`, `put_decimal` and `put`.
+//! - To read: `read_v4` and `read_v6`.
 //! - Laws, functions that do nothing: `laws`.
 #![tactic(auto)]
 
-mod address_text;
 mod address_v4;
 mod address_v6;
 pub mod laws;
 mod reading;
+mod text;
 
-pub use address_text::AddressText;
-pub use address_v4::v4_text;
-pub use address_v6::v6_text;
+pub use address_v4::put_v4;
+pub use address_v6::put_v6;
 pub use reading::{read_v4, read_v6};
+pub use text::{Text, put, put_decimal};

@@ -1,7 +1,7 @@
 use Rattle.std.proofs.Common.{◌++◌, List, ℕ, ap, sym, ◌∙◌, arith}
 use Rattle.std.proofs.lemmas.Fmt.{decimal_digit}
 use Rattle.mq_text.proofs.Digits.{length_digit, length_step, next_digit}
-use Rattle.mq_replay.proofs.buffer.+put_digits.Goals as goal
+use Rattle.mq_text.proofs.text.+put_digits.Goals as goal
 
 pub push-requires : goal.push-requires
 push-requires t c =
@@ -9,7 +9,7 @@ push-requires t c =
 
 pub returns-then-number-lt10-clause-text : goal.returns-then-number-lt10-clause-text
 returns-then-number-lt10-clause-text t c =
-    c.push.ensures.items ∙ ap (λ (digits : List ℕ). c.args.buffer.now.items ++ digits) (sym (decimal_digit c.args.number c.if-number-lt10.true))
+    c.push.ensures.items ∙ ap (λ (digits : List ℕ). c.args.text.now.items ++ digits) (sym (decimal_digit c.args.number c.if-number-lt10.true))
 
 pub returns-then-number-lt10-clause-room : goal.returns-then-number-lt10-clause-room
 returns-then-number-lt10-clause-room t c =
@@ -27,7 +27,7 @@ push-requires-2 t c =
 
 pub returns-clause-text : goal.returns-clause-text
 returns-clause-text t c =
-    c.push-2.ensures.items ∙ rw c.put_digits.ensures.text (next_digit c.args.buffer.now.items c.args.number c.if-number-lt10.false (omega (arith, c.ranges.number.fits)))
+    c.push-2.ensures.items ∙ rw c.put_digits.ensures.text (next_digit c.args.text.now.items c.args.number c.if-number-lt10.false (omega (arith, c.ranges.number.fits)))
 
 pub returns-clause-room : goal.returns-clause-room
 returns-clause-room t c =

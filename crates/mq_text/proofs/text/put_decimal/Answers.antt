@@ -1,6 +1,6 @@
 use Rattle.std.proofs.Common.{arith}
 use Rattle.std.proofs.lemmas.Fmt.{length-decimal-le}
-use Rattle.mq_replay.proofs.buffer.put_decimal.Goals as goal
+use Rattle.mq_text.proofs.text.put_decimal.Goals as goal
 
 pub put_digits-requires : goal.put_digits-requires
 put_digits-requires c =

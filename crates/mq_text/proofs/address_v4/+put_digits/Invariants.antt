@@ -1,4 +1,0 @@
-use Rattle.mq_text.proofs.address_v4.+put_digits.Given as goal
-
-abbrev pub decreases-put_digits : goal.decreases-put_digits
-decreases-put_digits l = l.octet
