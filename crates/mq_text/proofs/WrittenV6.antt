@@ -29,10 +29,10 @@ is_group n fits =
     elim (cases_lt n 4096) [
       | inr four ↦ rw (all_four_digits n four fits, a, b, c, d) (omega arith)
       | inl h₃ ↦ elim (cases_lt n 256) [
-        | inr three ↦ rw (three_digits n three h₃, b, c, d) (omega arith)
+        | inr three ↦ rw (three_digits n three h₃, value_of_glyph (n / 256) (omega (arith, h₃)), c, d) (omega arith)
         | inl h₂ ↦ elim (cases_lt n 16) [
-          | inr two ↦ rw (two_digits n two h₂, c, d) (omega arith)
-          | inl h₁ ↦ rw (one_digit n h₁, d) (omega arith)
+          | inr two ↦ rw (two_digits n two h₂, value_of_glyph (n / 16) (omega (arith, h₂)), d) (omega arith)
+          | inl h₁ ↦ rw (one_digit n h₁, value_of_glyph n h₁) (omega arith)
         ]
       ]
     ]

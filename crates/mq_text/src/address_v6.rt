@@ -102,25 +102,26 @@ fn put_hexadecimal(text: &mut Text, number: u16)
     ensures text { text.new.items ≡ text.old.items ++ hexadecimal number }
     ensures room { array_vec_len text.new ≤ array_vec_len text.old + 4 }
 {
-    let digits = [
-        digit(number / 4096),
-        digit(number / 256 % 16),
-        digit(number / 16 % 16),
-        digit(number % 16),
-    ];
-    put(text, &digits[leading_zeros(number)..]);
-}
-
-/// How many of a number's four hexadecimal digits are leading zeros.
-fn leading_zeros(number: u16) -> usize
-    ensures digits { hexadecimal number ≡ drop result (four_digits number) }
-    ensures few { result ≤ 3 }
-{
     match number {
-        0..16 => 3,
-        16..256 => 2,
-        256..4096 => 1,
-        _ => 0,
+        0..16 => put(text, &[digit(number)]),
+        16..256 => put(text, &[digit(number / 16), digit(number % 16)]),
+        256..4096 => put(
+            text,
+            &[
+                digit(number / 256),
+                digit(number / 16 % 16),
+                digit(number % 16),
+            ],
+        ),
+        _ => put(
+            text,
+            &[
+                digit(number / 4096),
+                digit(number / 256 % 16),
+                digit(number / 16 % 16),
+                digit(number % 16),
+            ],
+        ),
     }
 }
 
