@@ -2,6 +2,7 @@
 use Rattle.std.proofs.Common.{◌≡◌, ℕ, ◌+◌, ◌/◌, ◌%◌, ◌^◌, ◌<◌, ◌≤◌, List, [], ◌∷◌, ◌++◌, append_assoc, ap, ◌∙◌, arith}
 use Rattle.std.proofs.lemmas.Fmt.{decimal_digit, decimal_step}
 use Rattle.std.specs.Fmt.{decimal}
+use Rattle.mq_text.specs.Digits.{four_digits_of}
 
 -- numbers of two, three and four digits
 pub two_digits : (n : ℕ) → 10 ≤ n → n < 100 → decimal n ≡ (48 + n / 10) ∷ (48 + n % 10) ∷ []
@@ -9,32 +10,36 @@ two_digits n more less =
     decimal_step n more (omega (arith, less))
     ∙ ap (λ (front : List ℕ). front ++ ((48 + n % 10) ∷ [])) (decimal_digit (n / 10) (omega (arith, less)))
 
-pub three_digits : (n : ℕ) → 100 ≤ n → n < 1000 → decimal n ≡ (48 + n / 100) ∷ (48 + n / 10 % 10) ∷ (48 + n % 10) ∷ []
+pub three_digits : (n : ℕ) → 100 ≤ n → n < 1000 → decimal n ≡ (48 + n / 100) ∷ (48 + n % 100 / 10) ∷ (48 + n % 100 % 10) ∷ []
 three_digits n more less =
-    let high : n / 10 / 10 ≡ n / 100 = omega arith in
+    let a : n / 10 / 10 ≡ n / 100 = omega arith in
+    let b : n / 10 % 10 ≡ n % 100 / 10 = omega arith in
+    let c : n % 10 ≡ n % 100 % 10 = omega arith in
     decimal_step n (omega (arith, more)) (omega (arith, less))
-    ∙ ap (λ (front : List ℕ). front ++ ((48 + n % 10) ∷ [])) (rw high at (two_digits (n / 10) (omega (arith, more)) (omega (arith, less))))
+    ∙ ap (λ (front : List ℕ). front ++ ((48 + n % 10) ∷ [])) (two_digits (n / 10) (omega (arith, more)) (omega (arith, less)))
+    ∙ (λ i. (48 + a i) ∷ (48 + b i) ∷ (48 + c i) ∷ [])
 
-pub four_digits : (n : ℕ) → 1000 ≤ n → n < 10000 → decimal n ≡ (48 + n / 1000) ∷ (48 + n / 100 % 10) ∷ (48 + n / 10 % 10) ∷ (48 + n % 10) ∷ []
-four_digits n more less =
-    let first : n / 10 / 100 ≡ n / 1000 = omega arith in
-    let second : n / 10 / 10 ≡ n / 100 = omega arith in
+pub all_four_digits : (n : ℕ) → 1000 ≤ n → n < 10000 → decimal n ≡ four_digits_of n
+all_four_digits n more less =
+    let a : n / 10 / 100 ≡ n / 100 / 10 = omega arith in
+    let b : n / 10 % 100 / 10 ≡ n / 100 % 10 = omega arith in
+    let c : n / 10 % 100 % 10 ≡ n % 100 / 10 = omega arith in
+    let d : n % 10 ≡ n % 100 % 10 = omega arith in
     decimal_step n (omega (arith, more)) (omega (arith, less))
     ∙ ap (λ (front : List ℕ). front ++ ((48 + n % 10) ∷ [])) (three_digits (n / 10) (omega (arith, more)) (omega (arith, less)))
-    ∙ (λ i. (48 + first i) ∷ (48 + second i % 10) ∷ (48 + n / 10 % 10) ∷ (48 + n % 10) ∷ [])
+    ∙ (λ i. (48 + a i) ∷ (48 + b i) ∷ (48 + c i) ∷ (48 + d i) ∷ [])
 
 one_by_one : (front : List ℕ) (a b c d : ℕ) → (((front ++ (a ∷ [])) ++ (b ∷ [])) ++ (c ∷ [])) ++ (d ∷ []) ≡ front ++ (a ∷ b ∷ c ∷ d ∷ [])
 one_by_one front a b c d = simp append_assoc
 
 -- the last four digits behind those before them
-pub last_four : (n : ℕ) → 10000 ≤ n → n < 2 ^ 64
-    → decimal n ≡ decimal (n / 10000) ++ ((48 + n % 10000 / 1000) ∷ (48 + n % 10000 / 100 % 10) ∷ (48 + n % 10000 / 10 % 10) ∷ (48 + n % 10000 % 10) ∷ [])
+pub last_four : (n : ℕ) → 10000 ≤ n → n < 2 ^ 64 → decimal n ≡ decimal (n / 10000) ++ four_digits_of (n % 10000)
 last_four n more fits =
     let front : n / 10 / 10 / 10 / 10 ≡ n / 10000 = omega arith in
-    let a : n / 10 / 10 / 10 % 10 ≡ n % 10000 / 1000 = omega arith in
+    let a : n / 10 / 10 / 10 % 10 ≡ n % 10000 / 100 / 10 = omega arith in
     let b : n / 10 / 10 % 10 ≡ n % 10000 / 100 % 10 = omega arith in
-    let c : n / 10 % 10 ≡ n % 10000 / 10 % 10 = omega arith in
-    let d : n % 10 ≡ n % 10000 % 10 = omega arith in
+    let c : n / 10 % 10 ≡ n % 10000 % 100 / 10 = omega arith in
+    let d : n % 10 ≡ n % 10000 % 100 % 10 = omega arith in
     decimal_step n (omega (arith, more)) fits
     ∙ ap (λ (digits : List ℕ). digits ++ ((48 + n % 10) ∷ []))
     (decimal_step (n / 10) (omega (arith, more)) (omega (arith, fits))

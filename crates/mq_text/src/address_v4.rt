@@ -9,6 +9,7 @@ use crate::text::{Text, put, put_few_digits};
 use mq_count::Addr4;
 
 /// Puts an IPv4 address at the end, as four decimal numbers with dots between them.
+#[inline(never)]
 pub fn put_v4(text: &mut Text, address: Addr4)
     requires { array_vec_len text.old + 15 ≤ 4096 }
     ensures text { text.new.items ≡ text.old.items ++ v4_text address }
@@ -25,6 +26,7 @@ pub fn put_v4(text: &mut Text, address: Addr4)
 }
 
 /// Puts an octet at the end, in decimal.
+#[inline(always)]
 fn put_octet(text: &mut Text, octet: u8)
     requires { array_vec_len text.old + 3 ≤ 4096 }
     ensures text { text.new.items ≡ text.old.items ++ decimal octet }

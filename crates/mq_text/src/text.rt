@@ -3,6 +3,7 @@
 ghost use Rattle.std.specs.Prelude.{◌≡◌, ◌≤◌, ◌<◌, ◌+◌, ◌++◌, [], length};
 ghost use Rattle.std.specs.Fmt.{decimal};
 ghost use Rattle.arrayvec.specs.ArrayVec.{array_vec_len};
+ghost use Rattle.mq_text.specs.Digits.{four_digits_of};
 
 use std::marker::Model;
 
@@ -92,19 +93,11 @@ fn put_digits(text: &mut Text, number: u64)
         return;
     }
     put_digits(text, number / 10_000);
-    let last = (number % 10_000) as u32;
-    put(
-        text,
-        &[
-            digit(last / 1000),
-            digit(last / 100 % 10),
-            digit(last / 10 % 10),
-            digit(last % 10),
-        ],
-    );
+    put(text, &four_digits((number % 10_000) as u32));
 }
 
 /// Puts the digits of a number below 10000 at the end.
+#[inline(always)]
 pub(crate) fn put_few_digits(text: &mut Text, number: u32)
     requires few { number < 10000 }
     requires room { array_vec_len text.old + length (decimal number) ≤ 4096 }
@@ -118,20 +111,26 @@ pub(crate) fn put_few_digits(text: &mut Text, number: u32)
             text,
             &[
                 digit(number / 100),
-                digit(number / 10 % 10),
-                digit(number % 10),
+                digit(number % 100 / 10),
+                digit(number % 100 % 10),
             ],
         ),
-        _ => put(
-            text,
-            &[
-                digit(number / 1000),
-                digit(number / 100 % 10),
-                digit(number / 10 % 10),
-                digit(number % 10),
-            ],
-        ),
+        _ => put(text, &four_digits(number)),
     }
+}
+
+/// The digits of a number below 10000, with zeros before them where they are fewer than four.
+fn four_digits(number: u32) -> [u8; 4]
+    requires { number < 10000 }
+    ensures { result ≡ four_digits_of number }
+{
+    let (front, back) = (number / 100, number % 100);
+    [
+        digit(front / 10),
+        digit(front % 10),
+        digit(back / 10),
+        digit(back % 10),
+    ]
 }
 
 /// The digit of a number below 10.

@@ -19,7 +19,7 @@ put-requires t c =
 pub returns-clause-text : goal.returns-clause-text
 returns-clause-text t c =
     c.put.ensures.text
-    ∙ rw (c.put_digits.ensures.text, c.digit.ensures, c.digit-2.ensures, c.digit-3.ensures, c.digit-4.ensures)
+    ∙ rw (c.put_digits.ensures.text, c.four_digits.ensures)
     (append_assoc c.args.text.now.items (decimal (c.args.number / 10000)) _
     ∙ ap (λ (digits : List ℕ). c.args.text.now.items ++ digits) (sym (last_four c.args.number c.if-number-lt10000.false (omega (arith, c.ranges.number.fits)))))
 

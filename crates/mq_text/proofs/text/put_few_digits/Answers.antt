@@ -1,6 +1,6 @@
-use Rattle.std.proofs.Common.{◌≡◌, ◌+◌, ◌≤◌, ◌++◌, List, ℕ, length, ap, sym, ◌∙◌, arith}
+use Rattle.std.proofs.Common.{◌++◌, List, ℕ, length, ap, sym, ◌∙◌, arith}
 use Rattle.std.proofs.lemmas.Fmt.{decimal_digit}
-use Rattle.mq_text.proofs.Digits.{two_digits, three_digits, four_digits}
+use Rattle.mq_text.proofs.Digits.{two_digits, three_digits, all_four_digits}
 use Rattle.mq_text.proofs.text.put_few_digits.Goals as goal
 
 pub put-requires : goal.put-requires
@@ -17,7 +17,7 @@ put-requires-in-100-to-999 c =
 
 pub put-requires-in_default : goal.put-requires-in_default
 put-requires-in_default c =
-    let four = ap length (four_digits c.args.number (omega arith) (omega (arith, c.requires.few))) in omega (arith, four, c.requires.room)
+    let four = ap length (all_four_digits c.args.number (omega arith) (omega (arith, c.requires.few))) in omega (arith, four, c.requires.room)
 
 pub returns-in-0-to-9-clause-text : goal.returns-in-0-to-9-clause-text
 returns-in-0-to-9-clause-text c =
@@ -49,9 +49,8 @@ returns-in-100-to-999-clause-room c =
 pub returns-in_default-clause-text : goal.returns-in_default-clause-text
 returns-in_default-clause-text c =
     c.put-in_default.ensures.text
-    ∙ ap (λ (digits : List ℕ). c.args.text.now.items ++ digits)
-    (rw (c.digit-in_default.ensures, c.digit-in_default-2.ensures, c.digit-in_default-3.ensures, c.digit-in_default-4.ensures) (sym (four_digits c.args.number (omega arith) (omega (arith, c.requires.few)))))
+    ∙ ap (λ (digits : List ℕ). c.args.text.now.items ++ digits) (c.four_digits.ensures ∙ sym (all_four_digits c.args.number (omega arith) (omega (arith, c.requires.few))))
 
 pub returns-in_default-clause-room : goal.returns-in_default-clause-room
 returns-in_default-clause-room c =
-    let four = ap length (four_digits c.args.number (omega arith) (omega (arith, c.requires.few))) in omega (arith, four, c.put-in_default.ensures.room)
+    let four = ap length (all_four_digits c.args.number (omega arith) (omega (arith, c.requires.few))) in omega (arith, four, c.put-in_default.ensures.room)
