@@ -79,10 +79,15 @@ pub fn put_decimal(text: &mut Text, number: u64)
     ensures text { text.new.items ≡ text.old.items ++ decimal number }
     ensures room { array_vec_len text.new ≤ array_vec_len text.old + 20 }
 {
+    if number < 10_000 {
+        put_few_digits(text, number as u32);
+        return;
+    }
     put_digits(text, number);
 }
 
 /// Puts the digits of a number at the end, four at a time.
+#[inline(never)]
 fn put_digits(text: &mut Text, number: u64)
     requires { array_vec_len text.old + length (decimal number) ≤ 4096 }
     ensures text { text.new.items ≡ text.old.items ++ decimal number }
