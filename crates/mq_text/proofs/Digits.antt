@@ -1,5 +1,5 @@
 -- The decimal digits of a number.
-use Rattle.std.proofs.Common.{◌≡◌, ℕ, ◌+◌, ◌/◌, ◌%◌, ◌^◌, ◌<◌, ◌≤◌, List, [], ◌∷◌, ◌++◌, append_assoc, ap, ◌∙◌, arith}
+use Rattle.std.proofs.Common.{◌≡◌, ℕ, ◌+◌, ◌/◌, ◌%◌, ◌^◌, ◌<◌, ◌≤◌, List, [], ◌∷◌, ◌++◌, length, length-append, append_assoc, ap, sym, ◌∙◌, arith}
 use Rattle.std.proofs.lemmas.Fmt.{decimal_digit, decimal_step}
 use Rattle.std.specs.Fmt.{decimal}
 use Rattle.mq_text.specs.Digits.{four_digits_of}
@@ -48,3 +48,14 @@ last_four n more fits =
     ∙ ap (λ (digits : List ℕ). digits ++ ((48 + n / 10 / 10 % 10) ∷ [])) (decimal_step (n / 10 / 10 / 10) (omega (arith, more)) (omega (arith, fits)))))
     ∙ one_by_one (decimal (n / 10 / 10 / 10 / 10)) (48 + n / 10 / 10 / 10 % 10) (48 + n / 10 / 10 % 10) (48 + n / 10 % 10) (48 + n % 10)
     ∙ (λ i. decimal (front i) ++ ((48 + a i) ∷ (48 + b i) ∷ (48 + c i) ∷ (48 + d i) ∷ []))
+
+-- so it has four more than its number without them
+pub four_more : (n : ℕ) → 10000 ≤ n → n < 2 ^ 64 → length (decimal n) ≡ length (decimal (n / 10000)) + 4
+four_more n more fits = ap length (last_four n more fits) ∙ length-append (decimal (n / 10000)) (four_digits_of (n % 10000))
+
+-- a text behind which a number was put, and then its last four digits
+pub put_in_two : (old first second four : List ℕ) (n : ℕ) → 10000 ≤ n → n < 2 ^ 64 → first ≡ old ++ decimal (n / 10000) → four ≡ four_digits_of (n % 10000) → second ≡ first ++ four → second ≡ old ++ decimal n
+put_in_two old first second four n more fits is_first is_four is_second =
+    is_second
+    ∙ rw (is_first, is_four)
+    (append_assoc old (decimal (n / 10000)) (four_digits_of (n % 10000)) ∙ ap (λ (digits : List ℕ). old ++ digits) (sym (last_four n more fits)))

@@ -74,31 +74,48 @@ pub fn put(text: &mut Text, more: &[u8])
 }
 
 /// Puts a number at the end, in decimal.
+#[inline(never)]
 pub fn put_decimal(text: &mut Text, number: u64)
     requires { array_vec_len text.old + 20 ≤ 4096 }
     ensures text { text.new.items ≡ text.old.items ++ decimal number }
     ensures room { array_vec_len text.new ≤ array_vec_len text.old + 20 }
 {
-    if number < 10_000 {
-        put_few_digits(text, number as u32);
+    if number < 100_000_000 {
+        put_some_digits(text, number as u32);
         return;
     }
     put_digits(text, number);
 }
 
-/// Puts the digits of a number at the end, four at a time.
+/// Puts the digits of a number at the end, the last four behind the others.
 #[inline(never)]
 fn put_digits(text: &mut Text, number: u64)
     requires { array_vec_len text.old + length (decimal number) ≤ 4096 }
     ensures text { text.new.items ≡ text.old.items ++ decimal number }
     ensures room { array_vec_len text.new ≡ array_vec_len text.old + length (decimal number) }
 {
-    if number < 10_000 {
-        put_few_digits(text, number as u32);
+    if number < 100_000_000 {
+        put_some_digits(text, number as u32);
         return;
     }
     put_digits(text, number / 10_000);
     put(text, &four_digits((number % 10_000) as u32));
+}
+
+/// Puts the digits of a number below 100000000 at the end.
+#[inline(always)]
+fn put_some_digits(text: &mut Text, number: u32)
+    requires some { number < 100000000 }
+    requires room { array_vec_len text.old + length (decimal number) ≤ 4096 }
+    ensures text { text.new.items ≡ text.old.items ++ decimal number }
+    ensures room { array_vec_len text.new ≡ array_vec_len text.old + length (decimal number) }
+{
+    if number < 10_000 {
+        put_few_digits(text, number);
+        return;
+    }
+    put_few_digits(text, number / 10_000);
+    put(text, &four_digits(number % 10_000));
 }
 
 /// Puts the digits of a number below 10000 at the end.
