@@ -1,5 +1,5 @@
 -- The decimal digits of a number.
-use Rattle.std.proofs.Common.{◌≡◌, ℕ, ◌+◌, ◌/◌, ◌%◌, ◌^◌, ◌<◌, ◌≤◌, List, [], ◌∷◌, ◌++◌, length, length-append, append_assoc, ap, sym, ◌∙◌, arith}
+use Rattle.std.proofs.Common.{◌≡◌, ℕ, ◌+◌, ◌/◌, ◌%◌, ◌^◌, ◌<◌, ◌≤◌, List, [], ◌∷◌, ◌++◌, length, get_or, length-append, append_assoc, ap, sym, ◌∙◌, arith}
 use Rattle.std.proofs.lemmas.Fmt.{decimal_digit, decimal_step}
 use Rattle.std.specs.Fmt.{decimal}
 use Rattle.mq_text.specs.Digits.{four_digits_of}
@@ -59,3 +59,7 @@ put_in_two old first second four n more fits is_first is_four is_second =
     is_second
     ∙ rw (is_first, is_four)
     (append_assoc old (decimal (n / 10000)) (four_digits_of (n % 10000)) ∙ ap (λ (digits : List ℕ). old ++ digits) (sym (last_four n more fits)))
+
+-- the three digits, the last two of them from a pair
+pub three_from_pair : (n first : ℕ) (pair : List ℕ) → 100 ≤ n → n < 1000 → first ≡ 48 + n / 100 → pair ≡ (48 + n % 100 / 10) ∷ (48 + n % 100 % 10) ∷ [] → ◌≡◌ {A = List ℕ} (first ∷ get_or pair 0 0 ∷ get_or pair 1 0 ∷ []) (decimal n)
+three_from_pair n first pair more less is_first is_pair = rw (is_first, is_pair) (sym (three_digits n more less))

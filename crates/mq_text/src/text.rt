@@ -1,6 +1,6 @@
 //! Text in the making, and what is put at its end.
 
-ghost use Rattle.std.specs.Prelude.{◌≡◌, ◌≤◌, ◌<◌, ◌+◌, ◌++◌, [], length};
+ghost use Rattle.std.specs.Prelude.{◌≡◌, ◌≤◌, ◌<◌, ◌+◌, ◌/◌, ◌%◌, ◌∷◌, ◌++◌, [], length};
 ghost use Rattle.std.specs.Fmt.{decimal};
 ghost use Rattle.arrayvec.specs.ArrayVec.{array_vec_len};
 ghost use Rattle.mq_text.specs.Digits.{four_digits_of};
@@ -9,6 +9,10 @@ use std::marker::Model;
 
 /// How many bytes a text has room for.
 const ROOM: usize = 4096;
+
+/// The two digits of each number below 100, one number after another.
+const PAIRS: [u8; 200] =
+    *b"00010203040506070809101112131415161718192021222324252627282930313233343536373839404142434445464748495051525354555657585960616263646566676869707172737475767778798081828384858687888990919293949596979899";
 
 /// Text that is put together, without memory: its bytes lie in the value itself. A contract sees it as an
 /// `ArrayVec` of its bytes. To empty it costs nothing.
@@ -128,15 +132,11 @@ pub(crate) fn put_few_digits(text: &mut Text, number: u32)
 {
     match number {
         0..10 => put(text, &[digit(number)]),
-        10..100 => put(text, &[digit(number / 10), digit(number % 10)]),
-        100..1000 => put(
-            text,
-            &[
-                digit(number / 100),
-                digit(number % 100 / 10),
-                digit(number % 100 % 10),
-            ],
-        ),
+        10..100 => put(text, &pair(number)),
+        100..1000 => {
+            let [high, low] = pair(number % 100);
+            put(text, &[digit(number / 100), high, low]);
+        }
         _ => put(text, &four_digits(number)),
     }
 }
@@ -146,13 +146,18 @@ fn four_digits(number: u32) -> [u8; 4]
     requires { number < 10000 }
     ensures { result ≡ four_digits_of number }
 {
-    let (front, back) = (number / 100, number % 100);
-    [
-        digit(front / 10),
-        digit(front % 10),
-        digit(back / 10),
-        digit(back % 10),
-    ]
+    let [a, b] = pair(number / 100);
+    let [c, d] = pair(number % 100);
+    [a, b, c, d]
+}
+
+/// The digits of a number below 100, with a zero before them where it has one alone.
+fn pair(number: u32) -> [u8; 2]
+    requires { number < 100 }
+    ensures { result ≡ (48 + number / 10) ∷ (48 + number % 10) ∷ [] }
+{
+    let place = 2 * number as usize;
+    [PAIRS[place], PAIRS[place + 1]]
 }
 
 /// The digit of a number below 10.

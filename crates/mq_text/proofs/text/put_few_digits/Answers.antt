@@ -1,6 +1,6 @@
 use Rattle.std.proofs.Common.{◌++◌, List, ℕ, length, ap, sym, ◌∙◌, arith}
 use Rattle.std.proofs.lemmas.Fmt.{decimal_digit}
-use Rattle.mq_text.proofs.Digits.{two_digits, three_digits, all_four_digits}
+use Rattle.mq_text.proofs.Digits.{two_digits, three_digits, three_from_pair, all_four_digits}
 use Rattle.mq_text.proofs.text.put_few_digits.Goals as goal
 
 pub put-requires : goal.put-requires
@@ -29,8 +29,7 @@ returns-in-0-to-9-clause-room c =
 
 pub returns-in-10-to-99-clause-text : goal.returns-in-10-to-99-clause-text
 returns-in-10-to-99-clause-text c =
-    c.put-in-10-to-99.ensures.text
-    ∙ ap (λ (digits : List ℕ). c.args.text.now.items ++ digits) (rw (c.digit-in-10-to-99.ensures, c.digit-in-10-to-99-2.ensures) (sym (two_digits c.args.number (omega arith) (omega arith))))
+    c.put-in-10-to-99.ensures.text ∙ ap (λ (digits : List ℕ). c.args.text.now.items ++ digits) (c.pair.ensures ∙ sym (two_digits c.args.number (omega arith) (omega arith)))
 
 pub returns-in-10-to-99-clause-room : goal.returns-in-10-to-99-clause-room
 returns-in-10-to-99-clause-room c =
@@ -39,8 +38,7 @@ returns-in-10-to-99-clause-room c =
 pub returns-in-100-to-999-clause-text : goal.returns-in-100-to-999-clause-text
 returns-in-100-to-999-clause-text c =
     c.put-in-100-to-999.ensures.text
-    ∙ ap (λ (digits : List ℕ). c.args.text.now.items ++ digits)
-    (rw (c.digit-in-100-to-999.ensures, c.digit-in-100-to-999-2.ensures, c.digit-in-100-to-999-3.ensures) (sym (three_digits c.args.number (omega arith) (omega arith))))
+    ∙ ap (λ (digits : List ℕ). c.args.text.now.items ++ digits) (three_from_pair c.args.number c.digit-in-100-to-999.result c.pair-in-100-to-999.result (omega arith) (omega arith) c.digit-in-100-to-999.ensures c.pair-in-100-to-999.ensures)
 
 pub returns-in-100-to-999-clause-room : goal.returns-in-100-to-999-clause-room
 returns-in-100-to-999-clause-room c =
