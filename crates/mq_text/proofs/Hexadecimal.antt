@@ -3,7 +3,7 @@ use Rattle.std.proofs.Common.{◌≡◌, ◌==◌, ℕ, zero, suc, ◌/◌, ◌%
 use Rattle.std.specs.Fmt.{digit_glyph}
 use Rattle.std.specs.Int.Digits.{digits_of}
 use Rattle.std.proofs.lemmas.Int.Digits.{digits_of_step}
-use Rattle.mq_text.specs.AddressV6.{hexadecimal, four_digits}
+use Rattle.mq_text.specs.AddressV6.{hexadecimal}
 
 -- the digits of numbers that have one, two, three and four
 of_one : (n : ℕ) → 0 < n → n < 16 → digits_of 16 n ≡ n % 16 ∷ []
@@ -43,7 +43,7 @@ three_digits n large small =
     some_digits n (omega arith) ∙ ap (map (digit_glyph false)) (of_three n large small)
     ∙ ap (λ (m : ℕ). digit_glyph false m ∷ digit_glyph false (n / 16 % 16) ∷ digit_glyph false (n % 16) ∷ []) same
 
-pub all_four_digits : (n : ℕ) → 4096 ≤ n → n < 65536 → hexadecimal n ≡ four_digits n
+pub all_four_digits : (n : ℕ) → 4096 ≤ n → n < 65536 → hexadecimal n ≡ digit_glyph false (n / 4096) ∷ digit_glyph false (n / 256 % 16) ∷ digit_glyph false (n / 16 % 16) ∷ digit_glyph false (n % 16) ∷ []
 all_four_digits n large small =
     let third : n / 16 / 16 ≡ n / 256 = omega arith in
     let fourth : n / 16 / 16 / 16 % 16 ≡ n / 4096 = omega arith in

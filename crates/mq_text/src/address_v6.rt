@@ -3,7 +3,7 @@
 ghost use Rattle.std.specs.Prelude.{◌≡◌, ℕ, ◌≤◌, ◌<◌, ◌+◌, ◌*◌, ◌++◌, false, drop, length};
 ghost use Rattle.std.specs.Fmt.{digit_glyph};
 ghost use Rattle.arrayvec.specs.ArrayVec.{array_vec_len};
-ghost use Rattle.mq_text.specs.AddressV6.{groups_of, hexadecimal, four_digits, with_colons, shortened, v6_text};
+ghost use Rattle.mq_text.specs.AddressV6.{groups_of, hexadecimal, with_colons, shortened, v6_text};
 ghost use Rattle.mq_text.specs.AddressV6 as words;
 
 use crate::text::{Text, put};
