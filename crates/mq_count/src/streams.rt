@@ -53,6 +53,7 @@ impl<R: Read> Read for Watched<R> {
 
     ghost remaining = { λ w. R.remaining (inner_of w) };
 
+    #[inline(always)]
     fn read(&mut self, buf: &mut [u8]) -> io::Result<usize>
         ensures bound { ReadsAtMost result buf.new }
         ensures bytes { ReadConsumes (R.remaining (inner_of self.old)) (R.remaining (inner_of self.new)) result buf.new }

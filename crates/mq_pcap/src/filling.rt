@@ -10,6 +10,7 @@ use std::io::Read;
 
 /// Reads until the buffer is full or the stream ends, and answers how many bytes the buffer has then. A
 /// read that gives no byte is the end of the stream. A fault is `Read`.
+#[inline(always)]
 pub(crate) fn fill<R: Read>(reader: &mut Watched<R>, buffer: &mut [u8]) -> Result<usize, PcapFault>
     ensures fills { let old : Source = record { ahead = R.remaining (inner_of reader.old); taken = taken_from reader.old; failed = has_failed reader.old } in
         let new : Source = record { ahead = R.remaining (inner_of reader.new); taken = taken_from reader.new; failed = has_failed reader.new } in

@@ -57,6 +57,7 @@ const FRAGMENT: u8 = 44;
 const ICMPV6: u8 = 58;
 
 /// What a frame carries, read in place.
+#[inline(always)]
 pub fn unwrap_frame(link: LinkType, frame: &[u8]) -> Inner<'_>
     ensures { carried_of result ≡ carried_in link frame.now }
 {
@@ -66,6 +67,7 @@ pub fn unwrap_frame(link: LinkType, frame: &[u8]) -> Inner<'_>
     }
 }
 
+#[inline(always)]
 #[tactic(auto, unfolding(crate::specs::Frame::in_ethernet))]
 fn ethernet(frame: &[u8]) -> Inner<'_>
     ensures { carried_of result ≡ in_ethernet frame.now }
@@ -84,6 +86,7 @@ fn ethernet(frame: &[u8]) -> Inner<'_>
 }
 
 /// What stands behind an Ethernet header, by the type that it names.
+#[inline(always)]
 #[tactic(auto, unfolding(crate::specs::Frame::in_type))]
 fn by_type(kind: u16, packet: &[u8]) -> Inner<'_>
     ensures { carried_of result ≡ in_type kind packet.now }
@@ -109,6 +112,7 @@ fn raw_ip(packet: &[u8]) -> Inner<'_>
     }
 }
 
+#[inline(always)]
 #[tactic(auto, unfolding(crate::specs::Frame::in_ipv4))]
 fn ipv4(packet: &[u8]) -> Inner<'_>
     ensures { carried_of result ≡ in_ipv4 packet.now }
@@ -137,6 +141,7 @@ fn ipv4(packet: &[u8]) -> Inner<'_>
     }
 }
 
+#[inline(always)]
 #[tactic(auto, unfolding(crate::specs::Frame::in_ipv6))]
 fn ipv6(packet: &[u8]) -> Inner<'_>
     ensures { carried_of result ≡ in_ipv6 packet.now }
@@ -166,6 +171,7 @@ fn ipv6(packet: &[u8]) -> Inner<'_>
 }
 
 /// What stands behind a hop-by-hop header.
+#[inline(always)]
 #[tactic(auto, unfolding(crate::specs::Frame::behind_options))]
 fn hop_by_hop<'a>(packet: &'a [u8], payload: &'a [u8]) -> Inner<'a>
     requires { 40 ≤ length packet.now }
@@ -186,6 +192,7 @@ fn hop_by_hop<'a>(packet: &'a [u8], payload: &'a [u8]) -> Inner<'a>
 }
 
 /// A message of ICMPv6 with what its packet's header says.
+#[inline(always)]
 fn mld<'a>(packet: &'a [u8], alert: bool, body: &'a [u8]) -> Inner<'a>
     requires { 40 ≤ length packet.now }
     ensures { carried_of result ≡ mld_in packet.now alert body.now }

@@ -22,6 +22,7 @@ const ENDLESS: u64 = 4_294_967_296;
 const RECORD_HEADER: usize = 16;
 
 /// Reads the record of a number.
+#[inline(always)]
 pub(crate) fn read_record<R: Read>(
     form: Form,
     number: u64,

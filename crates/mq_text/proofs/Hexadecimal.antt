@@ -1,9 +1,9 @@
 -- Numbers of 16 bits in hexadecimal.
-use Rattle.std.proofs.Common.{◌≡◌, ◌==◌, ℕ, zero, suc, ◌/◌, ◌%◌, ◌<◌, ◌≤◌, false, List, [], ◌∷◌, ◌++◌, drop, map, refl, ap, ◌∙◌, arith}
+use Rattle.std.proofs.Common.{◌≡◌, ◌==◌, ℕ, zero, suc, ◌/◌, ◌%◌, ◌<◌, ◌≤◌, false, List, [], ◌∷◌, ◌++◌, map, refl, ap, ◌∙◌, arith}
 use Rattle.std.specs.Fmt.{digit_glyph}
 use Rattle.std.specs.Int.Digits.{digits_of}
 use Rattle.std.proofs.lemmas.Int.Digits.{digits_of_step}
-use Rattle.mq_text.specs.AddressV6.{hexadecimal, four_digits}
+use Rattle.mq_text.specs.AddressV6.{hexadecimal}
 
 -- the digits of numbers that have one, two, three and four
 of_one : (n : ℕ) → 0 < n → n < 16 → digits_of 16 n ≡ n % 16 ∷ []
@@ -26,20 +26,24 @@ of_four n large small =
 some_digits : (n : ℕ) → 0 < n → hexadecimal n ≡ map (digit_glyph false) (digits_of 16 n)
 some_digits n some = let no : (n == 0) ≡ false = grind arith in rw no refl
 
-pub one_digit : (n : ℕ) → n < 16 → hexadecimal n ≡ drop 3 (four_digits n)
+pub one_digit : (n : ℕ) → n < 16 → hexadecimal n ≡ digit_glyph false n ∷ []
 one_digit zero small = refl
-one_digit (suc n) small = some_digits (suc n) (omega arith) ∙ ap (map (digit_glyph false)) (of_one (suc n) (omega arith) small)
+one_digit (suc n) small =
+    let last : suc n % 16 ≡ suc n = omega (arith, small) in
+    some_digits (suc n) (omega arith) ∙ ap (map (digit_glyph false)) (of_one (suc n) (omega arith) small) ∙ ap (λ (m : ℕ). digit_glyph false m ∷ []) last
 
-pub two_digits : (n : ℕ) → 16 ≤ n → n < 256 → hexadecimal n ≡ drop 2 (four_digits n)
-two_digits n large small = some_digits n (omega arith) ∙ ap (map (digit_glyph false)) (of_two n large small)
+pub two_digits : (n : ℕ) → 16 ≤ n → n < 256 → hexadecimal n ≡ digit_glyph false (n / 16) ∷ digit_glyph false (n % 16) ∷ []
+two_digits n large small =
+    let first : n / 16 % 16 ≡ n / 16 = omega (arith, small) in
+    some_digits n (omega arith) ∙ ap (map (digit_glyph false)) (of_two n large small) ∙ ap (λ (m : ℕ). digit_glyph false m ∷ digit_glyph false (n % 16) ∷ []) first
 
-pub three_digits : (n : ℕ) → 256 ≤ n → n < 4096 → hexadecimal n ≡ drop 1 (four_digits n)
+pub three_digits : (n : ℕ) → 256 ≤ n → n < 4096 → hexadecimal n ≡ digit_glyph false (n / 256) ∷ digit_glyph false (n / 16 % 16) ∷ digit_glyph false (n % 16) ∷ []
 three_digits n large small =
-    let same : n / 16 / 16 ≡ n / 256 = omega arith in
+    let same : n / 16 / 16 % 16 ≡ n / 256 = omega (arith, small) in
     some_digits n (omega arith) ∙ ap (map (digit_glyph false)) (of_three n large small)
-    ∙ ap (λ (m : ℕ). digit_glyph false (m % 16) ∷ digit_glyph false (n / 16 % 16) ∷ digit_glyph false (n % 16) ∷ []) same
+    ∙ ap (λ (m : ℕ). digit_glyph false m ∷ digit_glyph false (n / 16 % 16) ∷ digit_glyph false (n % 16) ∷ []) same
 
-pub all_four_digits : (n : ℕ) → 4096 ≤ n → n < 65536 → hexadecimal n ≡ four_digits n
+pub all_four_digits : (n : ℕ) → 4096 ≤ n → n < 65536 → hexadecimal n ≡ digit_glyph false (n / 4096) ∷ digit_glyph false (n / 256 % 16) ∷ digit_glyph false (n / 16 % 16) ∷ digit_glyph false (n % 16) ∷ []
 all_four_digits n large small =
     let third : n / 16 / 16 ≡ n / 256 = omega arith in
     let fourth : n / 16 / 16 / 16 % 16 ≡ n / 4096 = omega arith in

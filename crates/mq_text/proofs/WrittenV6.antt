@@ -14,7 +14,7 @@ use Rattle.std.specs.Int.{w128, to_be_bytes}
 use Rattle.mq_text.specs.Laws.{WrittenIsSpelled}
 use Rattle.mq_text.proofs.NumberOf.{number_back, groups_fit, octets_are_pairs}
 use Rattle.mq_text.proofs.Hexadecimal.{one_digit, two_digits, three_digits, all_four_digits}
-use Rattle.mq_text.proofs.LongestRun.{is_first_longest}
+use Rattle.mq_text.proofs.LongestRun.{is_first_longest, zeros_within}
 
 value_of_glyph : (d : ℕ) → d < 16 → digit_value (digit_glyph false d) ≡ d
 value_of_glyph d small = grind (arith, nat_tests)
@@ -29,10 +29,10 @@ is_group n fits =
     elim (cases_lt n 4096) [
       | inr four ↦ rw (all_four_digits n four fits, a, b, c, d) (omega arith)
       | inl h₃ ↦ elim (cases_lt n 256) [
-        | inr three ↦ rw (three_digits n three h₃, b, c, d) (omega arith)
+        | inr three ↦ rw (three_digits n three h₃, value_of_glyph (n / 256) (omega (arith, h₃)), c, d) (omega arith)
         | inl h₂ ↦ elim (cases_lt n 16) [
-          | inr two ↦ rw (two_digits n two h₂, c, d) (omega arith)
-          | inl h₁ ↦ rw (one_digit n h₁, d) (omega arith)
+          | inr two ↦ rw (two_digits n two h₂, value_of_glyph (n / 16) (omega (arith, h₂)), d) (omega arith)
+          | inl h₁ ↦ rw (one_digit n h₁, value_of_glyph n h₁) (omega arith)
         ]
       ]
     ]
@@ -61,14 +61,6 @@ zeros (group ∷ groups) = by_first (zeros groups) (group == 0) refl
         → take (if is_zero then zeros_ahead groups + 1 else 0) (group ∷ groups) ≡ replicate (if is_zero then zeros_ahead groups + 1 else 0) 0
     by_first others true is = rw (add-one (zeros_ahead groups), eqb-true group 0 is) (ap (λ (xs : List ℕ). 0 ∷ xs) others)
     by_first others false is = refl
-
-zeros_within : (groups : List ℕ) → zeros_ahead groups ≤ length groups
-zeros_within [] = omega arith
-zeros_within (group ∷ groups) = by_first (zeros_within groups) (group == 0)
-  where
-    by_first : zeros_ahead groups ≤ length groups → (is_zero : Bool) → (if is_zero then zeros_ahead groups + 1 else 0) ≤ suc (length groups)
-    by_first others true = omega arith
-    by_first others false = omega arith
 
 -- a run of zeros, and what stands on both sides of it
 around : (groups : List ℕ) (place count : ℕ) → zeros_ahead (drop place groups) ≡ count → groups ≡ take place groups ++ (replicate count 0 ++ drop (place + count) groups)

@@ -1,5 +1,5 @@
 -- The text of an IPv6 address.
-use Rattle.std.specs.Prelude.{◌≡◌, ℕ, ◌+◌, ◌*◌, ◌/◌, ◌%◌, ◌<◌, ◌≤◌, nat_le, nat_lt, ◌==◌, false, List, [], ◌∷◌, ◌++◌, take, drop, map, if◌then◌else◌, codes}
+use Rattle.std.specs.Prelude.{◌≡◌, ℕ, ◌+◌, ◌*◌, ◌<◌, ◌≤◌, nat_le, nat_lt, ◌==◌, false, List, [], ◌∷◌, ◌++◌, take, drop, map, if◌then◌else◌, codes}
 use Rattle.std.specs.Fmt.{digit_glyph}
 use Rattle.std.specs.Int.Digits.{digits_of}
 use Rattle.std.specs.Int.{w128, to_be_bytes}
@@ -18,12 +18,6 @@ groups_of address = groups_in (to_be_bytes w128 address)
 -- a number in lower-case hexadecimal, without leading zeros
 abbrev pub hexadecimal : ℕ → List ℕ
 hexadecimal number = if number == 0 then codes "0" else map (digit_glyph false) (digits_of 16 number)
-
--- its four digits, leading zeros included, where it has 16 bits
-abbrev pub four_digits : ℕ → List ℕ
-four_digits number =
-    digit_glyph false (number / 4096) ∷ digit_glyph false (number / 256 % 16)
-    ∷ digit_glyph false (number / 16 % 16) ∷ digit_glyph false (number % 16) ∷ []
 
 -- groups in hexadecimal, with colons between them
 abbrev pub with_colons : List ℕ → List ℕ

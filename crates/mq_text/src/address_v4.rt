@@ -1,14 +1,15 @@
 //! The text of an IPv4 address.
 
-ghost use Rattle.std.specs.Prelude.{◌≡◌, ◌≤◌, ◌<◌, ◌+◌, ◌++◌};
+ghost use Rattle.std.specs.Prelude.{◌≡◌, ◌≤◌, ◌+◌, ◌++◌};
 ghost use Rattle.std.specs.Fmt.{decimal};
 ghost use Rattle.arrayvec.specs.ArrayVec.{array_vec_len};
 ghost use Rattle.mq_text.specs.AddressV4.{v4_text};
 
-use crate::text::{Text, put};
+use crate::text::{Text, put, put_few_digits};
 use mq_count::Addr4;
 
 /// Puts an IPv4 address at the end, as four decimal numbers with dots between them.
+#[inline(never)]
 pub fn put_v4(text: &mut Text, address: Addr4)
     requires { array_vec_len text.old + 15 ≤ 4096 }
     ensures text { text.new.items ≡ text.old.items ++ v4_text address }
@@ -25,33 +26,11 @@ pub fn put_v4(text: &mut Text, address: Addr4)
 }
 
 /// Puts an octet at the end, in decimal.
+#[inline(always)]
 fn put_octet(text: &mut Text, octet: u8)
     requires { array_vec_len text.old + 3 ≤ 4096 }
     ensures text { text.new.items ≡ text.old.items ++ decimal octet }
     ensures room { array_vec_len text.new ≤ array_vec_len text.old + 3 }
 {
-    if octet < 10 {
-        put(text, &[digit(octet)]);
-        return;
-    }
-    if octet < 100 {
-        put(text, &[digit(octet / 10), digit(octet % 10)]);
-        return;
-    }
-    put(
-        text,
-        &[
-            digit(octet / 100),
-            digit(octet / 10 % 10),
-            digit(octet % 10),
-        ],
-    );
-}
-
-/// The digit of a number below 10.
-fn digit(number: u8) -> u8
-    requires { number < 10 }
-    ensures { result ≡ 48 + number }
-{
-    b'0' + number
+    put_few_digits(text, u32::from(octet));
 }

@@ -1,13 +1,16 @@
 //! The text of an IPv6 address.
 
-ghost use Rattle.std.specs.Prelude.{◌≡◌, ◌≤◌, ◌<◌, ◌+◌, ◌*◌, ◌++◌, false, drop, length};
+ghost use Rattle.std.specs.Prelude.{◌≡◌, ℕ, ◌≤◌, ◌<◌, ◌+◌, ◌*◌, ◌++◌, false, drop, length};
 ghost use Rattle.std.specs.Fmt.{digit_glyph};
 ghost use Rattle.arrayvec.specs.ArrayVec.{array_vec_len};
-ghost use Rattle.mq_text.specs.AddressV6.{groups_of, hexadecimal, four_digits, with_colons, shortened, v6_text};
+ghost use Rattle.mq_text.specs.AddressV6.{groups_of, hexadecimal, with_colons, shortened, v6_text};
 ghost use Rattle.mq_text.specs.AddressV6 as words;
 
 use crate::text::{Text, put};
 use mq_count::Addr6;
+
+/// The digits of hexadecimal numbers.
+const GLYPHS: [u8; 16] = *b"0123456789abcdef";
 
 /// Consecutive groups of an address: the place of the first, and how many they are.
 #[derive(Clone, Copy)]
@@ -59,8 +62,46 @@ fn group(high: u8, low: u8) -> u16
     u16::from(high) * 256 + u16::from(low)
 }
 
-/// The longest run of zero groups, the first of those that are as long.
+/// The longest run of zero groups, the first of those that are as long. Mostly that is the first run of all, since
+/// fewer groups than it has are left behind it.
 fn longest_zeros(groups: &[u16; 8]) -> Run
+    ensures run { result ≡ words.longest_zeros groups.now }
+    ensures within { result.place + result.count ≤ 8 }
+{
+    let place = first_zero(groups);
+    let count = zeros_ahead(&groups[place..]);
+    if count > 0 && place + 2 * count >= 8 {
+        return Run { place, count };
+    }
+    longest_of_several(groups)
+}
+
+/// Where the first zero group stands, or the end.
+fn first_zero(groups: &[u16; 8]) -> usize
+    ensures others { (place : ℕ) → place < result → words.zeros_ahead (drop place groups.now) ≡ 0 }
+    ensures within { result ≤ 8 }
+{
+    let mut place = 0;
+    while place < 8 && groups[place] != 0 {
+        place += 1;
+    }
+    place
+}
+
+/// How many zero groups stand at the front.
+fn zeros_ahead(groups: &[u16]) -> usize
+    ensures zeros { result ≡ words.zeros_ahead groups.now }
+    ensures within { result ≤ length groups.now }
+{
+    let mut count = 0;
+    while count < groups.len() && groups[count] == 0 {
+        count += 1;
+    }
+    count
+}
+
+/// The longest run of zero groups, the first of those that are as long, by a look at each group from the last on.
+fn longest_of_several(groups: &[u16; 8]) -> Run
     ensures run { result ≡ words.longest_zeros groups.now }
     ensures within { result.place + result.count ≤ 8 }
 {
@@ -102,25 +143,26 @@ fn put_hexadecimal(text: &mut Text, number: u16)
     ensures text { text.new.items ≡ text.old.items ++ hexadecimal number }
     ensures room { array_vec_len text.new ≤ array_vec_len text.old + 4 }
 {
-    let digits = [
-        digit(number / 4096),
-        digit(number / 256 % 16),
-        digit(number / 16 % 16),
-        digit(number % 16),
-    ];
-    put(text, &digits[leading_zeros(number)..]);
-}
-
-/// How many of a number's four hexadecimal digits are leading zeros.
-fn leading_zeros(number: u16) -> usize
-    ensures digits { hexadecimal number ≡ drop result (four_digits number) }
-    ensures few { result ≤ 3 }
-{
     match number {
-        0..16 => 3,
-        16..256 => 2,
-        256..4096 => 1,
-        _ => 0,
+        0..16 => put(text, &[digit(number)]),
+        16..256 => put(text, &[digit(number / 16), digit(number % 16)]),
+        256..4096 => put(
+            text,
+            &[
+                digit(number / 256),
+                digit(number / 16 % 16),
+                digit(number % 16),
+            ],
+        ),
+        _ => put(
+            text,
+            &[
+                digit(number / 4096),
+                digit(number / 256 % 16),
+                digit(number / 16 % 16),
+                digit(number % 16),
+            ],
+        ),
     }
 }
 
@@ -129,9 +171,5 @@ fn digit(number: u16) -> u8
     requires { number < 16 }
     ensures { result ≡ digit_glyph false number }
 {
-    if number < 10 {
-        b'0' + number as u8
-    } else {
-        b'a' + (number - 10) as u8
-    }
+    GLYPHS[usize::from(number)]
 }

@@ -15,7 +15,7 @@ mod work;
 
 use mq_count::Watched;
 pub use program::{perform, run};
-use std::io::{BufReader, BufWriter, ErrorKind, Write};
+use std::io::{BufReader, ErrorKind, Write};
 use std::process::ExitCode;
 use std::{env, io};
 
@@ -44,7 +44,7 @@ fn run_on_host(rt: &HostRuntime) -> io::Result<u8> {
         words.push(word)?;
     }
     let mut input = Watched::new(BufReader::with_capacity(alloc, INPUT, rt.stdin())?);
-    let mut output = Watched::new(BufWriter::new(alloc, rt.stdout())?);
+    let mut output = Watched::new(rt.stdout());
     let mut errors = Watched::new(rt.stderr());
     Ok(run(alloc, &words, &mut input, &mut output, &mut errors))
 }

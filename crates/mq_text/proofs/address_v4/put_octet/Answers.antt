@@ -1,18 +1,15 @@
-use Rattle.std.proofs.Common.{◌++◌, List, ℕ, ap, sym, ◌∙◌, arith}
-use Rattle.std.proofs.lemmas.Fmt.{decimal_digit}
-use Rattle.mq_text.proofs.Digits.{two_digits, three_digits}
+use Rattle.std.proofs.Common.{◌<◌, arith}
+use Rattle.std.proofs.lemmas.Fmt.{length-decimal-le}
 use Rattle.mq_text.proofs.address_v4.put_octet.Goals as goal
 
-pub returns-then-octet-lt10-clause-text : goal.returns-then-octet-lt10-clause-text
-returns-then-octet-lt10-clause-text c =
-    c.put.ensures.text ∙ ap (λ (digits : List ℕ). c.args.text.now.items ++ digits) (rw c.digit.ensures (sym (decimal_digit c.args.octet c.if-octet-lt10.true)))
+pub put_few_digits-requires : goal.put_few_digits-requires
+put_few_digits-requires c =
+    let small : c.from.result < 256 = omega (arith, c.from.ensures, c.ranges.octet.fits) in
+    let short = length-decimal-le 3 c.from.result (omega arith) (omega (arith, small)) (omega (arith, small)) in
+    record { few = omega (arith, small); room = omega (arith, short, c.requires) }
 
-pub returns-then-octet-lt100-clause-text : goal.returns-then-octet-lt100-clause-text
-returns-then-octet-lt100-clause-text c =
-    c.put-then-octet-lt100.ensures.text
-    ∙ ap (λ (digits : List ℕ). c.args.text.now.items ++ digits) (rw (c.digit-then-octet-lt100.ensures, c.digit-then-octet-lt100-2.ensures) (sym (two_digits c.args.octet c.if-octet-lt10.false c.if-octet-lt100.true)))
-
-pub returns-clause-text : goal.returns-clause-text
-returns-clause-text c =
-    c.put-2.ensures.text
-    ∙ ap (λ (digits : List ℕ). c.args.text.now.items ++ digits) (rw (c.digit-2.ensures, c.digit-3.ensures, c.digit-4.ensures) (sym (three_digits c.args.octet c.if-octet-lt100.false (omega (arith, c.ranges.octet.fits)))))
+pub returns-clause-room : goal.returns-clause-room
+returns-clause-room c =
+    let small : c.from.result < 256 = omega (arith, c.from.ensures, c.ranges.octet.fits) in
+    let short = length-decimal-le 3 c.from.result (omega arith) (omega (arith, small)) (omega (arith, small)) in
+    omega (arith, short, c.put_few_digits.ensures.room)
