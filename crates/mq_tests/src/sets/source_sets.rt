@@ -69,8 +69,8 @@ fn a_set_of_ipv6_addresses_ascends(rt: HostRuntime) -> Result<(), Fail> {
         )?;
     }
     assert!(rt; set.len() == 3);
-    for (member, first) in set.as_slice().iter().zip([0x20, 0xfe, 0xff]) {
-        assert!(rt; member.octets()[0] == first);
+    for (member, first) in set.as_slice().iter().zip(b"\x20\xfe\xff") {
+        assert!(rt; member.octets()[0] == *first);
     }
     Ok(())
 }
