@@ -82,38 +82,3 @@ pub fn counts_are_growth()
 pub fn counts_stay_in_range()
     ensures { SpendingStaysInRange }
 {}
-
-#[cfg(test)]
-mod tests {
-    use super::*;
-    use std::test::Fail;
-
-    #[test]
-    fn each_comparison_counts_one(rt: HostRuntime) -> Result<(), Fail> {
-        let mut m = Meter::new();
-        let early = Moment::from_ms(1000).ok_or("in range")?;
-        let late = Moment::from_ms(1001).ok_or("in range")?;
-        assert_eq!(rt; m.spent(), 0);
-        assert!(rt; m.reached(early, late));
-        assert!(rt; m.reached(early, early), "at the moment itself");
-        assert!(rt; !m.reached(late, early));
-        assert_eq!(rt; m.spent(), 3);
-        assert_eq!(rt; m.earlier(late, early).ms(), 1000);
-        assert_eq!(rt; m.earlier(early, late).ms(), 1000);
-        assert_eq!(rt; m.spent(), 5);
-        Ok(())
-    }
-
-    #[test]
-    fn stays_at_the_greatest(rt: HostRuntime) -> Result<(), Fail> {
-        let mut m = Meter {
-            spent: u64::MAX - 1,
-        };
-        let now = Moment::from_ms(0).ok_or("in range")?;
-        for _ in 0..3 {
-            assert!(rt; m.reached(now, now));
-            assert_eq!(rt; m.spent(), u64::MAX);
-        }
-        Ok(())
-    }
-}

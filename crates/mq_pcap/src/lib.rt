@@ -11,8 +11,6 @@ mod options;
 pub mod reader;
 pub mod reader_state;
 mod record;
-#[cfg(test)]
-mod tests;
 
 pub use fault::PcapFault;
 pub use form::{Endian, Form, Fraction};

@@ -134,6 +134,3 @@ impl Deadlines {
         count
     }
 }
-
-#[cfg(test)]
-mod tests;

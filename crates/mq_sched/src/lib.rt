@@ -25,6 +25,3 @@ pub use queries::QuerySchedule;
 pub use roles::OtherQuerier;
 pub use schedules::Schedule;
 pub use sinks::{QueryParts, Sink};
-
-#[cfg(test)]
-mod tests;

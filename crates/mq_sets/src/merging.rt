@@ -43,6 +43,3 @@ pub fn rules_act_at_each_key<K: Key, L: Keyed<K>, R: Keyed<K>, T: Keyed<K>>()
     ensures ascending { RulesKeepOrder L.key_number R.key_number T.key_number }
     ensures at_each_number { RulesActAtEachNumber L.key_number R.key_number T.key_number }
 {}
-
-#[cfg(test)]
-mod tests;

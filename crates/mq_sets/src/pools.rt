@@ -144,6 +144,3 @@ impl<T: Copy> Pool<T> {
         self.used = self.used - forgotten + row.len();
     }
 }
-
-#[cfg(test)]
-mod tests;

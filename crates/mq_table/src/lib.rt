@@ -28,6 +28,3 @@ pub use older_hosts::{Hosts, translate};
 pub use sources::Source;
 pub use timers::{FilterMode, SourceTimer};
 pub use timing::Timing;
-
-#[cfg(test)]
-mod tests;

@@ -36,8 +36,6 @@ pub mod query;
 mod reading;
 pub mod records;
 pub mod sources;
-#[cfg(test)]
-mod tests;
 pub mod wire_key;
 pub mod writing;
 

@@ -12,9 +12,6 @@ use crate::sources::Sources;
 use crate::wire_key::WireKey;
 use byteorder::{BigEndian, ByteOrder};
 
-#[cfg(test)]
-mod tests;
-
 /// Where the checksum stands in a message.
 const CHECKSUM: usize = 2;
 

@@ -1,7 +1,7 @@
 //! A pool against a plain list of lists, at its limits, and with each growth refused.
 
-use super::*;
-use std::alloc::AllocError;
+use mq_sets::{Memory, Pool};
+use std::alloc::{AllocError, Global};
 use std::process::Abort;
 use std::test::Fail;
 
@@ -45,40 +45,45 @@ fn replace(pool: &mut Pool<u16>, place: usize, row: &[u16]) -> bool {
 /// The pool has these rows, and as much room as they leave of so many cells.
 fn expect_rows(rt: &impl Abort, pool: &Pool<u16>, cells: usize, want: &[&[u16]]) {
     let rows = pool.rows();
-    assert_eq!(rt; rows, want.len());
+    assert!(rt; rows == want.len());
     let mut used = 0usize;
     for place in 0..rows {
         let row = pool.row(place);
         assert!(rt; row == want[place]);
         used = used.saturating_add(row.len());
     }
-    assert_eq!(rt; pool.room(), cells.saturating_sub(used));
+    assert!(rt; pool.room() == cells.saturating_sub(used));
 }
 
 #[test]
 fn a_pool_is_filled_emptied_and_filled_again(rt: HostRuntime) -> Result<(), Fail> {
     let mut pool = reserved(&rt, 3, 5)?;
-    assert_eq!(rt; pool.free_rows(), 3);
+    assert!(rt; pool.free_rows() == 3);
     for _ in 0..4 {
         expect_rows(&rt, &pool, 5, &[]);
-        assert!(rt; insert_row(&mut pool, 0));
-        assert!(rt; insert_row(&mut pool, 1), "behind the last");
-        assert!(rt; insert_row(&mut pool, 0), "before the first");
-        assert_eq!(rt; pool.free_rows(), 0);
-        assert!(rt; !insert_row(&mut pool, 0), "no row is free");
-        assert!(rt; replace(&mut pool, 2, &[7]));
-        assert!(rt; replace(&mut pool, 0, &[1, 2, 3]));
-        assert!(rt; replace(&mut pool, 1, &[5]));
+        // Behind the last, before the first; no row is free.
+        for (place, is_free) in [(0, true), (1, true), (0, true), (0, false)] {
+            assert!(rt; insert_row(&mut pool, place) == is_free);
+        }
+        assert!(rt; pool.free_rows() == 0);
+        for (place, row) in [(2, [7].as_slice()), (0, &[1, 2, 3]), (1, &[5])] {
+            assert!(rt; replace(&mut pool, place, row));
+        }
         expect_rows(&rt, &pool, 5, &[&[1, 2, 3], &[5], &[7]]);
-        assert!(rt; !replace(&mut pool, 1, &[5, 6]), "no cell is free");
-        assert!(rt; replace(&mut pool, 0, &[1, 2, 3]), "by itself");
-        expect_rows(&rt, &pool, 5, &[&[1, 2, 3], &[5], &[7]]);
-        assert!(rt; replace(&mut pool, 0, &[]), "by nothing");
-        assert!(rt; replace(&mut pool, 2, &[]), "by nothing");
-        assert!(rt; replace(&mut pool, 1, &[1, 2, 3, 4, 5]), "by all cells");
+        // No cell is free; by itself.
+        for (place, row, fits) in [(1, [5, 6].as_slice(), false), (0, &[1, 2, 3], true)] {
+            assert!(rt; replace(&mut pool, place, row) == fits);
+            expect_rows(&rt, &pool, 5, &[&[1, 2, 3], &[5], &[7]]);
+        }
+        // By nothing, and by all cells.
+        for (place, row) in [(0, [].as_slice()), (2, &[]), (1, &[1, 2, 3, 4, 5])] {
+            assert!(rt; replace(&mut pool, place, row));
+        }
         expect_rows(&rt, &pool, 5, &[&[], &[1, 2, 3, 4, 5], &[]]);
-        assert!(rt; remove_row(&mut pool, 2), "the last");
-        assert!(rt; remove_row(&mut pool, 0), "the first");
+        assert!(rt;
+            remove_row(&mut pool, 2) && remove_row(&mut pool, 0),
+            "the last, the first"
+        );
         expect_rows(&rt, &pool, 5, &[&[1, 2, 3, 4, 5]]);
         assert!(rt; remove_row(&mut pool, 0), "with all its cells");
         assert!(rt; !remove_row(&mut pool, 0));
@@ -119,15 +124,13 @@ fn a_pool_takes_memory_only_when_it_is_made(rt: HostRuntime) -> Result<(), Fail>
     let mut pool = reserved(&rt, 4, 20)?;
     let row: [u16; 20] = [9; 20];
     for turn in 0..50u16 {
-        assert!(rt; insert_row(&mut pool, 0));
-        assert!(rt; replace(&mut pool, 0, &row[..usize::from(turn % 7)]));
-        assert!(rt; insert_row(&mut pool, 1));
-        assert!(rt; replace(&mut pool, 1, &row[..usize::from(turn % 13)]));
-        assert!(rt; remove_row(&mut pool, 0));
-        assert!(rt; replace(&mut pool, 0, &row));
-        assert_eq!(rt; pool.room(), 0);
-        assert!(rt; remove_row(&mut pool, 0));
-        assert_eq!(rt; pool.room(), 20);
+        for (place, length) in [(0, turn % 7), (1, turn % 13)] {
+            let row = &row[..usize::from(length)];
+            assert!(rt; insert_row(&mut pool, place) && replace(&mut pool, place, row));
+        }
+        assert!(rt; remove_row(&mut pool, 0) && replace(&mut pool, 0, &row));
+        assert!(rt; pool.room() == 0);
+        assert!(rt; remove_row(&mut pool, 0) && pool.room() == 20);
     }
     Ok(())
 }
@@ -155,13 +158,13 @@ fn a_pool_is_a_list_of_lists(rt: HostRuntime) -> Result<(), Fail> {
             edits = edits.wrapping_add(1);
         }
         let rows = pool.rows();
-        assert_eq!(rt; rows, plain.len());
+        assert!(rt; rows == plain.len());
         let mut used = 0usize;
         for place in 0..rows {
             assert!(rt; pool.row(place) == plain[place].as_slice());
             used = used.saturating_add(plain[place].len());
         }
-        assert_eq!(rt; pool.room().saturating_add(used), 40);
+        assert!(rt; pool.room().saturating_add(used) == 40);
     }
     assert!(rt; 3000 < edits, "{edits} edits");
     Ok(())

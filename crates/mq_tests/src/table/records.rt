@@ -1,55 +1,69 @@
 //! The worked rows, for the addresses of both families and through both forms of a record. The states
 //! are those of the standards' tables at the default timing, before any query lowers a timer.
 
-ghost use Rattle.std.specs.Prelude.{◌≤◌, ◌^◌, IfOk};
+ghost use Rattle.std.specs.Prelude.{◌≤◌, ◌^◌, IfOk, IsOk, IsTrue};
 
-use crate::{FilterMode, Group, Hosts, Kind, SourceTimer, Timing, translate};
 use mq_count::{Addr4, Addr6, Key, Meter, Moment, OlderVersion};
-use mq_sets::{Memory, SourceSet};
+use mq_sets::{InsertFault, SourceSet};
+use mq_table::{FilterMode, Group, Kind, Source, SourceTimer, Timing};
 use std::alloc::{AllocError, Global};
-use std::cmp::Ordering;
 use std::test::Fail;
 
-fn at(ms: u64) -> Result<Moment, Fail>
+pub fn at(ms: u64) -> Result<Moment, Fail>
     ensures { IfOk result (λ moment. moment ≤ 2 ^ 53) }
 {
     Ok(Moment::from_ms(ms).ok_or("in range")?)
 }
 
-fn defaults() -> Result<Timing, Fail> {
+pub fn defaults() -> Result<Timing, Fail> {
     Ok(Timing::new(2, 125, 10000, 1000).ok_or("in range")?)
 }
 
-fn sources_v4() -> [Addr4; 4] {
-    [1, 2, 3, 4].map(|last| Addr4::from_octets([10, 0, 0, last]))
+/// Addresses that letters stand for.
+pub trait Lettered: Key {
+    fn lettered(letter: u8) -> Self;
+
+    /// The letter, or `?` for any other address.
+    fn letter(self) -> u8;
 }
 
-fn sources_v6() -> [Addr6; 4] {
-    [1, 2, 3, 4].map(|last| {
-        Addr6::from_octets([0x20, 1, 0xd, 0xb8, 0, 0, 0, 0, 0, 0, 0, 0, 0, 0, 0, last])
-    })
+impl Lettered for Addr4 {
+    fn lettered(letter: u8) -> Addr4 {
+        Addr4::from_octets([10, 0, 0, letter])
+    }
+
+    fn letter(self) -> u8 {
+        let letter = self.octets()[3];
+        if self.octets() == Self::lettered(letter).octets() {
+            letter
+        } else {
+            b'?'
+        }
+    }
+}
+
+impl Lettered for Addr6 {
+    fn lettered(letter: u8) -> Addr6 {
+        Addr6::from_octets([0x20, 1, 0xd, 0xb8, 0, 0, 0, 0, 0, 0, 0, 0, 0, 0, 0, letter])
+    }
+
+    fn letter(self) -> u8 {
+        let letter = self.octets()[15];
+        if self.octets() == Self::lettered(letter).octets() {
+            letter
+        } else {
+            b'?'
+        }
+    }
 }
 
 /// The sources of some letters.
-fn named<K: Key>(alloc: Global, letters: &str, sources: &[K; 4]) -> Result<SourceSet<K>, Fail> {
+fn named<K: Lettered>(alloc: Global, letters: &str) -> Result<SourceSet<K>, InsertFault> {
     let mut set = SourceSet::empty(alloc);
     for letter in letters.as_bytes() {
-        for (known, source) in b"abcd".iter().zip(sources) {
-            if known == letter {
-                set.insert(*source, 366, &mut Meter::new())?;
-            }
-        }
+        set.insert(K::lettered(*letter), 366, &mut Meter::new())?;
     }
     Ok(set)
-}
-
-fn letter_of<K: Key>(address: K, sources: &[K; 4]) -> u8 {
-    for (letter, source) in b"abcd".iter().zip(sources) {
-        if address.order(*source, &mut Meter::new()) == Ordering::Equal {
-            return *letter;
-        }
-    }
-    b'?'
 }
 
 fn push_moment(text: &mut Vec<u8>, moment: Moment) -> Result<(), AllocError> {
@@ -58,66 +72,65 @@ fn push_moment(text: &mut Vec<u8>, moment: Moment) -> Result<(), AllocError> {
     text.extend_from_slice(&out[..len])
 }
 
+/// What stands before a deadline, and the deadline.
+fn push_timer(text: &mut Vec<u8>, before: &str, deadline: Moment) -> Result<(), AllocError> {
+    text.extend_from_slice(before.as_bytes())?;
+    push_moment(text, deadline)
+}
+
+fn push_source<K: Lettered>(text: &mut Vec<u8>, source: &Source<K>) -> Result<(), AllocError> {
+    let letter = source.address.letter();
+    match &source.timer {
+        SourceTimer::Stopped => text.extend_from_slice(&[b' ', b'!', letter]),
+        SourceTimer::Running(deadline, _) => {
+            text.extend_from_slice(&[b' ', letter, b'='])?;
+            push_moment(text, *deadline)
+        }
+    }
+}
+
 /// A group as a line: its mode, its sources with their deadlines or `!`, its host-present timers.
-fn shown<K: Key>(alloc: Global, group: &Group<K>, sources: &[K; 4]) -> Result<Vec<u8>, AllocError> {
+pub fn shown<K: Lettered>(alloc: Global, group: &Group<K>) -> Result<Vec<u8>, AllocError> {
     let mut text = Vec::new(alloc);
     let mode = group.mode();
     match &mode {
         FilterMode::Include => text.extend_from_slice(b"include")?,
-        FilterMode::Exclude(deadline) => {
-            text.extend_from_slice(b"exclude ")?;
-            push_moment(&mut text, *deadline)?;
-        }
+        FilterMode::Exclude(deadline) => push_timer(&mut text, "exclude ", *deadline)?,
     }
     for source in group.sources() {
-        text.push(b' ')?;
-        match &source.timer {
-            SourceTimer::Stopped => {
-                text.push(b'!')?;
-                text.push(letter_of(source.address, sources))?;
-            }
-            SourceTimer::Running(deadline, _) => {
-                text.push(letter_of(source.address, sources))?;
-                text.push(b'=')?;
-                push_moment(&mut text, *deadline)?;
-            }
-        }
+        push_source(&mut text, source)?;
     }
     if let Some(deadline) = group.v1() {
-        text.extend_from_slice(b" v1 ")?;
-        push_moment(&mut text, deadline)?;
+        push_timer(&mut text, " v1 ", deadline)?;
     }
     if let Some(deadline) = group.v2() {
-        text.extend_from_slice(b" v2 ")?;
-        push_moment(&mut text, deadline)?;
+        push_timer(&mut text, " v2 ", deadline)?;
     }
     Ok(text)
 }
 
 /// The letters of some addresses.
-fn letters_of<K: Key>(
-    alloc: Global,
-    addresses: &[K],
-    sources: &[K; 4],
-) -> Result<Vec<u8>, AllocError> {
+fn letters_of<K: Lettered>(alloc: Global, addresses: &[K]) -> Result<Vec<u8>, AllocError> {
     let mut text = Vec::new(alloc);
     for address in addresses {
-        text.push(letter_of(*address, sources))?;
+        text.push(address.letter())?;
     }
     Ok(text)
 }
 
-fn expect(holds: bool, what: &'static str) -> Result<(), Fail> {
+pub fn expect(holds: bool, what: &'static str) -> Result<(), Fail>
+    ensures { IsOk result → IsTrue holds }
+{
     if holds { Ok(()) } else { Err(Fail::from(what)) }
 }
 
-fn expect_line(got: Result<Vec<u8>, AllocError>, want: &str) -> Result<(), Fail> {
+pub fn expect_line(got: Result<Vec<u8>, AllocError>, want: &str) -> Result<(), Fail> {
     expect(got?.as_slice() == want.as_bytes(), "another line")
 }
 
 /// What happens to a group at a moment.
 #[derive(Clone, Copy)]
-enum Step {
+pub enum Step {
     /// A record with the sources of these letters.
     Record(Kind, &'static str),
     /// A Report of an older host.
@@ -130,67 +143,46 @@ enum Step {
     Lower(&'static str),
 }
 
-fn recorded<K: Key>(
+fn recorded<K: Lettered>(
     alloc: Global,
+    timing: &Timing,
     group: &Group<K>,
     kind: Kind,
     letters: &str,
     now: Moment,
-    sources: &[K; 4],
 ) -> Result<Group<K>, Fail>
     requires { now ≤ 2 ^ 53 }
 {
-    let set = named(alloc, letters, sources)?;
-    let change = group.apply(alloc, kind, &set, now, &defaults()?, &mut Meter::new())?;
+    let set = named(alloc, letters)?;
+    let change = group.apply(alloc, kind, &set, now, timing, &mut Meter::new())?;
     Ok(change.group)
 }
 
-fn lower<K: Key>(
-    group: &mut Group<K>,
-    letters: &str,
-    now: Moment,
-    sources: &[K; 4],
-) -> Result<(), Fail>
+fn lower<K: Lettered>(group: &mut Group<K>, timing: &Timing, letters: &str, now: Moment)
     requires { now ≤ 2 ^ 53 }
 {
-    let timing = defaults()?;
     for letter in letters.as_bytes() {
-        for (known, source) in b"abcd".iter().zip(sources) {
-            if known == letter {
-                group.lower_source(*source, now, &timing, &mut Meter::new());
-            }
-        }
+        group.lower_source(K::lettered(*letter), now, timing, &mut Meter::new());
     }
-    Ok(())
 }
 
-fn after_step<K: Key>(
+pub fn after_steps<K: Lettered>(
     alloc: Global,
-    mut group: Group<K>,
-    step: Step,
-    now: Moment,
-    sources: &[K; 4],
-) -> Result<Group<K>, Fail>
-    requires { now ≤ 2 ^ 53 }
-{
-    match step {
-        Step::Record(kind, letters) => return recorded(alloc, &group, kind, letters, now, sources),
-        Step::Older(version) => group.older(version, now, &defaults()?),
-        Step::Expire => group.expire(now, &mut Meter::new()),
-        Step::LowerGroup => group.lower_group(now, &defaults()?, &mut Meter::new()),
-        Step::Lower(letters) => lower(&mut group, letters, now, sources)?,
-    }
-    Ok(group)
-}
-
-fn after_steps<K: Key>(
-    alloc: Global,
+    timing: &Timing,
     steps: &[(u64, Step)],
-    sources: &[K; 4],
 ) -> Result<Group<K>, Fail> {
     let mut group = Group::vacant(alloc);
     for (ms, step) in steps {
-        group = after_step(alloc, group, *step, at(*ms)?, sources)?;
+        let now = at(*ms)?;
+        match *step {
+            Step::Record(kind, letters) => {
+                group = recorded(alloc, timing, &group, kind, letters, now)?;
+            }
+            Step::Older(version) => group.older(version, now, timing),
+            Step::Expire => group.expire(now, &mut Meter::new()),
+            Step::LowerGroup => group.lower_group(now, timing, &mut Meter::new()),
+            Step::Lower(letters) => lower(&mut group, timing, letters, now),
+        }
     }
     Ok(group)
 }
@@ -198,10 +190,11 @@ fn after_steps<K: Key>(
 /// Steps from a group that isn't held, and the line of the group after them.
 type Row<'a> = (&'a [(u64, Step)], &'a str);
 
-fn rows_give<'a, K: Key>(alloc: Global, rows: &'a [Row<'a>], sources: &[K; 4]) -> Result<(), Fail> {
+fn rows_give<'a, K: Lettered>(alloc: Global, rows: &'a [Row<'a>]) -> Result<(), Fail> {
+    let timing = defaults()?;
     for (steps, want) in rows {
-        let group = after_steps(alloc, steps, sources)?;
-        expect_line(shown(alloc, &group, sources), want)?;
+        let group: Group<K> = after_steps(alloc, &timing, steps)?;
+        expect_line(shown(alloc, &group), want)?;
     }
     Ok(())
 }
@@ -209,59 +202,59 @@ fn rows_give<'a, K: Key>(alloc: Global, rows: &'a [Row<'a>], sources: &[K; 4]) -
 /// A record at 1000: the new group, whether the group is asked, and the sources that are asked for.
 type Line = (Kind, &'static str, bool, &'static str);
 
-fn made_anew<K: Key>(
+fn made_anew<K: Lettered>(
     alloc: Global,
+    timing: &Timing,
     before: &Group<K>,
     set: &SourceSet<K>,
     line: &Line,
-    sources: &[K; 4],
 ) -> Result<(), Fail> {
     let (kind, after, group_asked, asked) = *line;
-    let change = before.apply(alloc, kind, set, at(1000)?, &defaults()?, &mut Meter::new())?;
-    expect_line(shown(alloc, &change.group, sources), after)?;
+    let change = before.apply(alloc, kind, set, at(1000)?, timing, &mut Meter::new())?;
+    expect_line(shown(alloc, &change.group), after)?;
     expect(change.query_group == group_asked, "Q(G)")?;
-    expect_line(letters_of(alloc, change.query.as_slice(), sources), asked)
+    expect_line(letters_of(alloc, change.query.as_slice()), asked)
 }
 
-fn made_in_lent_storage<K: Key>(
+fn made_in_lent_storage<K: Lettered>(
     alloc: Global,
+    timing: &Timing,
     before: &Group<K>,
     set: &SourceSet<K>,
     line: &Line,
-    sources: &[K; 4],
 ) -> Result<(), Fail> {
     let (kind, after, group_asked, asked) = *line;
     let mut into = Group::with_room(alloc, 8)?;
     let mut query = Vec::with_capacity(alloc, 8)?;
-    if before.sources().len() > 4 || set.len() > 4 {
-        return Err(Fail::from("four sources at most"));
-    }
-    let (now, timing) = (at(1000)?, defaults()?);
-    let mut m = Meter::new();
-    let is_asked = before.apply_into(kind, set, now, &timing, &mut into, &mut query, &mut m);
-    expect_line(shown(alloc, &into, sources), after)?;
+    expect(
+        before.sources().len() <= 4 && set.len() <= 4,
+        "four sources at most",
+    )?;
+    let (now, mut m) = (at(1000)?, Meter::new());
+    let is_asked = before.apply_into(kind, set, now, timing, &mut into, &mut query, &mut m);
+    expect_line(shown(alloc, &into), after)?;
     expect(is_asked == group_asked, "Q(G)")?;
-    expect_line(letters_of(alloc, query.as_slice(), sources), asked)
+    expect_line(letters_of(alloc, query.as_slice()), asked)
 }
 
-fn lines_give<K: Key>(
+fn lines_give<K: Lettered>(
     alloc: Global,
     steps: &[(u64, Step)],
     letters: &str,
     lines: &[Line],
-    sources: &[K; 4],
 ) -> Result<(), Fail> {
-    let before = after_steps(alloc, steps, sources)?;
-    let set = named(alloc, letters, sources)?;
+    let timing = defaults()?;
+    let before: Group<K> = after_steps(alloc, &timing, steps)?;
+    let set = named(alloc, letters)?;
     for line in lines {
-        made_anew(alloc, &before, &set, line, sources)?;
-        made_in_lent_storage(alloc, &before, &set, line, sources)?;
+        made_anew(alloc, &timing, &before, &set, line)?;
+        made_in_lent_storage(alloc, &timing, &before, &set, line)?;
     }
     Ok(())
 }
 
-fn lines_of_include<K: Key>(alloc: Global, sources: &[K; 4]) -> Result<(), Fail> {
-    lines_give(
+fn lines_of_include<K: Lettered>(alloc: Global) -> Result<(), Fail> {
+    lines_give::<K>(
         alloc,
         &[(0, Step::Record(Kind::Allow, "ab"))],
         "bc",
@@ -273,12 +266,11 @@ fn lines_of_include<K: Key>(alloc: Global, sources: &[K; 4]) -> Result<(), Fail>
             (Kind::ToEx, "exclude 261000 b=260000 !c", false, "b"),
             (Kind::ToIn, "include a=260000 b=261000 c=261000", false, "a"),
         ],
-        sources,
     )
 }
 
-fn lines_of_exclude<K: Key>(alloc: Global, sources: &[K; 4]) -> Result<(), Fail> {
-    lines_give(
+fn lines_of_exclude<K: Lettered>(alloc: Global) -> Result<(), Fail> {
+    lines_give::<K>(
         alloc,
         &[
             (0, Step::Record(Kind::ToEx, "ab")),
@@ -318,20 +310,19 @@ fn lines_of_exclude<K: Key>(alloc: Global, sources: &[K; 4]) -> Result<(), Fail>
                 "a",
             ),
         ],
-        sources,
     )
 }
 
 #[test]
 fn the_twelve_lines_for_both_families(rt: HostRuntime) -> Result<(), Fail> {
-    lines_of_include(rt.alloc(), &sources_v4())?;
-    lines_of_include(rt.alloc(), &sources_v6())?;
-    lines_of_exclude(rt.alloc(), &sources_v4())?;
-    lines_of_exclude(rt.alloc(), &sources_v6())
+    lines_of_include::<Addr4>(rt.alloc())?;
+    lines_of_include::<Addr6>(rt.alloc())?;
+    lines_of_exclude::<Addr4>(rt.alloc())?;
+    lines_of_exclude::<Addr6>(rt.alloc())
 }
 
-fn ends_of_timers<K: Key>(alloc: Global, sources: &[K; 4]) -> Result<(), Fail> {
-    rows_give(
+fn ends_of_timers<K: Lettered>(alloc: Global) -> Result<(), Fail> {
+    rows_give::<K>(
         alloc,
         &[
             // EXCLUDE with a until 300000 and b stopped, until 261000.
@@ -388,12 +379,11 @@ fn ends_of_timers<K: Key>(alloc: Global, sources: &[K; 4]) -> Result<(), Fail> {
                 "include b=260001 d=260001",
             ),
         ],
-        sources,
     )
 }
 
-fn older_reports<K: Key>(alloc: Global, sources: &[K; 4]) -> Result<(), Fail> {
-    rows_give(
+fn older_reports<K: Lettered>(alloc: Global) -> Result<(), Fail> {
+    rows_give::<K>(
         alloc,
         &[
             // A Report acts as IS_EX of nothing; records keep the host-present timers.
@@ -424,12 +414,11 @@ fn older_reports<K: Key>(alloc: Global, sources: &[K; 4]) -> Result<(), Fail> {
                 "include",
             ),
         ],
-        sources,
     )
 }
 
-fn queries_lower<K: Key>(alloc: Global, sources: &[K; 4]) -> Result<(), Fail> {
-    rows_give(
+fn queries_lower<K: Lettered>(alloc: Global) -> Result<(), Fail> {
+    rows_give::<K>(
         alloc,
         &[
             // Held and not, repeated, in any order; INCLUDE has no group timer.
@@ -454,19 +443,15 @@ fn queries_lower<K: Key>(alloc: Global, sources: &[K; 4]) -> Result<(), Fail> {
                 "exclude 7000 a=7000 !b",
             ),
         ],
-        sources,
     )
 }
 
 #[test]
 fn ends_older_hosts_and_queries_for_both_families(rt: HostRuntime) -> Result<(), Fail> {
-    ends_of_timers(rt.alloc(), &sources_v4())?;
-    ends_of_timers(rt.alloc(), &sources_v6())?;
-    older_reports(rt.alloc(), &sources_v4())?;
-    older_reports(rt.alloc(), &sources_v6())?;
-    queries_lower(rt.alloc(), &sources_v4())?;
-    queries_lower(rt.alloc(), &sources_v6())
+    ends_of_timers::<Addr4>(rt.alloc())?;
+    ends_of_timers::<Addr6>(rt.alloc())?;
+    older_reports::<Addr4>(rt.alloc())?;
+    older_reports::<Addr6>(rt.alloc())?;
+    queries_lower::<Addr4>(rt.alloc())?;
+    queries_lower::<Addr6>(rt.alloc())
 }
-
-mod older_hosts;
-mod storage;

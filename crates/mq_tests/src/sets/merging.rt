@@ -5,10 +5,8 @@ ghost use Rattle.mq_count.specs.Spending.{Spends};
 ghost use Rattle.mq_sets.specs.Ascending.{IsAscending};
 ghost use Rattle.mq_sets.specs.Merging.{merged_lists};
 
-use super::*;
-use crate::merge_state::Merged;
-use crate::source_sets::{InsertFault, SourceSet};
-use mq_count::{Addr4, Meter};
+use mq_count::{Addr4, Key, Meter};
+use mq_sets::{InsertFault, Merged, SourceSet, merge};
 use std::alloc::{AllocError, Global};
 use std::test::Fail;
 
@@ -67,11 +65,11 @@ fn hands_out_left_both_and_right(rt: HostRuntime) -> Result<(), Fail> {
         let right = addresses(rt.alloc(), right)?;
         let mut m = Meter::new();
         let pairs = pairs_of(rt.alloc(), left.as_slice(), right.as_slice(), &mut m)?;
-        assert_eq!(rt; m.spent(), spends);
-        assert_eq!(rt; pairs.len(), want.len());
+        assert!(rt; m.spent() == spends);
+        assert!(rt; pairs.len() == want.len());
         for (pair, (x, y)) in pairs.iter().zip(want) {
             let last = |side: Option<Addr4>| side.map_or(0, |address| address.octets()[3]);
-            assert_eq!(rt; (last(pair.0), last(pair.1)), (*x, *y));
+            assert!(rt; (last(pair.0), last(pair.1)) == (*x, *y));
         }
     }
     Ok(())

@@ -2,22 +2,21 @@
 
 ghost use Rattle.std.specs.Prelude.{◌≤◌, ◌^◌, IfOk};
 
-mod sendings;
-
-use crate::{Announced, Election, Schedule};
+use super::sendings;
 use mq_count::{Addr4, Addr6, Key, Meter, Moment};
+use mq_sched::{Announced, Election, Schedule};
 use mq_table::{FilterMode, Group, Head, Source, Timing};
 use std::alloc::Global;
 use std::cmp::Ordering;
 use std::test::Fail;
 
-fn at(ms: u64) -> Result<Moment, Fail>
+pub fn at(ms: u64) -> Result<Moment, Fail>
     ensures { IfOk result (λ moment. moment ≤ 2 ^ 53) }
 {
     Ok(Moment::from_ms(ms).ok_or("in range")?)
 }
 
-fn expect(holds: bool, what: &'static str) -> Result<(), Fail> {
+pub fn expect(holds: bool, what: &'static str) -> Result<(), Fail> {
     if holds { Ok(()) } else { Err(Fail::from(what)) }
 }
 
@@ -28,7 +27,7 @@ fn is_at(moment: Moment, ms: u64) -> Result<bool, Fail> {
 }
 
 /// The default timing with another robustness variable.
-fn robust(robustness: u32) -> Result<Timing, Fail> {
+pub fn robust(robustness: u32) -> Result<Timing, Fail> {
     Ok(Timing::new(robustness, 125, 10000, 1000).ok_or("in range")?)
 }
 
@@ -187,8 +186,8 @@ fn mld(rt: HostRuntime) -> Result<(), Fail> {
 #[test]
 fn announcements(rt: HostRuntime) -> Result<(), Fail> {
     let greatest = Announced::new(7, 31744).ok_or("fields carry these")?;
-    assert_eq!(rt; greatest.robustness(), 7);
-    assert_eq!(rt; greatest.query_seconds(), 31744);
+    assert!(rt; greatest.robustness() == 7);
+    assert!(rt; greatest.query_seconds() == 31744);
     assert!(rt; Announced::new(8, 31744).is_none());
     assert!(rt; Announced::new(7, 31745).is_none());
     Ok(())

@@ -1,8 +1,8 @@
 //! Rows of an index of deadlines, its counts, and each growth refused.
 
-use super::*;
-use mq_count::Span;
-use std::process::Abort;
+use mq_count::{Meter, Moment, Span};
+use mq_sched::Deadlines;
+use mq_sets::Memory;
 use std::test::Fail;
 
 fn moment(ms: u32) -> Option<Moment> {
@@ -48,64 +48,64 @@ fn remove(deadlines: &mut Deadlines, place: usize) -> bool {
     true
 }
 
-/// The places that are due at `ms` are `want`, and finding them spends one comparison for each and
+/// Whether the places that are due at `ms` are `want`, and finding them spends one comparison for each and
 /// one more where another is there.
-fn expect_due(rt: &impl Abort, deadlines: &Deadlines, ms: u32, want: &[usize]) -> Option<()> {
+fn is_due(deadlines: &Deadlines, ms: u32, want: &[usize]) -> bool {
     let mut places = [7777; 64];
-    assert!(rt; deadlines.len() <= places.len());
-    let mut m = Meter::new();
-    let count = deadlines.due(moment(ms)?, &mut places, &mut m);
-    assert!(rt; count <= places.len());
-    assert!(rt; &places[..count] == want, "{ms}");
-    for place in &places[count..] {
-        assert_eq!(rt; *place, 7777, "as it was");
+    let Some(now) = moment(ms) else {
+        return false;
+    };
+    if deadlines.len() > places.len() {
+        return false;
     }
+    let mut m = Meter::new();
+    let count = deadlines.due(now, &mut places, &mut m);
     let spent = want.len().saturating_add(1).min(deadlines.len());
-    assert_eq!(rt; m.spent(), spent as u64);
-    Some(())
+    count <= places.len()
+        && &places[..count] == want
+        && &places[count..] == &[7777; 64][count..]
+        && m.spent() == spent as u64
 }
 
-/// The earliest deadline is at `ms`.
-fn expect_earliest(rt: &impl Abort, deadlines: &Deadlines, ms: u32) -> Option<()> {
+/// Whether the earliest deadline is at `ms`.
+fn is_earliest(deadlines: &Deadlines, ms: u32) -> bool {
     let mut m = Meter::new();
-    let earliest = deadlines.earliest()?;
-    assert!(rt; m.reached(earliest, moment(ms)?));
-    assert!(rt; m.reached(moment(ms)?, earliest));
-    Some(())
+    match (deadlines.earliest(), moment(ms)) {
+        (Some(earliest), Some(want)) => m.reached(earliest, want) && m.reached(want, earliest),
+        _ => false,
+    }
 }
 
 #[test]
 fn places_follow(rt: HostRuntime) -> Result<(), Fail> {
     let mut all = reserved(&rt, 4)?;
-    assert!(rt; all.earliest().is_none());
-    expect_due(&rt, &all, 5000, &[]).ok_or("none")?;
-    assert_eq!(rt;
-        insert(&mut all, 0, 1000),
-        Some(0),
-        "the first spends nothing"
-    );
-    assert_eq!(rt; insert(&mut all, 1, 500), Some(1));
-    assert_eq!(rt; insert(&mut all, 0, 700), Some(2));
-    expect_earliest(&rt, &all, 500).ok_or("earliest")?;
-    expect_due(&rt, &all, 499, &[]).ok_or("none")?;
-    expect_due(&rt, &all, 500, &[2]).ok_or("at the moment itself")?;
-    expect_due(&rt, &all, 999, &[0, 2]).ok_or("ascending by place")?;
-    expect_due(&rt, &all, 1000, &[0, 1, 2]).ok_or("all")?;
-    assert!(rt; remove(&mut all, 0), "at the first place");
-    expect_due(&rt, &all, 500, &[1]).ok_or("moved down")?;
-    assert_eq!(rt; change(&mut all, 1, 2000), Some(1));
-    expect_earliest(&rt, &all, 1000).ok_or("earliest")?;
-    expect_due(&rt, &all, 1999, &[0]).ok_or("changed")?;
+    assert!(rt; all.earliest().is_none() && is_due(&all, 5000, &[]));
+    // The first spends nothing.
+    for (place, ms, spent) in [(0, 1000, 0), (1, 500, 1), (0, 700, 2)] {
+        assert!(rt; insert(&mut all, place, ms) == Some(spent));
+    }
+    assert!(rt; is_earliest(&all, 500));
+    // At the moment itself, ascending by place.
+    for (ms, want) in [
+        (499, [].as_slice()),
+        (500, &[2]),
+        (999, &[0, 2]),
+        (1000, &[0, 1, 2]),
+    ] {
+        assert!(rt; is_due(&all, ms, want));
+    }
     assert!(rt;
-        insert(&mut all, 2, 1000).is_some(),
-        "behind the last place"
+        remove(&mut all, 0) && is_due(&all, 500, &[1]),
+        "moved down"
     );
-    assert!(rt; insert(&mut all, 1, 1000).is_some());
-    expect_due(&rt, &all, 1000, &[0, 1, 3]).ok_or("equal moments")?;
-    assert!(rt; insert(&mut all, 0, 1).is_none(), "no room");
-    assert!(rt; remove(&mut all, 3), "at the last place");
-    assert!(rt; remove(&mut all, 2));
-    expect_due(&rt, &all, 1000, &[0, 1]).ok_or("left")?;
+    assert!(rt; change(&mut all, 1, 2000) == Some(1));
+    assert!(rt; is_earliest(&all, 1000) && is_due(&all, 1999, &[0]));
+    // Behind the last place; equal moments; no room.
+    for (place, ms, has_room) in [(2, 1000, true), (1, 1000, true), (0, 1, false)] {
+        assert!(rt; insert(&mut all, place, ms).is_some() == has_room);
+    }
+    assert!(rt; is_due(&all, 1000, &[0, 1, 3]));
+    assert!(rt; remove(&mut all, 3) && remove(&mut all, 2) && is_due(&all, 1000, &[0, 1]));
     Ok(())
 }
 
@@ -118,13 +118,11 @@ fn deadlines_take_memory_only_when_they_are_made(rt: HostRuntime) -> Result<(), 
         for place in 0..8 {
             assert!(rt; insert(&mut all, place, 1000).is_some());
         }
-        expect_due(&rt, &all, 999, &[]).ok_or("all equal")?;
-        expect_due(&rt, &all, 1000, &[0, 1, 2, 3, 4, 5, 6, 7]).ok_or("all equal")?;
-        assert!(rt; change(&mut all, 7, turn).is_some());
-        expect_due(&rt, &all, 999, &[7]).ok_or("the last")?;
-        assert!(rt; change(&mut all, 7, 2000).is_some());
-        assert!(rt; change(&mut all, 0, turn).is_some());
-        expect_due(&rt, &all, 999, &[0]).ok_or("the first")?;
+        assert!(rt; is_due(&all, 999, &[]) && is_due(&all, 1000, &[0, 1, 2, 3, 4, 5, 6, 7]));
+        for place in [7, 0] {
+            assert!(rt; change(&mut all, place, turn).is_some() && is_due(&all, 999, &[place]));
+            assert!(rt; change(&mut all, place, 2000).is_some());
+        }
         for _ in 0..8 {
             assert!(rt; remove(&mut all, 0));
         }
@@ -160,16 +158,16 @@ fn deadlines_are_a_list(rt: HostRuntime) -> Result<(), Fail> {
                 }
             }
         }
-        assert_eq!(rt; all.len(), plain.len());
+        assert!(rt; all.len() == plain.len());
         due.clear();
         for (place, deadline) in plain.iter().enumerate() {
             if *deadline <= ms {
                 due.push(place)?;
             }
         }
-        expect_due(&rt, &all, ms, due.as_slice()).ok_or("due")?;
+        assert!(rt; is_due(&all, ms, due.as_slice()));
         match plain.iter().copied().min() {
-            Some(earliest) => expect_earliest(&rt, &all, earliest).ok_or("earliest")?,
+            Some(earliest) => assert!(rt; is_earliest(&all, earliest)),
             None => assert!(rt; all.earliest().is_none()),
         }
     }

@@ -1,0 +1,5 @@
+//! Sets, merges and pools.
+
+mod merging;
+mod pools;
+mod source_sets;

@@ -1,0 +1,4 @@
+//! Codes, checksums, and queries that are written.
+
+mod codes;
+mod writing;
