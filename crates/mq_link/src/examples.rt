@@ -20,6 +20,7 @@ use crate::answers::{DropReason, MessageKind, Received, Refusal};
 
 pub mod families;
 pub mod records;
+pub mod sendings;
 
 /// General queries at the start, a startup interval later, and then a query interval apart; a late tick sends one.
 pub fn general_queries()

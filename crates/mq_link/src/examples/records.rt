@@ -8,7 +8,7 @@ ghost use Rattle.mq_table.specs.Examples.{until};
 ghost use Rattle.mq_sched.specs.Examples.{the_group, scheduled};
 ghost use Rattle.mq_sched.specs.Sending.{GroupQuery, SourcesQuery};
 ghost use Rattle.mq_link.specs.Counters.{Applied, Ignored, Refused};
-ghost use Rattle.mq_link.specs.Examples.{igmp, limited, mld_limited, source_specific_igmp, host, ipv4, from, octets, a_group, listed, listed_due, early, asking, asking_once, listening, saying, sources_to, each_as, Becomes, BecomeAll, TicksTo, Comes};
+ghost use Rattle.mq_link.specs.Examples.{igmp, limited, host, ipv4, from, octets, listed, listed_due, early, asking, asking_once, listening, saying, Becomes, BecomeAll, Comes};
 
 use crate::answers::{Received, Refusal};
 
@@ -188,23 +188,4 @@ pub fn a_sending_names_those_that_wait()
         ((the_group, listed_due Include ((1, Running 4000 1) ∷ (2, until 261000) ∷ []) None (Some 3000)) ∷ []) Applied
         (SourcesQuery the_group false (1 ∷ 2 ∷ []) ∷ [])
         ((the_group, listed_due Include ((1, until 4000) ∷ (2, Running 4500 1) ∷ []) None (Some 3500)) ∷ []) }
-{}
-
-/// Ninety sources of a group of MLD are blocked at 2000: they go in two messages then and at 3000, of 89 and of one, and
-/// the group is gone at 4000. In IGMP 367 sources go in messages of 366 and of one.
-pub fn a_sending_in_two_messages()
-    ensures blocked { Becomes (asking (mld_limited 90) 2000) (saying a_group 6 (sources_to 90))
-        ((a_group, listed Include (each_as (until 261000) (sources_to 90))) ∷ []) Applied
-        (SourcesQuery a_group false (sources_to 89) ∷ SourcesQuery a_group false (90 ∷ []) ∷ [])
-        ((a_group, listed_due Include (each_as (Running 4000 1) (sources_to 90)) None (Some 3000)) ∷ []) }
-    ensures asked_again { TicksTo (mld_limited 90) 3000
-        (early 2000 ((a_group, listed_due Include (each_as (Running 4000 1) (sources_to 90)) None (Some 3000)) ∷ []))
-        (SourcesQuery a_group false (sources_to 89) ∷ SourcesQuery a_group false (90 ∷ []) ∷ [])
-        (early 3000 ((a_group, listed Include (each_as (until 4000) (sources_to 90))) ∷ [])) }
-    ensures gone { TicksTo (mld_limited 90) 4000
-        (early 3000 ((a_group, listed Include (each_as (until 4000) (sources_to 90))) ∷ [])) [] (early 4000 []) }
-    ensures blocked_in_igmp { Becomes (asking (limited 1024 400 16384 256) 2000) (saying the_group 6 (sources_to 367))
-        ((the_group, listed Include (each_as (until 261000) (sources_to 367))) ∷ []) Applied
-        (SourcesQuery the_group false (sources_to 366) ∷ SourcesQuery the_group false (367 ∷ []) ∷ [])
-        ((the_group, listed_due Include (each_as (Running 4000 1) (sources_to 367)) None (Some 3000)) ∷ []) }
 {}
