@@ -24,7 +24,7 @@ use Rattle.mq_table.specs.Timing.{older_host_present}
 use Rattle.mq_sched.specs.Schedule.{ScheduledGroup}
 use Rattle.mq_sched.specs.Sending.{SentQuery, after_change}
 use Rattle.mq_table.specs.OlderHosts.{older_host}
-use Rattle.mq_sched.specs.Election.{ElectionState, is_querier, heard, loses_role}
+use Rattle.mq_sched.specs.Election.{ElectionState, is_querier, loses_role}
 use Rattle.mq_link.specs.declared.configuration.Limits.{Limits}
 use Rattle.mq_link.specs.declared.answers.Refusal.{Refusal}
 use Rattle.mq_link.specs.declared.answers.Refusal.TheVariants.{Groups as TooManyGroups, GroupSources, Sources, Scheduled, Repeated}
@@ -34,7 +34,7 @@ use Rattle.mq_link.specs.Configuration.{Configuration}
 use Rattle.mq_link.specs.Counters.{Verdict, Applied, Ignored, Refused}
 use Rattle.mq_link.specs.State.{Groups, LinkState, unheld, group_at, with_group, sources_of, schedules_of, one_if}
 use Rattle.mq_link.specs.Record.{Statement, RecordOf, OlderJoin, OlderLeave, change_stated, limit_passed, Outcome, Setting, leaving, unless_passed, sent_at_once, after_sending, changed_or_refused, is_muted, asking_nothing, stated, Seen, met, Entrance, Stops, GoesOn, entrance, seen_by, judged_from, judged, Outcomes, and_then, all_judged}
-use Rattle.mq_link.specs.Heard.{announced_by, suppresses, some_named, asked_by, groups_cleared, group_lowered, groups_lowered, query_heard}
+use Rattle.mq_link.specs.Heard.{election_after, suppresses, some_named, asked_by, groups_cleared, group_lowered, groups_lowered, query_heard}
 use Rattle.mq_link.proofs.Known.{Entries, ordered, ordered-known, entries-known, len-known, kept_in, kept_as, without, remove-known, with_values, find-with_values, ordered-with_values}
 use Rattle.mq_link.proofs.KnownGroups.{Known, KnownChange, as_held, as_change, group_of, nothing_known, is_empty, is_empty-known, named_in, change_in as table_in, change-known, translated_change_in, translated-known}
 use Rattle.mq_link.proofs.KnownSendings.{changed_in, changed-known, sent_in, sent-known, round_in, round-known, cleared_in, cleared-known, lowered_in, lowered-known}
@@ -342,7 +342,7 @@ cleared_if loses gs = cond loses (kept_in (λ _ k. Some (cleared_in k)) gs) gs
 
 abbrev pub heard_in : Configuration → ℕ → (source : ℕ) → Query ℕ → KnownLink → KnownLink
 heard_in config now source query l =
-    let election = heard config.timing config.own now source (announced_by query.version) l.election in
+    let election = election_after config now source query.version l.election in
     let groups = cleared_if (loses_role config.own source l.election.role) l.groups in
     record { groups = lowered_at election.timing now query groups; election = election; last = l.last; counters = l.counters }
 
@@ -352,7 +352,7 @@ heard-known config now source query l =
     ∙ ap left (groups_lowered-known election.timing now query (cleared_if (loses_role config.own source l.election.role) l.groups))
   where
     election : ElectionState
-    election = heard config.timing config.own now source (announced_by query.version) l.election
+    election = election_after config now source query.version l.election
 
     left : Groups → LinkState
     left groups = record { groups = groups; election = election; last = l.last; counters = l.counters }

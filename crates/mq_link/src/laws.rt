@@ -14,7 +14,7 @@ ghost use Rattle.mq_wire.specs.declared.records.RecordView.{RecordView};
 ghost use Rattle.mq_table.specs.declared.kind.Kind.{Kind};
 ghost use Rattle.mq_table.specs.Table.{GroupChange};
 ghost use Rattle.mq_sched.specs.Schedule.{ScheduledGroup};
-ghost use Rattle.mq_sched.specs.Election.{is_querier, loses_role};
+ghost use Rattle.mq_sched.specs.Election.{Other, is_querier, loses_role};
 ghost use Rattle.mq_link.specs.declared.configuration.Limits.{Limits};
 ghost use Rattle.mq_link.specs.declared.answers.Refusal.{Refusal};
 ghost use Rattle.mq_link.specs.declared.answers.DropReason.{DropReason};
@@ -97,9 +97,15 @@ pub fn ticks_are_quiet_until_the_next_moment()
         ≡ waited (moment_of state now) (tick_of config now state).state }
 {}
 
-/// A router that isn't querier after the tick of a moment sends nothing at it, whatever it is handed. (The tick makes it
-/// querier again where the other querier's deadline has come.)
+/// A router that isn't querier after the tick of a moment sends nothing at it, whatever it is handed. No datagram makes
+/// it querier, and no tick before the other querier's deadline.
 pub fn other_routers_send_nothing()
+    ensures before_the_deadline { (config : Configuration) (now address deadline : ℕ) (state : LinkState)
+        → state.election.role ≡ Other address deadline → moment_of state now < deadline
+        → is_querier (tick_of config now state).state.election.role ≡ false }
+    ensures whatever_comes { (config : Configuration) (envelope : Envelope) (bytes : List ℕ) (now : ℕ) (state : LinkState)
+        → is_querier (tick_of config now state).state.election.role ≡ false
+        → is_querier (receipt_of config envelope bytes now state).step.state.election.role ≡ false }
     ensures tick { (config : Configuration) (now : ℕ) (state : LinkState)
         → IsWellFormed config state → is_querier (tick_of config now state).state.election.role ≡ false
         → (tick_of config now state).queries ≡ [] }

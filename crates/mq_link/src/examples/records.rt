@@ -8,7 +8,7 @@ ghost use Rattle.mq_table.specs.Examples.{until};
 ghost use Rattle.mq_sched.specs.Examples.{the_group, scheduled};
 ghost use Rattle.mq_sched.specs.Sending.{GroupQuery, SourcesQuery};
 ghost use Rattle.mq_link.specs.Counters.{Applied, Ignored, Refused};
-ghost use Rattle.mq_link.specs.Examples.{igmp, limited, host, ipv4, from, octets, listed, listed_due, early, asking, asking_once, listening, saying, Becomes, BecomeAll, Comes};
+ghost use Rattle.mq_link.specs.Examples.{igmp, limited, host, ipv4, from, octets, listed, listed_due, listed_v2, early, asking, asking_once, listening, saying, Becomes, BecomeAll, Comes};
 
 use crate::answers::{Received, Refusal};
 
@@ -146,6 +146,9 @@ pub fn two_limits_passed()
     ensures group_sources_and_sources { Becomes (asking (limited 1024 2 2 256) 1000) (saying the_group 1 (3 ∷ []))
         ((the_group, listed Include ((1, until 9000) ∷ (2, until 9000) ∷ [])) ∷ []) (Refused Refusal.GroupSources) []
         ((the_group, listed Include ((1, until 9000) ∷ (2, until 9000) ∷ [])) ∷ []) }
+    ensures group_sources_and_scheduled { Becomes (asking (limited 1024 1 16384 1) 1000) (saying the_group 3 (2 ∷ []))
+        ((the_group, listed (Exclude 9000) ((1, until 9000) ∷ [])) ∷ []) (Refused Refusal.GroupSources) []
+        ((the_group, listed (Exclude 9000) ((1, until 9000) ∷ [])) ∷ []) }
     ensures sources_and_scheduled { Becomes (asking (limited 1024 366 2 1) 1000) (saying the_group 3 (2 ∷ []))
         ((the_group, listed Include ((1, until 9000) ∷ []))
         ∷ (ipv4 232 1 1 2, listed_due Include ((1, Running 3000 1) ∷ []) None (Some 2000)) ∷ []) (Refused Refusal.Sources) []
@@ -156,6 +159,26 @@ pub fn two_limits_passed()
         (early 0 ((the_group, listed Include ((1, until 9000) ∷ [])) ∷ []))
         (Received.Taken 0 0 1) []
         (early 1000 ((the_group, listed Include ((1, until 9000) ∷ [])) ∷ [])) }
+{}
+
+/// A record that is too long is refused for that, whatever else it would be refused for; so is one that is repeated, unless
+/// it is too long.
+pub fn two_refusals()
+    ensures long_and_groups { Becomes (asking (limited 1 2 16384 256) 1000) (saying (ipv4 232 1 1 2) 5 (1 ∷ 2 ∷ 3 ∷ []))
+        ((the_group, listed Include ((1, until 9000) ∷ [])) ∷ []) (Refused Refusal.Long) []
+        ((the_group, listed Include ((1, until 9000) ∷ [])) ∷ []) }
+    ensures long_and_repeated { BecomeAll (asking (limited 1024 2 16384 256) 1000)
+        (saying the_group 6 [] ∷ saying the_group 6 [] ∷ saying the_group 6 [] ∷ saying the_group 6 []
+        ∷ saying the_group 5 (1 ∷ 2 ∷ 3 ∷ []) ∷ [])
+        ((the_group, listed Include ((1, until 9000) ∷ [])) ∷ [])
+        (Applied ∷ Applied ∷ Applied ∷ Applied ∷ Refused Refusal.Long ∷ []) []
+        ((the_group, listed Include ((1, until 9000) ∷ [])) ∷ []) }
+    ensures repeated_and_group_sources { BecomeAll (asking (limited 1024 2 16384 256) 1000)
+        (saying the_group 6 [] ∷ saying the_group 6 [] ∷ saying the_group 6 [] ∷ saying the_group 6 []
+        ∷ saying the_group 5 (3 ∷ []) ∷ [])
+        ((the_group, listed Include ((1, until 9000) ∷ (2, until 9000) ∷ [])) ∷ [])
+        (Applied ∷ Applied ∷ Applied ∷ Applied ∷ Refused Refusal.Repeated ∷ []) []
+        ((the_group, listed Include ((1, until 9000) ∷ (2, until 9000) ∷ [])) ∷ []) }
 {}
 
 /// Five records of one datagram meet a group, with one for another group between them: the fifth is refused. A record of
@@ -174,6 +197,20 @@ pub fn a_group_met_five_times()
         ((the_group, listed Include ((1, until 9000) ∷ [])) ∷ [])
         (Ignored ∷ Refused Refusal.Long ∷ Applied ∷ Applied ∷ Applied ∷ Applied ∷ []) []
         ((the_group, listed Include ((1, until 9000) ∷ [])) ∷ []) }
+    // One that an older host mutes counts, and so does one that passes a limit.
+    ensures with_others_ignored { BecomeAll (asking igmp 1000)
+        (saying the_group 6 (1 ∷ []) ∷ saying the_group 6 (1 ∷ []) ∷ saying the_group 6 (1 ∷ []) ∷ saying the_group 6 (1 ∷ [])
+        ∷ saying the_group 6 (1 ∷ []) ∷ [])
+        ((the_group, listed_v2 9000 9000 None) ∷ [])
+        (Ignored ∷ Ignored ∷ Ignored ∷ Ignored ∷ Refused Refusal.Repeated ∷ []) []
+        ((the_group, listed_v2 9000 9000 None) ∷ []) }
+    ensures with_others_refused { BecomeAll (asking (limited 1024 2 16384 256) 1000)
+        (saying the_group 1 (3 ∷ []) ∷ saying the_group 1 (3 ∷ []) ∷ saying the_group 1 (3 ∷ []) ∷ saying the_group 1 (3 ∷ [])
+        ∷ saying the_group 1 (3 ∷ []) ∷ [])
+        ((the_group, listed Include ((1, until 9000) ∷ (2, until 9000) ∷ [])) ∷ [])
+        (Refused Refusal.GroupSources ∷ Refused Refusal.GroupSources ∷ Refused Refusal.GroupSources
+        ∷ Refused Refusal.GroupSources ∷ Refused Refusal.Repeated ∷ []) []
+        ((the_group, listed Include ((1, until 9000) ∷ (2, until 9000) ∷ [])) ∷ []) }
     ensures made_by_the_first { BecomeAll (asking igmp 1000)
         (saying the_group 5 (1 ∷ []) ∷ saying the_group 6 [] ∷ saying the_group 6 [] ∷ saying the_group 6 []
         ∷ saying the_group 6 [] ∷ saying the_group 6 [] ∷ [])
