@@ -1,5 +1,5 @@
 -- Links with one group whose sources all have one timer: what a Report and a tick do to it.
-use Rattle.std.proofs.Common.{◌≡◌, ℕ, ◌+◌, Bool, true, false, cond, not, ◌&&◌, refl, List, [], ◌∷◌, ◌++◌, length, Option, None, Some, Ok, ap, ◌∙◌, ltb, leb, eqb, arith}
+use Rattle.std.proofs.Common.{◌≡◌, ℕ, ◌+◌, Bool, true, false, cond, ◌&&◌, refl, List, [], ◌∷◌, ◌++◌, length, Option, None, Some, Ok, ap, ◌∙◌, ltb, leb, eqb, arith}
 use Rattle.std.specs.Prelude.{max}
 use Rattle.std.proofs.lemmas.List.{append-nil}
 use Rattle.std.proofs.lemmas.List.Sums.{sum_by-cons}
@@ -13,7 +13,6 @@ use Rattle.std.specs.FinMap.Entries.{by_order}
 use Rattle.mq_wire.specs.Family.{Family}
 use Rattle.mq_wire.specs.declared.message.Message.TheVariants.{Report as ReportMessage}
 use Rattle.mq_wire.specs.declared.records.RecordView.{RecordView}
-use Rattle.mq_table.specs.declared.kind.Kind.{Kind}
 use Rattle.mq_table.specs.declared.kind.Kind.TheVariants.{Allow, Block}
 use Rattle.mq_table.specs.declared.timers.SourceTimer.{SourceTimer}
 use Rattle.mq_table.specs.declared.timers.SourceTimer.TheVariants.{Running}
@@ -22,14 +21,13 @@ use Rattle.mq_table.specs.Examples.{default_timing}
 use Rattle.mq_sched.specs.Sending.{SentQuery, sources_queries}
 use Rattle.mq_sched.specs.Election.{ElectionState, ticked, general_messages}
 use Rattle.mq_link.specs.declared.configuration.Limits.{Limits}
-use Rattle.mq_link.specs.declared.answers.Refusal.TheVariants.{Groups as TooManyGroups, GroupSources, Sources, Scheduled, Long, Repeated}
+use Rattle.mq_link.specs.declared.answers.Refusal.TheVariants.{Repeated}
 use Rattle.mq_link.specs.declared.answers.Received.TheVariants.{Taken}
-use Rattle.mq_link.specs.Tests.{first_named}
-use Rattle.mq_link.specs.Family.{is_admitted, per_query, v1_mutes_leave}
+use Rattle.mq_link.specs.Family.{per_query, v1_mutes_leave}
 use Rattle.mq_link.specs.Configuration.{Configuration}
-use Rattle.mq_link.specs.Counters.{Counters, Applied, Ignored, Refused, count_verdicts}
-use Rattle.mq_link.specs.Record.{Setting, kind_named, Stops, GoesOn, entrance_as, entrance}
-use Rattle.mq_link.specs.Receive.{Envelope, count_read, envelope_tests}
+use Rattle.mq_link.specs.Counters.{Counters, Applied, Refused, count_verdicts}
+use Rattle.mq_link.specs.Record.{limit_passed_by, Setting, GoesOn, entrance}
+use Rattle.mq_link.specs.Receive.{Envelope, count_read, drop_reason}
 use Rattle.mq_link.specs.Examples.{querier, saying}
 use Rattle.mq_link.proofs.Known.{ordered, kept_in, without}
 use Rattle.mq_link.proofs.KnownGroups.{Known, KnownChange, nothing_known, is_empty, expired_in, change_in}
@@ -67,26 +65,20 @@ abbrev pub link_of : (last : ℕ) → Counters → KnownGroups → KnownLink
 link_of last counters groups = record { groups = groups; election = querier 31250 1; last = last; counters = counters }
 
 -- What a Report for a group and these sources needs, so that nothing of it is refused.
-pub record Suits (family : Family) (limits : Limits) (envelope : Envelope) (group : ℕ) (ss : List ℕ) : Type 0 where
+pub record Suits (family : Family) (limits : Limits) (own : ℕ) (envelope : Envelope) (group : ℕ) (ss : List ℕ) : Type 0 where
   pub ascend : Ascend ss
-  pub admitted : is_admitted family group ≡ true
-  pub taken : first_named (envelope_tests family envelope ++ []) ≡ None
-  pub not_long : ltb limits.group_sources (length ss) ≡ false
-  pub groups : ltb limits.groups 1 ≡ false
-  pub sources : ltb limits.sources (length ss) ≡ false
-  pub unscheduled : ltb limits.scheduled 0 ≡ false
-  pub scheduled : ltb limits.scheduled 1 ≡ false
+  pub taken : (r : RecordView ℕ) → drop_reason (plain family limits own) envelope (Ok (ReportMessage (r ∷ []))) ≡ None
+  pub allow : entrance (plain family limits own) (saying group 5 ss) ≡ GoesOn Allow
+  pub block : entrance (plain family limits own) (saying group 6 ss) ≡ GoesOn Block
+  pub unscheduled : limit_passed_by limits 1 (length ss) (length ss) 0 ≡ None
+  pub scheduled : limit_passed_by limits 1 (length ss) (length ss) 1 ≡ None
 
 held : (timer : SourceTimer) (due : Option ℕ) (s : ℕ) (ss : List ℕ) → Ascend (s ∷ ss) → is_empty (all_as timer due (s ∷ ss)) ≡ false
 held timer due s ss ascend = ap (λ n. eqb n 0) (count-each timer (s ∷ ss) ascend) ∙ some_left (length ss)
 
-passed-one : (limits : Limits) (group : ℕ) (timer : SourceTimer) (due : Option ℕ) (ss : List ℕ) → Ascend ss → ltb limits.groups 1 ≡ false → ltb limits.group_sources (length ss) ≡ false → ltb limits.sources (length ss) ≡ false → ltb limits.scheduled (sum_by scheduled_in (all_as timer due ss ∷ [])) ≡ false → passed_in limits (one group (all_as timer due ss)) (all_as timer due ss) ≡ None
-passed-one limits group timer due ss ascend groups group_sources sources scheduled = λ i. first_named (
-    (TooManyGroups, groups i)
-    ∷ (GroupSources, (ap (ltb limits.group_sources) size ∙ group_sources) i)
-    ∷ (Sources, (ap (ltb limits.sources) (sum_by-cons size_in (all_as timer due ss) [] ∙ alone (size_in (all_as timer due ss)) ∙ size) ∙ sources) i)
-    ∷ (Scheduled, scheduled i)
-    ∷ [])
+passed-one : (limits : Limits) (group : ℕ) (timer : SourceTimer) (due : Option ℕ) (ss : List ℕ) (schedules : ℕ) → Ascend ss → sum_by scheduled_in (all_as timer due ss ∷ []) ≡ schedules → limit_passed_by limits 1 (length ss) (length ss) schedules ≡ None → passed_in limits (one group (all_as timer due ss)) (all_as timer due ss) ≡ None
+passed-one limits group timer due ss schedules ascend is none =
+    (λ i. limit_passed_by limits 1 (size i) ((sum_by-cons size_in (all_as timer due ss) [] ∙ alone (size_in (all_as timer due ss)) ∙ size) i) (is i)) ∙ none
   where
     size : size_in (all_as timer due ss) ≡ length ss
     size = count-each timer ss ascend
@@ -114,20 +106,15 @@ changed family limits own now group gs change e left queries is_changed is_round
         let after = round_in default_timing now x in
         passed_or_not (passed_in limits (with_known gs group after) after) gs (with_known gs group after) (sent_in (per_query family) default_timing now group x)
 
-entered : (family : Family) (limits : Limits) (own group : ℕ) (kind : Kind) (number : ℕ) (ss : List ℕ) → kind_named number ≡ Some kind → is_admitted family group ≡ true → ltb limits.group_sources (length ss) ≡ false → entrance (plain family limits own) (saying group number ss) ≡ GoesOn kind
-entered family limits own group kind number ss is admitted not_long =
-    ap (entrance_as (plain family limits own) (saying group number ss)) is
-    ∙ (λ i. cond (not (admitted i)) (Stops Ignored) (cond (not_long i) (Stops (Refused Long)) (GoesOn kind)))
-
 not_both : (b : Bool) → (b && false) ≡ false
 not_both true = refl
 not_both false = refl
 
 -- All are blocked at a moment.
-pub all_blocked : (family : Family) (limits : Limits) (own : ℕ) (envelope : Envelope) (now deadline group s : ℕ) (ss : List ℕ) → Suits family limits envelope group (s ∷ ss) → ltb (now + 2000) deadline ≡ true
+pub all_blocked : (family : Family) (limits : Limits) (own : ℕ) (envelope : Envelope) (now deadline group s : ℕ) (ss : List ℕ) → Suits family limits own envelope group (s ∷ ss) → ltb (now + 2000) deadline ≡ true
     → judged_known (meeting family limits own now) [] (saying group 6 (s ∷ ss)) (one group (all_as (Running deadline 0) None (s ∷ ss))) ≡ applied_to (one group (all_as (Running (now + 2000) 1) (Some (now + 1000)) (s ∷ ss))) (sources_queries (per_query family) group false (s ∷ ss))
 all_blocked family limits own envelope now deadline group s ss suits above =
-    ap (judged_from_known at [] r gs) (entered family limits own group Block 6 (s ∷ ss) refl suits.admitted suits.not_long)
+    ap (judged_from_known at [] r gs) suits.block
     ∙ ap (λ b. cond b (record { verdict = Refused Repeated; groups = gs; queries = [] }) (stated_known at group (Record Block (s ∷ ss)) gs)) (not_both (is_some (find nat_cmp group gs)))
     ∙ ap (λ k. changed_by_known at group gs (stated_in (v1_mutes_leave family) false default_timing now (Record Block (s ∷ ss)) k)) (group-one group before)
     ∙ changed family limits own now group gs (change_in default_timing now before Block (s ∷ ss)) (all_as (Running (now + 2000) 2) (Some now) (s ∷ ss)) after (sources_queries (per_query family) group false (s ∷ ss))
@@ -135,7 +122,7 @@ all_blocked family limits own envelope now deadline group s ss suits above =
     (counts now (now + 2000) 2 now s ss suits.ascend is_now)
     (sends (per_query family) now group (now + 2000) 2 now (s ∷ ss) suits.ascend is_now refl not_above)
     (with-one group before after (held (Running (now + 2000) 1) (Some (now + 1000)) s ss suits.ascend))
-    (passed-one limits group (Running (now + 2000) 1) (Some (now + 1000)) (s ∷ ss) suits.ascend suits.groups suits.not_long suits.sources suits.scheduled)
+    (passed-one limits group (Running (now + 2000) 1) (Some (now + 1000)) (s ∷ ss) 1 suits.ascend refl suits.scheduled)
   where
     at : Setting
     at = meeting family limits own now
@@ -159,16 +146,16 @@ all_blocked family limits own envelope now deadline group s ss suits above =
     not_above = grind (arith, nat_tests)
 
 -- All are allowed at a moment, where no group is held.
-pub all_allowed : (family : Family) (limits : Limits) (own : ℕ) (envelope : Envelope) (now group s : ℕ) (ss : List ℕ) → Suits family limits envelope group (s ∷ ss)
+pub all_allowed : (family : Family) (limits : Limits) (own : ℕ) (envelope : Envelope) (now group s : ℕ) (ss : List ℕ) → Suits family limits own envelope group (s ∷ ss)
     → judged_known (meeting family limits own now) [] (saying group 5 (s ∷ ss)) [] ≡ applied_to (one group (all_as (Running (now + 260000) 0) None (s ∷ ss))) []
 all_allowed family limits own envelope now group s ss suits =
-    ap (judged_from_known (meeting family limits own now) [] (saying group 5 (s ∷ ss)) []) (entered family limits own group Allow 5 (s ∷ ss) refl suits.admitted suits.not_long)
+    ap (judged_from_known (meeting family limits own now) [] (saying group 5 (s ∷ ss)) []) suits.allow
     ∙ changed family limits own now group [] (change_in default_timing now nothing_known Allow (s ∷ ss)) after after []
     (allowed now s ss suits.ascend)
     refl
     refl
     (ap (λ b. cond b (ordered (without group [])) (ordered ((group, after) ∷ []))) (held (Running (now + 260000) 0) None s ss suits.ascend))
-    (passed-one limits group (Running (now + 260000) 0) None (s ∷ ss) suits.ascend suits.groups suits.not_long suits.sources suits.unscheduled)
+    (passed-one limits group (Running (now + 260000) 0) None (s ∷ ss) 0 suits.ascend refl suits.unscheduled)
   where
     after : Known
     after = all_as (Running (now + 260000) 0) None (s ∷ ss)
@@ -178,7 +165,7 @@ abbrev pub step_to : (now : ℕ) → Counters → KnownGroups → List SentQuery
 step_to now counters groups queries = record { link = link_of now counters groups; queries = queries; timing = default_timing }
 
 -- A Report of one record, which is applied.
-pub reported : (family : Family) (limits : Limits) (own : ℕ) (envelope : Envelope) (now : ℕ) (counters : Counters) (l : KnownLink) (r : RecordView ℕ) (before after : KnownGroups) (queries : List SentQuery) → first_named (envelope_tests family envelope ++ []) ≡ None → tick_in (plain family limits own) now l ≡ step_to now counters before [] → judged_known (meeting family limits own now) [] r before ≡ applied_to after queries
+pub reported : (family : Family) (limits : Limits) (own : ℕ) (envelope : Envelope) (now : ℕ) (counters : Counters) (l : KnownLink) (r : RecordView ℕ) (before after : KnownGroups) (queries : List SentQuery) → drop_reason (plain family limits own) envelope (Ok (ReportMessage (r ∷ []))) ≡ None → tick_in (plain family limits own) now l ≡ step_to now counters before [] → judged_known (meeting family limits own now) [] r before ≡ applied_to after queries
     → receipt_known (plain family limits own) envelope (Ok (ReportMessage (r ∷ []))) now l ≡ record { step = step_to now (count_verdicts (Applied ∷ []) (count_read (Ok (ReportMessage (r ∷ []))) counters)) after queries; answer = Taken 1 0 0 }
 reported family limits own envelope now counters l r before after queries taken ticks judges =
     (λ i. taken_or_dropped_known config envelope (ticks i) (Ok (ReportMessage (r ∷ []))) (taken i))

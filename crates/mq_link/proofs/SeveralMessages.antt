@@ -71,19 +71,19 @@ hands config step s queries lengths sent after is qs timing groups election last
 pub at_0 : (family : Family) (limits : Limits) (own : ℕ) (lengths : List ℕ) → lengths_in (plain family limits own) (GeneralQuery ∷ []) ≡ lengths → TicksSending (plain family limits own) 0 (after 0 (querier 0 2) []) (GeneralQuery ∷ []) lengths 1 (early 0 [])
 at_0 family limits own lengths long = hands (plain family limits own) _ _ (GeneralQuery ∷ []) lengths 1 (early 0 []) (tick-known (plain family limits own) 0 (after 0 (querier 0 2) [])) refl refl refl refl refl long refl
 
-pub at_1000 : (family : Family) (limits : Limits) (own : ℕ) (envelope : Envelope) (group s : ℕ) (ss : List ℕ) → Suits family limits envelope group (s ∷ ss) → Reports (plain family limits own) envelope (saying group 5 (s ∷ ss) ∷ []) 1000 (having_sent 1 (early 0 [])) (Taken 1 0 0) [] [] 1 (early 1000 ((group, listed Include (each_as (until 261000) (s ∷ ss))) ∷ []))
+pub at_1000 : (family : Family) (limits : Limits) (own : ℕ) (envelope : Envelope) (group s : ℕ) (ss : List ℕ) → Suits family limits own envelope group (s ∷ ss) → Reports (plain family limits own) envelope (saying group 5 (s ∷ ss) ∷ []) 1000 (having_sent 1 (early 0 [])) (Taken 1 0 0) [] [] 1 (early 1000 ((group, listed Include (each_as (until 261000) (s ∷ ss))) ∷ []))
 at_1000 family limits own envelope group s ss suits =
-    let is = receipt-known (plain family limits own) envelope (Ok (ReportMessage (saying group 5 (s ∷ ss) ∷ []))) 1000 (having_sent 1 (early 0 [])) ∙ ap as_receipt (reported family limits own envelope 1000 _ (having_sent 1 (early 0 [])) (saying group 5 (s ∷ ss)) [] _ [] suits.taken refl (all_allowed family limits own envelope 1000 group s ss suits)) in
+    let is = receipt-known (plain family limits own) envelope (Ok (ReportMessage (saying group 5 (s ∷ ss) ∷ []))) 1000 (having_sent 1 (early 0 [])) ∙ ap as_receipt (reported family limits own envelope 1000 _ (having_sent 1 (early 0 [])) (saying group 5 (s ∷ ss)) [] _ [] (suits.taken (saying group 5 (s ∷ ss))) refl (all_allowed family limits own envelope 1000 group s ss suits)) in
     record {
       answer_is = ap (λ r. r.answer) is;
       hands = hands (plain family limits own) _ _ [] [] 1 (early 1000 ((group, listed Include (each_as (until 261000) (s ∷ ss))) ∷ [])) (ap (λ r. r.step) is) refl refl refl refl refl refl refl;
     }
 
-pub at_2000 : (family : Family) (limits : Limits) (own : ℕ) (envelope : Envelope) (group s : ℕ) (ss : List ℕ) (queries : List SentQuery) (lengths : List ℕ) (sent : ℕ) → Suits family limits envelope group (s ∷ ss) → sources_queries (per_query family) group false (s ∷ ss) ≡ queries → lengths_in (plain family limits own) queries ≡ lengths → sent_with 1 queries ≡ sent → Reports (plain family limits own) envelope (saying group 6 (s ∷ ss) ∷ []) 2000 (having_sent 1 (early 1000 ((group, listed Include (each_as (until 261000) (s ∷ ss))) ∷ []))) (Taken 1 0 0) queries lengths sent (early 2000 ((group, listed_due Include (each_as (Running 4000 1) (s ∷ ss)) None (Some 3000)) ∷ []))
+pub at_2000 : (family : Family) (limits : Limits) (own : ℕ) (envelope : Envelope) (group s : ℕ) (ss : List ℕ) (queries : List SentQuery) (lengths : List ℕ) (sent : ℕ) → Suits family limits own envelope group (s ∷ ss) → sources_queries (per_query family) group false (s ∷ ss) ≡ queries → lengths_in (plain family limits own) queries ≡ lengths → sent_with 1 queries ≡ sent → Reports (plain family limits own) envelope (saying group 6 (s ∷ ss) ∷ []) 2000 (having_sent 1 (early 1000 ((group, listed Include (each_as (until 261000) (s ∷ ss))) ∷ []))) (Taken 1 0 0) queries lengths sent (early 2000 ((group, listed_due Include (each_as (Running 4000 1) (s ∷ ss)) None (Some 3000)) ∷ []))
 at_2000 family limits own envelope group s ss queries lengths sent suits qs long count =
     let before = having_sent 1 (early 1000 ((group, listed Include (each_as (until 261000) (s ∷ ss))) ∷ [])) in
     let quiet = tick-one family limits own 2000 before group (all_as (Running 261000 0) None (s ∷ ss)) (all_as (Running 261000 0) None (s ∷ ss)) (all_as (Running 261000 0) None (s ∷ ss)) [] refl (stays 2000 261000 0 None s ss suits.ascend refl) refl refl in
-    let is = receipt-known (plain family limits own) envelope (Ok (ReportMessage (saying group 6 (s ∷ ss) ∷ []))) 2000 before ∙ ap as_receipt (reported family limits own envelope 2000 _ before (saying group 6 (s ∷ ss)) (one group (all_as (Running 261000 0) None (s ∷ ss))) _ _ suits.taken quiet (all_blocked family limits own envelope 2000 261000 group s ss suits refl)) in
+    let is = receipt-known (plain family limits own) envelope (Ok (ReportMessage (saying group 6 (s ∷ ss) ∷ []))) 2000 before ∙ ap as_receipt (reported family limits own envelope 2000 _ before (saying group 6 (s ∷ ss)) (one group (all_as (Running 261000 0) None (s ∷ ss))) _ _ (suits.taken (saying group 6 (s ∷ ss))) quiet (all_blocked family limits own envelope 2000 261000 group s ss suits refl)) in
     record {
       answer_is = ap (λ r. r.answer) is;
       hands = hands (plain family limits own) _ _ queries lengths sent (early 2000 ((group, listed_due Include (each_as (Running 4000 1) (s ∷ ss)) None (Some 3000)) ∷ [])) (ap (λ r. r.step) is) qs refl refl refl refl long count;

@@ -15,8 +15,8 @@ rest = sources_from ((host 1) + 1) 1023
 ascend : Ascend (sources_from (host 1) 1024)
 ascend = ascend_from (host 1) 1024
 
-suits : Suits Igmp (limited 1024 1024 16384 256).limits (from 1) the_group (sources_from (host 1) 1024)
-suits = record { ascend = ascend; admitted = refl; taken = refl; not_long = refl; groups = refl; sources = refl; unscheduled = refl; scheduled = refl }
+suits : Suits Igmp (limited 1024 1024 16384 256).limits (limited 1024 1024 16384 256).own (from 1) the_group (sources_from (host 1) 1024)
+suits = record { ascend = ascend; taken = λ r. refl; allow = refl; block = refl; unscheduled = refl; scheduled = refl }
 
 pub returns-clause-allowed : goal.returns-clause-allowed
 returns-clause-allowed c = at_1000 Igmp _ _ _ _ (host 1) rest suits

@@ -15,8 +15,8 @@ rest = sources_from ((host 1) + 1) 366
 ascend : Ascend (sources_from (host 1) 367)
 ascend = ascend_from (host 1) 367
 
-suits : Suits Igmp (limited 1024 400 16384 256).limits (from 1) the_group (sources_from (host 1) 367)
-suits = record { ascend = ascend; admitted = refl; taken = refl; not_long = refl; groups = refl; sources = refl; unscheduled = refl; scheduled = refl }
+suits : Suits Igmp (limited 1024 400 16384 256).limits (limited 1024 400 16384 256).own (from 1) the_group (sources_from (host 1) 367)
+suits = record { ascend = ascend; taken = λ r. refl; allow = refl; block = refl; unscheduled = refl; scheduled = refl }
 
 pub returns-clause-begins : goal.returns-clause-begins
 unfolding code_of

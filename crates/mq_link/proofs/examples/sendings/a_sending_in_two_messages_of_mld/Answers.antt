@@ -14,8 +14,8 @@ rest = sources_from (a_source + 1) 89
 ascend : Ascend (sources_from a_source 90)
 ascend = ascend_from a_source 90
 
-suits : Suits Mld (mld_limited 90).limits (mld_from (link_local 2) 1 true) a_group (sources_from a_source 90)
-suits = record { ascend = ascend; admitted = refl; taken = refl; not_long = refl; groups = refl; sources = refl; unscheduled = refl; scheduled = refl }
+suits : Suits Mld (mld_limited 90).limits (mld_limited 90).own (mld_from (link_local 2) 1 true) a_group (sources_from a_source 90)
+suits = record { ascend = ascend; taken = λ r. refl; allow = refl; block = refl; unscheduled = refl; scheduled = refl }
 
 pub returns-clause-begins : goal.returns-clause-begins
 unfolding code_of
