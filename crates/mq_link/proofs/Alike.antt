@@ -16,8 +16,8 @@ use Rattle.mq_link.specs.ManySources.{each_as}
 use Rattle.mq_link.proofs.Known.{Entries, ordered, find-ordered, sorted-ordered, keys_of, kept_in}
 use Rattle.mq_link.proofs.KnownGroups.{named_in, ascending}
 
--- these sources ascend
-abbrev pub Ascend : List ℕ → Type 0
+-- These sources ascend. It is no `abbrev`, so that no list of hundreds is computed with where it is named.
+unfoldable pub Ascend : List ℕ → Type 0
 Ascend ss = (timer : SourceTimer) → T (is_sorted nat_cmp (each_as timer ss))
 
 -- each of them is as said
@@ -54,9 +54,11 @@ keys-each timer (s ∷ ss) = ap (λ rest. s ∷ rest) (keys-each timer ss)
 
 -- they are the sources, ascending, and as many
 pub ascending-each : (timer : SourceTimer) (ss : List ℕ) → Ascend ss → ascending (each_as timer ss) ≡ ss
+unfolding Ascend
 ascending-each timer ss ascend = ap keys_of (in_order (each_as timer ss) (ascend timer)) ∙ keys-each timer ss
 
 pub count-each : (timer : SourceTimer) (ss : List ℕ) → Ascend ss → length (ordered (each_as timer ss)) ≡ length ss
+unfolding Ascend
 count-each timer ss ascend = ap length (in_order (each_as timer ss) (ascend timer)) ∙ mapped ss
   where
     mapped : (ss : List ℕ) → length (each_as timer ss) ≡ length ss
@@ -91,9 +93,11 @@ same_named ss s = list_any-append (eq_by_cmp nat_cmp s) ss ss ∙ twice (named_i
     twice false = refl
 
 pub ruled_anew : (rule : ℕ → Option SourceTimer) (timer : SourceTimer) (ss : List ℕ) → Ascend ss → Each (λ s. rule s ≡ Some timer) ss → ordered (entries_by rule ss) ≡ each_as timer ss
+unfolding Ascend
 ruled_anew rule timer ss ascend each = ap ordered (entries_by-each rule timer ss each) ∙ in_order (each_as timer ss) (ascend timer)
 
 pub ruled_again : (rule : ℕ → Option SourceTimer) (before after : SourceTimer) (ss : List ℕ) → Ascend ss → Each (λ s. rule s ≡ Some after) ss → ordered (entries_by rule (keys_of (each_as before ss) ++ ss)) ≡ each_as after ss
+unfolding Ascend
 ruled_again rule before after ss ascend each =
     ap (λ ks. ordered (entries_by rule (ks ++ ss))) (keys-each before ss)
     ∙ ap ordered (entries_by-each rule after (ss ++ ss) (λ s is. each s (sym (same_named ss s) ∙ is)))

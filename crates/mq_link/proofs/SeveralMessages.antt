@@ -43,6 +43,7 @@ below_from timer x first zero below = tt
 below_from timer x first (suc count) below = both (is_lt (nat_cmp x first)) (below_all nat_cmp x (each_as timer (sources_from (first + 1) count))) (is_below x first below) (below_from timer x (first + 1) count (omega arith))
 
 pub ascend_from : (first count : ℕ) → Ascend (sources_from first count)
+unfolding Ascend
 ascend_from first zero timer = tt
 ascend_from first (suc count) timer = both (below_all nat_cmp first (each_as timer (sources_from (first + 1) count))) (is_sorted nat_cmp (each_as timer (sources_from (first + 1) count))) (below_from timer first (first + 1) count (omega arith)) (ascend_from (first + 1) count timer)
 

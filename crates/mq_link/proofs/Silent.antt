@@ -1,5 +1,5 @@
 -- What is said of each group of a map and of the list of its entries; and that a router that isn't querier sends nothing.
-use Rattle.std.proofs.Common.{◌≡◌, ℕ, ◌+◌, ◌<◌, Bool, true, false, cond, ltb, leb, refl, List, [], ◌∷◌, ◌++◌, Option, None, Some, Result, Ok, Err, sym, ap, ◌∙◌, subst, arith}
+use Rattle.std.proofs.Common.{◌≡◌, ℕ, ◌<◌, Bool, true, false, cond, ltb, leb, refl, List, [], ◌∷◌, ◌++◌, Option, None, Some, Result, Ok, Err, sym, ap, ◌∙◌, subst, arith}
 use Rattle.std.proofs.lemmas.Bool.Decides.{nat_tests}
 use lib.Dec.{T}
 use Rattle.std.specs.List.{flat_map}
@@ -17,7 +17,6 @@ use Rattle.mq_wire.specs.declared.query.QueryVersion.{QueryVersion}
 use Rattle.mq_wire.specs.declared.records.RecordView.{RecordView}
 use Rattle.mq_table.specs.declared.kind.Kind.{Kind}
 use Rattle.mq_table.specs.declared.timing.Timing.{Timing}
-use Rattle.mq_table.specs.Timing.{other_querier_present}
 use Rattle.mq_table.specs.Table.{GroupChange}
 use Rattle.mq_sched.specs.Schedule.{ScheduleState, ScheduledGroup, no_schedule, settled}
 use Rattle.mq_sched.specs.Sending.{SentQuery, GeneralQuery, after_change, messages_due}
@@ -158,11 +157,11 @@ other_before configured timing now address deadline before = ap (λ b. is_querie
     general_after r = cond (general_is_due now r.role) (record { role = after_general r.timing now r.role; timing = r.timing }) r
 
 other_heard : (config : Configuration) (now source : ℕ) (version : QueryVersion ℕ) (election : ElectionState) → is_querier election.role ≡ false → is_querier (election_after config now source version election).role ≡ false
-other_heard config now source version election other = by_test (ltb source config.own) (other_querier_present (election_after config now source version election).timing)
+other_heard config now source version election other = by_test (ltb source config.own) _
   where
-    by_test : (b : Bool) (span : ℕ) → is_querier (cond b (Other source (now + span)) election.role) ≡ false
-    by_test true span = refl
-    by_test false span = other
+    by_test : (b : Bool) (deadline : ℕ) → is_querier (cond b (Other source deadline) election.role) ≡ false
+    by_test true deadline = refl
+    by_test false deadline = other
 
 other_taken : (config : Configuration) (envelope : Envelope) (message : Message ℕ) (step : Step) → is_querier step.state.election.role ≡ false → is_querier (taken_in config envelope message step).step.state.election.role ≡ false
 unfolding taken_in
