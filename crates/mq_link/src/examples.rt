@@ -4,7 +4,7 @@
 //! Moments, queries and states are worked out by hand from the standards, with the default timing: a group
 //! membership interval of 260000 ms, and two queries 1000 ms apart for a last member. The link belongs to the router
 //! 10.0.0.9, and `early` says that it has sent its first general query at 0. What a single record becomes stands in
-//! `records`, what the families differ in, and bytes, in `families`.
+//! `records`, sendings in several messages in `sendings`, what the families differ in, and bytes, in `families`.
 
 ghost use Rattle.std.specs.Prelude.{◌≡◌, [], ◌∷◌, true, false, Some, None};
 ghost use Rattle.mq_table.specs.declared.timers.FilterMode.TheVariants.{Include, Exclude};
