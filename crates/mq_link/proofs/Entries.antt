@@ -20,7 +20,7 @@ abbrev pub filtered : {X : Type 0} → (ℕ → X → Option X) → List (ℕ ×
 filtered f [] = []
 filtered f (e ∷ es) = with_entry e.0 (f e.0 e.1) (filtered f es)
 
-both : (a b : Bool) → T a → T b → T (a && b)
+pub both : (a b : Bool) → T a → T b → T (a && b)
 both true b p q = q
 both false b p q = p
 

@@ -1,5 +1,5 @@
 -- What records and queries do to links whose groups are known one by one, for the worked examples.
-use Rattle.std.proofs.Common.{◌≡◌, ℕ, ◌+◌, Bool, true, false, cond, not, ◌&&◌, refl, List, [], ◌∷◌, ◌++◌, length, Option, None, Some, sym, ap, ◌∙◌, ltb, leb, eqb, suc}
+use Rattle.std.proofs.Common.{◌≡◌, ℕ, ◌+◌, Bool, true, false, cond, not, ◌&&◌, refl, List, [], ◌∷◌, ◌++◌, length, Option, None, Some, sym, ap, ◌∙◌, leb, eqb, suc}
 use Rattle.std.specs.Prelude.{map as list_map}
 use Rattle.std.specs.List.{sum_by}
 use Rattle.std.proofs.lemmas.List.Sums.{sum_by-cons}
@@ -24,17 +24,16 @@ use Rattle.mq_table.specs.Timing.{older_host_present}
 use Rattle.mq_sched.specs.Schedule.{ScheduledGroup}
 use Rattle.mq_sched.specs.Sending.{SentQuery, after_change}
 use Rattle.mq_table.specs.OlderHosts.{older_host}
-use Rattle.mq_sched.specs.Election.{ElectionState, is_querier, heard, loses_role}
+use Rattle.mq_sched.specs.Election.{ElectionState, is_querier, loses_role}
 use Rattle.mq_link.specs.declared.configuration.Limits.{Limits}
 use Rattle.mq_link.specs.declared.answers.Refusal.{Refusal}
-use Rattle.mq_link.specs.declared.answers.Refusal.TheVariants.{Groups as TooManyGroups, GroupSources, Sources, Scheduled, Repeated}
-use Rattle.mq_link.specs.Tests.{first_named}
+use Rattle.mq_link.specs.declared.answers.Refusal.TheVariants.{Repeated}
 use Rattle.mq_link.specs.Family.{v1_mutes_leave, per_query}
 use Rattle.mq_link.specs.Configuration.{Configuration}
 use Rattle.mq_link.specs.Counters.{Verdict, Applied, Ignored, Refused}
 use Rattle.mq_link.specs.State.{Groups, LinkState, unheld, group_at, with_group, sources_of, schedules_of, one_if}
-use Rattle.mq_link.specs.Record.{Statement, RecordOf, OlderJoin, OlderLeave, change_stated, limit_passed, Outcome, Setting, leaving, unless_passed, sent_at_once, after_sending, changed_or_refused, is_muted, asking_nothing, stated, Seen, met, Entrance, Stops, GoesOn, entrance, seen_by, judged_from, judged, Outcomes, and_then, all_judged}
-use Rattle.mq_link.specs.Heard.{announced_by, suppresses, some_named, asked_by, groups_cleared, group_lowered, groups_lowered, query_heard}
+use Rattle.mq_link.specs.Record.{Statement, RecordOf, OlderJoin, OlderLeave, change_stated, limit_passed_by, limit_passed, Outcome, Setting, leaving, unless_passed, sent_at_once, after_sending, changed_or_refused, is_muted, asking_nothing, stated, Seen, met, Entrance, Stops, GoesOn, entrance, seen_by, judged_from, judged, Outcomes, and_then, all_judged}
+use Rattle.mq_link.specs.Heard.{election_after, suppresses, some_named, asked_by, groups_cleared, group_lowered, groups_lowered, query_heard}
 use Rattle.mq_link.proofs.Known.{Entries, ordered, ordered-known, entries-known, len-known, kept_in, kept_as, without, remove-known, with_values, find-with_values, ordered-with_values}
 use Rattle.mq_link.proofs.KnownGroups.{Known, KnownChange, as_held, as_change, group_of, nothing_known, is_empty, is_empty-known, named_in, change_in as table_in, change-known, translated_change_in, translated-known}
 use Rattle.mq_link.proofs.KnownSendings.{changed_in, changed-known, sent_in, sent-known, round_in, round-known, cleared_in, cleared-known, lowered_in, lowered-known}
@@ -109,12 +108,8 @@ sum-known f g is gs = ap (λ es. sum_by f (values_of es)) (entries-known (with_v
     each (e ∷ es) = sum_by-cons f (as_held e.1) (values_of (with_values as_held es)) ∙ (λ i. is e.1 i + each es i) ∙ sym (sum_by-cons g e.1 (values_of es))
 
 abbrev pub passed_in : Limits → KnownGroups → Known → Option Refusal
-passed_in limits gs changed = first_named (
-    (TooManyGroups, ltb limits.groups (length (ordered gs)))
-    ∷ (GroupSources, ltb limits.group_sources (size_in changed))
-    ∷ (Sources, ltb limits.sources (sum_by size_in (values_of (ordered gs))))
-    ∷ (Scheduled, ltb limits.scheduled (sum_by scheduled_in (values_of (ordered gs))))
-    ∷ [])
+passed_in limits gs changed =
+    limit_passed_by limits (length (ordered gs)) (size_in changed) (sum_by size_in (values_of (ordered gs))) (sum_by scheduled_in (values_of (ordered gs)))
 
 count-known : (gs : KnownGroups) → map.len (as_groups gs) ≡ length (ordered gs)
 count-known gs = len-known (with_values as_held gs) ∙ ap length (ordered-with_values as_held gs) ∙ mapped (ordered gs)
@@ -124,12 +119,8 @@ count-known gs = len-known (with_values as_held gs) ∙ ap length (ordered-with_
     mapped (e ∷ es) = ap (λ n. suc n) (mapped es)
 
 passed-known : (limits : Limits) (gs : KnownGroups) (k : Known) → limit_passed limits (as_groups gs) (as_held k) ≡ passed_in limits gs k
-passed-known limits gs k = λ i. first_named (
-    (TooManyGroups, ltb limits.groups (count-known gs i))
-    ∷ (GroupSources, ltb limits.group_sources (len-known k.sources i))
-    ∷ (Sources, ltb limits.sources (sum-known sources_of size_in (λ k. len-known k.sources) gs i))
-    ∷ (Scheduled, ltb limits.scheduled (sum-known schedules_of scheduled_in (λ k. refl) gs i))
-    ∷ [])
+passed-known limits gs k =
+    λ i. limit_passed_by limits (count-known gs i) (len-known k.sources i) (sum-known sources_of size_in (λ k. len-known k.sources) gs i) (sum-known schedules_of scheduled_in (λ k. refl) gs i)
 
 -- what is said, with the sources named as a list
 pub data KnownStatement : Type 0 where
@@ -342,7 +333,7 @@ cleared_if loses gs = cond loses (kept_in (λ _ k. Some (cleared_in k)) gs) gs
 
 abbrev pub heard_in : Configuration → ℕ → (source : ℕ) → Query ℕ → KnownLink → KnownLink
 heard_in config now source query l =
-    let election = heard config.timing config.own now source (announced_by query.version) l.election in
+    let election = election_after config now source query.version l.election in
     let groups = cleared_if (loses_role config.own source l.election.role) l.groups in
     record { groups = lowered_at election.timing now query groups; election = election; last = l.last; counters = l.counters }
 
@@ -352,7 +343,7 @@ heard-known config now source query l =
     ∙ ap left (groups_lowered-known election.timing now query (cleared_if (loses_role config.own source l.election.role) l.groups))
   where
     election : ElectionState
-    election = heard config.timing config.own now source (announced_by query.version) l.election
+    election = election_after config now source query.version l.election
 
     left : Groups → LinkState
     left groups = record { groups = groups; election = election; last = l.last; counters = l.counters }

@@ -21,3 +21,7 @@ pub mod KnownLinks
 pub mod KnownRecords
 pub mod KnownReceipts
 pub mod Worked
+pub mod Alike
+pub mod AlikeGroups
+pub mod AlikeLinks
+pub mod SeveralMessages

@@ -1,5 +1,5 @@
 -- What is said of each group of a map and of the list of its entries; and that a router that isn't querier sends nothing.
-use Rattle.std.proofs.Common.{◌≡◌, ℕ, ◌<◌, Bool, true, false, cond, refl, List, [], ◌∷◌, ◌++◌, Option, None, Some, Result, Ok, Err, sym, ap, ◌∙◌, subst, arith}
+use Rattle.std.proofs.Common.{◌≡◌, ℕ, ◌<◌, Bool, true, false, cond, ltb, leb, refl, List, [], ◌∷◌, ◌++◌, Option, None, Some, Result, Ok, Err, sym, ap, ◌∙◌, subst, arith}
 use Rattle.std.proofs.lemmas.Bool.Decides.{nat_tests}
 use lib.Dec.{T}
 use Rattle.std.specs.List.{flat_map}
@@ -13,13 +13,14 @@ use Rattle.mq_wire.specs.Family.{Family}
 use Rattle.mq_wire.specs.declared.message.Message.{Message}
 use Rattle.mq_wire.specs.declared.message.Message.TheVariants.{Query as QueryMessage, OldReport, Leave as LeaveMessage, Report as ReportMessage}
 use Rattle.mq_wire.specs.declared.message.WireFault.{WireFault}
+use Rattle.mq_wire.specs.declared.query.QueryVersion.{QueryVersion}
 use Rattle.mq_wire.specs.declared.records.RecordView.{RecordView}
 use Rattle.mq_table.specs.declared.kind.Kind.{Kind}
 use Rattle.mq_table.specs.declared.timing.Timing.{Timing}
 use Rattle.mq_table.specs.Table.{GroupChange}
 use Rattle.mq_sched.specs.Schedule.{ScheduleState, ScheduledGroup, no_schedule, settled}
 use Rattle.mq_sched.specs.Sending.{SentQuery, GeneralQuery, after_change, messages_due}
-use Rattle.mq_sched.specs.Election.{Role, Querier, Other, is_querier, returned, general_is_due, ticked}
+use Rattle.mq_sched.specs.Election.{Role, Querier, Other, ElectionState, is_querier, returned, general_is_due, after_general, ticked}
 use Rattle.mq_link.specs.declared.answers.Refusal.{Refusal}
 use Rattle.mq_link.specs.declared.answers.Refusal.TheVariants.{Repeated}
 use Rattle.mq_link.specs.declared.answers.DropReason.{DropReason}
@@ -29,6 +30,7 @@ use Rattle.mq_link.specs.Counters.{Refused}
 use Rattle.mq_link.specs.State.{Groups, LinkState, unheld, group_at, with_group, IsSilent, IsWellFormed}
 use Rattle.mq_link.specs.Tick.{Step, groups_expired, queries_due, tick_at}
 use Rattle.mq_link.specs.Record.{Statement, RecordOf, OlderJoin, OlderLeave, limit_passed, Setting, leaving, unless_passed, changed_by, after_sending, sent_at_once, changed_or_refused, change_in, stated, Seen, Entrance, Stops, GoesOn, entrance, is_repeated, seen_after, judged_from, judged, all_judged}
+use Rattle.mq_link.specs.Heard.{election_after}
 use Rattle.mq_link.specs.Receive.{Envelope, setting_of, taken_in, taken_or_dropped, counting_read}
 use Rattle.mq_link.proofs.Entries.{find_below, first, second, tied}
 use Rattle.mq_link.proofs.HeldAs.{All, settled_silent}
@@ -143,3 +145,33 @@ pub silent_decided : (config : Configuration) (envelope : Envelope) (step : Step
 silent_decided config envelope step read (Some reason) h other none = none
 silent_decided config envelope step (Err fault) None h other none = none
 silent_decided config envelope step (Ok message) None h other none = silent_taken config envelope message (counting_read (Ok message) step) (recounted config step.state _ h) other none
+
+-- No datagram makes a router querier, and no tick before the other querier's deadline.
+pub other_before : (configured timing : Timing) (now address deadline : ℕ) → now < deadline → is_querier (ticked configured now (record { role = Other address deadline; timing = timing })).role ≡ false
+other_before configured timing now address deadline before = ap (λ b. is_querier (general_after (cond b (record { role = Querier now 0; timing = configured }) (record { role = Other address deadline; timing = timing }))).role) (not_over now deadline before)
+  where
+    not_over : (now deadline : ℕ) → now < deadline → leb deadline now ≡ false
+    not_over now deadline before = grind (arith, nat_tests)
+
+    general_after : ElectionState → ElectionState
+    general_after r = cond (general_is_due now r.role) (record { role = after_general r.timing now r.role; timing = r.timing }) r
+
+other_heard : (config : Configuration) (now source : ℕ) (version : QueryVersion ℕ) (election : ElectionState) → is_querier election.role ≡ false → is_querier (election_after config now source version election).role ≡ false
+other_heard config now source version election other = by_test (ltb source config.own) _
+  where
+    by_test : (b : Bool) (deadline : ℕ) → is_querier (cond b (Other source deadline) election.role) ≡ false
+    by_test true deadline = refl
+    by_test false deadline = other
+
+other_taken : (config : Configuration) (envelope : Envelope) (message : Message ℕ) (step : Step) → is_querier step.state.election.role ≡ false → is_querier (taken_in config envelope message step).step.state.election.role ≡ false
+unfolding taken_in
+other_taken config envelope (QueryMessage query) step other = other_heard config step.state.last envelope.source query.version step.state.election other
+other_taken config envelope (OldReport version group) step other = other
+other_taken config envelope (LeaveMessage group) step other = other
+other_taken config envelope (ReportMessage records) step other = other
+
+pub other_decided : (config : Configuration) (envelope : Envelope) (step : Step) (read : Result (Message ℕ) WireFault) (reason : Option DropReason) → is_querier step.state.election.role ≡ false → is_querier (taken_or_dropped config envelope step read reason).step.state.election.role ≡ false
+other_decided config envelope step (Err fault) (Some reason) other = other
+other_decided config envelope step (Ok message) (Some reason) other = other
+other_decided config envelope step (Err fault) None other = other
+other_decided config envelope step (Ok message) None other = other_taken config envelope message (counting_read (Ok message) step) other

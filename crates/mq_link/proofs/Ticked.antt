@@ -1,10 +1,9 @@
 -- A tick leaves a state that a link may be in.
-use Rattle.std.proofs.Common.{◌≡◌, ℕ, ◌+◌, ◌≤◌, Bool, true, false, cond, not, ◌&&◌, ◌||◌, refl, Option, None, Some, IfSome, sym, ap, ◌∙◌, subst, arith, eqb, ltb}
+use Rattle.std.proofs.Common.{◌≡◌, ℕ, ◌≤◌, Bool, true, false, cond, not, ◌&&◌, ◌||◌, refl, Option, None, Some, IfSome, sym, ap, ◌∙◌, subst, arith, eqb, ltb}
 use Rattle.std.proofs.lemmas.Bool.{true≢false, eqb-false}
 use Rattle.std.specs.Option.{option_and_then}
 use Rattle.std.specs.FinMap as map
 use Rattle.mq_table.specs.Maps.{kept}
-use Rattle.mq_table.specs.Timing.{other_querier_present}
 use Rattle.mq_table.proofs.Maps.{get-kept}
 use Rattle.mq_table.specs.declared.timing.Timing.{Timing}
 use Rattle.mq_table.specs.Variables.{AreInRange, IsWithin}
@@ -12,12 +11,12 @@ use Rattle.mq_sched.specs.Schedule.{ScheduledGroup, cleared}
 use Rattle.mq_sched.specs.Sending.{after_round}
 use Rattle.mq_sched.specs.declared.announced.Announced.{Announced}
 use Rattle.mq_sched.specs.Announcement.{IsCarried}
-use Rattle.mq_sched.specs.Election.{Role, Querier, Other, ElectionState, is_querier, deadline_ended, returned, general_is_due, after_general, ticked, heard_or, adopted, loses_role, heard}
+use Rattle.mq_sched.specs.Election.{Role, Querier, Other, ElectionState, is_querier, deadline_ended, returned, general_is_due, after_general, ticked, heard_or, adopted, loses_role}
 use Rattle.mq_wire.specs.declared.query.Query.{Query}
 use Rattle.mq_link.specs.Configuration.{Configuration}
 use Rattle.mq_link.specs.State.{Groups, LinkState, IsHeldAs, IsSilent, AreWithin, IsWellFormed}
 use Rattle.mq_link.specs.Tick.{group_expired, if_held, groups_expired, groups_after_round, tick_at}
-use Rattle.mq_link.specs.Heard.{announced_by, suppresses, asked_by, groups_cleared, group_lowered, groups_lowered, query_heard}
+use Rattle.mq_link.specs.Heard.{election_after, announced_by, suppresses, asked_by, groups_cleared, group_lowered, groups_lowered, query_heard}
 use Rattle.mq_link.proofs.Bounds.{NoMore, expired_no_more, round_no_more, cleared_no_more, lowered_no_more, same_no_more, within-kept}
 use Rattle.mq_link.proofs.HeldAs.{All, all-kept, held_expired, silent_expired, held_round, silent_round, held_after_loss, held_lowered}
 
@@ -171,6 +170,10 @@ within-groups_lowered config timing now query groups within = within-kept config
     by_test group e true = lowered_no_more timing now (suppresses query.version) (asked_by query.version) e
     by_test group e false = same_no_more e
 
+-- a query of no lower address leaves the role
+role_kept : (source deadline : ℕ) (role : Role) (lower : Bool) → lower ≡ false → is_querier role ≡ true → is_querier (cond lower (Other source deadline) role) ≡ true
+role_kept source deadline role lower l q = ap (λ b. is_querier (cond b (Other source deadline) role)) l ∙ q
+
 -- A query that is heard leaves a well-formed state well-formed.
 pub IsWellFormed-query_heard : (config : Configuration) (now source : ℕ) (query : Query ℕ) (state : LinkState) → AreInRange config.timing → IsCarriedBy (announced_by query.version) → IsWellFormed config state → IsWellFormed config (query_heard config now source query state)
 IsWellFormed-query_heard config now source query state own carried h = record {
@@ -184,7 +187,7 @@ IsWellFormed-query_heard config now source query state own carried h = record {
     lower = ltb source config.own
 
     election : ElectionState
-    election = heard config.timing config.own now source (announced_by query.version) state.election
+    election = election_after config now source query.version state.election
 
     loses : Bool
     loses = loses_role config.own source state.election.role
@@ -206,4 +209,4 @@ IsWellFormed-query_heard config now source query state own carried h = record {
     by_role : (below querier : Bool) → lower ≡ below → is_querier state.election.role ≡ querier → is_querier election.role ≡ false → All (λ _. IsSilent) groups_left
     by_role true true l q other = subst (λ b. All (λ _. IsSilent) (groups_if b)) (sym (λ i. q i && l i)) (silent-groups_cleared state.groups (λ _ _ _. tt))
     by_role below false l q other = subst (λ b. All (λ _. IsSilent) (groups_if b)) (sym (λ i. q i && lower)) (h.silent q)
-    by_role false true l q other = absurd (true≢false (sym q ∙ sym (ap (λ b. is_querier (cond b (Other source (now + other_querier_present election.timing)) state.election.role)) l) ∙ other))
+    by_role false true l q other = absurd (true≢false (sym (role_kept source _ state.election.role lower l q) ∙ other))

@@ -1,6 +1,6 @@
 -- The words of the worked examples of a link. Groups and links are listed: each source with its timer, each group with
 -- its sources and what is due for it.
-use Rattle.std.specs.Prelude.{◌≡◌, ℕ, zero, suc, ◌+◌, ◌-◌, ◌*◌, ◌/◌, ◌%◌, ◌^◌, Bool, true, false, List, [], ◌∷◌, ◌++◌, map as list_map, Option, None, Some}
+use Rattle.std.specs.Prelude.{◌≡◌, ℕ, zero, suc, ◌+◌, ◌-◌, ◌*◌, ◌/◌, ◌%◌, ◌^◌, Bool, true, false, List, [], ◌∷◌, map as list_map, Option, None, Some}
 use Rattle.std.specs.FinMap as map
 use Rattle.mq_wire.specs.Family.{Igmp, Mld}
 use Rattle.mq_wire.specs.declared.records.RecordView.{RecordView}
@@ -236,14 +236,6 @@ asking_once config now =
 
 abbrev pub listening : (now : ℕ) → Setting
 listening now = record { config = igmp; election = other (host 2) 260000 default_timing; now = now }
-
--- the sources 1 and so on, so many, ascending; and each of them until a moment, and with sendings to go
-abbrev pub sources_to : ℕ → List ℕ
-sources_to zero = []
-sources_to (suc n) = sources_to n ++ suc n ∷ []
-
-abbrev pub each_as : SourceTimer → List ℕ → List (ℕ × SourceTimer)
-each_as timer sources = list_map (λ (s : ℕ). (s, timer)) sources
 
 -- A datagram leaves these counts: received; dropped, in all and for a reason; spelled of a kind; records applied, ignored
 -- and refused; refused by a name.

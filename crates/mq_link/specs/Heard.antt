@@ -11,7 +11,7 @@ use Rattle.mq_table.specs.Maps.{kept}
 use Rattle.mq_table.specs.Lowering.{lowered_by_query}
 use Rattle.mq_sched.specs.declared.announced.Announced.{Announced}
 use Rattle.mq_sched.specs.Schedule.{ScheduledGroup, cleared}
-use Rattle.mq_sched.specs.Election.{heard, loses_role}
+use Rattle.mq_sched.specs.Election.{ElectionState, heard, loses_role}
 use Rattle.mq_link.specs.Configuration.{Configuration}
 use Rattle.mq_link.specs.State.{Groups, LinkState}
 
@@ -47,10 +47,15 @@ unfoldable pub groups_lowered : Timing → ℕ → Query ℕ → Groups → Grou
 groups_lowered timing now query groups =
     kept (λ group e. Some (if group == query.group then group_lowered timing now query.version e else e)) groups
 
+-- who is querier after a query, and the timing in force
+abbrev pub election_after : Configuration → ℕ → (source : ℕ) → QueryVersion ℕ → ElectionState → ElectionState
+election_after config now source version election =
+    heard config.timing config.own now source (announced_by version) election
+
 -- In this order: who is querier, and the timing in force; what a router drops that loses the role; then what is lowered,
 -- by the timing that is in force then.
 abbrev pub query_heard : Configuration → ℕ → (source : ℕ) → Query ℕ → LinkState → LinkState
 query_heard config now source query state =
-    let election = heard config.timing config.own now source (announced_by query.version) state.election in
+    let election = election_after config now source query.version state.election in
     let groups = if loses_role config.own source state.election.role then groups_cleared state.groups else state.groups in
     record state { groups = groups_lowered election.timing now query groups; election = election }

@@ -1,5 +1,5 @@
 -- Words in which the laws of a link are said.
-use Rattle.std.specs.Prelude.{◌≡◌, ◌↔◌, ℕ, ◌+◌, Bool, true, false, List, [], ◌∷◌, length, Option, Some}
+use Rattle.std.specs.Prelude.{◌≡◌, ◌↔◌, ℕ, ◌+◌, Bool, true, false, List, [], ◌∷◌, length, map as list_map, Option, Some}
 use Rattle.std.specs.FinMap as map
 use Rattle.mq_count.specs.Streams.{counted_on}
 use Rattle.mq_wire.specs.declared.message.Message.{Message}
@@ -89,6 +89,24 @@ unanswered state =
     let c = state.counters in
     record state { counters = record c { sent = 0; unsent = 0 } }
 
+-- States that differ in sent and unsent alone, which together are the same, as far as a u64 has room.
+pub record DifferInAnswers (a b : LinkState) : Type 0 where
+  pub state : unanswered a ≡ unanswered b
+  pub together : counted_on a.counters.sent a.counters.unsent ≡ counted_on b.counters.sent b.counters.unsent
+
+-- The same came of an event in two runs, but for what the outlet answered.
+pub record HappensAlike (a b : Happening) : Type 0 where
+  pub event : a.event ≡ b.event
+  pub answer : a.answer ≡ b.answer
+  pub messages : a.messages ≡ b.messages
+  pub after : DifferInAnswers a.after b.after
+
+abbrev pub HappenAlike : List Happening → List Happening → Type 0
+HappenAlike [] [] = Unit {0}
+HappenAlike [] (b ∷ bs) = ⊥
+HappenAlike (a ∷ others) [] = ⊥
+HappenAlike (a ∷ others) (b ∷ bs) = HappensAlike a b × HappenAlike others bs
+
 -- the groups that a change would leave, and the group that it changes
 abbrev pub would_be : Setting → ℕ → Groups → GroupChange → ScheduledGroup
 would_be at group groups change = after_sending at (changed_by at group groups change)
@@ -100,3 +118,7 @@ would_leave at group groups change = with_group groups group (would_be at group 
 abbrev pub events_of : List Happening → List (Event × List Bool)
 events_of [] = []
 events_of (h ∷ hs) = (h.event, h.answers) ∷ events_of hs
+
+-- and without them
+abbrev pub events_alone : List Happening → List Event
+events_alone happenings = list_map (λ h. h.event) happenings

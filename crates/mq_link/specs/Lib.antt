@@ -12,3 +12,4 @@ pub mod Run
 pub mod Cost
 pub mod Laws
 pub mod Examples
+pub mod ManySources

@@ -71,14 +71,19 @@ change_stated mutes muted timing now (OlderJoin version) g =
     if muted then None else Some (asking_nothing (older_report version timing now g))
 change_stated mutes muted timing now OlderLeave g = older_leave mutes muted timing now g
 
--- The first limit that some groups pass, of which one group has just changed.
-abbrev pub limit_passed : Limits → Groups → (changed : ScheduledGroup) → Option Refusal
-limit_passed limits groups changed = first_named (
-    (TooManyGroups, nat_lt limits.groups (map.len groups))
-    ∷ (GroupSources, nat_lt limits.group_sources (sources_of changed))
-    ∷ (Sources, nat_lt limits.sources (sources_in groups))
-    ∷ (Scheduled, nat_lt limits.scheduled (schedules_in groups))
+-- The first limit that is passed by so many groups, sources of one group, sources in all, and schedules.
+abbrev pub limit_passed_by : Limits → (groups group_sources sources scheduled : ℕ) → Option Refusal
+limit_passed_by limits groups group_sources sources scheduled = first_named (
+    (TooManyGroups, nat_lt limits.groups groups)
+    ∷ (GroupSources, nat_lt limits.group_sources group_sources)
+    ∷ (Sources, nat_lt limits.sources sources)
+    ∷ (Scheduled, nat_lt limits.scheduled scheduled)
     ∷ [])
+
+-- that which some groups pass, of which one has just changed
+abbrev pub limit_passed : Limits → Groups → (changed : ScheduledGroup) → Option Refusal
+limit_passed limits groups changed =
+    limit_passed_by limits (map.len groups) (sources_of changed) (sources_in groups) (schedules_in groups)
 
 -- What became of a record, the groups that it leaves, and the queries that it sends at once.
 pub record Outcome : Type 0 where

@@ -4,13 +4,13 @@
 //! Moments, queries and states are worked out by hand from the standards, with the default timing: a group
 //! membership interval of 260000 ms, and two queries 1000 ms apart for a last member. The link belongs to the router
 //! 10.0.0.9, and `early` says that it has sent its first general query at 0. What a single record becomes stands in
-//! `records`, what the families differ in, and bytes, in `families`.
+//! `records`, sendings in several messages in `sendings`, what the families differ in, and bytes, in `families`.
 
 ghost use Rattle.std.specs.Prelude.{◌≡◌, [], ◌∷◌, true, false, Some, None};
 ghost use Rattle.mq_table.specs.declared.timers.FilterMode.TheVariants.{Include, Exclude};
 ghost use Rattle.mq_table.specs.declared.timers.SourceTimer.TheVariants.{Stopped, Running};
 ghost use Rattle.mq_table.specs.Examples.{default_timing, until};
-ghost use Rattle.mq_sched.specs.Examples.{the_group, scheduled, announced_timing};
+ghost use Rattle.mq_sched.specs.Examples.{the_group, scheduled, announced_timing, robust};
 ghost use Rattle.mq_sched.specs.Sending.{GeneralQuery, GroupQuery, SourcesQuery};
 ghost use Rattle.mq_link.specs.Counters.{no_counts, count_answers};
 ghost use Rattle.mq_link.specs.State.{link_at};
@@ -20,6 +20,7 @@ use crate::answers::{DropReason, MessageKind, Received, Refusal};
 
 pub mod families;
 pub mod records;
+pub mod sendings;
 
 /// General queries at the start, a startup interval later, and then a query interval apart; a late tick sends one.
 pub fn general_queries()
@@ -210,8 +211,9 @@ pub fn a_source_refreshed()
         [] (early 4000 ((the_group, listed Include ((host 1, until 262500) ∷ [])) ∷ [])) }
 {}
 
-/// A query of 10.0.0.2 for the source takes the role until 260000 and lowers the source to 7000. One of 10.0.0.200 with S
-/// set takes nothing and lowers nothing.
+/// A query of 10.0.0.2 for the source takes the role until 260000 and lowers the source to 7000. One that announces
+/// robustness 3 takes it until 385000, and lowers the source to 8000: by three queries. One of 10.0.0.200 with S set takes
+/// nothing and lowers nothing.
 pub fn a_specific_query_heard()
     ensures lower { Comes igmp (from 2) (octets 16 0x110af973e8010101027d00010a000001) 5000
         (early 1000 ((the_group, listed Include ((host 1, until 261000) ∷ [])) ∷ []))
@@ -220,6 +222,10 @@ pub fn a_specific_query_heard()
     ensures gone { TicksTo igmp 7000
         (after 5000 (other (host 2) 260000 default_timing) ((the_group, listed Include ((host 1, until 7000) ∷ [])) ∷ []))
         [] (after 7000 (other (host 2) 260000 default_timing) []) }
+    ensures announcing { Comes igmp (from 2) (octets 16 0x110af873e8010101037d00010a000001) 5000
+        (early 1000 ((the_group, listed Include ((host 1, until 261000) ∷ [])) ∷ []))
+        (Received.Taken 0 0 0) []
+        (after 5000 (other (host 2) 385000 (robust 3)) ((the_group, listed Include ((host 1, until 8000) ∷ [])) ∷ [])) }
     ensures higher { Comes igmp (from 200) (octets 16 0x110af173e80101010a7d00010a000001) 5000
         (early 1000 ((the_group, listed Include ((host 1, until 261000) ∷ [])) ∷ []))
         (Received.Taken 0 0 0) []

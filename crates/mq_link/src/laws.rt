@@ -14,7 +14,7 @@ ghost use Rattle.mq_wire.specs.declared.records.RecordView.{RecordView};
 ghost use Rattle.mq_table.specs.declared.kind.Kind.{Kind};
 ghost use Rattle.mq_table.specs.Table.{GroupChange};
 ghost use Rattle.mq_sched.specs.Schedule.{ScheduledGroup};
-ghost use Rattle.mq_sched.specs.Election.{is_querier, loses_role};
+ghost use Rattle.mq_sched.specs.Election.{Other, is_querier, loses_role};
 ghost use Rattle.mq_link.specs.declared.configuration.Limits.{Limits};
 ghost use Rattle.mq_link.specs.declared.answers.Refusal.{Refusal};
 ghost use Rattle.mq_link.specs.declared.answers.DropReason.{DropReason};
@@ -29,7 +29,7 @@ ghost use Rattle.mq_link.specs.Heard.{groups_cleared, query_heard};
 ghost use Rattle.mq_link.specs.Receive.{Envelope, read_of, pseudo_of, kind_of, receipt_of};
 ghost use Rattle.mq_link.specs.Run.{Event, Happening, answered, step_of, answer_to, HandsOut, Run};
 ghost use Rattle.mq_link.specs.Sent.{Outgoing};
-ghost use Rattle.mq_link.specs.Laws.{AllAfter, ChangesNothing, IsOnlyCounted, DifferAt, IsGivenWhere, waited, CountsAnswer, records_in, CountsRecords, events_of, unanswered, would_be, would_leave};
+ghost use Rattle.mq_link.specs.Laws.{AllAfter, ChangesNothing, IsOnlyCounted, DifferAt, IsGivenWhere, waited, CountsAnswer, records_in, CountsRecords, events_of, events_alone, unanswered, HappenAlike, would_be, would_leave};
 
 /// A link is well-formed at its start and stays so, whatever it is handed: its groups are as they may be held and
 /// within the limits, and a router that isn't querier has nothing to send.
@@ -97,9 +97,15 @@ pub fn ticks_are_quiet_until_the_next_moment()
         ≡ waited (moment_of state now) (tick_of config now state).state }
 {}
 
-/// A router that isn't querier after the tick of a moment sends nothing at it, whatever it is handed. (The tick makes it
-/// querier again where the other querier's deadline has come.)
+/// A router that isn't querier after the tick of a moment sends nothing at it, whatever it is handed. No datagram makes
+/// it querier, and no tick before the other querier's deadline.
 pub fn other_routers_send_nothing()
+    ensures before_the_deadline { (config : Configuration) (now address deadline : ℕ) (state : LinkState)
+        → state.election.role ≡ Other address deadline → moment_of state now < deadline
+        → is_querier (tick_of config now state).state.election.role ≡ false }
+    ensures whatever_comes { (config : Configuration) (envelope : Envelope) (bytes : List ℕ) (now : ℕ) (state : LinkState)
+        → is_querier (tick_of config now state).state.election.role ≡ false
+        → is_querier (receipt_of config envelope bytes now state).step.state.election.role ≡ false }
     ensures tick { (config : Configuration) (now : ℕ) (state : LinkState)
         → IsWellFormed config state → is_querier (tick_of config now state).state.election.role ≡ false
         → (tick_of config now state).queries ≡ [] }
@@ -200,8 +206,11 @@ pub fn each_datagram_is_counted_once()
 {}
 
 /// The outlet's answers change nothing but `sent` and `unsent`, at once and later: states that differ in these alone do
-/// the same, and go on differing in these alone.
+/// the same, and go on differing in these alone. So two runs of the same events have the same answers, messages and
+/// states but for these, which together are the same in both, as far as a u64 has room.
 pub fn outlets_decide_nothing_else()
+    ensures runs { (config : Configuration) (start : ℕ) (a b : List Happening)
+        → Run config start a → Run config start b → events_alone a ≡ events_alone b → HappenAlike a b }
     ensures counted { (answers : List Bool) (step : Step) → unanswered (answered answers step) ≡ unanswered step.state }
     ensures state { (config : Configuration) (event : Event) (a b : LinkState) → unanswered a ≡ unanswered b
         → unanswered (step_of config event a).state ≡ unanswered (step_of config event b).state }

@@ -73,6 +73,19 @@ pub fn configuration_faults()
     ensures greatest_response { configuration_fault (timed 2 31744 3174400 1000) ≡ None }
     ensures greater_response { configuration_fault (timed 2 31744 3174401 1000) ≡ Some ConfigFault.ResponseInterval }
     ensures last_member { configuration_fault (timed 2 125 10000 50) ≡ Some ConfigFault.LastMember }
+    ensures least_last_member { configuration_fault (timed 2 125 10000 100) ≡ None }
+    ensures greater_last_member { configuration_fault (timed 2 125 10000 3174401) ≡ Some ConfigFault.LastMember }
+    ensures no_response_of_mld { configuration_fault (record mld { timing = (timed 2 125 0 1000).timing })
+        ≡ Some ConfigFault.ResponseInterval }
+    ensures units_of_mld { configuration_fault (record mld { timing = (timed 2 125 1 1).timing }) ≡ None }
+    ensures greater_response_of_mld { configuration_fault (record mld { timing = (timed 2 31744 8387585 1000).timing })
+        ≡ Some ConfigFault.ResponseInterval }
+    // Of two the first is told.
+    ensures response_and_last_member { configuration_fault (timed 2 125 125000 50) ≡ Some ConfigFault.ResponseInterval }
+    ensures last_member_and_limit { configuration_fault (record (timed 2 125 10000 50) { limits = (limited 0 366 1 1).limits })
+        ≡ Some ConfigFault.LastMember }
+    ensures limit_and_own { configuration_fault (record (limited 1 366 1 0) { own = 0 })
+        ≡ Some (ConfigFault.Limit LimitName.Scheduled) }
     ensures no_groups { configuration_fault (limited 0 366 0 256) ≡ Some (ConfigFault.Limit LimitName.Groups) }
     ensures no_sources { configuration_fault (limited 1024 366 0 256) ≡ Some (ConfigFault.Limit LimitName.Sources) }
     ensures scheduled { configuration_fault (limited 1024 366 16384 65536) ≡ Some (ConfigFault.Limit LimitName.Scheduled) }

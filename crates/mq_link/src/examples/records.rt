@@ -8,7 +8,7 @@ ghost use Rattle.mq_table.specs.Examples.{until};
 ghost use Rattle.mq_sched.specs.Examples.{the_group, scheduled};
 ghost use Rattle.mq_sched.specs.Sending.{GroupQuery, SourcesQuery};
 ghost use Rattle.mq_link.specs.Counters.{Applied, Ignored, Refused};
-ghost use Rattle.mq_link.specs.Examples.{igmp, limited, mld_limited, source_specific_igmp, host, ipv4, from, octets, a_group, listed, listed_due, early, asking, asking_once, listening, saying, sources_to, each_as, Becomes, BecomeAll, TicksTo, Comes};
+ghost use Rattle.mq_link.specs.Examples.{igmp, limited, host, ipv4, from, octets, listed, listed_due, listed_v2, early, asking, asking_once, listening, saying, Becomes, BecomeAll, Comes};
 
 use crate::answers::{Received, Refusal};
 
@@ -146,6 +146,9 @@ pub fn two_limits_passed()
     ensures group_sources_and_sources { Becomes (asking (limited 1024 2 2 256) 1000) (saying the_group 1 (3 ∷ []))
         ((the_group, listed Include ((1, until 9000) ∷ (2, until 9000) ∷ [])) ∷ []) (Refused Refusal.GroupSources) []
         ((the_group, listed Include ((1, until 9000) ∷ (2, until 9000) ∷ [])) ∷ []) }
+    ensures group_sources_and_scheduled { Becomes (asking (limited 1024 1 16384 1) 1000) (saying the_group 3 (2 ∷ []))
+        ((the_group, listed (Exclude 9000) ((1, until 9000) ∷ [])) ∷ []) (Refused Refusal.GroupSources) []
+        ((the_group, listed (Exclude 9000) ((1, until 9000) ∷ [])) ∷ []) }
     ensures sources_and_scheduled { Becomes (asking (limited 1024 366 2 1) 1000) (saying the_group 3 (2 ∷ []))
         ((the_group, listed Include ((1, until 9000) ∷ []))
         ∷ (ipv4 232 1 1 2, listed_due Include ((1, Running 3000 1) ∷ []) None (Some 2000)) ∷ []) (Refused Refusal.Sources) []
@@ -156,6 +159,26 @@ pub fn two_limits_passed()
         (early 0 ((the_group, listed Include ((1, until 9000) ∷ [])) ∷ []))
         (Received.Taken 0 0 1) []
         (early 1000 ((the_group, listed Include ((1, until 9000) ∷ [])) ∷ [])) }
+{}
+
+/// A record that is too long is refused for that, whatever else it would be refused for; so is one that is repeated, unless
+/// it is too long.
+pub fn two_refusals()
+    ensures long_and_groups { Becomes (asking (limited 1 2 16384 256) 1000) (saying (ipv4 232 1 1 2) 5 (1 ∷ 2 ∷ 3 ∷ []))
+        ((the_group, listed Include ((1, until 9000) ∷ [])) ∷ []) (Refused Refusal.Long) []
+        ((the_group, listed Include ((1, until 9000) ∷ [])) ∷ []) }
+    ensures long_and_repeated { BecomeAll (asking (limited 1024 2 16384 256) 1000)
+        (saying the_group 6 [] ∷ saying the_group 6 [] ∷ saying the_group 6 [] ∷ saying the_group 6 []
+        ∷ saying the_group 5 (1 ∷ 2 ∷ 3 ∷ []) ∷ [])
+        ((the_group, listed Include ((1, until 9000) ∷ [])) ∷ [])
+        (Applied ∷ Applied ∷ Applied ∷ Applied ∷ Refused Refusal.Long ∷ []) []
+        ((the_group, listed Include ((1, until 9000) ∷ [])) ∷ []) }
+    ensures repeated_and_group_sources { BecomeAll (asking (limited 1024 2 16384 256) 1000)
+        (saying the_group 6 [] ∷ saying the_group 6 [] ∷ saying the_group 6 [] ∷ saying the_group 6 []
+        ∷ saying the_group 5 (3 ∷ []) ∷ [])
+        ((the_group, listed Include ((1, until 9000) ∷ (2, until 9000) ∷ [])) ∷ [])
+        (Applied ∷ Applied ∷ Applied ∷ Applied ∷ Refused Refusal.Repeated ∷ []) []
+        ((the_group, listed Include ((1, until 9000) ∷ (2, until 9000) ∷ [])) ∷ []) }
 {}
 
 /// Five records of one datagram meet a group, with one for another group between them: the fifth is refused. A record of
@@ -174,6 +197,20 @@ pub fn a_group_met_five_times()
         ((the_group, listed Include ((1, until 9000) ∷ [])) ∷ [])
         (Ignored ∷ Refused Refusal.Long ∷ Applied ∷ Applied ∷ Applied ∷ Applied ∷ []) []
         ((the_group, listed Include ((1, until 9000) ∷ [])) ∷ []) }
+    // One that an older host mutes counts, and so does one that passes a limit.
+    ensures with_others_ignored { BecomeAll (asking igmp 1000)
+        (saying the_group 6 (1 ∷ []) ∷ saying the_group 6 (1 ∷ []) ∷ saying the_group 6 (1 ∷ []) ∷ saying the_group 6 (1 ∷ [])
+        ∷ saying the_group 6 (1 ∷ []) ∷ [])
+        ((the_group, listed_v2 9000 9000 None) ∷ [])
+        (Ignored ∷ Ignored ∷ Ignored ∷ Ignored ∷ Refused Refusal.Repeated ∷ []) []
+        ((the_group, listed_v2 9000 9000 None) ∷ []) }
+    ensures with_others_refused { BecomeAll (asking (limited 1024 2 16384 256) 1000)
+        (saying the_group 1 (3 ∷ []) ∷ saying the_group 1 (3 ∷ []) ∷ saying the_group 1 (3 ∷ []) ∷ saying the_group 1 (3 ∷ [])
+        ∷ saying the_group 1 (3 ∷ []) ∷ [])
+        ((the_group, listed Include ((1, until 9000) ∷ (2, until 9000) ∷ [])) ∷ [])
+        (Refused Refusal.GroupSources ∷ Refused Refusal.GroupSources ∷ Refused Refusal.GroupSources
+        ∷ Refused Refusal.GroupSources ∷ Refused Refusal.Repeated ∷ []) []
+        ((the_group, listed Include ((1, until 9000) ∷ (2, until 9000) ∷ [])) ∷ []) }
     ensures made_by_the_first { BecomeAll (asking igmp 1000)
         (saying the_group 5 (1 ∷ []) ∷ saying the_group 6 [] ∷ saying the_group 6 [] ∷ saying the_group 6 []
         ∷ saying the_group 6 [] ∷ saying the_group 6 [] ∷ [])
@@ -188,23 +225,4 @@ pub fn a_sending_names_those_that_wait()
         ((the_group, listed_due Include ((1, Running 4000 1) ∷ (2, until 261000) ∷ []) None (Some 3000)) ∷ []) Applied
         (SourcesQuery the_group false (1 ∷ 2 ∷ []) ∷ [])
         ((the_group, listed_due Include ((1, until 4000) ∷ (2, Running 4500 1) ∷ []) None (Some 3500)) ∷ []) }
-{}
-
-/// Ninety sources of a group of MLD are blocked at 2000: they go in two messages then and at 3000, of 89 and of one, and
-/// the group is gone at 4000. In IGMP 367 sources go in messages of 366 and of one.
-pub fn a_sending_in_two_messages()
-    ensures blocked { Becomes (asking (mld_limited 90) 2000) (saying a_group 6 (sources_to 90))
-        ((a_group, listed Include (each_as (until 261000) (sources_to 90))) ∷ []) Applied
-        (SourcesQuery a_group false (sources_to 89) ∷ SourcesQuery a_group false (90 ∷ []) ∷ [])
-        ((a_group, listed_due Include (each_as (Running 4000 1) (sources_to 90)) None (Some 3000)) ∷ []) }
-    ensures asked_again { TicksTo (mld_limited 90) 3000
-        (early 2000 ((a_group, listed_due Include (each_as (Running 4000 1) (sources_to 90)) None (Some 3000)) ∷ []))
-        (SourcesQuery a_group false (sources_to 89) ∷ SourcesQuery a_group false (90 ∷ []) ∷ [])
-        (early 3000 ((a_group, listed Include (each_as (until 4000) (sources_to 90))) ∷ [])) }
-    ensures gone { TicksTo (mld_limited 90) 4000
-        (early 3000 ((a_group, listed Include (each_as (until 4000) (sources_to 90))) ∷ [])) [] (early 4000 []) }
-    ensures blocked_in_igmp { Becomes (asking (limited 1024 400 16384 256) 2000) (saying the_group 6 (sources_to 367))
-        ((the_group, listed Include (each_as (until 261000) (sources_to 367))) ∷ []) Applied
-        (SourcesQuery the_group false (sources_to 366) ∷ SourcesQuery the_group false (367 ∷ []) ∷ [])
-        ((the_group, listed_due Include (each_as (Running 4000 1) (sources_to 367)) None (Some 3000)) ∷ []) }
 {}

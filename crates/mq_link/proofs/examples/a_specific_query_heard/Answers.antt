@@ -14,3 +14,7 @@ returns-clause-gone c = ticks_to _ _ _ _ _ refl refl refl refl
 pub returns-clause-higher : goal.returns-clause-higher
 unfolding read_of fault_of
 returns-clause-higher c = comes _ _ _ _ _ _ _ _ refl refl refl refl refl
+
+pub returns-clause-announcing : goal.returns-clause-announcing
+unfolding read_of fault_of
+returns-clause-announcing c = comes _ _ _ _ _ _ _ _ refl refl refl refl refl

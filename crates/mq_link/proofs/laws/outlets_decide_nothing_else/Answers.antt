@@ -1,5 +1,10 @@
-use Rattle.mq_link.proofs.Outlets.{same_step}
+use Rattle.std.proofs.Common.{refl}
+use Rattle.mq_link.specs.State.{link_at}
+use Rattle.mq_link.proofs.Outlets.{same_step, runs_alike}
 use Rattle.mq_link.proofs.laws.outlets_decide_nothing_else.Goals as goal
+
+pub returns-clause-runs : goal.returns-clause-runs
+returns-clause-runs c config start a b = runs_alike config (link_at config start) (link_at config start) a b (record { state = refl; together = refl })
 
 pub returns-clause-state : goal.returns-clause-state
 returns-clause-state c config event a b is = (same_step config event a b is).0

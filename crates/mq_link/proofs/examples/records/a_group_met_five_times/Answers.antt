@@ -10,3 +10,9 @@ returns-clause-with_others_that_stop c = become_all _ _ _ _ _ _ refl refl refl
 
 pub returns-clause-made_by_the_first : goal.returns-clause-made_by_the_first
 returns-clause-made_by_the_first c = become_all _ _ _ _ _ _ refl refl refl
+
+pub returns-clause-with_others_ignored : goal.returns-clause-with_others_ignored
+returns-clause-with_others_ignored c = become_all _ _ _ _ _ _ refl refl refl
+
+pub returns-clause-with_others_refused : goal.returns-clause-with_others_refused
+returns-clause-with_others_refused c = become_all _ _ _ _ _ _ refl refl refl

@@ -16,3 +16,6 @@ returns-clause-sources_and_scheduled c = becomes _ _ _ _ _ _ refl refl refl
 pub returns-clause-older_report : goal.returns-clause-older_report
 unfolding read_of fault_of
 returns-clause-older_report c = comes _ _ _ _ _ _ _ _ refl refl refl refl refl
+
+pub returns-clause-group_sources_and_scheduled : goal.returns-clause-group_sources_and_scheduled
+returns-clause-group_sources_and_scheduled c = becomes _ _ _ _ _ _ refl refl refl
