@@ -1,7 +1,7 @@
 use Rattle.std.proofs.Common.{◌≡◌, ◌-◌, ◌≤◌, ◌++◌, length}
 use Rattle.mq_count.specs.Spending.{Spends}
 use Rattle.mq_sets.specs.Merging.{merged, merged_lists, comparisons_along}
-use Rattle.mq_tests.proofs.sets.merging.pairs_of.Given as goal
+use Rattle.mq_data_tests.proofs.sets.merging.pairs_of.Given as goal
 
 -- the pairs so far and those ahead are the whole merge, and so are their comparisons
 abbrev pub invariant-loop-item : goal.invariant-loop-item

@@ -1,7 +1,7 @@
 use Rattle.std.proofs.Common.{◌≡◌, ◌-◌, arith, refl}
 use Rattle.mq_count.proofs.Spent.{Spends-join_within}
 use Rattle.mq_sets.specs.Merging.{merged, merged_lists, comparisons_along}
-use Rattle.mq_tests.proofs.sets.merging.pairs_of.Goals as goal
+use Rattle.mq_data_tests.proofs.sets.merging.pairs_of.Goals as goal
 
 pub returns-clause-spent : goal.returns-clause-spent
 returns-clause-spent g c =
