@@ -37,7 +37,7 @@ impl Numbered for Addr6 {
 }
 
 /// A query that came: its S flag, how many sources it has, and the first and the last of them.
-#[derive_where(Clone, Copy)]
+#[derive(Drop)]
 struct Seen<K: Key> {
     s: bool,
     count: usize,
@@ -295,7 +295,7 @@ impl<K: Numbered> Held<K> {
 }
 
 /// Large sendings, in messages of what one holds.
-static RUNS: [Step; 15] = [
+const RUNS: [Step; 15] = [
     Step::Record(1000, Kind::Allow, 0, 367),
     Step::Record(2000, Kind::Block, 0, 367),
     Step::Round(2000, 366, &[(false, 366, 0, 365), (false, 1, 366, 366)]),
@@ -322,7 +322,7 @@ static RUNS: [Step; 15] = [
 ];
 
 /// Two sources that are blocked at 2000, the first of them refreshed at 2500.
-static REFRESHED: [Step; 6] = [
+const REFRESHED: [Step; 6] = [
     Step::Vacate,
     Step::Record(1000, Kind::Allow, 0, 2),
     Step::Record(2000, Kind::Block, 0, 2),
@@ -332,23 +332,23 @@ static REFRESHED: [Step; 6] = [
 ];
 
 /// What is still to go then, in time, late, and dropped.
-static IN_TIME: [Step; 3] = [
+const IN_TIME: [Step; 3] = [
     Step::Round(3000, 366, &[(true, 1, 0, 0), (false, 1, 1, 1)]),
     Step::NoSourceDue,
     Step::Round(3000, 366, &[]),
 ];
 
-static LATE: [Step; 3] = [
+const LATE: [Step; 3] = [
     Step::Round(3900, 366, &[(true, 1, 0, 0), (false, 1, 1, 1)]),
     Step::NoSourceDue,
     Step::Round(3900, 366, &[]),
 ];
 
-static DROPPED: [Step; 3] = [Step::Clear, Step::Round(3000, 366, &[]), Step::Holds(2)];
+const DROPPED: [Step; 3] = [Step::Clear, Step::Round(3000, 366, &[]), Step::Holds(2)];
 
 /// A sending at a record names those that wait too. A group query goes before that for sources, is refreshed, and
 /// goes with EXCLUDE.
-static SENDINGS: [Step; 24] = [
+const SENDINGS: [Step; 24] = [
     Step::Record(1000, Kind::Allow, 0, 2),
     Step::Record(2000, Kind::Block, 0, 1),
     Step::Round(2000, 366, &[(false, 1, 0, 0)]),
@@ -375,23 +375,36 @@ static SENDINGS: [Step; 24] = [
     Step::Holds(1),
 ];
 
-/// All steps, from one group to the next.
-fn steps_fail<K: Numbered>(alloc: Global) -> Option<&'static str> {
+/// All of these, from one group to the next.
+static ALL: [&[Step]; 9] = [
+    &RUNS,
+    &REFRESHED,
+    &IN_TIME,
+    &REFRESHED,
+    &LATE,
+    &REFRESHED,
+    &DROPPED,
+    &[Step::Vacate],
+    &SENDINGS,
+];
+
+fn all_fail<K: Numbered>(alloc: Global) -> Option<&'static str> {
     let mut sink = Recorder {
         seen: Vec::new(alloc),
         answer: true,
     };
     let mut held = Held::<K>::new(alloc);
-    held.steps(&mut sink, &RUNS)
-        .or(held.steps(&mut sink, &REFRESHED))
-        .or(held.steps(&mut sink, &IN_TIME))
-        .or(held.steps(&mut sink, &REFRESHED))
-        .or(held.steps(&mut sink, &LATE))
-        .or(held.steps(&mut sink, &REFRESHED))
-        .or(held.steps(&mut sink, &DROPPED))
-        .or(held.steps(&mut sink, &[Step::Vacate]))
-        .or(held.steps(&mut sink, &SENDINGS))
+    for steps in &ALL {
+        let failed = held.steps(&mut sink, steps);
+        if failed.is_some() {
+            return failed;
+        }
+    }
+    None
 }
+
+/// The same two sources, for a sink whose answers are counted.
+static ANSWERED: [Step; 6] = REFRESHED;
 
 /// A round at 3000 through a sink that counts what its own sink answers: how often true, and how often false.
 fn counted<K: Numbered>(held: &mut Held<K>, sink: &mut Recorder<K>) -> (u32, u32) {
@@ -419,7 +432,7 @@ fn answer_fails<K: Numbered>(alloc: Global, answer: bool) -> Option<&'static str
         answer,
     };
     let mut held = Held::<K>::new(alloc);
-    let refreshed = held.steps(&mut sink, &REFRESHED);
+    let refreshed = held.steps(&mut sink, &ANSWERED);
     let counts = counted(&mut held, &mut sink);
     let want = if answer { (2, 0) } else { (0, 2) };
     refreshed
@@ -429,7 +442,7 @@ fn answer_fails<K: Numbered>(alloc: Global, answer: bool) -> Option<&'static str
 }
 
 pub fn rows_fail<K: Numbered>(alloc: Global) -> Option<&'static str> {
-    steps_fail::<K>(alloc)
+    all_fail::<K>(alloc)
         .or(answer_fails::<K>(alloc, false))
         .or(answer_fails::<K>(alloc, true))
 }
