@@ -61,7 +61,7 @@ fn large_groups(rt: HostRuntime) {
     }
 }
 
-/// As many sources as a query can name, to be lowered in a group at 5000.
+/// Lowers as many sources as a query can name, at 5000.
 fn lower_all(group: &mut Group<Addr4>, m: &mut Meter) {
     for number in 0..65535 {
         group.lower_source(numbered(number), at(5000), &defaults(), m);
