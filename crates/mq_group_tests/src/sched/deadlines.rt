@@ -1,16 +1,15 @@
 //! Rows of an index of deadlines, its counts, and each growth refused.
 
+use crate::facts::{expect, unless};
 use mq_count::{Meter, Moment, Span};
 use mq_sched::Deadlines;
 use mq_sets::Memory;
 use std::test::Fail;
 
-fn moment(ms: u32) -> Option<Moment> {
-    let start = Moment::from_ms(0)?;
-    if !start.in_range() {
-        return None;
-    }
-    Some(start.after(Span::from_ms(ms)))
+fn moment(ms: u32) -> Moment {
+    let start = Moment::from_ms(0).unwrap();
+    prove!(start.in_range());
+    start.after(Span::from_ms(ms))
 }
 
 /// An index, also where the first request for memory is refused.
@@ -27,7 +26,7 @@ fn insert(deadlines: &mut Deadlines, place: usize, ms: u32) -> Option<u64> {
         return None;
     }
     let mut m = Meter::new();
-    deadlines.insert(place, moment(ms)?, &mut m);
+    deadlines.insert(place, moment(ms), &mut m);
     Some(m.spent())
 }
 
@@ -36,7 +35,7 @@ fn change(deadlines: &mut Deadlines, place: usize, ms: u32) -> Option<u64> {
         return None;
     }
     let mut m = Meter::new();
-    deadlines.change(place, moment(ms)?, &mut m);
+    deadlines.change(place, moment(ms), &mut m);
     Some(m.spent())
 }
 
@@ -52,61 +51,136 @@ fn remove(deadlines: &mut Deadlines, place: usize) -> bool {
 /// one more where another is there.
 fn is_due(deadlines: &Deadlines, ms: u32, want: &[usize]) -> bool {
     let mut places = [7777; 64];
-    let Some(now) = moment(ms) else {
-        return false;
-    };
     if deadlines.len() > places.len() {
         return false;
     }
     let mut m = Meter::new();
-    let count = deadlines.due(now, &mut places, &mut m);
+    let count = deadlines.due(moment(ms), &mut places, &mut m);
     let spent = want.len().saturating_add(1).min(deadlines.len());
-    count <= places.len()
-        && &places[..count] == want
-        && &places[count..] == &[7777; 64][count..]
-        && m.spent() == spent as u64
+    m.spent() == spent as u64 && are_at_the_front(&places, count, want)
+}
+
+/// Whether so many places are those of `want`, and behind them nothing was written.
+fn are_at_the_front(places: &[usize; 64], count: usize, want: &[usize]) -> bool {
+    count <= 64 && &places[..count] == want && &places[count..] == &[7777; 64][count..]
 }
 
 /// Whether the earliest deadline is at `ms`.
 fn is_earliest(deadlines: &Deadlines, ms: u32) -> bool {
     let mut m = Meter::new();
-    match (deadlines.earliest(), moment(ms)) {
-        (Some(earliest), Some(want)) => m.reached(earliest, want) && m.reached(want, earliest),
-        _ => false,
+    let want = moment(ms);
+    match deadlines.earliest() {
+        Some(earliest) => m.reached(earliest, want) && m.reached(want, earliest),
+        None => false,
     }
+}
+
+/// What is done with an index, or what is so then.
+#[derive(Clone, Copy)]
+enum Step {
+    /// A deadline comes to a place, with so many comparisons.
+    Insert(usize, u32, u64),
+    /// A deadline comes to a place.
+    Comes(usize, u32),
+    /// There is no room for one.
+    NoRoom(usize, u32),
+    /// The deadline at a place is another, with so many comparisons.
+    Change(usize, u32, u64),
+    Remove(usize),
+    Earliest(u32),
+    NoneEarliest,
+    /// At a moment these places are due.
+    Due(u32, &'static [usize]),
+}
+
+/// Whether a step can be taken, and finds what it has to find.
+fn holds(all: &mut Deadlines, step: &Step) -> bool {
+    match *step {
+        Step::Insert(place, ms, spent) => insert(all, place, ms) == Some(spent),
+        Step::Comes(place, ms) => insert(all, place, ms).is_some(),
+        Step::NoRoom(place, ms) => insert(all, place, ms).is_none(),
+        Step::Change(place, ms, spent) => change(all, place, ms) == Some(spent),
+        Step::Remove(place) => remove(all, place),
+        Step::Earliest(ms) => is_earliest(all, ms),
+        Step::NoneEarliest => all.earliest().is_none(),
+        Step::Due(ms, want) => is_due(all, ms, want),
+    }
+}
+
+/// Steps, each with the words for it.
+type Row = (Step, &'static str);
+
+static PLACES: [Row; 22] = [
+    (Step::NoneEarliest, "none is the earliest of none"),
+    (Step::Due(5000, &[]), "none of none is due"),
+    (Step::Insert(0, 1000, 0), "the first spends nothing"),
+    (Step::Insert(1, 500, 1), "behind the first"),
+    (Step::Insert(0, 700, 2), "before the first"),
+    (Step::Earliest(500), "the earliest of three"),
+    (Step::Due(499, &[]), "just before the earliest"),
+    (Step::Due(500, &[2]), "at the moment itself"),
+    (Step::Due(999, &[0, 2]), "two, ascending by place"),
+    (Step::Due(1000, &[0, 1, 2]), "all, ascending by place"),
+    (Step::Remove(0), "the first is removed"),
+    (Step::Due(500, &[1]), "moved down"),
+    (Step::Change(1, 2000, 1), "changed with one comparison"),
+    (Step::Earliest(1000), "the earliest after a change"),
+    (Step::Due(1999, &[0]), "before what was changed"),
+    (Step::Comes(2, 1000), "behind the last place"),
+    (Step::Comes(1, 1000), "at an equal moment"),
+    (Step::NoRoom(0, 1), "no room"),
+    (Step::Due(1000, &[0, 1, 3]), "three at one moment"),
+    (Step::Remove(3), "the last is removed"),
+    (Step::Remove(2), "the next is removed"),
+    (Step::Due(1000, &[0, 1]), "the others stay"),
+];
+
+static FILLED: [Row; 10] = [
+    (Step::Comes(0, 1000), "the first of eight"),
+    (Step::Comes(1, 1000), "the second of eight"),
+    (Step::Comes(2, 1000), "the third of eight"),
+    (Step::Comes(3, 1000), "the fourth of eight"),
+    (Step::Comes(4, 1000), "the fifth of eight"),
+    (Step::Comes(5, 1000), "the sixth of eight"),
+    (Step::Comes(6, 1000), "the seventh of eight"),
+    (Step::Comes(7, 1000), "the eighth of eight"),
+    (Step::Due(999, &[]), "none of eight is due"),
+    (
+        Step::Due(1000, &[0, 1, 2, 3, 4, 5, 6, 7]),
+        "all of eight are due",
+    ),
+];
+
+static EMPTIED: [Row; 8] = [(Step::Remove(0), "one of eight is removed"); 8];
+
+/// The words of the first step that does not hold.
+fn rows_fail(all: &mut Deadlines, rows: &[Row]) -> Option<&'static str> {
+    for (step, what) in rows {
+        if !holds(all, step) {
+            return Some(*what);
+        }
+    }
+    None
 }
 
 #[test]
 fn places_follow(rt: HostRuntime) -> Result<(), Fail> {
     let mut all = reserved(&rt, 4)?;
-    assert!(rt; all.earliest().is_none() && is_due(&all, 5000, &[]));
-    // The first spends nothing.
-    for (place, ms, spent) in [(0, 1000, 0), (1, 500, 1), (0, 700, 2)] {
-        assert!(rt; insert(&mut all, place, ms) == Some(spent));
-    }
-    assert!(rt; is_earliest(&all, 500));
-    // At the moment itself, ascending by place.
-    for (ms, want) in [
-        (499, [].as_slice()),
-        (500, &[2]),
-        (999, &[0, 2]),
-        (1000, &[0, 1, 2]),
-    ] {
-        assert!(rt; is_due(&all, ms, want));
-    }
-    assert!(rt;
-        remove(&mut all, 0) && is_due(&all, 500, &[1]),
-        "moved down"
-    );
-    assert!(rt; change(&mut all, 1, 2000) == Some(1));
-    assert!(rt; is_earliest(&all, 1000) && is_due(&all, 1999, &[0]));
-    // Behind the last place; equal moments; no room.
-    for (place, ms, has_room) in [(2, 1000, true), (1, 1000, true), (0, 1, false)] {
-        assert!(rt; insert(&mut all, place, ms).is_some() == has_room);
-    }
-    assert!(rt; is_due(&all, 1000, &[0, 1, 3]));
-    assert!(rt; remove(&mut all, 3) && remove(&mut all, 2) && is_due(&all, 1000, &[0, 1]));
-    Ok(())
+    expect(rows_fail(&mut all, &PLACES))
+}
+
+/// The deadline at a place is at a turn, so that it alone is due, and then later than the others.
+fn is_changed_twice(all: &mut Deadlines, place: usize, turn: u32) -> bool {
+    change(all, place, turn).is_some()
+        && is_due(all, 999, &[place])
+        && change(all, place, 2000).is_some()
+}
+
+fn turn_fails(all: &mut Deadlines, turn: u32) -> Option<&'static str> {
+    let filled = rows_fail(all, &FILLED);
+    let last = unless(is_changed_twice(all, 7, turn), "the last is changed");
+    let first = unless(is_changed_twice(all, 0, turn), "the first is changed");
+    filled.or(last).or(first).or(rows_fail(all, &EMPTIED))
 }
 
 /// Passes whichever request for memory is refused: `rt try --test --fail-alloc N` refuses the Nth. An
@@ -115,19 +189,52 @@ fn places_follow(rt: HostRuntime) -> Result<(), Fail> {
 fn deadlines_take_memory_only_when_they_are_made(rt: HostRuntime) -> Result<(), Fail> {
     let mut all = reserved(&rt, 8)?;
     for turn in 0..20u32 {
-        for place in 0..8 {
-            assert!(rt; insert(&mut all, place, 1000).is_some());
-        }
-        assert!(rt; is_due(&all, 999, &[]) && is_due(&all, 1000, &[0, 1, 2, 3, 4, 5, 6, 7]));
-        for place in [7, 0] {
-            assert!(rt; change(&mut all, place, turn).is_some() && is_due(&all, 999, &[place]));
-            assert!(rt; change(&mut all, place, 2000).is_some());
-        }
-        for _ in 0..8 {
-            assert!(rt; remove(&mut all, 0));
-        }
+        expect(turn_fails(&mut all, turn))?;
     }
     Ok(())
+}
+
+/// One call that a random number chooses, on an index and on the plain list of its deadlines. Whether there was
+/// memory for it.
+fn both_change(all: &mut Deadlines, plain: &mut Vec<u32>, random: u32) -> bool {
+    let place = (random >> 8) as usize % 41;
+    let ms = (random >> 16) % 30;
+    match (random >> 24) % 4 {
+        0 | 1 => {
+            if insert(all, place, ms).is_some() && place <= plain.len() {
+                return plain.insert(place, ms).is_ok();
+            }
+        }
+        2 => {
+            if change(all, place, ms).is_some() && place < plain.len() {
+                plain[place] = ms;
+            }
+        }
+        _ => {
+            if remove(all, place) && place < plain.len() {
+                plain.remove(place);
+            }
+        }
+    }
+    true
+}
+
+/// Writes the places of a list whose deadlines are at or before `ms`. Whether there was memory for it.
+fn find_due(plain: &[u32], ms: u32, due: &mut Vec<usize>) -> bool {
+    due.clear();
+    for place in 0..plain.len() {
+        if plain[place] <= ms && due.push(place).is_err() {
+            return false;
+        }
+    }
+    true
+}
+
+fn has_earliest(all: &Deadlines, plain: &[u32]) -> bool {
+    match plain.iter().copied().min() {
+        Some(earliest) => is_earliest(all, earliest),
+        None => all.earliest().is_none(),
+    }
 }
 
 /// A long list of calls in no order, against the plain list of deadlines.
@@ -139,52 +246,38 @@ fn deadlines_are_a_list(rt: HostRuntime) -> Result<(), Fail> {
     let mut random = 1u32;
     for _ in 0..4000 {
         random = random.wrapping_mul(1664525).wrapping_add(1013904223);
-        let place = (random >> 8) as usize % 41;
-        let ms = (random >> 16) % 30;
-        match (random >> 24) % 4 {
-            0 | 1 => {
-                if insert(&mut all, place, ms).is_some() && place <= plain.len() {
-                    plain.insert(place, ms)?;
-                }
-            }
-            2 => {
-                if change(&mut all, place, ms).is_some() && place < plain.len() {
-                    plain[place] = ms;
-                }
-            }
-            _ => {
-                if remove(&mut all, place) && place < plain.len() {
-                    plain.remove(place);
-                }
-            }
-        }
+        assert!(rt; both_change(&mut all, &mut plain, random));
         assert!(rt; all.len() == plain.len());
-        due.clear();
-        for (place, deadline) in plain.iter().enumerate() {
-            if *deadline <= ms {
-                due.push(place)?;
-            }
-        }
+        let ms = (random >> 16) % 30;
+        assert!(rt; find_due(plain.as_slice(), ms, &mut due));
         assert!(rt; is_due(&all, ms, due.as_slice()));
-        match plain.iter().copied().min() {
-            Some(earliest) => assert!(rt; is_earliest(&all, earliest)),
-            None => assert!(rt; all.earliest().is_none()),
-        }
+        assert!(rt; has_earliest(&all, plain.as_slice()));
     }
     Ok(())
+}
+
+/// Whether so many deadlines come, in no order.
+fn come(all: &mut Deadlines, count: u32) -> bool {
+    for number in 0..count {
+        let ms = number.wrapping_mul(7919) % 4096;
+        if insert(all, number as usize / 2, ms).is_none() {
+            return false;
+        }
+    }
+    true
+}
+
+/// Whether one among the 1023 comes with 1 to 10 comparisons, and is removed.
+fn comes_with_10(all: &mut Deadlines, ms: u32) -> bool {
+    matches!(insert(all, 512, ms), Some(1..=10)) && remove(all, 512)
 }
 
 #[test]
 fn an_insert_among_1023_spends_at_most_10(rt: HostRuntime) -> Result<(), Fail> {
     let mut all = reserved(&rt, 1024)?;
-    for number in 0..1023u32 {
-        let ms = number.wrapping_mul(7919) % 4096;
-        insert(&mut all, number as usize / 2, ms).ok_or("room")?;
-    }
+    assert!(rt; come(&mut all, 1023));
     for ms in [0, 1, 2048, 4095, 5000] {
-        let spent = insert(&mut all, 512, ms).ok_or("room")?;
-        assert!(rt; (1..=10).contains(&spent), "{spent}");
-        assert!(rt; remove(&mut all, 512));
+        assert!(rt; comes_with_10(&mut all, ms));
     }
     Ok(())
 }
