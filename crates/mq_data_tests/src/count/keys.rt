@@ -1,17 +1,19 @@
 //! The order of addresses, and their octets.
 
-use crate::facts::expect_that;
+use crate::facts::{expect_that, expect_that_at};
 use mq_count::{Addr4, Addr6, Key, Meter};
 use std::cmp::Ordering;
 
-fn order4(a: u32, b: u32, m: &mut Meter) -> Ordering {
-    let left = Addr4::from_octets(a.to_be_bytes());
-    left.order(Addr4::from_octets(b.to_be_bytes()), m)
+/// Whether two addresses of IPv4 are in this order.
+fn is_order4(row: &(u32, u32, Ordering), m: &mut Meter) -> bool {
+    let left = Addr4::from_octets(row.0.to_be_bytes());
+    left.order(Addr4::from_octets(row.1.to_be_bytes()), m) == row.2
 }
 
-fn order6(a: u128, b: u128, m: &mut Meter) -> Ordering {
-    let left = Addr6::from_octets(a.to_be_bytes());
-    left.order(Addr6::from_octets(b.to_be_bytes()), m)
+/// Whether two addresses of IPv6 are in this order.
+fn is_order6(row: &(u128, u128, Ordering), m: &mut Meter) -> bool {
+    let left = Addr6::from_octets(row.0.to_be_bytes());
+    left.order(Addr6::from_octets(row.1.to_be_bytes()), m) == row.2
 }
 
 static ROWS4: [(u32, u32, Ordering); 4] = [
@@ -24,8 +26,9 @@ static ROWS4: [(u32, u32, Ordering); 4] = [
 #[test]
 fn the_most_significant_octet_decides(rt: HostRuntime) {
     let mut m = Meter::new();
-    for (a, b, want) in ROWS4 {
-        expect_that(&rt, order4(a, b, &mut m) == want, "the order");
+    for place in 0..ROWS4.len() {
+        let is_order = is_order4(&ROWS4[place], &mut m);
+        expect_that_at(&rt, is_order, "the order", place);
     }
     expect_that(&rt, m.spent() == 4, "each spends one");
 }
@@ -41,8 +44,9 @@ static ROWS6: [(u128, u128, Ordering); 3] = [
 #[test]
 fn the_most_significant_octet_of_ipv6_decides(rt: HostRuntime) {
     let mut m = Meter::new();
-    for (a, b, want) in ROWS6 {
-        expect_that(&rt, order6(a, b, &mut m) == want, "the order");
+    for place in 0..ROWS6.len() {
+        let is_order = is_order6(&ROWS6[place], &mut m);
+        expect_that_at(&rt, is_order, "the order", place);
     }
     expect_that(&rt, m.spent() == 3, "each spends one");
 }

@@ -85,15 +85,23 @@ fn a_write_that_takes_nothing_has_failed(rt: HostRuntime) {
     expect_that(&rt, has_failed("a") == Some(true), "a byte is not taken");
 }
 
+fn is_flushed(watched: &mut Watched<&mut Fake>) -> bool {
+    watched.flush().is_ok()
+}
+
+fn is_written(watched: &mut Watched<&mut Fake>) -> bool {
+    watched.write(b"ab").is_ok()
+}
+
 /// What is wrong, unless a flush and a write succeed, and the next flush fails.
 fn wrong_flushes(watched: &mut Watched<&mut Fake>) -> Option<&'static str> {
-    if watched.flush().is_err() {
+    if !is_flushed(watched) {
         return Some("the first flush");
     }
-    if watched.write(b"ab").is_err() || watched.failed() {
+    if !is_written(watched) || watched.failed() {
         return Some("the write");
     }
-    if watched.flush().is_ok() || !watched.failed() || watched.taken() != 0 {
+    if is_flushed(watched) || !watched.failed() || watched.taken() != 0 {
         return Some("the flush that fails");
     }
     None

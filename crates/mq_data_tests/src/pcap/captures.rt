@@ -84,6 +84,39 @@ static ROWS: [Row; 9] = [
     (CAPTURE, 100, 1, 100, Name::Failed, Name::Failed),
 ];
 
+/// Whether the next answer is the one of this name.
+fn is_next<R: Read>(
+    pcap: &mut PcapReader,
+    reader: &mut Watched<R>,
+    buffer: &mut [u8],
+    name: Name,
+) -> bool {
+    next(pcap, reader, buffer) == Some(answer_of(name))
+}
+
+/// What is wrong with the answers: the first, and those that come then.
+fn wrong_answers<R: Read>(
+    pcap: &mut PcapReader,
+    reader: &mut Watched<R>,
+    buffer: &mut [u8],
+    first: Name,
+    then: Name,
+) -> Option<&'static str> {
+    if !is_next(pcap, reader, buffer, first) {
+        return Some("what comes first");
+    }
+    if !is_next(pcap, reader, buffer, then) {
+        return Some("what comes then");
+    }
+    if !is_next(pcap, reader, buffer, then) {
+        return Some("what comes again");
+    }
+    if reader.failed() != matches!(then, Name::Failed) {
+        return Some("whether the reader failed");
+    }
+    None
+}
+
 /// What is wrong with a capture that is read.
 fn wrong_capture(row: &Row, buffer: &mut [u8]) -> Option<&'static str> {
     let (capture, length, piece, fails_at, first, then) = *row;
@@ -94,19 +127,7 @@ fn wrong_capture(row: &Row, buffer: &mut [u8]) -> Option<&'static str> {
     let Ok(mut pcap) = PcapReader::open(&mut reader) else {
         return Some("it is opened");
     };
-    if next(&mut pcap, &mut reader, buffer) != Some(answer_of(first)) {
-        return Some("what comes first");
-    }
-    if next(&mut pcap, &mut reader, buffer) != Some(answer_of(then)) {
-        return Some("what comes then");
-    }
-    if next(&mut pcap, &mut reader, buffer) != Some(answer_of(then)) {
-        return Some("what comes again");
-    }
-    if reader.failed() != matches!(then, Name::Failed) {
-        return Some("whether the reader failed");
-    }
-    None
+    wrong_answers(&mut pcap, &mut reader, buffer, first, then)
 }
 
 #[test]
@@ -127,7 +148,7 @@ fn wrong_packet(buffer: &mut [u8]) -> Option<&'static str> {
     if pcap.link() != LinkType::Ethernet {
         return Some("the link type");
     }
-    if next(&mut pcap, &mut reader, buffer) != Some(PACKET) {
+    if !is_next(&mut pcap, &mut reader, buffer, Name::Packet) {
         return Some("the packet");
     }
     None

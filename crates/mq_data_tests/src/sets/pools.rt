@@ -216,20 +216,31 @@ fn more_than_can_be_counted_is_refused(rt: HostRuntime) {
     expect_that(&rt, is_refused(&rt, usize::MAX, usize::MAX), words);
 }
 
+static NINES: [u16; 20] = [9; 20];
+
+/// Whether a row of so many cells fits at the place.
+fn takes_row(pool: &mut Pool<u16>, place: usize, length: usize) -> bool {
+    insert_row(pool, place) && replace(pool, place, &NINES[..length.min(20)])
+}
+
+/// Whether the first of two rows can go, and the other can have all cells.
+fn takes_all_cells(pool: &mut Pool<u16>) -> bool {
+    remove_row(pool, 0) && replace(pool, 0, &NINES) && pool.room() == 0
+}
+
 /// Puts two rows of these lengths into an empty pool, and then fills it with one. What is wrong, in a pool with
 /// room for twenty cells.
 fn wrong_turn(pool: &mut Pool<u16>, first: usize, second: usize) -> Option<&'static str> {
-    let row: [u16; 20] = [9; 20];
-    if !(insert_row(pool, 0) && replace(pool, 0, &row[..first.min(20)])) {
+    if !takes_row(pool, 0, first) {
         return Some("the first row");
     }
-    if !(insert_row(pool, 1) && replace(pool, 1, &row[..second.min(20)])) {
+    if !takes_row(pool, 1, second) {
         return Some("the second row");
     }
-    if !(remove_row(pool, 0) && replace(pool, 0, &row) && pool.room() == 0) {
+    if !takes_all_cells(pool) {
         return Some("a row of all cells");
     }
-    if !(remove_row(pool, 0) && pool.room() == 20) {
+    if !remove_row(pool, 0) || pool.room() != 20 {
         return Some("no row");
     }
     None

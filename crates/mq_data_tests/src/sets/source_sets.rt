@@ -1,9 +1,9 @@
 //! The worked rows of a set, and what it is after a refused growth.
 
-use crate::facts::{expect_none_wrong_at, expect_that};
+use crate::facts::{expect_none_wrong, expect_none_wrong_at, expect_that};
 use mq_count::{Addr4, Addr6, Meter};
 use mq_sets::{InsertFault, Memory, SourceSet};
-use std::alloc::Global;
+use std::alloc::{AllocError, Global};
 use std::process::Abort;
 
 fn address(number: u16) -> Addr4 {
@@ -25,18 +25,44 @@ fn has_members(set: &SourceSet<Addr4>, numbers: &[u16]) -> bool {
     true
 }
 
+/// What is wrong with the first insert into a set with a limit of two.
+fn wrong_first(set: &mut SourceSet<Addr4>) -> Option<&'static str> {
+    let mut m = Meter::new();
+    if !set.is_empty() {
+        return Some("no member at first");
+    }
+    if set.insert(address(3), 2, &mut m).is_err() {
+        return Some("the first is taken");
+    }
+    if m.spent() != 0 {
+        return Some("the first insert spends nothing");
+    }
+    None
+}
+
+/// What is wrong, unless this comes of one more insert, and 1 and 3 are then the members.
+fn wrong_next(
+    set: &mut SourceSet<Addr4>,
+    number: u16,
+    want: Result<(), InsertFault>,
+) -> Option<&'static str> {
+    if set.insert(address(number), 2, &mut Meter::new()) != want {
+        return Some("what comes of it");
+    }
+    if !has_members(set, &[1, 3]) {
+        return Some("1 and 3 are members");
+    }
+    None
+}
+
 #[test]
 fn a_set_at_its_limit_takes_no_new_member(rt: HostRuntime) {
-    let mut m = Meter::new();
     let mut set = SourceSet::empty(rt.alloc());
-    expect_that(&rt, set.is_empty(), "no member at first");
-    expect_that(&rt, set.insert(address(3), 2, &mut m).is_ok(), "the first");
-    expect_that(&rt, m.spent() == 0, "the first insert spends nothing");
-    for (number, want) in [(1, Ok(())), (2, Err(InsertFault::TooMany)), (1, Ok(()))] {
-        let outcome = set.insert(address(number), 2, &mut m);
-        expect_that(&rt, outcome == want, "one more is taken within the limit");
-        expect_that(&rt, has_members(&set, &[1, 3]), "1 and 3 are members");
-    }
+    expect_none_wrong(&rt, wrong_first(&mut set), "3");
+    expect_none_wrong(&rt, wrong_next(&mut set, 1, Ok(())), "1");
+    let too_many = Err(InsertFault::TooMany);
+    expect_none_wrong(&rt, wrong_next(&mut set, 2, too_many), "2");
+    expect_none_wrong(&rt, wrong_next(&mut set, 1, Ok(())), "1 once more");
 }
 
 /// A set of every second number from 2 to 732, inserted from the greatest to the least.
@@ -61,7 +87,11 @@ fn wrong_search(set: &SourceSet<Addr4>, number: u16) -> Option<&'static str> {
     if found.is_some() != is_member {
         return Some("whether it is a member");
     }
-    let place = found?;
+    wrong_place(set, number, found?)
+}
+
+/// What is wrong with the place of a member.
+fn wrong_place(set: &SourceSet<Addr4>, number: u16, place: usize) -> Option<&'static str> {
     if place.saturating_add(1) != usize::from(number / 2) {
         return Some("the place");
     }
@@ -111,7 +141,7 @@ fn a_set_of_ipv6_addresses_ascends(rt: HostRuntime) {
     expect_that(&rt, has_first_octets(&set, b"\x20\xfe\xff"), "they ascend");
 }
 
-const TEN: [u16; 10] = [40, 10, 30, 20, 50, 60, 15, 35, 25, 5];
+static TEN: [u16; 10] = [40, 10, 30, 20, 50, 60, 15, 35, 25, 5];
 
 /// What is wrong behind an insert of a number that is no member yet, or behind a second try where memory was refused.
 fn wrong_insert(set: &mut SourceSet<Addr4>, number: u16) -> Option<&'static str> {
@@ -139,8 +169,8 @@ fn wrong_insert(set: &mut SourceSet<Addr4>, number: u16) -> Option<&'static str>
 #[test]
 fn a_refused_growth_leaves_the_set_as_it_was(rt: HostRuntime) {
     let mut set = SourceSet::empty(rt.alloc());
-    for number in TEN {
-        expect_none_wrong_at(&rt, wrong_insert(&mut set, number), usize::from(number));
+    for place in 0..TEN.len() {
+        expect_none_wrong_at(&rt, wrong_insert(&mut set, TEN[place]), place);
     }
     expect_that(&rt, set.len() == 10, "ten members");
 }
@@ -156,8 +186,11 @@ fn reserved(rt: &impl Abort, alloc: Global, room: usize) -> SourceSet<Addr4> {
 
 /// Whether all ten are taken.
 fn takes_ten(set: &mut SourceSet<Addr4>) -> bool {
-    for number in TEN {
-        if set.insert(address(number), 366, &mut Meter::new()).is_err() {
+    for number in &TEN {
+        if set
+            .insert(address(*number), 366, &mut Meter::new())
+            .is_err()
+        {
             return false;
         }
     }
@@ -198,23 +231,17 @@ fn a_set_with_no_room_is_a_set(rt: HostRuntime) {
     expect_that(&rt, set.room() == 0, "what was reserved");
 }
 
-fn says(rt: &impl Abort, alloc: Global, fault: InsertFault, want: &str) -> bool {
-    let text = fault.to_string(alloc).expect(rt, "memory for a text");
-    text.as_str() == want
+/// Ends the test unless this text is what is said.
+fn expect_said(rt: &impl Abort, said: Result<String, AllocError>, want: &str) {
+    let text = said.expect(rt, "memory for a text");
+    expect_that(rt, text.as_str() == want, want);
 }
 
 #[test]
 fn faults_name_what_happened(rt: HostRuntime) {
-    let many = "the set has as many members as its limit allows";
-    expect_that(&rt, says(&rt, rt.alloc(), InsertFault::TooMany, many), many);
-    let memory = "no memory for one more member of the set";
-    expect_that(
-        &rt,
-        says(&rt, rt.alloc(), InsertFault::Memory, memory),
-        memory,
-    );
-    let text = Memory
-        .to_string(rt.alloc())
-        .expect(&rt, "memory for a text");
-    expect_that(&rt, text.as_str() == "out of memory", "out of memory");
+    let many = InsertFault::TooMany.to_string(rt.alloc());
+    expect_said(&rt, many, "the set has as many members as its limit allows");
+    let memory = InsertFault::Memory.to_string(rt.alloc());
+    expect_said(&rt, memory, "no memory for one more member of the set");
+    expect_said(&rt, Memory.to_string(rt.alloc()), "out of memory");
 }

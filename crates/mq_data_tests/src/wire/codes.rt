@@ -1,8 +1,15 @@
 //! Codes of times, checksums, and sources that are lent. The messages that are read are rows of `tools/refuse.cases`.
 
-use crate::facts::{expect_none_wrong, expect_that};
+use crate::facts::{expect_none_wrong, expect_that, expect_that_at};
 use mq_count::{Addr4, Addr6};
 use mq_wire::{Qrv, Sources, WireKey, checksum_of, checksum_ok, code8, code16, resp8, resp16};
+
+fn is_source(source: Option<Addr4>, want: &Addr4) -> bool {
+    match source {
+        Some(source) => source.octets() == want.octets(),
+        None => false,
+    }
+}
 
 /// What is wrong with sources that are lent, and with a walk over them.
 fn wrong_sources(lent: &[Addr4]) -> Option<&'static str> {
@@ -12,16 +19,14 @@ fn wrong_sources(lent: &[Addr4]) -> Option<&'static str> {
     }
     let mut walk = sources.iter();
     for address in lent {
-        match walk.next() {
-            Some(source) if source.octets() == address.octets() => {}
-            Some(_) => return Some("a source"),
-            None => return Some("one too few"),
+        if !is_source(walk.next(), address) {
+            return Some("a source, or one too few");
         }
     }
-    match walk.next() {
-        Some(_) => Some("one too many"),
-        None => None,
+    if walk.next().is_some() {
+        return Some("one too many");
     }
+    None
 }
 
 #[test]
@@ -49,10 +54,14 @@ static ROWS8: [(u32, u8, u32); 7] = [
     (40000, 0xff, 31744),
 ];
 
+fn is_code8(row: &(u32, u8, u32)) -> bool {
+    code8(row.0) == row.1 && resp8(row.1) == row.2
+}
+
 #[test]
 fn knows_codes_of_8_bits(rt: HostRuntime) {
-    for (value, code, of_code) in ROWS8 {
-        assert!(rt; code8(value) == code && resp8(code) == of_code, "{value}");
+    for place in 0..ROWS8.len() {
+        expect_that_at(&rt, is_code8(&ROWS8[place]), "a code of 8 bits", place);
     }
 }
 
@@ -72,10 +81,14 @@ static ROWS16: [(u32, u16, u32); 7] = [
     (9000000, 0xffff, 8387584),
 ];
 
+fn is_code16(row: &(u32, u16, u32)) -> bool {
+    code16(row.0) == row.1 && resp16(row.1) == row.2
+}
+
 #[test]
 fn knows_codes_of_16_bits(rt: HostRuntime) {
-    for (value, code, of_code) in ROWS16 {
-        assert!(rt; code16(value) == code && resp16(code) == of_code, "{value}");
+    for place in 0..ROWS16.len() {
+        expect_that_at(&rt, is_code16(&ROWS16[place]), "a code of 16 bits", place);
     }
 }
 
@@ -85,10 +98,13 @@ static CHECKSUMS: [(&[u8], u16, bool); 3] = [
     (b"\x16\x00\x00\x00\xef\x01\x02\x03\x01", 0xf7fa, false),
 ];
 
+fn is_checksum(row: &(&[u8], u16, bool)) -> bool {
+    checksum_of(row.0) == row.1 && checksum_ok(row.0) == row.2
+}
+
 #[test]
 fn knows_checksums(rt: HostRuntime) {
-    for (message, checksum, is_right) in CHECKSUMS {
-        expect_that(&rt, checksum_of(message) == checksum, "the checksum");
-        expect_that(&rt, checksum_ok(message) == is_right, "whether it is right");
+    for place in 0..CHECKSUMS.len() {
+        expect_that_at(&rt, is_checksum(&CHECKSUMS[place]), "a checksum", place);
     }
 }
