@@ -7,11 +7,6 @@ pub fn expect_that(rt: &impl Abort, holds: bool, words: &str) {
     assert!(rt; holds, "{words}");
 }
 
-/// Ends the test with these words, and with the number of the row, where the fact does not hold.
-pub fn expect_that_at(rt: &impl Abort, holds: bool, words: &str, row: usize) {
-    assert!(rt; holds, "{words} in row {row}");
-}
-
 /// Ends the test where something is wrong: with the words of the row, and of the fact that does not hold.
 pub fn expect_none_wrong(rt: &impl Abort, wrong: Option<&'static str>, row: &str) {
     if let Some(fact) = wrong {

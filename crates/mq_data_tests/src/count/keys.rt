@@ -1,19 +1,25 @@
 //! The order of addresses, and their octets.
 
-use crate::facts::{expect_that, expect_that_at};
+use crate::facts::{expect_none_wrong_at, expect_that};
 use mq_count::{Addr4, Addr6, Key, Meter};
 use std::cmp::Ordering;
 
-/// Whether two addresses of IPv4 are in this order.
-fn is_order4(row: &(u32, u32, Ordering), m: &mut Meter) -> bool {
+/// What is wrong, unless two addresses of IPv4 are in this order.
+fn wrong_order4(row: &(u32, u32, Ordering), m: &mut Meter) -> Option<&'static str> {
     let left = Addr4::from_octets(row.0.to_be_bytes());
-    left.order(Addr4::from_octets(row.1.to_be_bytes()), m) == row.2
+    if left.order(Addr4::from_octets(row.1.to_be_bytes()), m) != row.2 {
+        return Some("the order");
+    }
+    None
 }
 
-/// Whether two addresses of IPv6 are in this order.
-fn is_order6(row: &(u128, u128, Ordering), m: &mut Meter) -> bool {
+/// What is wrong, unless two addresses of IPv6 are in this order.
+fn wrong_order6(row: &(u128, u128, Ordering), m: &mut Meter) -> Option<&'static str> {
     let left = Addr6::from_octets(row.0.to_be_bytes());
-    left.order(Addr6::from_octets(row.1.to_be_bytes()), m) == row.2
+    if left.order(Addr6::from_octets(row.1.to_be_bytes()), m) != row.2 {
+        return Some("the order");
+    }
+    None
 }
 
 static ROWS4: [(u32, u32, Ordering); 4] = [
@@ -27,8 +33,8 @@ static ROWS4: [(u32, u32, Ordering); 4] = [
 fn the_most_significant_octet_decides(rt: HostRuntime) {
     let mut m = Meter::new();
     for place in 0..ROWS4.len() {
-        let is_order = is_order4(&ROWS4[place], &mut m);
-        expect_that_at(&rt, is_order, "the order", place);
+        let wrong = wrong_order4(&ROWS4[place], &mut m);
+        expect_none_wrong_at(&rt, wrong, place);
     }
     expect_that(&rt, m.spent() == 4, "each spends one");
 }
@@ -45,8 +51,8 @@ static ROWS6: [(u128, u128, Ordering); 3] = [
 fn the_most_significant_octet_of_ipv6_decides(rt: HostRuntime) {
     let mut m = Meter::new();
     for place in 0..ROWS6.len() {
-        let is_order = is_order6(&ROWS6[place], &mut m);
-        expect_that_at(&rt, is_order, "the order", place);
+        let wrong = wrong_order6(&ROWS6[place], &mut m);
+        expect_none_wrong_at(&rt, wrong, place);
     }
     expect_that(&rt, m.spent() == 3, "each spends one");
 }

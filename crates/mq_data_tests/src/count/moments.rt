@@ -21,19 +21,6 @@ fn later_moments_may_be_out_of_range(rt: HostRuntime) {
     expect_that(&rt, !later.in_range(), "one after the latest");
 }
 
-/// What is wrong with digits and with the bytes behind them, which were all x.
-fn wrong_bytes(digits: &[u8], behind: &[u8], want: &str) -> Option<&'static str> {
-    if digits != want.as_bytes() {
-        return Some("the digits");
-    }
-    for byte in behind {
-        if *byte != b'x' {
-            return Some("what is behind the digits");
-        }
-    }
-    None
-}
-
 /// What is wrong with the digits of a moment of so many milliseconds and a span after it.
 fn wrong_digits(row: &(u64, u32, &str)) -> Option<&'static str> {
     let (ms, span, want) = *row;
@@ -45,7 +32,13 @@ fn wrong_digits(row: &(u64, u32, &str)) -> Option<&'static str> {
         return Some("in range");
     }
     let len = moment.after(Span::from_ms(span)).digits(&mut out);
-    wrong_bytes(&out[..len], &out[len..], want)
+    if &out[..len] != want.as_bytes() {
+        return Some("the digits");
+    }
+    if &out[len..] != &[b'x'; 20][len..] {
+        return Some("what is behind the digits");
+    }
+    None
 }
 
 static ROWS: [(u64, u32, &str); 5] = [

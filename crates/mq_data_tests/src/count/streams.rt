@@ -51,24 +51,19 @@ fn new_fake() -> Fake {
     }
 }
 
-/// Whether a read succeeds, so many bytes were then taken, and whether a call has failed.
-fn is_read(watched: &mut Watched<Fake>, taken: u64) -> bool {
+/// Whether a read succeeds or fails as is wanted, and so many bytes were then taken.
+fn is_read(watched: &mut Watched<Fake>, taken: u64, fails: bool) -> bool {
     let mut buf = [0; 4];
-    watched.read(&mut buf).is_ok() && watched.taken() == taken && !watched.failed()
-}
-
-/// Whether a read fails, and takes none.
-fn is_refused(watched: &mut Watched<Fake>, taken: u64) -> bool {
-    let mut buf = [0; 4];
-    watched.read(&mut buf).is_err() && watched.taken() == taken && watched.failed()
+    let has_failed = watched.read(&mut buf).is_err();
+    has_failed == fails && watched.taken() == taken && watched.failed() == fails
 }
 
 #[test]
 fn reads_are_counted(rt: HostRuntime) {
     let mut watched = Watched::new(new_fake());
-    expect_that(&rt, is_read(&mut watched, 1), "one byte");
-    expect_that(&rt, is_read(&mut watched, 2), "two bytes");
-    expect_that(&rt, is_refused(&mut watched, 2), "a read that fails");
+    expect_that(&rt, is_read(&mut watched, 1, false), "one byte");
+    expect_that(&rt, is_read(&mut watched, 2, false), "two bytes");
+    expect_that(&rt, is_read(&mut watched, 2, true), "a read that fails");
 }
 
 /// Whether a text is written to where no byte fits, and whether that has then failed.
@@ -85,23 +80,15 @@ fn a_write_that_takes_nothing_has_failed(rt: HostRuntime) {
     expect_that(&rt, has_failed("a") == Some(true), "a byte is not taken");
 }
 
-fn is_flushed(watched: &mut Watched<&mut Fake>) -> bool {
-    watched.flush().is_ok()
-}
-
-fn is_written(watched: &mut Watched<&mut Fake>) -> bool {
-    watched.write(b"ab").is_ok()
-}
-
 /// What is wrong, unless a flush and a write succeed, and the next flush fails.
 fn wrong_flushes(watched: &mut Watched<&mut Fake>) -> Option<&'static str> {
-    if !is_flushed(watched) {
+    if watched.flush().is_err() {
         return Some("the first flush");
     }
-    if !is_written(watched) || watched.failed() {
+    if watched.write(b"ab").is_err() || watched.failed() {
         return Some("the write");
     }
-    if is_flushed(watched) || !watched.failed() || watched.taken() != 0 {
+    if watched.flush().is_ok() || !watched.failed() || watched.taken() != 0 {
         return Some("the flush that fails");
     }
     None

@@ -26,18 +26,6 @@ fn new_buffer(rt: &impl Abort, alloc: Global) -> Vec<u8> {
 /// What a call for the next packet answers.
 type Answer = Result<Option<Packet>, PcapFault>;
 
-/// The next packet, or None where the buffer is too short.
-fn next<R: Read>(
-    pcap: &mut PcapReader,
-    reader: &mut Watched<R>,
-    buffer: &mut [u8],
-) -> Option<Answer> {
-    if buffer.len() < LEAST {
-        return None;
-    }
-    Some(pcap.next(reader, buffer))
-}
-
 const PACKET: Answer = Ok(Some(Packet {
     stamp_ms: 0,
     length: 60,
@@ -84,37 +72,14 @@ static ROWS: [Row; 9] = [
     (CAPTURE, 100, 1, 100, Name::Failed, Name::Failed),
 ];
 
-/// Whether the next answer is the one of this name.
+/// Whether the next answer is the one of this name, in a buffer that is long enough.
 fn is_next<R: Read>(
     pcap: &mut PcapReader,
     reader: &mut Watched<R>,
     buffer: &mut [u8],
     name: Name,
 ) -> bool {
-    next(pcap, reader, buffer) == Some(answer_of(name))
-}
-
-/// What is wrong with the answers: the first, and those that come then.
-fn wrong_answers<R: Read>(
-    pcap: &mut PcapReader,
-    reader: &mut Watched<R>,
-    buffer: &mut [u8],
-    first: Name,
-    then: Name,
-) -> Option<&'static str> {
-    if !is_next(pcap, reader, buffer, first) {
-        return Some("what comes first");
-    }
-    if !is_next(pcap, reader, buffer, then) {
-        return Some("what comes then");
-    }
-    if !is_next(pcap, reader, buffer, then) {
-        return Some("what comes again");
-    }
-    if reader.failed() != matches!(then, Name::Failed) {
-        return Some("whether the reader failed");
-    }
-    None
+    LEAST <= buffer.len() && pcap.next(reader, buffer) == answer_of(name)
 }
 
 /// What is wrong with a capture that is read.
@@ -127,7 +92,19 @@ fn wrong_capture(row: &Row, buffer: &mut [u8]) -> Option<&'static str> {
     let Ok(mut pcap) = PcapReader::open(&mut reader) else {
         return Some("it is opened");
     };
-    wrong_answers(&mut pcap, &mut reader, buffer, first, then)
+    if !is_next(&mut pcap, &mut reader, buffer, first) {
+        return Some("what comes first");
+    }
+    if !is_next(&mut pcap, &mut reader, buffer, then) {
+        return Some("what comes then");
+    }
+    if !is_next(&mut pcap, &mut reader, buffer, then) {
+        return Some("what comes again");
+    }
+    if reader.failed() != matches!(then, Name::Failed) {
+        return Some("whether the reader failed");
+    }
+    None
 }
 
 #[test]

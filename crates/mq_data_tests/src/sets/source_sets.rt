@@ -40,29 +40,22 @@ fn wrong_first(set: &mut SourceSet<Addr4>) -> Option<&'static str> {
     None
 }
 
-/// What is wrong, unless this comes of one more insert, and 1 and 3 are then the members.
-fn wrong_next(
-    set: &mut SourceSet<Addr4>,
-    number: u16,
-    want: Result<(), InsertFault>,
-) -> Option<&'static str> {
-    if set.insert(address(number), 2, &mut Meter::new()) != want {
-        return Some("what comes of it");
-    }
-    if !has_members(set, &[1, 3]) {
-        return Some("1 and 3 are members");
-    }
-    None
-}
+/// Numbers, and what comes of an insert of each behind the first.
+static NEXT: [(u16, Result<(), InsertFault>); 3] = [
+    (1, Ok(())),
+    (2, Err(InsertFault::TooMany)),
+    (1, Ok(())),
+];
 
 #[test]
 fn a_set_at_its_limit_takes_no_new_member(rt: HostRuntime) {
     let mut set = SourceSet::empty(rt.alloc());
     expect_none_wrong(&rt, wrong_first(&mut set), "3");
-    expect_none_wrong(&rt, wrong_next(&mut set, 1, Ok(())), "1");
-    let too_many = Err(InsertFault::TooMany);
-    expect_none_wrong(&rt, wrong_next(&mut set, 2, too_many), "2");
-    expect_none_wrong(&rt, wrong_next(&mut set, 1, Ok(())), "1 once more");
+    for (number, want) in &NEXT {
+        let outcome = set.insert(address(*number), 2, &mut Meter::new());
+        expect_that(&rt, outcome == *want, "what comes of one more insert");
+        expect_that(&rt, has_members(&set, &[1, 3]), "1 and 3 are members");
+    }
 }
 
 /// A set of every second number from 2 to 732, inserted from the greatest to the least.
@@ -87,11 +80,7 @@ fn wrong_search(set: &SourceSet<Addr4>, number: u16) -> Option<&'static str> {
     if found.is_some() != is_member {
         return Some("whether it is a member");
     }
-    wrong_place(set, number, found?)
-}
-
-/// What is wrong with the place of a member.
-fn wrong_place(set: &SourceSet<Addr4>, number: u16, place: usize) -> Option<&'static str> {
+    let place = found?;
     if place.saturating_add(1) != usize::from(number / 2) {
         return Some("the place");
     }

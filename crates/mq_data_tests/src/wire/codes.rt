@@ -1,6 +1,6 @@
 //! Codes of times, checksums, and sources that are lent. The messages that are read are rows of `tools/refuse.cases`.
 
-use crate::facts::{expect_none_wrong, expect_that, expect_that_at};
+use crate::facts::{expect_none_wrong, expect_none_wrong_at, expect_that};
 use mq_count::{Addr4, Addr6};
 use mq_wire::{Qrv, Sources, WireKey, checksum_of, checksum_ok, code8, code16, resp8, resp16};
 
@@ -54,14 +54,20 @@ static ROWS8: [(u32, u8, u32); 7] = [
     (40000, 0xff, 31744),
 ];
 
-fn is_code8(row: &(u32, u8, u32)) -> bool {
-    code8(row.0) == row.1 && resp8(row.1) == row.2
+fn wrong_code8(row: &(u32, u8, u32)) -> Option<&'static str> {
+    if code8(row.0) != row.1 {
+        return Some("the code of 8 bits");
+    }
+    if resp8(row.1) != row.2 {
+        return Some("what the code says");
+    }
+    None
 }
 
 #[test]
 fn knows_codes_of_8_bits(rt: HostRuntime) {
     for place in 0..ROWS8.len() {
-        expect_that_at(&rt, is_code8(&ROWS8[place]), "a code of 8 bits", place);
+        expect_none_wrong_at(&rt, wrong_code8(&ROWS8[place]), place);
     }
 }
 
@@ -81,14 +87,20 @@ static ROWS16: [(u32, u16, u32); 7] = [
     (9000000, 0xffff, 8387584),
 ];
 
-fn is_code16(row: &(u32, u16, u32)) -> bool {
-    code16(row.0) == row.1 && resp16(row.1) == row.2
+fn wrong_code16(row: &(u32, u16, u32)) -> Option<&'static str> {
+    if code16(row.0) != row.1 {
+        return Some("the code of 16 bits");
+    }
+    if resp16(row.1) != row.2 {
+        return Some("what the code says");
+    }
+    None
 }
 
 #[test]
 fn knows_codes_of_16_bits(rt: HostRuntime) {
     for place in 0..ROWS16.len() {
-        expect_that_at(&rt, is_code16(&ROWS16[place]), "a code of 16 bits", place);
+        expect_none_wrong_at(&rt, wrong_code16(&ROWS16[place]), place);
     }
 }
 
@@ -98,13 +110,19 @@ static CHECKSUMS: [(&[u8], u16, bool); 3] = [
     (b"\x16\x00\x00\x00\xef\x01\x02\x03\x01", 0xf7fa, false),
 ];
 
-fn is_checksum(row: &(&[u8], u16, bool)) -> bool {
-    checksum_of(row.0) == row.1 && checksum_ok(row.0) == row.2
+fn wrong_checksum(row: &(&[u8], u16, bool)) -> Option<&'static str> {
+    if checksum_of(row.0) != row.1 {
+        return Some("the checksum");
+    }
+    if checksum_ok(row.0) != row.2 {
+        return Some("whether it is right");
+    }
+    None
 }
 
 #[test]
 fn knows_checksums(rt: HostRuntime) {
     for place in 0..CHECKSUMS.len() {
-        expect_that_at(&rt, is_checksum(&CHECKSUMS[place]), "a checksum", place);
+        expect_none_wrong_at(&rt, wrong_checksum(&CHECKSUMS[place]), place);
     }
 }
