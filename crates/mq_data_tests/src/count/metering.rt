@@ -2,24 +2,40 @@
 
 ghost use Rattle.std.specs.Prelude.{◌≡◌, ◌≤◌};
 
+use crate::facts::{expect_none_wrong, expect_that};
 use mq_count::{Meter, Moment};
-use std::test::Fail;
+
+/// Whether the later of two moments is reached, and both by themselves: three comparisons.
+fn wrong_reach(m: &mut Meter, early: Moment, late: Moment) -> Option<&'static str> {
+    if !m.reached(early, late) {
+        return Some("the early one is reached at the late one");
+    }
+    if !m.reached(early, early) {
+        return Some("at the moment itself");
+    }
+    if m.reached(late, early) {
+        return Some("the late one is not reached at the early one");
+    }
+    None
+}
+
+/// Whether two moments are one.
+fn is_same(moment: Moment, other: Moment) -> bool {
+    let mut m = Meter::new();
+    m.reached(moment, other) && m.reached(other, moment)
+}
 
 #[test]
-fn each_comparison_counts_one(rt: HostRuntime) -> Result<(), Fail> {
-    let (mut m, mut other) = (Meter::new(), Meter::new());
-    let early = Moment::from_ms(1000).ok_or("in range")?;
-    let late = Moment::from_ms(1001).ok_or("in range")?;
-    assert!(rt; m.spent() == 0);
-    assert!(rt; m.reached(early, late));
-    assert!(rt; m.reached(early, early), "at the moment itself");
-    assert!(rt; !m.reached(late, early));
-    assert!(rt; m.spent() == 3);
-    for earlier in [m.earlier(late, early), m.earlier(early, late)] {
-        assert!(rt; other.reached(early, earlier) && other.reached(earlier, early));
-    }
-    assert!(rt; m.spent() == 5);
-    Ok(())
+fn each_comparison_counts_one(rt: HostRuntime) {
+    let mut m = Meter::new();
+    let early = Moment::from_ms(1000).expect(&rt, "in range");
+    let late = Moment::from_ms(1001).expect(&rt, "in range");
+    expect_that(&rt, m.spent() == 0, "none at first");
+    expect_none_wrong(&rt, wrong_reach(&mut m, early, late), "reached");
+    expect_that(&rt, m.spent() == 3, "three comparisons");
+    expect_that(&rt, is_same(early, m.earlier(late, early)), "the second");
+    expect_that(&rt, is_same(early, m.earlier(early, late)), "the first");
+    expect_that(&rt, m.spent() == 5, "five comparisons");
 }
 
 /// At the greatest u64, and one below it, a comparison leaves a meter at the greatest: a caller's

@@ -2,6 +2,7 @@
 
 ghost use Rattle.std.specs.Prelude.{◌≤◌, IfOk};
 
+use crate::facts::{expect_none_wrong, expect_that};
 use mq_count::Watched;
 use std::io;
 use std::io::{ErrorKind, Read, Write};
@@ -50,35 +51,53 @@ fn new_fake() -> Fake {
     }
 }
 
+/// Whether a read succeeds or fails as is wanted, and so many bytes were then taken.
+fn is_read(watched: &mut Watched<Fake>, taken: u64, fails: bool) -> bool {
+    let mut buf = [0; 4];
+    let has_failed = watched.read(&mut buf).is_err();
+    has_failed == fails && watched.taken() == taken && watched.failed() == fails
+}
+
 #[test]
 fn reads_are_counted(rt: HostRuntime) {
     let mut watched = Watched::new(new_fake());
-    let mut buf = [0; 4];
-    for taken in [1, 2] {
-        let is_read = watched.read(&mut buf).is_ok();
-        assert!(rt; is_read && watched.taken() == taken && !watched.failed());
-    }
-    let is_read = watched.read(&mut buf).is_ok();
-    assert!(rt; !is_read && watched.taken() == 2 && watched.failed());
+    expect_that(&rt, is_read(&mut watched, 1, false), "one byte");
+    expect_that(&rt, is_read(&mut watched, 2, false), "two bytes");
+    expect_that(&rt, is_read(&mut watched, 2, true), "a read that fails");
+}
+
+/// Whether a text is written to where no byte fits, and whether that has then failed.
+fn has_failed(text: &str) -> Option<bool> {
+    let mut nowhere: &mut [u8] = &mut [];
+    let mut watched = Watched::new(&mut nowhere);
+    let is_written = watched.write(text.as_bytes()).is_ok();
+    is_written.then_some(watched.failed())
 }
 
 #[test]
 fn a_write_that_takes_nothing_has_failed(rt: HostRuntime) {
-    let mut nowhere: &mut [u8] = &mut [];
-    let mut watched = Watched::new(&mut nowhere);
-    for text in ["", "a"] {
-        let is_written = watched.write(text.as_bytes()).is_ok();
-        assert!(rt; is_written && watched.failed() == (text == "a"));
+    expect_that(&rt, has_failed("") == Some(false), "nothing is written");
+    expect_that(&rt, has_failed("a") == Some(true), "a byte is not taken");
+}
+
+/// What is wrong, unless a flush and a write succeed, and the next flush fails.
+fn wrong_flushes(watched: &mut Watched<&mut Fake>) -> Option<&'static str> {
+    if watched.flush().is_err() {
+        return Some("the first flush");
     }
+    if watched.write(b"ab").is_err() || watched.failed() {
+        return Some("the write");
+    }
+    if watched.flush().is_ok() || !watched.failed() || watched.taken() != 0 {
+        return Some("the flush that fails");
+    }
+    None
 }
 
 #[test]
 fn flushes_are_passed_on(rt: HostRuntime) {
     let mut inner = new_fake();
-    let mut watched = Watched::new(&mut inner);
-    let (is_flushed, is_written) = (watched.flush().is_ok(), watched.write(b"ab").is_ok());
-    assert!(rt; is_flushed && is_written && !watched.failed());
-    let is_flushed = watched.flush().is_ok();
-    assert!(rt; !is_flushed && watched.failed() && watched.taken() == 0);
-    assert!(rt; inner.flushes == 2);
+    let wrong = wrong_flushes(&mut Watched::new(&mut inner));
+    expect_none_wrong(&rt, wrong, "flushes");
+    expect_that(&rt, inner.flushes == 2, "two flushes");
 }

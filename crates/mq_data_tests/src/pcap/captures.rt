@@ -1,11 +1,12 @@
 //! Captures that are read in pieces, to their end or to a fault. Captures cut at each length, other headers and
 //! moments are rows of `tools/refuse.cases`.
 
+use crate::facts::{expect_none_wrong, expect_none_wrong_at, expect_that};
 use mq_count::{Faulty, Watched};
 use mq_pcap::{LinkType, Packet, PcapFault, PcapReader};
 use std::alloc::Global;
 use std::io::Read;
-use std::test::Fail;
+use std::process::Abort;
 
 /// A capture of one packet: an IGMPv2 Report in an Ethernet frame of 60 bytes.
 const CAPTURE: &[u8] =
@@ -18,75 +19,121 @@ const TOO_LONG: &[u8] =
 /// The least length of a buffer.
 const LEAST: usize = 262_144;
 
-fn new_buffer(alloc: Global) -> Result<Vec<u8>, Fail> {
-    Ok(vec![in alloc; 0; LEAST]?)
+fn new_buffer(rt: &impl Abort, alloc: Global) -> Vec<u8> {
+    vec![in alloc; 0; LEAST].expect(rt, "memory for a buffer")
 }
 
 /// What a call for the next packet answers.
 type Answer = Result<Option<Packet>, PcapFault>;
-
-/// The next packet, or None where the buffer is too short.
-fn next<R: Read>(
-    pcap: &mut PcapReader,
-    reader: &mut Watched<R>,
-    buffer: &mut [u8],
-) -> Option<Answer> {
-    if buffer.len() < LEAST {
-        return None;
-    }
-    Some(pcap.next(reader, buffer))
-}
 
 const PACKET: Answer = Ok(Some(Packet {
     stamp_ms: 0,
     length: 60,
 }));
 
-const END: Answer = Ok(None);
-
 const NEVER: u64 = u64::MAX;
 
-/// How a capture is read: in pieces, with one call of its reader failing. What comes first, and what then comes
-/// again and again.
-type Row = (&'static [u8], usize, u64, Answer, Answer);
+/// A name of an answer.
+#[derive(Clone, Copy)]
+enum Name {
+    Packet,
+    End,
+    CutHeader,
+    CutData,
+    TooLong,
+    Failed,
+}
 
-#[test]
-fn reads_to_the_end_or_a_fault(rt: HostRuntime) -> Result<(), Fail> {
-    let mut buffer = new_buffer(rt.alloc())?;
-    let cut_header = Err(PcapFault::CutHeader { number: 1 });
-    let cut_data = Err(PcapFault::CutData { number: 1 });
-    let too_long = Err(PcapFault::TooLong { number: 1 });
-    let failed = Err(PcapFault::Read);
-    let table: [Row; 9] = [
-        (CAPTURE, 1, NEVER, PACKET, END),
-        (CAPTURE, 7, NEVER, PACKET, END),
-        (CAPTURE, 100, NEVER, PACKET, END),
-        (&CAPTURE[..24], 100, NEVER, END, END),
-        (&CAPTURE[..39], 100, NEVER, cut_header, cut_header),
-        (&CAPTURE[..99], 100, NEVER, cut_data, cut_data),
-        (TOO_LONG, 100, NEVER, too_long, too_long),
-        // One byte a call: behind the last packet, and within it.
-        (CAPTURE, 1, 101, PACKET, failed),
-        (CAPTURE, 1, 100, failed, failed),
-    ];
-    for (capture, piece, fails_at, first, then) in table {
-        let mut reader = Watched::new(Faulty::new(capture, piece, fails_at));
-        let mut pcap = PcapReader::open(&mut reader)?;
-        for want in [first, then, then] {
-            assert!(rt; next(&mut pcap, &mut reader, &mut buffer) == Some(want));
-        }
-        assert!(rt; reader.failed() == (then == failed));
+fn answer_of(name: Name) -> Answer {
+    match name {
+        Name::Packet => PACKET,
+        Name::End => Ok(None),
+        Name::CutHeader => Err(PcapFault::CutHeader { number: 1 }),
+        Name::CutData => Err(PcapFault::CutData { number: 1 }),
+        Name::TooLong => Err(PcapFault::TooLong { number: 1 }),
+        Name::Failed => Err(PcapFault::Read),
     }
-    Ok(())
+}
+
+/// How a capture is read: so many of its bytes, in pieces, with one call of its reader failing. What comes first,
+/// and what then comes again and again.
+type Row = (&'static [u8], usize, usize, u64, Name, Name);
+
+static ROWS: [Row; 9] = [
+    (CAPTURE, 100, 1, NEVER, Name::Packet, Name::End),
+    (CAPTURE, 100, 7, NEVER, Name::Packet, Name::End),
+    (CAPTURE, 100, 100, NEVER, Name::Packet, Name::End),
+    (CAPTURE, 24, 100, NEVER, Name::End, Name::End),
+    (CAPTURE, 39, 100, NEVER, Name::CutHeader, Name::CutHeader),
+    (CAPTURE, 99, 100, NEVER, Name::CutData, Name::CutData),
+    (TOO_LONG, 40, 100, NEVER, Name::TooLong, Name::TooLong),
+    // One byte a call: behind the last packet, and within it.
+    (CAPTURE, 100, 1, 101, Name::Packet, Name::Failed),
+    (CAPTURE, 100, 1, 100, Name::Failed, Name::Failed),
+];
+
+/// Whether the next answer is the one of this name, in a buffer that is long enough.
+fn is_next<R: Read>(
+    pcap: &mut PcapReader,
+    reader: &mut Watched<R>,
+    buffer: &mut [u8],
+    name: Name,
+) -> bool {
+    LEAST <= buffer.len() && pcap.next(reader, buffer) == answer_of(name)
+}
+
+/// What is wrong with a capture that is read.
+fn wrong_capture(row: &Row, buffer: &mut [u8]) -> Option<&'static str> {
+    let (capture, length, piece, fails_at, first, then) = *row;
+    let Some(bytes) = capture.get(..length) else {
+        return Some("so many bytes");
+    };
+    let mut reader = Watched::new(Faulty::new(bytes, piece, fails_at));
+    let Ok(mut pcap) = PcapReader::open(&mut reader) else {
+        return Some("it is opened");
+    };
+    if !is_next(&mut pcap, &mut reader, buffer, first) {
+        return Some("what comes first");
+    }
+    if !is_next(&mut pcap, &mut reader, buffer, then) {
+        return Some("what comes then");
+    }
+    if !is_next(&mut pcap, &mut reader, buffer, then) {
+        return Some("what comes again");
+    }
+    if reader.failed() != matches!(then, Name::Failed) {
+        return Some("whether the reader failed");
+    }
+    None
 }
 
 #[test]
-fn reads_a_packet(rt: HostRuntime) -> Result<(), Fail> {
-    let mut buffer = new_buffer(rt.alloc())?;
+fn reads_to_the_end_or_a_fault(rt: HostRuntime) {
+    let mut buffer = new_buffer(&rt, rt.alloc());
+    for place in 0..ROWS.len() {
+        let wrong = wrong_capture(&ROWS[place], buffer.as_mut_slice());
+        expect_none_wrong_at(&rt, wrong, place);
+    }
+}
+
+/// What is wrong with the capture of one packet, which is read into the buffer.
+fn wrong_packet(buffer: &mut [u8]) -> Option<&'static str> {
     let mut reader = Watched::new(CAPTURE);
-    let mut pcap = PcapReader::open(&mut reader)?;
-    assert!(rt; pcap.link() == LinkType::Ethernet);
-    assert!(rt; next(&mut pcap, &mut reader, &mut buffer) == Some(PACKET));
-    assert!(rt; buffer.get(..60) == CAPTURE.get(40..));
-    Ok(())
+    let Ok(mut pcap) = PcapReader::open(&mut reader) else {
+        return Some("it is opened");
+    };
+    if pcap.link() != LinkType::Ethernet {
+        return Some("the link type");
+    }
+    if !is_next(&mut pcap, &mut reader, buffer, Name::Packet) {
+        return Some("the packet");
+    }
+    None
+}
+
+#[test]
+fn reads_a_packet(rt: HostRuntime) {
+    let mut buffer = new_buffer(&rt, rt.alloc());
+    expect_none_wrong(&rt, wrong_packet(buffer.as_mut_slice()), "a packet");
+    expect_that(&rt, buffer.get(..60) == CAPTURE.get(40..), "the bytes");
 }

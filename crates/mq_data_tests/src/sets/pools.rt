@@ -1,16 +1,18 @@
 //! A pool against a plain list of lists, at its limits, and with each growth refused.
 
+use crate::facts::{expect_none_wrong, expect_that};
 use mq_sets::{Memory, Pool};
 use std::alloc::{AllocError, Global};
 use std::process::Abort;
-use std::test::Fail;
 
 /// A pool, also where the first request for memory is refused.
-fn reserved(rt: &HostRuntime, rows: usize, cells: usize) -> Result<Pool<u16>, Memory> {
-    match Pool::new(rt.alloc(), rows, cells) {
+fn reserved(rt: &impl Abort, alloc: Global, limits: (usize, usize)) -> Pool<u16> {
+    let (rows, cells) = limits;
+    let made = match Pool::new(alloc, rows, cells) {
         Ok(pool) => Ok(pool),
-        Err(Memory) => Pool::new(rt.alloc(), rows, cells),
-    }
+        Err(Memory) => Pool::new(alloc, rows, cells),
+    };
+    made.expect(rt, "memory for a pool")
 }
 
 /// Each call, where its conditions hold.
@@ -42,132 +44,289 @@ fn replace(pool: &mut Pool<u16>, place: usize, row: &[u16]) -> bool {
     true
 }
 
-/// The pool has these rows, and as much room as they leave of so many cells.
-fn expect_rows(rt: &impl Abort, pool: &Pool<u16>, cells: usize, want: &[&[u16]]) {
+/// What is done to a pool.
+#[derive(Clone, Copy)]
+enum Edit {
+    Insert(usize),
+    Remove(usize),
+    Replace(usize, &'static [u16]),
+}
+
+/// Does an edit where its conditions hold, and says whether they did.
+fn edit_pool(pool: &mut Pool<u16>, edit: Edit) -> bool {
+    match edit {
+        Edit::Insert(place) => insert_row(pool, place),
+        Edit::Remove(place) => remove_row(pool, place),
+        Edit::Replace(place, row) => replace(pool, place, row),
+    }
+}
+
+/// The cells in use, where these are the rows.
+fn cells_of(pool: &Pool<u16>, want: &[&[u16]]) -> Option<usize> {
     let rows = pool.rows();
-    assert!(rt; rows == want.len());
+    if rows != want.len() {
+        return None;
+    }
     let mut used = 0usize;
     for place in 0..rows {
         let row = pool.row(place);
-        assert!(rt; row == want[place]);
+        if row != want[place] {
+            return None;
+        }
         used = used.saturating_add(row.len());
     }
-    assert!(rt; pool.room() == cells.saturating_sub(used));
+    Some(used)
 }
 
-#[test]
-fn a_pool_is_filled_emptied_and_filled_again(rt: HostRuntime) -> Result<(), Fail> {
-    let mut pool = reserved(&rt, 3, 5)?;
-    assert!(rt; pool.free_rows() == 3);
-    for _ in 0..4 {
-        expect_rows(&rt, &pool, 5, &[]);
-        // Behind the last, before the first; no row is free.
-        for (place, is_free) in [(0, true), (1, true), (0, true), (0, false)] {
-            assert!(rt; insert_row(&mut pool, place) == is_free);
-        }
-        assert!(rt; pool.free_rows() == 0);
-        for (place, row) in [(2, [7].as_slice()), (0, &[1, 2, 3]), (1, &[5])] {
-            assert!(rt; replace(&mut pool, place, row));
-        }
-        expect_rows(&rt, &pool, 5, &[&[1, 2, 3], &[5], &[7]]);
-        // No cell is free; by itself.
-        for (place, row, fits) in [(1, [5, 6].as_slice(), false), (0, &[1, 2, 3], true)] {
-            assert!(rt; replace(&mut pool, place, row) == fits);
-            expect_rows(&rt, &pool, 5, &[&[1, 2, 3], &[5], &[7]]);
-        }
-        // By nothing, and by all cells.
-        for (place, row) in [(0, [].as_slice()), (2, &[]), (1, &[1, 2, 3, 4, 5])] {
-            assert!(rt; replace(&mut pool, place, row));
-        }
-        expect_rows(&rt, &pool, 5, &[&[], &[1, 2, 3, 4, 5], &[]]);
-        assert!(rt;
-            remove_row(&mut pool, 2) && remove_row(&mut pool, 0),
-            "the last, the first"
-        );
-        expect_rows(&rt, &pool, 5, &[&[1, 2, 3, 4, 5]]);
-        assert!(rt; remove_row(&mut pool, 0), "with all its cells");
-        assert!(rt; !remove_row(&mut pool, 0));
+/// What is wrong, unless the pool has these rows, and so much room as they leave of so many rows and cells.
+fn wrong_rows(pool: &Pool<u16>, limits: (usize, usize), want: &[&[u16]]) -> Option<&'static str> {
+    let (rows, cells) = limits;
+    let Some(used) = cells_of(pool, want) else {
+        return Some("the rows");
+    };
+    if pool.room() != cells.saturating_sub(used) {
+        return Some("the room");
     }
-    Ok(())
+    if pool.free_rows() != rows.saturating_sub(want.len()) {
+        return Some("the free rows");
+    }
+    None
+}
+
+/// An edit, in words and as it is done, whether its conditions hold, and the rows that the pool then has.
+type Step = (&'static str, Edit, bool, &'static [&'static [u16]]);
+
+const FILLED: &[&[u16]] = &[&[1, 2, 3], &[5], &[7]];
+
+static STEPS: [Step; 16] = [
+    ("a row behind the last", Edit::Insert(0), true, &[&[]]),
+    ("one more", Edit::Insert(1), true, &[&[], &[]]),
+    (
+        "a row before the first",
+        Edit::Insert(0),
+        true,
+        &[&[], &[], &[]],
+    ),
+    ("no row is free", Edit::Insert(0), false, &[&[], &[], &[]]),
+    (
+        "the last is filled",
+        Edit::Replace(2, &[7]),
+        true,
+        &[&[], &[], &[7]],
+    ),
+    (
+        "the first is filled",
+        Edit::Replace(0, &[1, 2, 3]),
+        true,
+        &[&[1, 2, 3], &[], &[7]],
+    ),
+    (
+        "the one between is filled",
+        Edit::Replace(1, &[5]),
+        true,
+        FILLED,
+    ),
+    ("no cell is free", Edit::Replace(1, &[5, 6]), false, FILLED),
+    ("by itself", Edit::Replace(0, &[1, 2, 3]), true, FILLED),
+    (
+        "by nothing",
+        Edit::Replace(0, &[]),
+        true,
+        &[&[], &[5], &[7]],
+    ),
+    (
+        "the last by nothing",
+        Edit::Replace(2, &[]),
+        true,
+        &[&[], &[5], &[]],
+    ),
+    (
+        "by all cells",
+        Edit::Replace(1, &[1, 2, 3, 4, 5]),
+        true,
+        &[&[], &[1, 2, 3, 4, 5], &[]],
+    ),
+    (
+        "the last is removed",
+        Edit::Remove(2),
+        true,
+        &[&[], &[1, 2, 3, 4, 5]],
+    ),
+    (
+        "the first is removed",
+        Edit::Remove(0),
+        true,
+        &[&[1, 2, 3, 4, 5]],
+    ),
+    ("with all its cells", Edit::Remove(0), true, &[]),
+    ("there is none to remove", Edit::Remove(0), false, &[]),
+];
+
+/// What is wrong behind a step, in a pool with room for so many rows and cells.
+fn wrong_behind(pool: &mut Pool<u16>, limits: (usize, usize), step: &Step) -> Option<&'static str> {
+    let (_, edit, is_done, want) = *step;
+    if edit_pool(pool, edit) != is_done {
+        return Some("whether it is done");
+    }
+    wrong_rows(pool, limits, want)
+}
+
+/// Does these steps so often, in a pool that has no rows before and behind them.
+fn expect_steps(rt: &impl Abort, alloc: Global, limits: (usize, usize), turns: u8, steps: &[Step]) {
+    let mut pool = reserved(rt, alloc, limits);
+    for _ in 0..turns {
+        expect_none_wrong(rt, wrong_rows(&pool, limits, &[]), "no rows");
+        for step in steps {
+            expect_none_wrong(rt, wrong_behind(&mut pool, limits, step), step.0);
+        }
+    }
 }
 
 #[test]
-fn limits_of_nothing(rt: HostRuntime) -> Result<(), Fail> {
-    let mut none = reserved(&rt, 0, 9)?;
-    assert!(rt; !insert_row(&mut none, 0));
-    expect_rows(&rt, &none, 9, &[]);
-    let mut empty = reserved(&rt, 1, 0)?;
-    assert!(rt; insert_row(&mut empty, 0));
-    assert!(rt; replace(&mut empty, 0, &[]));
-    assert!(rt; !replace(&mut empty, 0, &[1]));
-    expect_rows(&rt, &empty, 0, &[&[]]);
-    Ok(())
+fn a_pool_is_filled_emptied_and_filled_again(rt: HostRuntime) {
+    expect_steps(&rt, rt.alloc(), (3, 5), 4, &STEPS);
+}
+
+static NO_ROWS: [Step; 1] = [("no row is free", Edit::Insert(0), false, &[])];
+
+static NO_CELLS: [Step; 3] = [
+    ("the only row", Edit::Insert(0), true, &[&[]]),
+    ("by nothing", Edit::Replace(0, &[]), true, &[&[]]),
+    ("no cell is free", Edit::Replace(0, &[1]), false, &[&[]]),
+];
+
+#[test]
+fn limits_of_nothing(rt: HostRuntime) {
+    expect_steps(&rt, rt.alloc(), (0, 9), 1, &NO_ROWS);
+    expect_steps(&rt, rt.alloc(), (1, 0), 1, &NO_CELLS);
+}
+
+/// Whether a pool of this size is refused.
+fn is_refused(rt: &HostRuntime, rows: usize, cells: usize) -> bool {
+    let made: Result<Pool<u16>, Memory> = Pool::new(rt.alloc(), rows, cells);
+    made.is_err()
 }
 
 #[test]
 fn more_than_can_be_counted_is_refused(rt: HostRuntime) {
-    for (rows, cells) in [
-        (0, usize::MAX),
-        (usize::MAX, 1),
-        (1, usize::MAX / 2),
-        (usize::MAX, usize::MAX),
-    ] {
-        let made: Result<Pool<u16>, Memory> = Pool::new(rt.alloc(), rows, cells);
-        assert!(rt; made.is_err());
+    let words = "more than can be counted";
+    expect_that(&rt, is_refused(&rt, 0, usize::MAX), words);
+    expect_that(&rt, is_refused(&rt, usize::MAX, 1), words);
+    expect_that(&rt, is_refused(&rt, 1, usize::MAX / 2), words);
+    expect_that(&rt, is_refused(&rt, usize::MAX, usize::MAX), words);
+}
+
+static NINES: [u16; 20] = [9; 20];
+
+/// Whether a row of so many cells fits at the place.
+fn takes_row(pool: &mut Pool<u16>, place: usize, length: usize) -> bool {
+    insert_row(pool, place) && replace(pool, place, &NINES[..length.min(20)])
+}
+
+/// Whether the first of two rows can go, and the other can have all cells.
+fn takes_all_cells(pool: &mut Pool<u16>) -> bool {
+    remove_row(pool, 0) && replace(pool, 0, &NINES) && pool.room() == 0
+}
+
+/// Puts two rows of these lengths into an empty pool, and then fills it with one. What is wrong, in a pool with
+/// room for twenty cells.
+fn wrong_turn(pool: &mut Pool<u16>, first: usize, second: usize) -> Option<&'static str> {
+    if !takes_row(pool, 0, first) {
+        return Some("the first row");
     }
+    if !takes_row(pool, 1, second) {
+        return Some("the second row");
+    }
+    if !takes_all_cells(pool) {
+        return Some("a row of all cells");
+    }
+    if !remove_row(pool, 0) || pool.room() != 20 {
+        return Some("no row");
+    }
+    None
 }
 
 /// Passes whichever request for memory is refused: `rt try --test --fail-alloc N` refuses the Nth. A
 /// pool takes three.
 #[test]
-fn a_pool_takes_memory_only_when_it_is_made(rt: HostRuntime) -> Result<(), Fail> {
-    let mut pool = reserved(&rt, 4, 20)?;
-    let row: [u16; 20] = [9; 20];
-    for turn in 0..50u16 {
-        for (place, length) in [(0, turn % 7), (1, turn % 13)] {
-            let row = &row[..usize::from(length)];
-            assert!(rt; insert_row(&mut pool, place) && replace(&mut pool, place, row));
-        }
-        assert!(rt; remove_row(&mut pool, 0) && replace(&mut pool, 0, &row));
-        assert!(rt; pool.room() == 0);
-        assert!(rt; remove_row(&mut pool, 0) && pool.room() == 20);
+fn a_pool_takes_memory_only_when_it_is_made(rt: HostRuntime) {
+    let mut pool = reserved(&rt, rt.alloc(), (4, 20));
+    for turn in 0..50usize {
+        expect_none_wrong(&rt, wrong_turn(&mut pool, turn % 7, turn % 13), "a turn");
     }
-    Ok(())
+}
+
+/// A number in no order, from the one before it.
+fn random_behind(random: u32) -> u32 {
+    random.wrapping_mul(1664525).wrapping_add(1013904223)
+}
+
+/// What is wrong, unless the pool of 40 cells has the rows of the list.
+fn wrong_beside(pool: &Pool<u16>, plain: &[Vec<u16>]) -> Option<&'static str> {
+    let rows = pool.rows();
+    if rows != plain.len() {
+        return Some("the number of rows");
+    }
+    let mut used = 0usize;
+    for place in 0..rows {
+        let row = plain[place].as_slice();
+        if pool.row(place) != row {
+            return Some("the cells of a row");
+        }
+        used = used.saturating_add(row.len());
+    }
+    if pool.room().saturating_add(used) != 40 {
+        return Some("the room");
+    }
+    None
+}
+
+/// Edits the pool and the list, in a way and with a row that the numbers choose, where the pool can be. Whether it
+/// was edited.
+fn edit_both(
+    pool: &mut Pool<u16>,
+    plain: &mut Vec<Vec<u16>>,
+    alloc: Global,
+    random: u32,
+    step: u16,
+) -> Result<bool, AllocError> {
+    let place = (random >> 8) as usize % 6;
+    let length = (random >> 16) as usize % 15;
+    match (random >> 24) % 8 {
+        0 => Ok(insert_row(pool, place) && plain_insert(alloc, plain, place)?),
+        1 => Ok(remove_row(pool, place) && plain_remove(plain, place)),
+        _ => {
+            let row = plain_row(alloc, step, length)?;
+            Ok(replace(pool, place, row.as_slice()) && plain_replace(plain, place, row))
+        }
+    }
+}
+
+/// Edits the pool and the list in no order, and says how often they were edited.
+fn edit_in_no_order(
+    rt: &impl Abort,
+    alloc: Global,
+    pool: &mut Pool<u16>,
+    plain: &mut Vec<Vec<u16>>,
+) -> u32 {
+    let mut random = 1u32;
+    let mut edits = 0u32;
+    for step in 0..6000u16 {
+        random = random_behind(random);
+        let is_edited = edit_both(pool, plain, alloc, random, step).expect(rt, "memory");
+        edits = edits.wrapping_add(u32::from(is_edited));
+        expect_none_wrong(rt, wrong_beside(pool, plain.as_slice()), "behind an edit");
+    }
+    edits
 }
 
 /// A long list of edits in no order, with rows of lengths from 0 to 14, against a list of lists.
 #[test]
-fn a_pool_is_a_list_of_lists(rt: HostRuntime) -> Result<(), Fail> {
-    let mut pool = reserved(&rt, 6, 40)?;
+fn a_pool_is_a_list_of_lists(rt: HostRuntime) {
+    let mut pool = reserved(&rt, rt.alloc(), (6, 40));
     let mut plain: Vec<Vec<u16>> = Vec::new(rt.alloc());
-    let mut random = 1u32;
-    let mut edits = 0u32;
-    for step in 0..6000u16 {
-        random = random.wrapping_mul(1664525).wrapping_add(1013904223);
-        let place = (random >> 8) as usize % 6;
-        let length = (random >> 16) as usize % 15;
-        let done = match (random >> 24) % 8 {
-            0 => insert_row(&mut pool, place) && plain_insert(rt.alloc(), &mut plain, place)?,
-            1 => remove_row(&mut pool, place) && plain_remove(&mut plain, place),
-            _ => {
-                let row = plain_row(rt.alloc(), step, length)?;
-                replace(&mut pool, place, row.as_slice()) && plain_replace(&mut plain, place, row)
-            }
-        };
-        if done {
-            edits = edits.wrapping_add(1);
-        }
-        let rows = pool.rows();
-        assert!(rt; rows == plain.len());
-        let mut used = 0usize;
-        for place in 0..rows {
-            assert!(rt; pool.row(place) == plain[place].as_slice());
-            used = used.saturating_add(plain[place].len());
-        }
-        assert!(rt; pool.room().saturating_add(used) == 40);
-    }
-    assert!(rt; 3000 < edits, "{edits} edits");
-    Ok(())
+    let edits = edit_in_no_order(&rt, rt.alloc(), &mut pool, &mut plain);
+    expect_that(&rt, 3000 < edits, "more than 3000 edits");
 }
 
 fn plain_row(alloc: Global, first: u16, length: usize) -> Result<Vec<u16>, AllocError> {
