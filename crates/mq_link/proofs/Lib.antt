@@ -25,3 +25,4 @@ pub mod Alike
 pub mod AlikeGroups
 pub mod AlikeLinks
 pub mod SeveralMessages
+pub mod NamedSoFar

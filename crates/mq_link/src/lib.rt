@@ -11,6 +11,7 @@ pub mod answers;
 pub mod configuration;
 pub mod examples;
 pub mod laws;
+mod naming;
 
 pub use answers::{DropReason, MessageKind, Received, Refusal};
 pub use configuration::{ConfigFault, LimitName, Limits};
