@@ -13,3 +13,4 @@ pub mod Cost
 pub mod Laws
 pub mod Examples
 pub mod ManySources
+pub mod Changing

@@ -8,10 +8,12 @@
 #![tactic(auto)]
 
 pub mod answers;
+mod changing;
 pub mod configuration;
 pub mod examples;
 pub mod laws;
 mod naming;
+mod statements;
 
 pub use answers::{DropReason, MessageKind, Received, Refusal};
 pub use configuration::{ConfigFault, LimitName, Limits};
