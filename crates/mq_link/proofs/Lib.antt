@@ -26,3 +26,4 @@ pub mod AlikeGroups
 pub mod AlikeLinks
 pub mod SeveralMessages
 pub mod NamedSoFar
+pub mod MadeEntries

@@ -14,3 +14,4 @@ pub mod Laws
 pub mod Examples
 pub mod ManySources
 pub mod Changing
+pub mod Judging

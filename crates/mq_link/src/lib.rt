@@ -8,10 +8,12 @@
 #![tactic(auto)]
 
 pub mod answers;
+mod asking;
 mod changing;
 pub mod configuration;
 pub mod examples;
 pub mod laws;
+mod limiting;
 mod naming;
 mod statements;
 
