@@ -30,7 +30,7 @@ pub record NoMore (e after : ScheduledGroup) : Type 0 where
 pub no_sources : size_of vacant ≡ 0
 no_sources = map.len-empty nat_cmp SourceTimer
 
-expired_size : (now : ℕ) (g : GroupState) → size_of (expired now g) ≤ size_of g
+pub expired_size : (now : ℕ) (g : GroupState) → size_of (expired now g) ≤ size_of g
 expired_size now g = by_test (is_vacant left) (len-kept (λ s. source_expired (mode_expired now g.mode) now) g.sources)
   where
     left : GroupState

@@ -27,3 +27,4 @@ pub mod AlikeLinks
 pub mod SeveralMessages
 pub mod NamedSoFar
 pub mod MadeEntries
+pub mod LoweredSoFar

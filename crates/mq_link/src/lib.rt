@@ -14,7 +14,9 @@ pub mod configuration;
 pub mod examples;
 pub mod laws;
 mod limiting;
+mod lowering;
 mod naming;
+mod serving;
 mod statements;
 
 pub use answers::{DropReason, MessageKind, Received, Refusal};
