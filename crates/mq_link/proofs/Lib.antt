@@ -28,3 +28,4 @@ pub mod SeveralMessages
 pub mod NamedSoFar
 pub mod MadeEntries
 pub mod LoweredSoFar
+pub mod TickedEntries

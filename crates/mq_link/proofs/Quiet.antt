@@ -127,7 +127,7 @@ above_beyond m e h =
 ltb_is : (m d : ℕ) → m < d → ltb m d ≡ true
 ltb_is m d h = lt-ltb m d h
 
-not_reached : (m d : ℕ) → m < d → leb d m ≡ false
+pub not_reached : (m d : ℕ) → m < d → leb d m ≡ false
 not_reached m d h = grind (arith, nat_tests)
 
 same_mode : (m : ℕ) (mode : FilterMode) → IfSome (group_deadline mode) (λ d. m < d) → mode_expired m mode ≡ mode
@@ -185,7 +185,7 @@ same_settled g schedule h = λ i. record { group_query = by_mode g.mode refl i; 
         by_some false = refl
     by_due (Some d) some is = ap (λ b. cond b (Some d) None) (sym is)
 
-same_group : (m : ℕ) (e : ScheduledGroup) → IsHeld e.group → IsScheduleOf e.group e.schedule → IsBeyond m e → if_held (group_expired m e) ≡ Some e
+pub same_group : (m : ℕ) (e : ScheduledGroup) → IsHeld e.group → IsScheduleOf e.group e.schedule → IsBeyond m e → if_held (group_expired m e) ≡ Some e
 same_group m e held fits h =
     ap (λ g. if_held (record { group = g; schedule = settled g e.schedule })) (same_expired m e.group held h.timers)
     ∙ ap (λ s. if_held (record { group = e.group; schedule = s })) (same_settled e.group e.schedule fits)
@@ -199,7 +199,7 @@ same_count : (timing : Timing) (m : ℕ) (q : Option QuerySchedule) → IfSome q
 same_count timing m None h = refl
 same_count timing m (Some q) h = ap (λ b. cond b (cond (ltb 1 q.sendings) (Some (record { sendings = q.sendings - 1; due = m + timing.last_member_interval })) None) (Some q)) (not_reached m q.due h)
 
-same_round : (timing : Timing) (m : ℕ) (e : ScheduledGroup) → IsQuietAt m e.schedule → after_round timing m e ≡ e
+pub same_round : (timing : Timing) (m : ℕ) (e : ScheduledGroup) → IsQuietAt m e.schedule → after_round timing m e ≡ e
 same_round timing m e h = λ i. record {
   group = cond (not_due m e.schedule.sources_due h.sources i) (sendings_counted e.group) e.group;
   schedule = record {
