@@ -28,4 +28,5 @@ pub mod SeveralMessages
 pub mod NamedSoFar
 pub mod MadeEntries
 pub mod LoweredSoFar
+pub mod DoneEntries
 pub mod TickedEntries
