@@ -1,0 +1,4 @@
+pub mod Sorted
+pub mod Entries
+pub mod LeastMoments
+pub mod StoredGroups
