@@ -1,4 +1,5 @@
 pub mod Sorted
 pub mod Entries
 pub mod LeastMoments
+pub mod HeldMoments
 pub mod StoredGroups
