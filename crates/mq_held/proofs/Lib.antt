@@ -3,3 +3,4 @@ pub mod Entries
 pub mod LeastMoments
 pub mod HeldMoments
 pub mod StoredGroups
+pub mod StoredEdits
