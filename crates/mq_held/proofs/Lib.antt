@@ -4,3 +4,4 @@ pub mod LeastMoments
 pub mod HeldMoments
 pub mod StoredGroups
 pub mod StoredEdits
+pub mod Inside

@@ -109,14 +109,21 @@ module _ {K : Type 0} (number : K → ℕ) (items : List (Item K)) (rows : List 
     address_is = slice_get-get_or (map.keys (groups_of number items rows)) i n (omega (arith, length-keys)) ∙ ap Some (get_or-keys i n x within ∙ is);
   }
 
-  pub goes-at : (i n : ℕ) (x : Item K) → IsPlaceFor (item_number number) items n i → GoesAt (groups_of number items rows) n i
-  goes-at i n x place = record {
+  pub goes-at : (i n : ℕ) → IsPlaceFor (item_number number) items n i → GoesAt (groups_of number items rows) n i
+  goes-at i n place = record {
     goes = record {
       within = omega (arith, length-keys, place.within);
-      below = λ k d from before. rw (get_or-keys k d x (omega (arith, place.within))) (place.below k x from before);
-      above = λ k d from in_list. rw (get_or-keys k d x (omega (arith, length-keys))) (place.above k x from (omega (arith, length-keys)));
+      below = λ k d from before. some_item k (omega (arith, place.within)) (λ x within. rw (get_or-keys k d x within) (place.below k x from before));
+      above = λ k d from in_list. some_item k (omega (arith, length-keys)) (λ x within. rw (get_or-keys k d x within) (place.above k x from within));
     };
   }
+    where
+      some_item : {P : Type 0} (k : ℕ) → k < length items → ((x : Item K) → k < length items → P) → P
+      some_item {P = P} k within then = by_items items within (λ x. then x within)
+        where
+          by_items : (xs : List (Item K)) → k < length xs → (Item K → P) → P
+          by_items [] none then = absurd (omega arith)
+          by_items (x ∷ xs) none then = then x
 
   -- the group at a place
   pub group-place : (a p : ℕ) (x : Item K) → HasPlace (groups_of number items rows) a p → p < length items → x ≡ get_or items p x → group_of number x (get_or rows p []) ≡ group_at (groups_of number items rows) a
@@ -172,8 +179,8 @@ module _ {K : Type 0} (number : K → ℕ) (items : List (Item K)) (rows : List 
       ∙ ap (λ (es : List (ℕ × ScheduledGroup)). remove es p) (sym (entries-groups number items rows up each))
       ∙ sym (entries-deleted (groups_of number items rows) a p has.address_is))
 
-  pub items-goes : GoesAt (groups_of number items rows) a p → (x : Item K) → IsPlaceFor (item_number number) items a p
-  items-goes goes x =
+  pub items-goes : GoesAt (groups_of number items rows) a p → IsPlaceFor (item_number number) items a p
+  items-goes goes =
       let size = length-map (map.entries (groups_of number items rows)) key_of ∙ ap length (entries-groups number items rows up each) ∙ length-entries number items rows each in
       let place = goes.goes in
       record {
