@@ -1,6 +1,8 @@
 -- What the stored lists say of the groups that a contract sees.
 use Rattle.std.proofs.Common.{◌≡◌, ℕ, ◌+◌, ◌-◌, ◌<◌, ◌≤◌, Bool, ◌&&◌, true, false, refl, List, [], ◌∷◌, length, get_or, set, Option, None, Some, sym, ap, ◌∙◌, subst, arith, ◌⊎◌, inl, inr}
-use Rattle.std.specs.Prelude.{map as list_map, nat_lt, nat_le}
+use Rattle.std.specs.Prelude.{map as list_map, nat_lt, nat_le, MatchOption, is_some, Result, Ok, Err, IfOk, IfErr}
+use Rattle.std.specs.Ordering.{nat_cmp}
+use Rattle.std.specs.List.{Contains, HoldsAt}
 use Rattle.std.specs.List.{All, insert, remove, flat_map}
 use Rattle.std.specs.FinMap as map
 use Rattle.std.proofs.lemmas.Bool.{cases_lt, lt-ltb, le-ltb}
@@ -9,17 +11,44 @@ use Rattle.mq_sets.specs.Ascending.{IsAscending}
 use Rattle.mq_sets.specs.Search.{IsPlaceFor}
 use Rattle.mq_sets.specs.Pools.{cells_in}
 use Rattle.mq_table.specs.declared.sources.Source.{Source}
-use Rattle.mq_table.specs.Stored.{number_in}
-use Rattle.mq_sched.specs.Schedule.{ScheduledGroup}
+use Rattle.mq_table.specs.declared.heads.Head.{Head}
+use Rattle.mq_table.specs.Group.{GroupState}
+use Rattle.mq_table.specs.Stored.{number_in, timers_in, state_of}
+use Rattle.mq_table.proofs.SourceLists.{len-timers_in}
+use Rattle.mq_sched.specs.Deadlines.{IsEarliest}
+use Rattle.mq_sched.specs.Schedule.{ScheduledGroup, ScheduleState}
 use Rattle.mq_held.specs.declared.items.Item.{Item}
-use Rattle.mq_held.specs.Groups.{Groups, unheld, group_at, sources_in, schedules_in}
+use Rattle.mq_held.specs.Groups.{Groups, unheld, group_at, sources_of, sources_in, schedules_in}
 use Rattle.mq_held.specs.Moments.{moments_of, moments_in, least}
 use Rattle.mq_held.specs.Places.{HasPlace, GoesAt, group_in, has_due, is_place_due, min_or}
 use Rattle.mq_held.specs.Held.{HeldState}
 use Rattle.mq_held.specs.Stored.{item_number, group_of, entry_of, entries_of, groups_of, earliest_of, IsStored}
-use Rattle.mq_held.proofs.LeastMoments.{least-each, due-earliest}
+use Rattle.mq_held.proofs.LeastMoments.{least-bounds, least-each, due-earliest}
 use Rattle.mq_held.proofs.StoredGroups.{entries-groups, len-groups, has-place, goes-at, group-place, key-place, place-items, items-goes, groups-set, groups-insert, groups-remove, sources-groups, schedules-groups, length-entries}
 use Rattle.mq_held.proofs.StoredEdits.{earliest_at, length-deadlines}
+
+-- a group with its schedule, put in its parts
+pub group-of-parts : {K : Type 0} (number : K → ℕ) (address : K) (head : Head) (schedule : ScheduleState) (row : List (Source K)) (g : GroupState) → timers_in number row ≡ g.sources → g ≡ state_of head g.sources
+    → group_of number (record { address = address; head = head; schedule = schedule }) row ≡ record { group = g; schedule = schedule }
+group-of-parts number address head schedule row g timers is =
+    ap (λ m. let e : ScheduledGroup = record { group = state_of head m; schedule = schedule } in e) timers ∙ ap (λ (h : GroupState). let e : ScheduledGroup = record { group = h; schedule = schedule } in e) (sym is)
+
+-- no items are no groups
+pub groups_of-none : {K : Type 0} (number : K → ℕ) → groups_of number [] [] ≡ map.empty
+groups_of-none number = map.empty_of_len (groups_of number [] []) (map.len-entries (groups_of number [] []) ∙ ap length (map.entries-from_sorted nat_cmp [] tt))
+
+-- the earliest of a list of deadlines
+least-is : (ds : List ℕ) (r : Option ℕ) → MatchOption r (ds ≡ []) (IsEarliest ds) → (n : ℕ) → least n ds ≡ min_or n r
+least-is ds None is n = rw is refl
+least-is ds (Some d) is n = least-bounds n ds d is.is_one is.least
+
+some-is : (ds : List ℕ) (r : Option ℕ) → MatchOption r (ds ≡ []) (IsEarliest ds) → is_some r ≡ nat_lt 0 (length ds)
+some-is ds None is = rw is refl
+some-is [] (Some d) is = absurd (none_in is.is_one)
+  where
+    none_in : Contains [] d → ⊥
+    none_in h = ?
+some-is (x ∷ ds) (Some d) is = refl
 
 module _ {K : Type 0} (number : K → ℕ) {items : List (Item K)} {rows : List (List (Source K))} {deadlines : List ℕ} {schedules : ℕ} (known : IsStored number items rows deadlines schedules) {group_room source_room : ℕ} {state : HeldState} (was : ◌≡◌ {A = HeldState} (record { groups = groups_of number items rows; group_room = group_room; source_room = source_room }) state) where
   groups_are : groups_of number items rows ≡ state.groups
@@ -33,6 +62,12 @@ module _ {K : Type 0} (number : K → ℕ) {items : List (Item K)} {rows : List 
 
   pub schedules-held : schedules_in state.groups ≡ schedules
   schedules-held = ap schedules_in (sym groups_are) ∙ schedules-groups number items rows known.ascending known.row_each ∙ sym known.schedules_are
+
+  pub rows-held : map.len state.groups ≡ length rows
+  rows-held = len-held ∙ sym known.row_each
+
+  pub deadlines-held : map.len state.groups ≡ length deadlines
+  deadlines-held = len-held ∙ sym (length-deadlines number items rows deadlines schedules known)
 
   -- places
   pub place-found : (i n : ℕ) (x : Item K) → i < length items → item_number number (get_or items i x) ≡ n → HasPlace state.groups n i
@@ -57,6 +92,11 @@ module _ {K : Type 0} (number : K → ℕ) {items : List (Item K)} {rows : List 
       let has_place = subst (λ groups. HasPlace groups n p) (sym groups_are) has in
       group-place number items rows known.ascending known.row_each n p x has_place (place-within n p has) here
       ∙ ap (λ groups. group_at groups n) groups_are
+
+  pub sources-at : (n p : ℕ) (x : Item K) → HasPlace state.groups n p → x ≡ get_or items p x → sources_of (group_at state.groups n) ≡ length (get_or rows p [])
+  sources-at n p x has here =
+      let within = place-within n p has in
+      sym (ap sources_of (group-held n p x has here)) ∙ len-timers_in number (get_or rows p []) (known.rows_ascend p [] (omega (arith, known.row_each)))
 
   pub number-held : (n p : ℕ) (x : Item K) → HasPlace state.groups n p → x ≡ get_or items p x → number x.address ≡ n
   number-held n p x has here =
@@ -90,6 +130,12 @@ module _ {K : Type 0} (number : K → ℕ) {items : List (Item K)} {rows : List 
       seconds [] = refl
       seconds (e ∷ es) = ap (λ os. earliest_at e ∷ os) (seconds es)
 
+  pub earliest-held : (r : Option ℕ) → MatchOption r (deadlines ≡ []) (IsEarliest deadlines) → (n : ℕ) → least n (moments_in state.groups) ≡ min_or n r
+  earliest-held r is n = least-held n ∙ least-is deadlines r is n
+
+  pub some-held : (r : Option ℕ) → MatchOption r (deadlines ≡ []) (IsEarliest deadlines) → is_some r ≡ nat_lt 0 (map.len state.groups)
+  some-held r is = some-is deadlines r is ∙ ap (nat_lt 0) (sym deadlines-held)
+
   pub due-held : (now p : ℕ) → (nat_lt p (length deadlines) && nat_le (get_or deadlines p 0) now) ≡ is_place_due state.groups now p
   due-held now p =
       ap (λ n. nat_lt p n && nat_le (get_or deadlines p 0) now) (length-deadlines number items rows deadlines schedules known ∙ sym len-held)
@@ -113,3 +159,16 @@ module _ {K : Type 0} (number : K → ℕ) {items : List (Item K)} {rows : List 
       by_place : (p < map.len state.groups) ⊎ (map.len state.groups ≤ p) → (nat_lt p (map.len state.groups) && nat_le (get_or deadlines p 0) now) ≡ is_place_due state.groups now p
       by_place (inl within) = ap (λ b. nat_lt p (map.len state.groups) && b) (here within)
       by_place (inr from) = rw (le-ltb p (map.len state.groups) from) refl
+
+  -- what a search among the items answers
+  pub searched : (r : Result ℕ ℕ) (n : ℕ) → IfOk r (λ i. i < length items) → IfOk r (HoldsAt (λ x. item_number number x ≡ n) items) → IfOk r (HasPlace state.groups n)
+  searched (Ok i) n within found = some_item items within (λ x. place-found i n x within (found x))
+    where
+      some_item : {P : Type 0} (xs : List (Item K)) → i < length xs → (Item K → P) → P
+      some_item [] none then = absurd (omega arith)
+      some_item (x ∷ xs) none then = then x
+  searched (Err i) n within found = tt
+
+  pub missed : (r : Result ℕ ℕ) (n : ℕ) → IfErr r (IsPlaceFor (item_number number) items n) → IfErr r (GoesAt state.groups n)
+  missed (Ok i) n place = tt
+  missed (Err i) n place = place-absent i n place

@@ -2,7 +2,7 @@
 use Rattle.std.proofs.Common.{◌≡◌, ℕ, ◌+◌, ◌≤◌, min, Bool, true, false, ◌||◌, refl, List, [], ◌∷◌, ◌++◌, Option, None, Some, sym, ap, ◌∙◌, arith, append_assoc}
 use Rattle.std.specs.Prelude.{map as list_map, nat_le}
 use Rattle.std.specs.Option.{option_to_list}
-use Rattle.std.specs.List.{list_any, flat_map}
+use Rattle.std.specs.List.{All, Contains, list_any, flat_map}
 use Rattle.std.proofs.lemmas.List.Concat.{flat_map-cons}
 use Rattle.std.proofs.lemmas.Bool.Decides.{nat_tests}
 use Rattle.mq_held.specs.Moments.{least}
@@ -87,3 +87,7 @@ least-each f (e ∷ es) (d ∷ ds) n same =
   where
     turned : (a b : ℕ) → min a b ≡ min b a
     turned a b = omega arith
+
+-- the least of a number and some moments, one of which is at or before the others
+pub least-bounds : (n : ℕ) (ds : List ℕ) (d : ℕ) → Contains ds d → All (λ deadline. d ≤ deadline) ds → least n ds ≡ min n d
+least-bounds n ds d one below = ?
