@@ -1,5 +1,5 @@
 -- What the stored lists say of the groups that a contract sees.
-use Rattle.std.proofs.Common.{◌≡◌, ℕ, ◌+◌, ◌-◌, ◌<◌, ◌≤◌, Bool, ◌&&◌, true, false, refl, List, [], ◌∷◌, length, get_or, set, Option, None, Some, sym, ap, ◌∙◌, subst, arith, ◌⊎◌, inl, inr}
+use Rattle.std.proofs.Common.{◌≡◌, ℕ, zero, suc, ◌+◌, ◌-◌, ◌<◌, ◌≤◌, Bool, ◌&&◌, true, false, refl, List, [], ◌∷◌, length, get_or, set, Option, None, Some, sym, ap, ◌∙◌, subst, arith, ◌⊎◌, inl, inr}
 use Rattle.std.specs.Prelude.{map as list_map, nat_lt, nat_le, MatchOption, is_some, Result, Ok, Err, IfOk, IfErr}
 use Rattle.std.specs.Ordering.{nat_cmp}
 use Rattle.std.specs.List.{Contains, HoldsAt}
@@ -9,7 +9,7 @@ use Rattle.std.proofs.lemmas.Bool.{cases_lt, lt-ltb, le-ltb}
 use Rattle.std.proofs.lemmas.List.{get_or-map, length-map}
 use Rattle.mq_sets.specs.Ascending.{IsAscending}
 use Rattle.mq_sets.specs.Search.{IsPlaceFor}
-use Rattle.mq_sets.specs.Pools.{cells_in}
+use Rattle.mq_sets.specs.Pools.{PoolState, cells_in}
 use Rattle.mq_table.specs.declared.sources.Source.{Source}
 use Rattle.mq_table.specs.declared.heads.Head.{Head}
 use Rattle.mq_table.specs.Group.{GroupState}
@@ -37,18 +37,28 @@ group-of-parts number address head schedule row g timers is =
 pub groups_of-none : {K : Type 0} (number : K → ℕ) → groups_of number [] [] ≡ map.empty
 groups_of-none number = map.empty_of_len (groups_of number [] []) (map.len-entries (groups_of number [] []) ∙ ap length (map.entries-from_sorted nat_cmp [] tt))
 
+pub held-none : {K : Type 0} (number : K → ℕ) (items : List (Item K)) (p : PoolState (Source K)) (group_room source_room : ℕ) → items ≡ [] → p ≡ record { rows = []; row_limit = group_room; cell_limit = source_room }
+    → ◌≡◌ {A = HeldState} (record { groups = groups_of number items p.rows; group_room = p.row_limit; source_room = p.cell_limit }) (record { groups = map.empty; group_room = group_room; source_room = source_room })
+held-none number items p group_room source_room none empty =
+    ap (λ xs. let s : HeldState = record { groups = groups_of number xs p.rows; group_room = p.row_limit; source_room = p.cell_limit } in s) none
+    ∙ ap (λ (q : PoolState (Source _)). let s : HeldState = record { groups = groups_of number [] q.rows; group_room = q.row_limit; source_room = q.cell_limit } in s) empty
+    ∙ ap (λ m. let s : HeldState = record { groups = m; group_room = group_room; source_room = source_room } in s) (groups_of-none number)
+
+-- a row that is made and then written
+pub set-insert : {X : Type 0} (xs : List X) (p : ℕ) (a b : X) → p ≤ length xs → set (insert xs p a) p b ≡ insert xs p b
+set-insert [] zero a b within = refl
+set-insert [] (suc p) a b within = absurd (omega arith)
+set-insert (x ∷ xs) zero a b within = refl
+set-insert (x ∷ xs) (suc p) a b within = ap (λ ys. x ∷ ys) (set-insert xs p a b (omega arith))
+
 -- the earliest of a list of deadlines
 least-is : (ds : List ℕ) (r : Option ℕ) → MatchOption r (ds ≡ []) (IsEarliest ds) → (n : ℕ) → least n ds ≡ min_or n r
 least-is ds None is n = rw is refl
-least-is ds (Some d) is n = least-bounds n ds d is.is_one is.least
+least-is ds (Some d) is n = least-bounds n ds d is.is_one.0 is.is_one.1 is.is_one.2 is.least
 
 some-is : (ds : List ℕ) (r : Option ℕ) → MatchOption r (ds ≡ []) (IsEarliest ds) → is_some r ≡ nat_lt 0 (length ds)
-some-is ds None is = rw is refl
-some-is [] (Some d) is = absurd (none_in is.is_one)
-  where
-    none_in : Contains [] d → ⊥
-    none_in h = ?
-some-is (x ∷ ds) (Some d) is = refl
+some-is ds None is = rw is (sym (le-ltb 0 0 (omega arith)))
+some-is ds (Some d) is = sym (lt-ltb 0 (length ds) (omega (arith, is.is_one.1)))
 
 module _ {K : Type 0} (number : K → ℕ) {items : List (Item K)} {rows : List (List (Source K))} {deadlines : List ℕ} {schedules : ℕ} (known : IsStored number items rows deadlines schedules) {group_room source_room : ℕ} {state : HeldState} (was : ◌≡◌ {A = HeldState} (record { groups = groups_of number items rows; group_room = group_room; source_room = source_room }) state) where
   groups_are : groups_of number items rows ≡ state.groups

@@ -1,8 +1,9 @@
 -- The earliest of some moments.
-use Rattle.std.proofs.Common.{◌≡◌, ℕ, ◌+◌, ◌≤◌, min, Bool, true, false, ◌||◌, refl, List, [], ◌∷◌, ◌++◌, Option, None, Some, sym, ap, ◌∙◌, arith, append_assoc}
+use Rattle.std.proofs.Common.{◌≡◌, ℕ, zero, suc, ◌<◌, length, get_or, ◌+◌, ◌≤◌, min, Bool, true, false, ◌||◌, refl, List, [], ◌∷◌, ◌++◌, Option, None, Some, sym, ap, ◌∙◌, arith, append_assoc}
 use Rattle.std.specs.Prelude.{map as list_map, nat_le}
 use Rattle.std.specs.Option.{option_to_list}
-use Rattle.std.specs.List.{All, Contains, list_any, flat_map}
+use Rattle.std.specs.List.{All, list_any, flat_map}
+use Rattle.std.proofs.lemmas.List.Elements.{All-head, All-tail}
 use Rattle.std.proofs.lemmas.List.Concat.{flat_map-cons}
 use Rattle.std.proofs.lemmas.Bool.Decides.{nat_tests}
 use Rattle.mq_held.specs.Moments.{least}
@@ -88,6 +89,20 @@ least-each f (e ∷ es) (d ∷ ds) n same =
     turned : (a b : ℕ) → min a b ≡ min b a
     turned a b = omega arith
 
+below-all : (d n : ℕ) (ds : List ℕ) → All (λ deadline. d ≤ deadline) ds → min d (least n ds) ≡ min d n
+below-all d n [] below = refl
+below-all d n (x ∷ ds) below =
+    let rest = below-all d n ds (All-tail (λ deadline. d ≤ deadline) x ds below) in
+    let first : d ≤ x = All-head (λ deadline. d ≤ deadline) x ds below in
+    omega (arith, rest, first)
+
 -- the least of a number and some moments, one of which is at or before the others
-pub least-bounds : (n : ℕ) (ds : List ℕ) (d : ℕ) → Contains ds d → All (λ deadline. d ≤ deadline) ds → least n ds ≡ min n d
-least-bounds n ds d one below = ?
+pub least-bounds : (n : ℕ) (ds : List ℕ) (d k : ℕ) → k < length ds → get_or ds k d ≡ d → All (λ deadline. d ≤ deadline) ds → least n ds ≡ min n d
+least-bounds n [] d k within is below = absurd (omega arith)
+least-bounds n (x ∷ ds) d zero within is below =
+    let rest = below-all d n ds (All-tail (λ deadline. d ≤ deadline) x ds below) in
+    omega (arith, rest, is)
+least-bounds n (x ∷ ds) d (suc k) within is below =
+    let rest = least-bounds n ds d k (omega arith) is (All-tail (λ deadline. d ≤ deadline) x ds below) in
+    let first : d ≤ x = All-head (λ deadline. d ≤ deadline) x ds below in
+    omega (arith, rest, first)

@@ -1,6 +1,7 @@
 //! A look at one held group.
 
 ghost use Rattle.std.specs.Prelude.{◌≡◌, length};
+ghost use Rattle.std.specs.FinMap as map;
 ghost use Rattle.mq_count.specs.Spending.{Spends};
 ghost use Rattle.mq_sets.specs.Ascending.{IsAscending};
 ghost use Rattle.mq_sets.specs.Search.{bitlen};
@@ -38,13 +39,22 @@ impl<'a, K: Key> HeldGroup<'a, K> {
             result ≡ forwards_in g (K.number source) }
         ensures spent { Spends 0 (bitlen (length self.now.sources.now)) m.old m.new }
     {
-        let timer = match find(self.sources, source, m) {
-            Ok(place) => Some(self.sources[place].timer),
-            Err(_) => None,
-        };
+        let timer = timer_of(self.sources, source, m);
         match self.mode {
             FilterMode::Include => matches!(timer, Some(SourceTimer::Running(_, _))),
             FilterMode::Exclude(_) => !matches!(timer, Some(SourceTimer::Stopped)),
         }
+    }
+}
+
+/// The timer of a source among ascending sources, or None where it isn't there.
+fn timer_of<K: Key>(sources: &[Source<K>], source: K, m: &mut Meter) -> Option<SourceTimer>
+    requires ascending { IsAscending (number_in K.number) sources.now }
+    ensures timer { result ≡ map.get (timers_in K.number sources.now) (K.number source) }
+    ensures spent { Spends 0 (bitlen (length sources.now)) m.old m.new }
+{
+    match find(sources, source, m) {
+        Ok(place) => Some(sources[place].timer),
+        Err(_) => None,
     }
 }

@@ -1,5 +1,6 @@
-use Rattle.mq_held.proofs.Inside.{groups_of-none}
+use Rattle.mq_held.proofs.Inside.{held-none}
 use Rattle.mq_held.proofs.held_groups.HeldGroups.with_room.Goals as goal
 
 pub returns : goal.returns
-returns g c = let h = c.in_ok-new.ensures in let k = c.in_ok-with_capacity.ensures in let q = c.in_ok-with_room.ensures in ?
+returns g c =
+    held-none g.K.Key.number c.in_ok-with_capacity.field-0.items c.in_ok-new.field-0 c.args.groups c.args.sources c.in_ok-with_capacity.ensures.items c.in_ok-new.ensures
