@@ -33,6 +33,14 @@ pub group-of-parts : {K : Type 0} (number : K → ℕ) (address : K) (head : Hea
 group-of-parts number address head schedule row g timers is =
     ap (λ m. let e : ScheduledGroup = record { group = state_of head m; schedule = schedule } in e) timers ∙ ap (λ (h : GroupState). let e : ScheduledGroup = record { group = h; schedule = schedule } in e) (sym is)
 
+-- and its earliest moment
+pub due-of-parts : {K : Type 0} (number : K → ℕ) (address : K) (head : Head) (schedule : ScheduleState) (row : List (Source K)) (g : GroupState) (due : ℕ) → timers_in number row ≡ g.sources → g ≡ state_of head g.sources
+    → earliest_of (moments_of (record { group = g; schedule = schedule })) ≡ Some due
+    → earliest_of (moments_of (group_of number (record { address = address; head = head; schedule = schedule }) row)) ≡ Some due
+due-of-parts number address head schedule row g due timers is earliest =
+    let P : ScheduledGroup → Type 0 = λ e. earliest_of (moments_of e) ≡ Some due in
+    subst P (sym (group-of-parts number address head schedule row g timers is)) earliest
+
 -- no items are no groups
 pub groups_of-none : {K : Type 0} (number : K → ℕ) → groups_of number [] [] ≡ map.empty
 groups_of-none number = map.empty_of_len (groups_of number [] []) (map.len-entries (groups_of number [] []) ∙ ap length (map.entries-from_sorted nat_cmp [] tt))

@@ -8,7 +8,7 @@ use Rattle.mq_held.specs.Held.{HeldState}
 use Rattle.mq_held.specs.Moments.{moments_of}
 use Rattle.mq_held.specs.Stored.{item_number, group_of, earliest_of, IsStored}
 use Rattle.mq_held.proofs.StoredEdits.{IsStored-set, schedules_part, schedules_fit}
-use Rattle.mq_held.proofs.Inside.{len-held, rows-held, deadlines-held, sources-held, sources-at, place-found, number-held, held-set, group-of-parts}
+use Rattle.mq_held.proofs.Inside.{len-held, rows-held, deadlines-held, sources-held, sources-at, place-found, number-held, held-set, group-of-parts, due-of-parts}
 use Rattle.mq_held.proofs.held_groups.HeldGroups.put.Goals as goal
 
 pub index-before-requires : goal.index-before-requires
@@ -52,8 +52,7 @@ invariant_of-self g c =
     let deadlines = c.self.inside.deadlines.deadlines in
     let x : Item g.row.K.Denot = record { address = c.index-before.result.now.address; head = c.head.result; schedule = c.args.schedule } in
     let within : c.args.place < length items = omega (arith, c.requires.place, len-held number known c.self.view_is) in
-    let parts = group-of-parts number x.address c.head.result c.args.schedule c.row.result.now c.args.group.now.state c.row.ensures.timers c.head.ensures in
-    let due = ap (λ (e : ScheduledGroup). earliest_of (moments_of e)) parts ∙ c.earliest_moment-due.ensures.earliest in
+    let due = due-of-parts number x.address c.head.result c.args.schedule c.row.result.now c.args.group.now.state c.earliest_moment-due.result c.row.ensures.timers c.head.ensures c.earliest_moment-due.ensures.earliest in
     let stored = IsStored-set number items rows deadlines c.self.inside.scheduled known c.args.place x c.index-before.result.now c.row.result.now c.earliest_moment-due.result within c.index-before.ensures refl c.row.ensures.ascending due in
     let row_limit = ap (λ (s : PoolState _). s.row_limit) c.replace.ensures in
     let cell_limit = ap (λ (s : PoolState _). s.cell_limit) c.replace.ensures in
@@ -69,8 +68,7 @@ overflow_add-self g c =
     let deadlines = c.self.inside.deadlines.deadlines in
     let x : Item g.row.K.Denot = record { address = c.index-before.result.now.address; head = c.head.result; schedule = c.args.schedule } in
     let within : c.args.place < length items = omega (arith, c.requires.place, len-held number known c.self.view_is) in
-    let parts = group-of-parts number x.address c.head.result c.args.schedule c.row.result.now c.args.group.now.state c.row.ensures.timers c.head.ensures in
-    let due = ap (λ (e : ScheduledGroup). earliest_of (moments_of e)) parts ∙ c.earliest_moment-due.ensures.earliest in
+    let due = due-of-parts number x.address c.head.result c.args.schedule c.row.result.now c.args.group.now.state c.earliest_moment-due.result c.row.ensures.timers c.head.ensures c.earliest_moment-due.ensures.earliest in
     let stored = IsStored-set number items rows deadlines c.self.inside.scheduled known c.args.place x c.index-before.result.now c.row.result.now c.earliest_moment-due.result within c.index-before.ensures refl c.row.ensures.ascending due in
     let few = schedules_fit number (set items c.args.place x) (set rows c.args.place c.row.result.now) (set deadlines c.args.place c.earliest_moment-due.result) _ stored in
     omega (arith, few, length-set items c.args.place x, c.self.invariant.3, c.self.invariant.5, c.count_schedules.ensures, c.count_schedules-2.ensures)
