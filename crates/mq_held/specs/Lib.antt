@@ -1,0 +1,5 @@
+pub mod Groups
+pub mod Moments
+pub mod Places
+pub mod Held
+pub mod Stored

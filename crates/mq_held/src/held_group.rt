@@ -1,0 +1,60 @@
+//! A look at one held group.
+
+ghost use Rattle.std.specs.Prelude.{◌≡◌, length};
+ghost use Rattle.std.specs.FinMap as map;
+ghost use Rattle.mq_count.specs.Spending.{Spends};
+ghost use Rattle.mq_sets.specs.Ascending.{IsAscending};
+ghost use Rattle.mq_sets.specs.Search.{bitlen};
+ghost use Rattle.mq_table.specs.Group.{GroupState, forwards_in};
+ghost use Rattle.mq_table.specs.Stored.{number_in, timers_in};
+
+use mq_count::{Key, Meter, Moment};
+use mq_sched::Schedule;
+use mq_sets::find;
+use mq_table::{FilterMode, Source, SourceTimer};
+
+/// A held group, as it stands in the storage.
+pub struct HeldGroup<'a, K: Key> {
+    /// The group's address.
+    pub address: K,
+    /// The filter mode, in EXCLUDE with the deadline of the group timer.
+    pub mode: FilterMode,
+    /// The sources with their timers, ascending.
+    pub sources: &'a [Source<K>],
+    /// Up to when a host of version 1 is taken to be there.
+    pub v1: Option<Moment>,
+    /// Up to when a host of version 2 is taken to be there. MLD has none.
+    pub v2: Option<Moment>,
+    /// What is to go for the group.
+    pub schedule: Schedule,
+}
+
+impl<'a, K: Key> HeldGroup<'a, K> {
+    /// Whether what this source sends to the group is forwarded, as of the last moment that the
+    /// group was told (RFC 3376 section 6.3, RFC 3810 section 7.3). At most one comparison for each
+    /// binary digit of how many sources there are.
+    pub fn forwards(&self, source: K, m: &mut Meter) -> bool
+        requires ascending { IsAscending (number_in K.number) self.now.sources.now }
+        ensures answer { let g : GroupState = record { mode = self.now.mode; sources = timers_in K.number self.now.sources.now; v1 = self.now.v1; v2 = self.now.v2 } in
+            result ≡ forwards_in g (K.number source) }
+        ensures spent { Spends 0 (bitlen (length self.now.sources.now)) m.old m.new }
+    {
+        let timer = timer_of(self.sources, source, m);
+        match self.mode {
+            FilterMode::Include => matches!(timer, Some(SourceTimer::Running(_, _))),
+            FilterMode::Exclude(_) => !matches!(timer, Some(SourceTimer::Stopped)),
+        }
+    }
+}
+
+/// The timer of a source among ascending sources, or None where it isn't there.
+fn timer_of<K: Key>(sources: &[Source<K>], source: K, m: &mut Meter) -> Option<SourceTimer>
+    requires ascending { IsAscending (number_in K.number) sources.now }
+    ensures timer { result ≡ map.get (timers_in K.number sources.now) (K.number source) }
+    ensures spent { Spends 0 (bitlen (length sources.now)) m.old m.new }
+{
+    match find(sources, source, m) {
+        Ok(place) => Some(sources[place].timer),
+        Err(_) => None,
+    }
+}
