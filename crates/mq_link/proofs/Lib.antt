@@ -25,3 +25,5 @@ pub mod Alike
 pub mod AlikeGroups
 pub mod AlikeLinks
 pub mod SeveralMessages
+pub mod Octets
+pub mod Numbered

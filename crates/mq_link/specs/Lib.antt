@@ -13,3 +13,5 @@ pub mod Cost
 pub mod Laws
 pub mod Examples
 pub mod ManySources
+pub mod Reading
+pub mod Defaults

@@ -9,7 +9,11 @@
 
 pub mod answers;
 pub mod configuration;
+pub mod dropping;
 pub mod examples;
+pub mod family;
+pub mod igmp;
+pub mod mld;
 pub mod laws;
 
 pub use answers::{DropReason, MessageKind, Received, Refusal};
