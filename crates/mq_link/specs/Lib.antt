@@ -15,3 +15,4 @@ pub mod Examples
 pub mod ManySources
 pub mod Reading
 pub mod Defaults
+pub mod Configured

@@ -8,6 +8,7 @@
 #![tactic(auto)]
 
 pub mod answers;
+pub mod config;
 pub mod configuration;
 pub mod dropping;
 pub mod examples;
