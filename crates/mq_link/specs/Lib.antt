@@ -16,3 +16,4 @@ pub mod ManySources
 pub mod Reading
 pub mod Defaults
 pub mod Configured
+pub mod Handing

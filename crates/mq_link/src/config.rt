@@ -15,12 +15,15 @@ use std::marker::Model;
 #[derive(Drop)]
 pub struct Config<F: Family> {
     timing: Timing,
+    response_interval: u32,
+    last_member_interval: u32,
     limits: Limits,
     own: F::Address,
     source_specific: bool,
 }
 
 impl<F: Family> Model for Config<F> {
+    ghost use Rattle.std.specs.Prelude.{◌≡◌};
     ghost use Rattle.mq_link.specs.Configuration.{Configuration, IsFaultless};
     ghost use Rattle.mq_link.specs.Configured.{configured};
 
@@ -28,7 +31,8 @@ impl<F: Family> Model for Config<F> {
 
     ghost view = { λ c. configured F.FAMILY c.timing c.limits (F.Address.number c.own) c.source_specific };
 
-    ghost invariant = { λ c. IsFaultless (configured F.FAMILY c.timing c.limits (F.Address.number c.own) c.source_specific) };
+    ghost invariant = { λ c. IsFaultless (configured F.FAMILY c.timing c.limits (F.Address.number c.own) c.source_specific)
+        × (c.response_interval ≡ c.timing.response_interval) × (c.last_member_interval ≡ c.timing.last_member_interval) };
 }
 
 impl<F: Family> Config<F> {
@@ -69,6 +73,8 @@ impl<F: Family> Config<F> {
         match timing {
             Some(timing) => Ok(Config {
                 timing,
+                response_interval,
+                last_member_interval,
                 limits,
                 own,
                 source_specific,
@@ -90,6 +96,20 @@ impl<F: Family> Config<F> {
         ensures { result ≡ self.now.timing }
     {
         self.timing
+    }
+
+    /// The Query Response Interval in milliseconds (RFC 3376 section 8.3, RFC 3810 section 9.3).
+    pub fn response_interval(&self) -> u32
+        ensures { result ≡ self.now.timing.response_interval }
+    {
+        self.response_interval
+    }
+
+    /// The Last Member (Last Listener) Query Interval in milliseconds (RFC 3376 section 8.8, RFC 3810 section 9.8).
+    pub fn last_member_interval(&self) -> u32
+        ensures { result ≡ self.now.timing.last_member_interval }
+    {
+        self.last_member_interval
     }
 
     /// How much the link may hold.

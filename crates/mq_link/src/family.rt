@@ -86,6 +86,10 @@ pub trait Family {
     fn is_same(a: Self::Address, b: Self::Address) -> bool
         ensures { result ≡ (Self.Address.number a == Self.Address.number b) };
 
+    /// The unspecified address, all of whose octets are 0.
+    fn unspecified() -> Self::Address
+        ensures { Self.Address.number result ≡ 0 };
+
     /// Where general queries go: 224.0.0.1 or ff02::1 (RFC 3376 section 4.1.12, RFC 3810 section 5.1.15).
     fn general_destination() -> Self::Address
         ensures { Self.Address.number result ≡ family.general_destination FAMILY };

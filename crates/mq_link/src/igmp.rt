@@ -98,6 +98,10 @@ impl Family for Igmp {
         number_of(a) == number_of(b)
     }
 
+    fn unspecified() -> Addr4 {
+        Addr4::default()
+    }
+
     fn general_destination() -> Addr4 {
         Addr4::from_octets(ALL_SYSTEMS)
     }

@@ -15,6 +15,8 @@ pub mod examples;
 pub mod family;
 pub mod igmp;
 pub mod mld;
+pub mod outlet;
+mod sending;
 pub mod laws;
 
 pub use answers::{DropReason, MessageKind, Received, Refusal};

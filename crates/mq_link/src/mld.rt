@@ -111,6 +111,10 @@ impl Family for Mld {
         number_of(a) == number_of(b)
     }
 
+    fn unspecified() -> Addr6 {
+        Addr6::default()
+    }
+
     fn general_destination() -> Addr6 {
         Addr6::from_octets(ALL_NODES)
     }
