@@ -27,3 +27,5 @@ pub mod AlikeLinks
 pub mod SeveralMessages
 pub mod Octets
 pub mod Numbered
+pub mod Lengths
+pub mod HandedOver

@@ -1,5 +1,6 @@
 -- What is handed to an outlet.
-use Rattle.std.specs.Prelude.{◌≡◌, ℕ, ◌<◌, ◌≤◌, ◌==◌, Bool, true, false, not, if◌then◌else◌, List, [], ◌∷◌, length}
+use Rattle.std.specs.Prelude.{◌≡◌, ℕ, ◌<◌, ◌≤◌, ◌==◌, Bool, not, if◌then◌else◌, List, [], ◌∷◌, length, map as list_map}
+use Rattle.std.specs.List.{count_by}
 use Rattle.mq_count.specs.Streams.{counted_on}
 use Rattle.mq_wire.specs.Canon.{canon}
 use Rattle.mq_wire.specs.Family.{Family}
@@ -18,19 +19,18 @@ HandsOver takes old (message ∷ messages) [] new = ⊥
 HandsOver {O = O} takes old (message ∷ messages) (answer ∷ answers) new =
     (between : O) × takes old message.to message.bytes answer between × HandsOver takes between messages answers new
 
--- What all queries of a router have in common: the family, its own address and the timing in force.
+-- What all queries of a router have in common: its own address and the timing in force.
 pub record Terms : Type 0 where
-  pub family : Family
   pub own : ℕ
   pub timing : Timing
 
 -- a query as the outlet gets it
-abbrev pub outgoing_on : Terms → SentQuery → Outgoing
-outgoing_on terms query =
+abbrev pub outgoing_on : Family → Terms → SentQuery → Outgoing
+outgoing_on family terms query =
     let fields = fields_sent terms.timing query in
     record {
-      to = if fields.group == 0 then general_destination terms.family else fields.group;
-      bytes = canon terms.family terms.own fields;
+      to = if fields.group == 0 then general_destination family else fields.group;
+      bytes = canon family terms.own fields;
     }
 
 -- how many sources a query names
@@ -51,9 +51,15 @@ pub record Tally (O : Type 0) : Type 0 where
 
 -- What one query makes of it: it is handed over and the answer is counted, where one message holds it; any other isn't
 -- handed over, and nothing differs.
-pub record HandsOne {O : Type 0} (takes : O → ℕ → List ℕ → Bool → O → Type 0) (terms : Terms) (old : Tally O) (query : SentQuery) (new : Tally O) : Type 0 where
-  pub handed : FitsOne terms.family query
-      → (answer : Bool) × takes old.outlet (outgoing_on terms query).to (outgoing_on terms query).bytes answer new.outlet
+pub record HandsOne {O : Type 0} (takes : O → ℕ → List ℕ → Bool → O → Type 0) (family : Family) (terms : Terms) (query : SentQuery) (old new : Tally O) : Type 0 where
+  pub handed : FitsOne family query
+      → (answer : Bool) × takes old.outlet (outgoing_on family terms query).to (outgoing_on family terms query).bytes answer new.outlet
       × (new.sent ≡ counted_on old.sent (one_if answer)) × (new.unsent ≡ counted_on old.unsent (one_if (not answer)))
-  pub kept : per_query terms.family < named_in query
-      → (new.outlet ≡ old.outlet) × (new.sent ≡ old.sent) × (new.unsent ≡ old.unsent)
+  pub kept : per_query family < named_in query → new ≡ old
+
+-- What some queries make of it: they are handed over in their order, on the same terms, and all answers are counted.
+pub record HandsAll {O : Type 0} (takes : O → ℕ → List ℕ → Bool → O → Type 0) (family : Family) (terms : Terms) (queries : List SentQuery) (old new : Tally O) : Type 0 where
+  pub answers : List Bool
+  pub handed : HandsOver takes old.outlet (list_map (outgoing_on family terms) queries) answers new.outlet
+  pub sent : new.sent ≡ counted_on old.sent (count_by (λ b. b) answers)
+  pub unsent : new.unsent ≡ counted_on old.unsent (count_by not answers)

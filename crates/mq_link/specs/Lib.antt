@@ -17,3 +17,4 @@ pub mod Reading
 pub mod Defaults
 pub mod Configured
 pub mod Handing
+pub mod Sender

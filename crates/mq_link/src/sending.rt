@@ -1,11 +1,12 @@
 //! What lies between the schedules of queries and the outlet.
 
-ghost use Rattle.std.specs.Prelude.{◌≡◌, ◌≤◌, ◌==◌, ◌<◌, ℕ, false, [], not, if◌then◌else◌, length, take, map};
+ghost use Rattle.std.specs.Prelude.{◌≡◌, ◌≤◌, ◌==◌, ◌<◌, ◌↔◌, IsTrue, ℕ, false, [], not, if◌then◌else◌, length, take, map};
 ghost use Rattle.mq_count.specs.Streams.{counted_on};
 ghost use Rattle.mq_wire.specs.Numbered.{numbered_query};
 ghost use Rattle.mq_sched.specs.Sink.{query_of};
 ghost use Rattle.mq_link.specs.Family as family;
-ghost use Rattle.mq_link.specs.Handing.{outgoing_on, FitsOne, HandsOne};
+ghost use Rattle.mq_link.specs.Handing.{outgoing_on, FitsOne};
+ghost use Rattle.mq_link.specs.Sender.{TakesQuery};
 ghost use Rattle.mq_link.specs.Sent as spec;
 ghost use Rattle.mq_link.specs.State.{one_if};
 
@@ -35,7 +36,7 @@ impl<F: Family> Model for QueryTerms<F> {
 
     ghost Value = { Terms };
 
-    ghost view = { λ t. record { family = F.FAMILY; own = F.Address.number t.own; timing = t.timing } };
+    ghost view = { λ t. record { own = F.Address.number t.own; timing = t.timing } };
 
     ghost invariant = { λ t. (t.response ≡ t.timing.response_interval) × (t.last_member ≡ t.timing.last_member_interval) };
 }
@@ -46,7 +47,7 @@ impl<F: Family> QueryTerms<F> {
     pub(crate) fn new(config: &Config<F>, timing: Timing) -> QueryTerms<F>
         requires response { timing.response_interval ≡ config.now.timing.response_interval }
         requires last_member { timing.last_member_interval ≡ config.now.timing.last_member_interval }
-        ensures { result ≡ record { family = F.FAMILY; own = config.now.own; timing = timing } }
+        ensures { result ≡ record { own = config.now.own; timing = timing } }
     {
         QueryTerms {
             own: config.own(),
@@ -94,6 +95,23 @@ impl<F: Family> QueryTerms<F> {
             }
         }
     }
+
+    /// Writes a query that one message holds to the front, and answers where it goes and how many bytes it has.
+    fn write(&self, query: QueryParts<'_, F::Address>, room: &mut [u8]) -> (F::Address, usize)
+        requires fits { FitsOne F.FAMILY (query_of F.Address.number query) }
+        requires room { length room.old ≡ 1476 }
+        ensures to { F.Address.number result.0
+            ≡ (outgoing_on F.FAMILY self.now (query_of F.Address.number query.entry)).to }
+        ensures within { result.1 ≤ 1476 }
+        ensures bytes { take result.1 room.new
+            ≡ (outgoing_on F.FAMILY self.now (query_of F.Address.number query.entry)).bytes }
+    {
+        let fields = self.fields(query);
+        match F::write(self.own, &fields, room) {
+            Ok(length) => (destination::<F>(fields.group), length),
+            Err(_) => unreachable!(),
+        }
+    }
 }
 
 /// Where a query for a group goes: a general one, for group zero, to all hosts.
@@ -105,5 +123,88 @@ fn destination<F: Family>(group: F::Address) -> F::Address
         F::general_destination()
     } else {
         group
+    }
+}
+
+/// How many sources one message holds, or fewer, of the sources of a query.
+fn fits_one<F: Family>(query: &QueryParts<'_, F::Address>) -> bool
+    ensures { IsTrue result ↔ FitsOne F.FAMILY (query_of F.Address.number query.now) }
+{
+    match query {
+        QueryParts::Sources { sources, .. } => sources.len() <= F::Address::PER_QUERY,
+        _ => true,
+    }
+}
+
+/// Hands queries to an outlet on the terms of a router, and counts its answers, each up to the greatest number.
+#[derive(Drop)]
+pub(crate) struct Sender<'a, F: Family, O> {
+    terms: QueryTerms<F>,
+    outlet: &'a mut O,
+    sent: u64,
+    unsent: u64,
+}
+
+impl<'a, F: Family, O: Outlet<F::Address>> Sender<'a, F, O> {
+    /// One that has handed over nothing.
+    pub(crate) fn new(terms: QueryTerms<F>, outlet: &'a mut O) -> Sender<'a, F, O>
+        ensures terms { result.terms ≡ terms }
+        ensures same_outlet { result.outlet.ghost_name ≡ outlet.entry.ghost_name }
+        ensures outlet { result.outlet.now ≡ outlet.old }
+        ensures sent { result.sent ≡ 0 }
+        ensures unsent { result.unsent ≡ 0 }
+    {
+        Sender {
+            terms,
+            outlet,
+            sent: 0,
+            unsent: 0,
+        }
+    }
+
+    /// How many queries were sent so far.
+    pub(crate) fn sent(&self) -> u64
+        ensures { result ≡ self.now.sent }
+    {
+        self.sent
+    }
+
+    /// How many were not.
+    pub(crate) fn unsent(&self) -> u64
+        ensures { result ≡ self.now.unsent }
+    {
+        self.unsent
+    }
+
+    /// Hands over one datagram, and counts the answer.
+    fn hand_over(&mut self, to: F::Address, bytes: &[u8]) -> bool
+        ensures terms { self.new.terms ≡ self.old.terms }
+        ensures same_outlet { self.new.outlet.ghost_name ≡ self.old.outlet.ghost_name }
+        ensures takes { O.takes self.old.outlet.now (F.Address.number to) bytes.now result self.new.outlet.now }
+        ensures sent { self.new.sent ≡ counted_on self.old.sent (one_if result) }
+        ensures unsent { self.new.unsent ≡ counted_on self.old.unsent (one_if (not result)) }
+    {
+        let answer = self.outlet.datagram(to, bytes);
+        if answer {
+            self.sent = self.sent.saturating_add(1);
+        } else {
+            self.unsent = self.unsent.saturating_add(1);
+        }
+        answer
+    }
+}
+
+impl<'a, F: Family, O: Outlet<F::Address>> Sink<F::Address> for Sender<'a, F, O> {
+    ghost takes = { TakesQuery O.takes F.FAMILY };
+
+    fn send(&mut self, query: QueryParts<'_, F::Address>) -> bool
+        ensures { TakesQuery O.takes F.FAMILY self.old (query_of F.Address.number query.entry) self.new }
+    {
+        if !fits_one::<F>(&query) {
+            return false;
+        }
+        let mut room = [0; LONGEST];
+        let (to, length) = self.terms.write(query, &mut room);
+        self.hand_over(to, &room[..length])
     }
 }
