@@ -29,3 +29,5 @@ pub mod Octets
 pub mod Numbered
 pub mod Lengths
 pub mod HandedOver
+pub mod AllFits
+pub mod Intervals

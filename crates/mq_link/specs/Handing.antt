@@ -24,6 +24,11 @@ pub record Terms : Type 0 where
   pub own : ℕ
   pub timing : Timing
 
+-- the intervals of a timing that is in force are those of the configured one: no query carries them
+pub record KeepsIntervals (configured timing : Timing) : Type 0 where
+  pub response : timing.response_interval ≡ configured.response_interval
+  pub last_member : timing.last_member_interval ≡ configured.last_member_interval
+
 -- a query as the outlet gets it
 abbrev pub outgoing_on : Family → Terms → SentQuery → Outgoing
 outgoing_on family terms query =

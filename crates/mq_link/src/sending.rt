@@ -5,7 +5,7 @@ ghost use Rattle.mq_count.specs.Streams.{counted_on};
 ghost use Rattle.mq_wire.specs.Numbered.{numbered_query};
 ghost use Rattle.mq_sched.specs.Sink.{query_of};
 ghost use Rattle.mq_link.specs.Family as family;
-ghost use Rattle.mq_link.specs.Handing.{outgoing_on, FitsOne};
+ghost use Rattle.mq_link.specs.Handing.{outgoing_on, FitsOne, KeepsIntervals};
 ghost use Rattle.mq_link.specs.Sender.{TakesQuery};
 ghost use Rattle.mq_link.specs.Sent as spec;
 ghost use Rattle.mq_link.specs.State.{one_if};
@@ -45,8 +45,7 @@ impl<F: Family> QueryTerms<F> {
     /// The terms of a router so configured where this timing is in force. Its response interval and its last member
     /// interval are always the configured ones.
     pub(crate) fn new(config: &Config<F>, timing: Timing) -> QueryTerms<F>
-        requires response { timing.response_interval ≡ config.now.timing.response_interval }
-        requires last_member { timing.last_member_interval ≡ config.now.timing.last_member_interval }
+        requires { KeepsIntervals config.now.timing timing }
         ensures { result ≡ record { own = config.now.own; timing = timing } }
     {
         QueryTerms {
