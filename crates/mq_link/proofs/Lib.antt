@@ -30,3 +30,9 @@ pub mod MadeEntries
 pub mod LoweredSoFar
 pub mod DoneEntries
 pub mod TickedEntries
+pub mod Octets
+pub mod Numbered
+pub mod Lengths
+pub mod HandedOver
+pub mod AllFits
+pub mod Intervals

@@ -1,5 +1,7 @@
 //! What a link is configured with.
 
+ghost use Rattle.std.specs.Prelude.{◌≡◌};
+
 /// How much a link may hold at most.
 #[derive(Clone, Copy, Debug, PartialEq, Eq)]
 pub struct Limits {
@@ -12,6 +14,48 @@ pub struct Limits {
     /// How many schedules of specific queries there may be, from 1 to 65535. A group has two at most: one
     /// for itself, and one for its sources.
     pub scheduled: u32,
+}
+
+/// What a link is configured with by default: the variables of RFC 3376 section 8 and RFC 3810 section 9, and the
+/// limits.
+#[derive(Clone, Copy, Debug, PartialEq, Eq)]
+pub struct Defaults {
+    /// The Robustness Variable.
+    pub robustness: u32,
+    /// The Query Interval in seconds.
+    pub query_seconds: u32,
+    /// The Query Response Interval in milliseconds.
+    pub response_interval: u32,
+    /// The Last Member (Last Listener) Query Interval in milliseconds.
+    pub last_member_interval: u32,
+    /// How much the link may hold.
+    pub limits: Limits,
+}
+
+impl Defaults {
+    /// The defaults where a group may have so many sources.
+    pub(crate) const fn with_group_sources(group_sources: u32) -> Defaults
+        ensures { result ≡ record {
+            robustness = 2;
+            query_seconds = 125;
+            response_interval = 10000;
+            last_member_interval = 1000;
+            limits = record { groups = 1024; group_sources = group_sources; sources = 16384; scheduled = 256 };
+        } }
+    {
+        Defaults {
+            robustness: 2,
+            query_seconds: 125,
+            response_interval: 10000,
+            last_member_interval: 1000,
+            limits: Limits {
+                groups: 1024,
+                group_sources,
+                sources: 16384,
+                scheduled: 256,
+            },
+        }
+    }
 }
 
 /// The name of a limit.

@@ -10,12 +10,19 @@
 pub mod answers;
 mod asking;
 mod changing;
+pub mod config;
 pub mod configuration;
+pub mod dropping;
 pub mod examples;
+pub mod family;
+pub mod igmp;
 pub mod laws;
 mod limiting;
 mod lowering;
+pub mod mld;
 mod naming;
+pub mod outlet;
+mod sending;
 mod serving;
 mod statements;
 

@@ -1,0 +1,15 @@
+-- What a link is configured with by default.
+use Rattle.mq_wire.specs.Family.{Family, Igmp, Mld}
+use Rattle.mq_link.specs.declared.configuration.Defaults.{Defaults}
+use Rattle.mq_link.specs.Family.{per_query}
+
+-- The variables have the defaults of RFC 3376 section 8 and RFC 3810 section 9, and a group may have as many sources as
+-- one query holds.
+abbrev pub defaults_of : Family → Defaults
+defaults_of family = record {
+  robustness = 2;
+  query_seconds = 125;
+  response_interval = 10000;
+  last_member_interval = 1000;
+  limits = record { groups = 1024; group_sources = per_query family; sources = 16384; scheduled = 256 };
+}
