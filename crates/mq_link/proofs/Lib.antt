@@ -36,3 +36,4 @@ pub mod Lengths
 pub mod HandedOver
 pub mod AllFits
 pub mod Intervals
+pub mod KeptGroups

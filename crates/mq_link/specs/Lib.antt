@@ -15,6 +15,7 @@ pub mod Examples
 pub mod ManySources
 pub mod Changing
 pub mod Judging
+pub mod Scratch
 pub mod Reading
 pub mod Defaults
 pub mod Configured

@@ -22,9 +22,11 @@ mod lowering;
 pub mod mld;
 mod naming;
 pub mod outlet;
+mod scratch;
 mod sending;
 mod serving;
 mod statements;
+mod storing;
 
 pub use answers::{DropReason, MessageKind, Received, Refusal};
 pub use configuration::{ConfigFault, LimitName, Limits};
