@@ -5,3 +5,5 @@ pub mod HeldMoments
 pub mod StoredGroups
 pub mod StoredEdits
 pub mod Inside
+pub mod Places
+pub mod Amounts

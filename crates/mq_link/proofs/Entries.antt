@@ -5,32 +5,18 @@ use lib.Dec.{T}
 use Rattle.std.specs.List.{sum_by}
 use Rattle.std.proofs.lemmas.List.Sums.{sum_by-cons}
 use Rattle.std.specs.Option.{option_and_then}
-use Rattle.std.specs.Ordering.{nat_cmp, eq_by_cmp, is_lt, is_eq}
-use Rattle.std.specs.declared.cmp.Ordering.{Ordering}
-use Rattle.std.specs.declared.cmp.Ordering.TheVariants.{Less, Equal, Greater}
+use Rattle.std.specs.Ordering.{nat_cmp, eq_by_cmp, is_lt}
 use Rattle.std.specs.Cmp.{nat_cmp_total}
-use Rattle.std.proofs.lemmas.Bool.Decides.{nat_tests}
 use Rattle.std.specs.FinMap as map
 use Rattle.std.specs.FinMap.{FinMap, find, is_sorted, nat_cmp-IsAntisymmetric}
 use Rattle.std.specs.FinMap.Entries.{below_all, same_entries}
+use Rattle.mq_held.proofs.Sorted.{both, first, second, find_below, tied}
 use Rattle.mq_table.specs.Maps.{with_entry, kept}
 use Rattle.mq_table.proofs.Maps.{get-kept}
 
 abbrev pub filtered : {X : Type 0} → (ℕ → X → Option X) → List (ℕ × X) → List (ℕ × X)
 filtered f [] = []
 filtered f (e ∷ es) = with_entry e.0 (f e.0 e.1) (filtered f es)
-
-pub both : (a b : Bool) → T a → T b → T (a && b)
-both true b p q = q
-both false b p q = p
-
-pub first : (a b : Bool) → T (a && b) → T a
-first true b p = tt
-first false b p = p
-
-pub second : (a b : Bool) → T (a && b) → T b
-second true b p = p
-second false b p = absurd p
 
 below-entry : {X : Type 0} (x k : ℕ) (y : Option X) (es : List (ℕ × X)) → T (is_lt (nat_cmp x k)) → T (below_all nat_cmp x es) → T (below_all nat_cmp x (with_entry k y es))
 below-entry x k None es here rest = rest
@@ -47,18 +33,6 @@ sorted-entry k (Some y) es here rest = both (below_all nat_cmp k es) (is_sorted 
 sorted-filtered : {X : Type 0} (f : ℕ → X → Option X) (es : List (ℕ × X)) → T (is_sorted nat_cmp es) → T (is_sorted nat_cmp (filtered f es))
 sorted-filtered f [] h = tt
 sorted-filtered f (e ∷ es) h = sorted-entry e.0 (f e.0 e.1) (filtered f es) (below-filtered e.0 f es (first (below_all nat_cmp e.0 es) (is_sorted nat_cmp es) h)) (sorted-filtered f es (second (below_all nat_cmp e.0 es) (is_sorted nat_cmp es) h))
-
-apart : (o : Ordering) → T (is_lt o) → is_eq o ≡ false
-apart Less h = refl
-apart Equal h = absurd h
-apart Greater h = absurd h
-
-pub find_below : {X : Type 0} (q : ℕ) (es : List (ℕ × X)) → T (below_all nat_cmp q es) → find nat_cmp q es ≡ None
-find_below q [] h = refl
-find_below q (e ∷ es) h = ap (λ b. cond b (Some e.1) (find nat_cmp q es)) (apart (nat_cmp q e.0) (first (is_lt (nat_cmp q e.0)) (below_all nat_cmp q es) h)) ∙ find_below q es (second (is_lt (nat_cmp q e.0)) (below_all nat_cmp q es) h)
-
-pub tied : (q k : ℕ) → eq_by_cmp nat_cmp q k ≡ true → q ≡ k
-tied q k e = grind (arith, nat_tests)
 
 find-entry : {X : Type 0} (f : ℕ → X → Option X) (e : ℕ × X) (es fs : List (ℕ × X)) (q : ℕ) → T (below_all nat_cmp e.0 es) → find nat_cmp q fs ≡ option_and_then (f q) (find nat_cmp q es) → (y : Option X) (b : Bool) → f e.0 e.1 ≡ y → eq_by_cmp nat_cmp q e.0 ≡ b → find nat_cmp q (with_entry e.0 y fs) ≡ option_and_then (f q) (cond b (Some e.1) (find nat_cmp q es))
 find-entry f e es fs q below rest None true is same =

@@ -24,7 +24,7 @@ use Rattle.mq_link.specs.Receive.{Envelope}
 use Rattle.mq_link.specs.Sent.{outgoing}
 use Rattle.mq_link.specs.Examples.{ListedLink, listed, listed_due, early, after, querier, saying, as_groups}
 use Rattle.mq_link.specs.ManySources.{sources_from, each_as, having_sent, lengths_of, sent_then, HandsAll, TicksSending, Reports}
-use Rattle.mq_link.proofs.Entries.{both}
+use Rattle.mq_held.proofs.Sorted.{both}
 use Rattle.mq_link.proofs.KnownLinks.{KnownStep, as_step, tick-known}
 use Rattle.mq_link.proofs.KnownReceipts.{as_receipt, receipt-known}
 use Rattle.mq_link.proofs.Alike.{Ascend}

@@ -32,7 +32,7 @@ use Rattle.mq_link.specs.Tick.{Step, groups_expired, queries_due, tick_at}
 use Rattle.mq_link.specs.Record.{Statement, RecordOf, OlderJoin, OlderLeave, limit_passed, Setting, leaving, unless_passed, changed_by, after_sending, sent_at_once, changed_or_refused, change_in, stated, Seen, Entrance, Stops, GoesOn, entrance, is_repeated, seen_after, judged_from, judged, all_judged}
 use Rattle.mq_link.specs.Heard.{election_after}
 use Rattle.mq_link.specs.Receive.{Envelope, setting_of, taken_in, taken_or_dropped, counting_read}
-use Rattle.mq_link.proofs.Entries.{find_below, first, second, tied}
+use Rattle.mq_held.proofs.Sorted.{find_below, first, second, tied}
 use Rattle.mq_link.proofs.HeldAs.{All, settled_silent}
 use Rattle.mq_link.proofs.Ticked.{was_other, ticked_role, silent-groups_expired}
 use Rattle.mq_link.proofs.Recorded.{AreSound, judged_leaves}

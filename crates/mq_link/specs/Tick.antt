@@ -1,16 +1,16 @@
 -- What a moment does to a link: timers end, the election may have something to do, and queries are sent that are due
 -- (RFC 3376 sections 6.5, 6.6.2 and 6.6.3, RFC 3810 sections 7.5, 7.6.2 and 7.6.3).
-use Rattle.std.specs.Prelude.{ℕ, min, max, if◌then◌else◌, List, [], ◌∷◌, ◌++◌, Option, None, Some}
-use Rattle.std.specs.Option.{option_to_list}
+use Rattle.std.specs.Prelude.{ℕ, max, if◌then◌else◌, List, ◌++◌, Option, None, Some}
 use Rattle.std.specs.List.{flat_map}
 use Rattle.std.specs.FinMap as map
 use Rattle.mq_table.specs.declared.timing.Timing.{Timing}
 use Rattle.mq_table.specs.Maps.{kept}
-use Rattle.mq_table.specs.Group.{is_vacant, group_deadline, deadline_of}
+use Rattle.mq_table.specs.Group.{is_vacant}
 use Rattle.mq_table.specs.Expiry.{expired}
 use Rattle.mq_sched.specs.Schedule.{ScheduledGroup, settled}
-use Rattle.mq_sched.specs.Sending.{SentQuery, group_due, messages_due, after_round}
+use Rattle.mq_sched.specs.Sending.{SentQuery, messages_due, after_round}
 use Rattle.mq_sched.specs.Election.{ticked, general_messages, next_moment}
+pub use Rattle.mq_held.specs.Moments.{those_of, moments_of, moments_in, least}
 use Rattle.mq_wire.specs.Family.{Family}
 use Rattle.mq_link.specs.Family.{per_query}
 use Rattle.mq_link.specs.Configuration.{Configuration}
@@ -67,24 +67,6 @@ tick_at config moment state =
 
 abbrev pub tick_of : Configuration → (now : ℕ) → LinkState → Step
 tick_of config now state = tick_at config (moment_of state now) state
-
--- the moments that there are
-abbrev pub those_of : List (Option ℕ) → List ℕ
-those_of moments = flat_map option_to_list moments
-
--- the deadlines and due moments of a group
-abbrev pub moments_of : ScheduledGroup → List ℕ
-moments_of e =
-    let g = e.group in
-    those_of (group_deadline g.mode ∷ g.v1 ∷ g.v2 ∷ group_due e.schedule.group_query ∷ e.schedule.sources_due ∷ [])
-    ++ flat_map (λ timer. option_to_list (deadline_of (Some timer))) (map.values g.sources)
-
-abbrev pub moments_in : Groups → List ℕ
-moments_in groups = flat_map moments_of (map.values groups)
-
-abbrev pub least : ℕ → List ℕ → ℕ
-least n [] = n
-least n (m ∷ ms) = min m (least n ms)
 
 -- when a tick has something to do next: the earliest of all deadlines and due moments
 abbrev pub next_of : LinkState → ℕ
