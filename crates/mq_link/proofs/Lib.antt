@@ -31,3 +31,4 @@ pub mod Lengths
 pub mod HandedOver
 pub mod AllFits
 pub mod Intervals
+pub mod CountedRows

@@ -10,6 +10,7 @@
 pub mod answers;
 pub mod config;
 pub mod configuration;
+pub mod counts;
 pub mod dropping;
 pub mod examples;
 pub mod family;
