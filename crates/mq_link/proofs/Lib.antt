@@ -37,3 +37,4 @@ pub mod HandedOver
 pub mod AllFits
 pub mod Intervals
 pub mod KeptGroups
+pub mod CountedRows

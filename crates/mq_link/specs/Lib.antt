@@ -21,3 +21,4 @@ pub mod Defaults
 pub mod Configured
 pub mod Handing
 pub mod Sender
+pub mod Counted

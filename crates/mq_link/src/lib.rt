@@ -12,6 +12,7 @@ mod asking;
 mod changing;
 pub mod config;
 pub mod configuration;
+pub mod counts;
 pub mod dropping;
 pub mod examples;
 pub mod family;
