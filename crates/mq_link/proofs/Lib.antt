@@ -38,3 +38,4 @@ pub mod AllFits
 pub mod Intervals
 pub mod KeptGroups
 pub mod CountedRows
+pub mod WithGroup

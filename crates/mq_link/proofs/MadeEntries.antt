@@ -1,5 +1,5 @@
 -- Maps in which each value is replaced and none is left out.
-use Rattle.std.proofs.Common.{◌≡◌, ℕ, ◌-◌, ◌+◌, Bool, true, false, cond, is_some, List, [], ◌∷◌, length, refl, sym, ap, ◌∙◌, Option, None, Some, ltb, arith}
+use Rattle.std.proofs.Common.{◌≡◌, ℕ, ◌-◌, ◌+◌, Bool, true, false, cond, is_some, List, [], ◌∷◌, length, refl, sym, ap, ◌∙◌, Option, None, Some, ltb, eqb, ◌&&◌, arith}
 use Rattle.std.proofs.lemmas.Bool.Decides.{nat_tests}
 use Rattle.std.specs.Prelude.{map as list_map}
 use Rattle.std.specs.Option.{option_and_then}
@@ -11,13 +11,14 @@ use Rattle.mq_table.specs.declared.sources.Source.{Source}
 use Rattle.mq_table.specs.Maps.{kept}
 use Rattle.mq_table.specs.declared.timers.SourceTimer.{SourceTimer}
 use Rattle.mq_table.specs.declared.timers.SourceTimer.TheVariants.{Stopped, Running}
-use Rattle.mq_table.specs.Group.{GroupState, sendings_of}
+use Rattle.mq_table.specs.Group.{GroupState, is_vacant, is_include, sendings_of}
 use Rattle.mq_table.specs.Sendings.{some_source, has_sendings, source_counted, sendings_counted}
 use Rattle.mq_table.specs.Stored.{number_in, timers_in, size_of}
 use Rattle.mq_table.proofs.Maps.{get-kept}
 use Rattle.mq_table.proofs.Rows.{any_in_row}
 use Rattle.mq_table.specs.declared.timing.Timing.{Timing}
-use Rattle.mq_sched.specs.Sending.{is_due, sources_due_next}
+use Rattle.mq_sched.specs.Schedule.{ScheduledGroup}
+use Rattle.mq_sched.specs.Sending.{is_due, sources_due_next, after_round}
 use Rattle.mq_sets.specs.Ascending.{IsAscending}
 use Rattle.mq_link.proofs.Entries.{filtered, entries-kept}
 
@@ -70,3 +71,18 @@ due_again timing now g due some is same =
     by_some : (b : Bool) → b ≡ is_some (cond b (Some (now + timing.last_member_interval)) None)
     by_some true = refl
     by_some false = refl
+
+-- a round leaves a group as many sources as it has, and its mode
+pub round_keeps_size : (timing : Timing) (now : ℕ) (e : ScheduledGroup) → size_of (after_round timing now e).group ≡ size_of e.group
+round_keeps_size timing now e = by_due (is_due now e.schedule.sources_due)
+  where
+    by_due : (b : Bool) → size_of (cond b (sendings_counted e.group) e.group) ≡ size_of e.group
+    by_due true = len-made (λ s timer. source_counted timer) e.group.sources
+    by_due false = refl
+
+pub round_keeps_vacant : (timing : Timing) (now : ℕ) (e : ScheduledGroup) → is_vacant (after_round timing now e).group ≡ is_vacant e.group
+round_keeps_vacant timing now e = by_due (is_due now e.schedule.sources_due)
+  where
+    by_due : (b : Bool) → is_vacant (cond b (sendings_counted e.group) e.group) ≡ is_vacant e.group
+    by_due true = ap (λ n. is_include e.group.mode && eqb n 0) (len-made (λ s timer. source_counted timer) e.group.sources)
+    by_due false = refl

@@ -23,6 +23,7 @@ mod lowering;
 pub mod mld;
 mod naming;
 pub mod outlet;
+mod refusing;
 mod scratch;
 mod sending;
 mod serving;

@@ -1,0 +1,50 @@
+use Rattle.std.proofs.Common.{◌≡◌, ◌+◌, ◌-◌, ℕ, Bool, cond, not, refl, sym, ap, ◌∙◌, arith}
+use Rattle.mq_table.specs.declared.timing.Timing.{Timing}
+use Rattle.mq_table.specs.Group.{is_vacant}
+use Rattle.mq_sched.specs.Schedule.{ScheduledGroup}
+use Rattle.mq_sched.specs.Sending.{after_round}
+use Rattle.mq_held.specs.Groups.{schedules_of, one_if}
+use Rattle.mq_link.specs.Record.{limit_passed_by}
+use Rattle.mq_link.proofs.WithGroup.{enough_groups, enough_sources, enough_schedules, judged_by, as_number, any_timing}
+use Rattle.mq_link.proofs.refusing.refusal.Goals as goal
+use Rattle.mq_link.proofs.refusing.refusal.Goals.{then-is_vacant, else-is_vacant}
+
+pub overflow_sub-groups : goal.overflow_sub-groups
+overflow_sub-groups g c =
+    let p = c.requires.before in
+    let after : ScheduledGroup = record { group = c.args.after.now.state; schedule = c.args.schedule } in
+    let enough = enough_groups c.args.held.now.groups p.0 any_timing c.args.now _ after c.args.is_held p.1 p.2 in
+    let had = c.from-2.ensures ∙ as_number c.args.is_held in
+    let has = c.from.ensures ∙ as_number (not c.is_vacant-is_vacant.result) ∙ ap (λ b. one_if (not b)) c.is_vacant-is_vacant.ensures in
+    omega (arith, enough, had, has, c.len.ensures)
+
+pub overflow_sub-sources : goal.overflow_sub-sources
+overflow_sub-sources g c =
+    let p = c.requires.before in
+    let after : ScheduledGroup = record { group = c.args.after.now.state; schedule = c.args.schedule } in
+    let enough = enough_sources c.args.held.now.groups p.0 any_timing c.args.now _ after c.args.is_held p.1 p.2 in
+    omega (arith, enough, c.sources.ensures, c.sources-2.ensures.len, c.sources-3.ensures.len)
+
+pub overflow_sub-scheduled : goal.overflow_sub-scheduled
+overflow_sub-scheduled g c =
+    let p = c.requires.before in
+    let after : ScheduledGroup = record { group = c.args.after.now.state; schedule = c.args.schedule } in
+    let enough = enough_schedules c.args.held.now.groups p.0 any_timing c.args.now _ after c.args.is_held p.1 p.2 in
+    let left : c.if-is_vacant.left ≡ cond (is_vacant after.group) 0 (schedules_of (after_round any_timing c.args.now after)) = elim c.if-is_vacant.branch [
+      | then-is_vacant w ↦ w.left-is ∙ ap (λ b. cond b 0 (schedules_of (after_round any_timing c.args.now after))) (sym w.if-is_vacant.true ∙ c.is_vacant-is_vacant.ensures)
+      | else-is_vacant w ↦ w.left-is ∙ w.schedules_after_round-left.ensures.left any_timing ∙ ap (λ b. cond b 0 (schedules_of (after_round any_timing c.args.now after))) (sym w.if-is_vacant.false ∙ c.is_vacant-is_vacant.ensures)
+    ] in
+    omega (arith, enough, left, c.schedules.ensures, c.count_schedules.ensures)
+
+pub returns-clause-name : goal.returns-clause-name
+returns-clause-name g c timing address held_is before_is =
+    let after : ScheduledGroup = record { group = c.args.after.now.state; schedule = c.args.schedule } in
+    let had = c.from-2.ensures ∙ as_number c.args.is_held in
+    let has = c.from.ensures ∙ as_number (not c.is_vacant-is_vacant.result) ∙ ap (λ b. one_if (not b)) c.is_vacant-is_vacant.ensures in
+    let left : c.if-is_vacant.left ≡ cond (is_vacant after.group) 0 (schedules_of (after_round timing c.args.now after)) = elim c.if-is_vacant.branch [
+      | then-is_vacant w ↦ w.left-is ∙ ap (λ b. cond b 0 (schedules_of (after_round timing c.args.now after))) (sym w.if-is_vacant.true ∙ c.is_vacant-is_vacant.ensures)
+      | else-is_vacant w ↦ w.left-is ∙ w.schedules_after_round-left.ensures.left timing ∙ ap (λ b. cond b 0 (schedules_of (after_round timing c.args.now after))) (sym w.if-is_vacant.false ∙ c.is_vacant-is_vacant.ensures)
+    ] in
+    c.limit_passed.ensures
+    ∙ (λ i. limit_passed_by c.args.limits.now (c.len.ensures i + has i - had i) (c.sources-4.ensures.len i) (c.sources.ensures i + c.sources-2.ensures.len i - c.sources-3.ensures.len i) (c.schedules.ensures i + left i - c.count_schedules.ensures i))
+    ∙ judged_by c.args.held.now.groups address timing c.args.now _ after c.args.is_held held_is before_is c.args.limits.now
