@@ -1,12 +1,8 @@
-use Rattle.std.proofs.Common.{◌≡◌, ◌+◌, ◌*◌, ◌-◌, ◌<◌, ◌≤◌, ◌∙◌, min, [], length, set, get_or, length-set, arith, ap, sym, refl}
+use Rattle.std.proofs.Common.{◌≡◌, ◌<◌, length, set, length-set, arith, ap, sym, refl}
 use Rattle.mq_count.proofs.Spent.{Spends-join_within}
-use Rattle.mq_sets.specs.Pools.{PoolState}
-use Rattle.mq_sched.specs.Deadlines.{DeadlinesState}
-use Rattle.mq_sched.specs.Schedule.{ScheduledGroup}
 use Rattle.mq_held.specs.declared.items.Item.{Item}
 use Rattle.mq_held.specs.Held.{HeldState}
-use Rattle.mq_held.specs.Moments.{moments_of}
-use Rattle.mq_held.specs.Stored.{item_number, group_of, earliest_of, IsStored}
+use Rattle.mq_held.specs.Stored.{item_number}
 use Rattle.mq_held.proofs.StoredEdits.{IsStored-set, schedules_part, schedules_fit}
 use Rattle.mq_held.proofs.Inside.{len-held, rows-held, deadlines-held, sources-held, sources-at, place-found, number-held, held-set, group-of-parts, due-of-parts}
 use Rattle.mq_held.proofs.held_groups.HeldGroups.put.Goals as goal

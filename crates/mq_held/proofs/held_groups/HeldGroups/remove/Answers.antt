@@ -1,9 +1,6 @@
-use Rattle.std.proofs.Common.{◌≡◌, ◌+◌, ◌*◌, ◌-◌, ◌<◌, ◌≤◌, ◌∙◌, [], length, get_or, arith, ap, sym, refl}
+use Rattle.std.proofs.Common.{◌≡◌, ◌<◌, [], length, arith, refl}
 use Rattle.std.specs.List.{remove}
 use Rattle.std.proofs.lemmas.List.Edits.{length-remove}
-use Rattle.mq_sets.specs.Pools.{PoolState}
-use Rattle.mq_sched.specs.Deadlines.{DeadlinesState}
-use Rattle.mq_held.specs.Stored.{item_number, group_of, IsStored}
 use Rattle.mq_held.proofs.StoredEdits.{IsStored-remove, schedules_part}
 use Rattle.mq_held.proofs.Inside.{len-held, rows-held, deadlines-held, held-remove}
 use Rattle.mq_held.proofs.held_groups.HeldGroups.remove.Goals as goal
