@@ -1,5 +1,5 @@
 -- How much the groups have together, once one of them has changed, is held, or is no longer held.
-use Rattle.std.proofs.Common.{◌≡◌, ℕ, ◌<◌, ◌+◌, ◌-◌, ◌≤◌, Bool, true, false, cond, not, ◌==◌, ◌&&◌, if◌then◌else◌, refl, List, [], ◌∷◌, length, get_or, set, Option, None, Some, is_some, sym, ap, ◌∙◌, subst, arith}
+use Rattle.std.proofs.Common.{◌≡◌, ℕ, ◌<◌, ◌+◌, ◌-◌, ◌≤◌, Bool, true, false, cond, not, ◌==◌, ◌&&◌, if◌then◌else◌, refl, length, set, Option, None, Some, sym, ap, ◌∙◌, arith}
 use Rattle.std.specs.Prelude.{map as list_map}
 use Rattle.std.specs.List.{insert, remove, sum_by}
 use Rattle.std.specs.Option.{unwrap_or}
@@ -7,21 +7,20 @@ use Rattle.std.specs.Ordering.{nat_cmp, eq_by_cmp}
 use Rattle.std.specs.Cmp.{nat_cmp_total}
 use Rattle.std.proofs.lemmas.Bool.{true≢false}
 use Rattle.std.proofs.lemmas.Bool.{eqb-true}
-use Rattle.std.proofs.lemmas.List.{get_or-map, length-map, map-set}
+use Rattle.std.proofs.lemmas.List.{length-map, map-set}
 use Rattle.std.proofs.lemmas.List.Sums.{sum_by-set, sum_by-insert, sum_by-remove}
 use Rattle.std.specs.FinMap as map
 use Rattle.mq_sets.proofs.Stored.{map-insert, map-remove}
 use Rattle.mq_table.specs.declared.timers.FilterMode.{FilterMode}
 use Rattle.mq_table.specs.declared.timers.FilterMode.TheVariants.{Include, Exclude}
 use Rattle.mq_table.specs.declared.timers.SourceTimer.{SourceTimer}
-use Rattle.mq_table.specs.Group.{GroupState, vacant, is_vacant, is_include}
-use Rattle.mq_table.specs.Stored.{size_of}
+use Rattle.mq_table.specs.Group.{is_vacant, is_include}
 use Rattle.mq_sched.specs.Schedule.{ScheduledGroup}
 use Rattle.mq_held.specs.Groups.{Groups, unheld, group_at, with_group, sources_of, sources_in, one_if, schedules_of, schedules_in}
-use Rattle.mq_held.specs.Places.{HasPlace, GoesAt, group_in}
+use Rattle.mq_held.specs.Places.{HasPlace, GoesAt}
 use Rattle.mq_held.proofs.Sorted.{tied}
 use Rattle.mq_held.proofs.Entries.{place_within, entries-replaced, entries-deleted, entries-made}
-use Rattle.mq_held.proofs.Places.{place-group, held-place, absent-place, goes-absent, place-contained}
+use Rattle.mq_held.proofs.Places.{place-group, held-place, absent-place, goes-absent}
 
 -- a sum over all groups, of any number that a group has
 module _ (w : ScheduledGroup → ℕ) (groups : Groups) (a p : ℕ) where

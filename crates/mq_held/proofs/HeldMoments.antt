@@ -1,6 +1,6 @@
 -- The moments of a group, by the row of its sources.
-use Rattle.std.proofs.Common.{◌≡◌, ℕ, ◌+◌, ◌<◌, Bool, true, false, cond, refl, List, [], ◌∷◌, ◌++◌, take, get_or, length, Option, None, Some, is_some, sym, ap, ◌∙◌, subst, arith, append_assoc, append-nil}
-use Rattle.std.specs.Prelude.{map as list_map, IsTrue}
+use Rattle.std.proofs.Common.{◌≡◌, ℕ, ◌+◌, ◌<◌, Bool, true, false, cond, refl, List, [], ◌∷◌, ◌++◌, take, get_or, length, Option, Some, is_some, sym, ap, ◌∙◌, append_assoc, append-nil}
+use Rattle.std.specs.Prelude.{map as list_map}
 use lib.Dec.{T}
 use Rattle.std.specs.Option.{option_to_list}
 use Rattle.std.specs.List.{flat_map}
@@ -20,9 +20,9 @@ use Rattle.mq_table.specs.declared.timers.SourceTimer.{SourceTimer}
 use Rattle.mq_table.specs.declared.timers.SourceTimer.TheVariants.{Stopped, Running}
 use Rattle.mq_table.specs.Group.{GroupState, is_running, deadline_of, group_deadline, IsWellFormed}
 use Rattle.mq_table.specs.Stored.{number_in, timers_in}
-use Rattle.mq_sched.specs.Schedule.{ScheduledGroup, ScheduleState}
+use Rattle.mq_sched.specs.Schedule.{ScheduleState}
 use Rattle.mq_sched.specs.Sending.{group_due}
-use Rattle.mq_held.specs.Moments.{those_of, moments_of, least}
+use Rattle.mq_held.specs.Moments.{those_of, moments_of}
 use Rattle.mq_held.specs.Stored.{earliest_of, timer_moments}
 use Rattle.mq_held.proofs.Sorted.{key_of, sorted-ascending}
 use Rattle.mq_held.proofs.LeastMoments.{earliest-join, earliest-join_right}

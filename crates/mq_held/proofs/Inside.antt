@@ -1,28 +1,27 @@
 -- What the stored lists say of the groups that a contract sees.
-use Rattle.std.proofs.Common.{◌≡◌, ℕ, zero, suc, ◌+◌, ◌-◌, ◌<◌, ◌≤◌, Bool, ◌&&◌, true, false, refl, List, [], ◌∷◌, length, get_or, set, Option, None, Some, sym, ap, ◌∙◌, subst, arith, ◌⊎◌, inl, inr}
+use Rattle.std.proofs.Common.{◌≡◌, ℕ, zero, suc, ◌<◌, ◌≤◌, ◌&&◌, refl, List, [], ◌∷◌, length, get_or, set, Option, None, Some, sym, ap, ◌∙◌, subst, arith, ◌⊎◌, inl, inr}
 use Rattle.std.specs.Prelude.{map as list_map, nat_lt, nat_le, MatchOption, is_some, Result, Ok, Err, IfOk, IfErr}
 use Rattle.std.specs.Ordering.{nat_cmp}
-use Rattle.std.specs.List.{Contains, HoldsAt}
-use Rattle.std.specs.List.{All, insert, remove, flat_map}
+use Rattle.std.specs.List.{HoldsAt}
+use Rattle.std.specs.List.{insert, remove, flat_map}
 use Rattle.std.specs.FinMap as map
 use Rattle.std.proofs.lemmas.Bool.{cases_lt, lt-ltb, le-ltb}
-use Rattle.std.proofs.lemmas.List.{get_or-map, length-map}
-use Rattle.mq_sets.specs.Ascending.{IsAscending}
+use Rattle.std.proofs.lemmas.List.{get_or-map}
 use Rattle.mq_sets.specs.Search.{IsPlaceFor}
 use Rattle.mq_sets.specs.Pools.{PoolState, cells_in}
 use Rattle.mq_table.specs.declared.sources.Source.{Source}
 use Rattle.mq_table.specs.declared.heads.Head.{Head}
 use Rattle.mq_table.specs.Group.{GroupState}
-use Rattle.mq_table.specs.Stored.{number_in, timers_in, state_of}
+use Rattle.mq_table.specs.Stored.{timers_in, state_of}
 use Rattle.mq_table.proofs.SourceLists.{len-timers_in}
 use Rattle.mq_sched.specs.Deadlines.{IsEarliest}
 use Rattle.mq_sched.specs.Schedule.{ScheduledGroup, ScheduleState}
 use Rattle.mq_held.specs.declared.items.Item.{Item}
-use Rattle.mq_held.specs.Groups.{Groups, unheld, group_at, sources_of, sources_in, schedules_in}
+use Rattle.mq_held.specs.Groups.{unheld, group_at, sources_of, sources_in, schedules_in}
 use Rattle.mq_held.specs.Moments.{moments_of, moments_in, least}
 use Rattle.mq_held.specs.Places.{HasPlace, GoesAt, group_in, has_due, is_place_due, min_or}
 use Rattle.mq_held.specs.Held.{HeldState}
-use Rattle.mq_held.specs.Stored.{item_number, group_of, entry_of, entries_of, groups_of, earliest_of, IsStored}
+use Rattle.mq_held.specs.Stored.{item_number, group_of, entries_of, groups_of, earliest_of, IsStored}
 use Rattle.mq_held.proofs.LeastMoments.{least-bounds, least-each, due-earliest}
 use Rattle.mq_held.proofs.StoredGroups.{entries-groups, len-groups, has-place, goes-at, group-place, key-place, place-items, items-goes, groups-set, groups-insert, groups-remove, sources-groups, schedules-groups, length-entries}
 use Rattle.mq_held.proofs.StoredEdits.{earliest_at, length-deadlines}

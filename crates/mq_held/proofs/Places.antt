@@ -1,5 +1,5 @@
 -- Where the groups of a map stand, and what is left of their places by an edit.
-use Rattle.std.proofs.Common.{◌≡◌, cond, ℕ, zero, suc, ◌+◌, ◌-◌, ◌<◌, ◌≤◌, ◌≢◌, Bool, true, false, refl, List, [], ◌∷◌, length, get_or, set, Option, None, Some, is_some, sym, ap, ◌∙◌, subst, arith, ◌⊎◌, inl, inr}
+use Rattle.std.proofs.Common.{◌≡◌, cond, ℕ, zero, suc, ◌+◌, ◌<◌, ◌≤◌, Bool, true, false, refl, List, [], ◌∷◌, length, get_or, set, Option, None, Some, is_some, sym, ap, ◌∙◌, subst, arith, ◌⊎◌, inl, inr}
 use Rattle.std.specs.Prelude.{map as list_map, slice_get}
 use lib.Dec.{T}
 use Rattle.std.specs.List.{insert, remove}
@@ -10,7 +10,7 @@ use Rattle.std.proofs.lemmas.List.{get_or-map, length-map, map-set}
 use Rattle.std.proofs.lemmas.List.Edits.{length-insert, length-remove, get_or-insert_below, get_or-insert_above, get_or-insert_at, get_or-remove_below, get_or-remove_above}
 use Rattle.std.proofs.lemmas.Option.{slice_get-get_or, slice_get_within, get_or_from_slice_get}
 use Rattle.std.specs.FinMap as map
-use Rattle.std.specs.FinMap.{FinMap, find, is_sorted}
+use Rattle.std.specs.FinMap.{find, is_sorted}
 use Rattle.std.specs.FinMap.Entries.{below_all}
 use Rattle.mq_sets.specs.Ascending.{IsAscending}
 use Rattle.mq_sets.specs.Search.{IsPlaceFor}
@@ -18,7 +18,7 @@ use Rattle.mq_sets.proofs.Stored.{map-insert, map-remove}
 use Rattle.mq_sched.specs.Schedule.{ScheduledGroup}
 use Rattle.mq_held.specs.Groups.{Groups, unheld, group_at}
 use Rattle.mq_held.specs.Places.{HasPlace, GoesAt, group_in}
-use Rattle.mq_held.proofs.Sorted.{key_of, first, second, tied, ties, ascending-sorted, below-all}
+use Rattle.mq_held.proofs.Sorted.{first, second, tied, ties, ascending-sorted, below-all}
 use Rattle.mq_held.proofs.Entries.{place_within, key_at, get-place, get-absent, entries-replaced, entries-deleted, entries-made}
 
 -- a place within a list, by the number that stands there

@@ -1,6 +1,5 @@
 -- Lists of entries in the order of their keys.
-use Rattle.std.proofs.Common.{◌≡◌, ℕ, ◌<◌, Bool, true, false, cond, ◌&&◌, refl, List, [], ◌∷◌, length, get_or, Option, None, Some, ap, ◌∙◌, arith}
-use Rattle.std.specs.Prelude.{map as list_map}
+use Rattle.std.proofs.Common.{◌≡◌, ℕ, ◌<◌, Bool, true, false, cond, ◌&&◌, refl, List, [], ◌∷◌, None, Some, ap, ◌∙◌, arith}
 use lib.Dec.{T}
 use Rattle.std.specs.List.{All}
 use Rattle.std.specs.Ordering.{nat_cmp, eq_by_cmp, is_lt, is_eq}

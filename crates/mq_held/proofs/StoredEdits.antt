@@ -1,9 +1,9 @@
 -- What is stored, with a group replaced, made or deleted.
-use Rattle.std.proofs.Common.{suc, take, drop, ◌≡◌, ℕ, ◌+◌, ◌-◌, ◌*◌, ◌<◌, ◌≤◌, Bool, true, false, refl, List, [], ◌∷◌, length, get_or, set, Option, None, Some, is_some, sym, ap, ◌∙◌, subst, arith}
+use Rattle.std.proofs.Common.{suc, take, drop, ◌≡◌, ℕ, ◌+◌, ◌-◌, ◌*◌, ◌<◌, ◌≤◌, Bool, true, false, List, [], ◌∷◌, length, get_or, set, Option, Some, is_some, sym, ap, ◌∙◌, arith}
 use Rattle.std.specs.Prelude.{map as list_map}
-use Rattle.std.specs.List.{All, insert, remove, sum_by}
-use Rattle.std.proofs.lemmas.List.{get_or_default, map-set, get_or-map, length-map, length-set}
-use Rattle.std.proofs.lemmas.List.Elements.{All-set, All-nil, All-cons, All-append, All-take, All-drop}
+use Rattle.std.specs.List.{insert, remove, sum_by}
+use Rattle.std.proofs.lemmas.List.{get_or_default, map-set, length-map, length-set}
+use Rattle.std.proofs.lemmas.List.Elements.{All-set, All-cons, All-append, All-take, All-drop}
 use Rattle.std.proofs.lemmas.List.Sums.{sum_by-cons, sum_by-set, sum_by-insert, sum_by-remove, get_or-le-sum_by}
 use Rattle.std.proofs.lemmas.List.Edits.{length-insert, length-remove}
 use Rattle.mq_sets.specs.Ascending.{IsAscending}
@@ -11,8 +11,8 @@ use Rattle.mq_sets.specs.Search.{IsPlaceFor}
 use Rattle.mq_sets.proofs.Stored.{map-insert, map-remove}
 use Rattle.mq_sets.proofs.Placing.{IsAscending-insert}
 use Rattle.mq_table.specs.declared.sources.Source.{Source}
-use Rattle.mq_table.specs.Stored.{number_in, timers_in}
-use Rattle.mq_sched.specs.Schedule.{ScheduledGroup, ScheduleState}
+use Rattle.mq_table.specs.Stored.{number_in}
+use Rattle.mq_sched.specs.Schedule.{ScheduledGroup}
 use Rattle.mq_held.specs.declared.items.Item.{Item}
 use Rattle.mq_held.specs.Groups.{one_if, schedules_of}
 use Rattle.mq_held.specs.Moments.{moments_of}

@@ -1,8 +1,7 @@
 -- Lists of items and rows, as the map of groups that they are.
-use Rattle.std.proofs.Common.{◌≡◌, ℕ, zero, suc, ◌+◌, ◌<◌, ◌≤◌, true, false, refl, List, [], ◌∷◌, length, get_or, set, Option, None, Some, is_some, sym, ap, ◌∙◌, subst, arith}
-use Rattle.std.specs.Prelude.{map as list_map, slice_get, Result, Ok, Err, IfOk, IfErr, is_ok}
-use lib.Dec.{T}
-use Rattle.std.specs.List.{All, HoldsAt, insert, remove, zip, sum_by}
+use Rattle.std.proofs.Common.{◌≡◌, ℕ, zero, suc, ◌+◌, ◌<◌, refl, List, [], ◌∷◌, length, get_or, set, Option, Some, is_some, sym, ap, ◌∙◌, subst, arith}
+use Rattle.std.specs.Prelude.{map as list_map, Result, Ok, Err, IfOk, IfErr, is_ok}
+use Rattle.std.specs.List.{All, insert, remove, zip, sum_by}
 use Rattle.std.specs.Option.{unwrap_or}
 use Rattle.std.specs.Ordering.{nat_cmp}
 use Rattle.std.proofs.lemmas.List.{map-set, get_or-map, length-map, length-set}
@@ -12,7 +11,6 @@ use Rattle.std.proofs.lemmas.List.Edits.{length-insert, length-remove}
 use Rattle.std.proofs.lemmas.Option.{slice_get-get_or, slice_get_within}
 use Rattle.std.proofs.lemmas.Slice.Zip.{length-zip, get_or-zip}
 use Rattle.std.specs.FinMap as map
-use Rattle.std.specs.FinMap.{is_sorted}
 use Rattle.mq_sets.specs.Ascending.{IsAscending}
 use Rattle.mq_sets.specs.Search.{IsPlaceFor}
 use Rattle.mq_sets.specs.Pools.{cells_in}
@@ -20,15 +18,15 @@ use Rattle.mq_sets.proofs.Ascents.{IsAscending-map}
 use Rattle.mq_sets.proofs.Stored.{map-insert, map-remove}
 use Rattle.mq_sets.proofs.Placing.{IsAscending-insert}
 use Rattle.mq_table.specs.declared.sources.Source.{Source}
-use Rattle.mq_table.specs.Stored.{number_in, timers_in}
+use Rattle.mq_table.specs.Stored.{number_in}
 use Rattle.mq_table.proofs.SourceLists.{len-timers_in}
 use Rattle.mq_sched.specs.Schedule.{ScheduledGroup}
 use Rattle.mq_held.specs.declared.items.Item.{Item}
 use Rattle.mq_held.specs.Groups.{Groups, unheld, group_at, sources_of, sources_in, schedules_of, schedules_in}
 use Rattle.mq_held.specs.Places.{HasPlace, GoesAt}
-use Rattle.mq_held.specs.Stored.{item_number, group_of, entry_of, entries_of, groups_of, IsStored}
+use Rattle.mq_held.specs.Stored.{item_number, group_of, entry_of, entries_of, groups_of}
 use Rattle.mq_held.proofs.Sorted.{key_of, sorted-ascending}
-use Rattle.mq_held.proofs.Entries.{IsAscending-set, IsAscending-remove, get-place, key_at, entries-replaced, entries-deleted, entries-made, get-absent, place_within}
+use Rattle.mq_held.proofs.Entries.{IsAscending-set, IsAscending-remove, get-place, entries-replaced, entries-deleted, entries-made, get-absent}
 
 -- edits of two lists side by side
 module _ {A B : Type 0} where

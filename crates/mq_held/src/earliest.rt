@@ -78,7 +78,11 @@ fn earliest_of_head(
 
 /// The earliest of a moment, if there is one, and of the deadlines of some sources. At most one
 /// comparison for each source.
-fn earliest_with_row<K: Key>(first: Option<Moment>, row: &[Source<K>], m: &mut Meter) -> Option<Moment>
+fn earliest_with_row<K: Key>(
+    first: Option<Moment>,
+    row: &[Source<K>],
+    m: &mut Meter,
+) -> Option<Moment>
     ensures earliest { result ≡ earliest_of (option_to_list first ++ flat_map timer_moments row.now) }
     ensures spent { Spends 0 (length row.now) m.old m.new }
 {

@@ -14,6 +14,7 @@ use mq_sets::find;
 use mq_table::{FilterMode, Source, SourceTimer};
 
 /// A held group, as it stands in the storage.
+#[derive_where(Clone, Copy)]
 pub struct HeldGroup<'a, K: Key> {
     /// The group's address.
     pub address: K,

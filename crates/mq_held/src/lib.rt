@@ -2,8 +2,8 @@
 #![tactic(auto)]
 
 mod earliest;
-pub mod held_groups;
 pub mod held_group;
+pub mod held_groups;
 mod items;
 
 pub use held_group::HeldGroup;

@@ -1,7 +1,5 @@
-use Rattle.std.proofs.Common.{◌≡◌, ◌∙◌, sym, ap}
+use Rattle.std.proofs.Common.{◌∙◌, sym, ap}
 use Rattle.std.specs.Prelude.{is_some}
-use Rattle.mq_held.specs.Moments.{moments_of}
-use Rattle.mq_held.specs.Stored.{earliest_of}
 use Rattle.mq_held.proofs.HeldMoments.{earliest-group, held-moment}
 use Rattle.mq_held.proofs.earliest.earliest_moment.Goals as goal
 

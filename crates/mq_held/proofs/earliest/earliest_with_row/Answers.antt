@@ -7,7 +7,9 @@ use Rattle.mq_held.proofs.earliest.earliest_with_row.Goals as goal
 
 pub loop-x-preserved : goal.loop-x-preserved
 loop-x-preserved g c =
-    let more = earliest-more c.args.first c.args.row.now c.loop-x.x-index c.x-item.result c.loop-x-test.true c.x-item.is c.loop-x.earliest c.loop-x.invariant.0 in
-    (c.earlier-earliest.ensures.earliest
-    ∙ ap (λ o. earliest_of (option_to_list c.loop-x.earliest ++ option_to_list o)) c.deadline_of.ensures
-    ∙ more, Spends-join_within 0 _ c.loop-x.invariant.1 c.earlier-earliest.ensures.spent (omega arith) (omega arith))
+    let more = earliest-more c.args.first c.args.row.now c.loop-x.x-index c.x-item.result c.loop-x-test.true c.x-item.is c.loop-x.earliest c.loop-x.invariant.0 in (
+      c.earlier-earliest.ensures.earliest
+          ∙ ap (λ o. earliest_of (option_to_list c.loop-x.earliest ++ option_to_list o)) c.deadline_of.ensures
+          ∙ more,
+      Spends-join_within 0 _ c.loop-x.invariant.1 c.earlier-earliest.ensures.spent (omega arith) (omega arith),
+    )

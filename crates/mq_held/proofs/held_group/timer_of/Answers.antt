@@ -1,5 +1,4 @@
-use Rattle.std.proofs.Common.{Some, ◌∙◌, ap, sym, arith}
-use Rattle.mq_count.proofs.Spent.{Spends-within}
+use Rattle.std.proofs.Common.{sym}
 use Rattle.mq_table.proofs.SourceLists.{get-found, get-absent}
 use Rattle.mq_held.proofs.held_group.timer_of.Goals as goal
 

@@ -1,6 +1,6 @@
-use Rattle.std.proofs.Common.{◌≡◌, ◌<◌, ◌∙◌, [], length, get_or, arith, ap, sym}
+use Rattle.std.proofs.Common.{◌<◌, ◌∙◌, [], length, arith, ap, sym}
 use Rattle.mq_held.specs.Stored.{item_number, group_of}
-use Rattle.mq_held.proofs.Inside.{len-held, rows-held, place-found, group-held}
+use Rattle.mq_held.proofs.Inside.{len-held, rows-held, place-found, group-held, sources-at}
 use Rattle.mq_held.proofs.held_groups.HeldGroups.entry.Goals as goal
 
 pub index-item-requires : goal.index-item-requires
@@ -29,3 +29,7 @@ pub returns-clause-ascending : goal.returns-clause-ascending
 returns-clause-ascending g c =
     let known = c.self.invariant.0 in
     rw c.row.ensures.cells (known.rows_ascend c.args.place [] (omega (arith, c.requires.place, rows-held g.K.Key.number known c.self.view_is)))
+
+pub returns-clause-len : goal.returns-clause-len
+returns-clause-len g c address has =
+    ap length c.row.ensures.cells ∙ sym (sources-at g.K.Key.number c.self.invariant.0 c.self.view_is address c.args.place c.index-item.result.now has c.index-item.ensures)

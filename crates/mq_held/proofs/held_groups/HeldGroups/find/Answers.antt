@@ -1,7 +1,3 @@
-use Rattle.std.proofs.Common.{◌≡◌, ◌<◌, ◌≤◌, ◌+◌, min, ℕ, length, sym, ap, ◌∙◌}
-use Rattle.std.specs.Prelude.{Result, Ok, Err, IfOk, IfErr}
-use Rattle.std.specs.List.{HoldsAt}
-use Rattle.mq_sets.specs.Search.{IsPlaceFor, bitlen}
 use Rattle.mq_held.proofs.StoredGroups.{held-if}
 use Rattle.mq_held.proofs.Inside.{len-held, searched, missed}
 use Rattle.mq_held.proofs.held_groups.HeldGroups.find.Goals as goal

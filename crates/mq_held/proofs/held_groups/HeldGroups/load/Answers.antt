@@ -1,5 +1,4 @@
-use Rattle.std.proofs.Common.{◌≡◌, ◌<◌, ◌∙◌, [], length, get_or, arith, ap, sym}
-use Rattle.mq_table.specs.Stored.{number_in, timers_in}
+use Rattle.std.proofs.Common.{◌<◌, ◌∙◌, [], length, arith, ap, sym}
 use Rattle.mq_sched.specs.Schedule.{ScheduledGroup}
 use Rattle.mq_held.specs.Stored.{item_number, group_of}
 use Rattle.mq_held.proofs.Inside.{len-held, rows-held, place-found, group-held, sources-at}

@@ -1,12 +1,8 @@
-use Rattle.std.proofs.Common.{◌≡◌, ◌+◌, ◌*◌, ◌-◌, ◌<◌, ◌≤◌, ◌∙◌, min, [], length, set, get_or, length-set, arith, ap, sym, refl}
+use Rattle.std.proofs.Common.{◌≡◌, ◌<◌, length, set, length-set, arith, ap, sym, refl}
 use Rattle.mq_count.proofs.Spent.{Spends-join_within}
-use Rattle.mq_sets.specs.Pools.{PoolState}
-use Rattle.mq_sched.specs.Deadlines.{DeadlinesState}
-use Rattle.mq_sched.specs.Schedule.{ScheduledGroup}
 use Rattle.mq_held.specs.declared.items.Item.{Item}
 use Rattle.mq_held.specs.Held.{HeldState}
-use Rattle.mq_held.specs.Moments.{moments_of}
-use Rattle.mq_held.specs.Stored.{item_number, group_of, earliest_of, IsStored}
+use Rattle.mq_held.specs.Stored.{item_number}
 use Rattle.mq_held.proofs.StoredEdits.{IsStored-set, schedules_part, schedules_fit}
 use Rattle.mq_held.proofs.Inside.{len-held, rows-held, deadlines-held, sources-held, sources-at, place-found, number-held, held-set, group-of-parts, due-of-parts}
 use Rattle.mq_held.proofs.held_groups.HeldGroups.put.Goals as goal
@@ -54,9 +50,9 @@ invariant_of-self g c =
     let within : c.args.place < length items = omega (arith, c.requires.place, len-held number known c.self.view_is) in
     let due = due-of-parts number x.address c.head.result c.args.schedule c.row.result.now c.args.group.now.state c.earliest_moment-due.result c.row.ensures.timers c.head.ensures c.earliest_moment-due.ensures.earliest in
     let stored = IsStored-set number items rows deadlines c.self.inside.scheduled known c.args.place x c.index-before.result.now c.row.result.now c.earliest_moment-due.result within c.index-before.ensures refl c.row.ensures.ascending due in
-    let row_limit = ap (λ (s : PoolState _). s.row_limit) c.replace.ensures in
-    let cell_limit = ap (λ (s : PoolState _). s.cell_limit) c.replace.ensures in
-    let room = ap (λ (s : DeadlinesState). s.room) c.change.ensures.deadlines in
+    let row_limit : c.replace.new.self.row_limit ≡ c.self.inside.sources.row_limit = rw c.replace.ensures refl in
+    let cell_limit : c.replace.new.self.cell_limit ≡ c.self.inside.sources.cell_limit = rw c.replace.ensures refl in
+    let room : c.change.new.self.room ≡ c.self.inside.deadlines.room = rw c.change.ensures.deadlines refl in
     (rw (c.replace.ensures, c.change.ensures.deadlines, c.count_schedules.ensures, c.count_schedules-2.ensures) stored, omega (arith, row_limit, c.self.invariant.1), omega (arith, row_limit, room, c.self.invariant.2), omega (arith, row_limit, c.self.invariant.3), omega (arith, cell_limit, c.self.invariant.4), omega (arith, row_limit, c.self.invariant.5, length-set items c.args.place x))
 
 pub overflow_add-self : goal.overflow_add-self

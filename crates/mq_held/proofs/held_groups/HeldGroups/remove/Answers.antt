@@ -1,9 +1,6 @@
-use Rattle.std.proofs.Common.{◌≡◌, ◌+◌, ◌*◌, ◌-◌, ◌<◌, ◌≤◌, ◌∙◌, [], length, get_or, arith, ap, sym}
+use Rattle.std.proofs.Common.{◌≡◌, ◌<◌, [], length, arith, refl}
 use Rattle.std.specs.List.{remove}
 use Rattle.std.proofs.lemmas.List.Edits.{length-remove}
-use Rattle.mq_sets.specs.Pools.{PoolState}
-use Rattle.mq_sched.specs.Deadlines.{DeadlinesState}
-use Rattle.mq_held.specs.Stored.{item_number, group_of, IsStored}
 use Rattle.mq_held.proofs.StoredEdits.{IsStored-remove, schedules_part}
 use Rattle.mq_held.proofs.Inside.{len-held, rows-held, deadlines-held, held-remove}
 use Rattle.mq_held.proofs.held_groups.HeldGroups.remove.Goals as goal
@@ -35,10 +32,11 @@ invariant_of-self g c =
     let deadlines = c.self.inside.deadlines.deadlines in
     let within : c.args.place < length items = omega (arith, c.requires.place, len-held number known c.self.view_is) in
     let stored = IsStored-remove number items rows deadlines c.self.inside.scheduled known c.args.place c.remove-item.result c.remove-item.result [] 0 within c.remove-item.ensures.value in
-    let row_limit = ap (λ (s : PoolState _). s.row_limit) c.remove_row.ensures in
-    let cell_limit = ap (λ (s : PoolState _). s.cell_limit) c.remove_row.ensures in
-    let room = ap (λ (s : DeadlinesState). s.room) c.remove.ensures in
-    (rw (c.remove_row.ensures, c.remove.ensures, c.remove-item.ensures.items, c.count_schedules.ensures) stored, omega (arith, row_limit, c.self.invariant.1, c.remove-item.ensures.capacity), omega (arith, row_limit, room, c.self.invariant.2), omega (arith, row_limit, c.self.invariant.3), omega (arith, cell_limit, c.self.invariant.4), omega (arith, row_limit, c.self.invariant.5, ap length c.remove-item.ensures.items, length-remove items c.args.place within))
+    let size : length c.remove-item.new.self.items ≡ length (remove items c.args.place) = rw c.remove-item.ensures.items refl in
+    let row_limit : c.remove_row.new.self.row_limit ≡ c.self.inside.sources.row_limit = rw c.remove_row.ensures refl in
+    let cell_limit : c.remove_row.new.self.cell_limit ≡ c.self.inside.sources.cell_limit = rw c.remove_row.ensures refl in
+    let room : c.remove.new.self.room ≡ c.self.inside.deadlines.room = rw c.remove.ensures refl in
+    (rw (c.remove_row.ensures, c.remove.ensures, c.remove-item.ensures.items, c.count_schedules.ensures) stored, omega (arith, row_limit, c.self.invariant.1, c.remove-item.ensures.capacity), omega (arith, row_limit, room, c.self.invariant.2), omega (arith, row_limit, c.self.invariant.3), omega (arith, cell_limit, c.self.invariant.4), omega (arith, row_limit, c.self.invariant.5, size, length-remove items c.args.place within))
 
 pub returns-clause-groups : goal.returns-clause-groups
 returns-clause-groups g c address has =

@@ -1,5 +1,4 @@
-use Rattle.std.proofs.Common.{arith, ap}
-use Rattle.mq_held.specs.Held.{HeldState}
+use Rattle.std.proofs.Common.{arith}
 use Rattle.mq_held.proofs.Inside.{sources-held}
 use Rattle.mq_held.proofs.held_groups.HeldGroups.sources.Goals as goal
 
