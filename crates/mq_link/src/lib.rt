@@ -17,7 +17,8 @@ pub mod family;
 pub mod igmp;
 pub mod mld;
 pub mod outlet;
-mod sending;
+pub mod sending;
+mod trial;
 pub mod laws;
 
 pub use answers::{DropReason, MessageKind, Received, Refusal};
