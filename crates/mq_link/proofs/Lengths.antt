@@ -26,12 +26,12 @@ length_sent : (family : Family) (own group response : ℕ) (timing : Timing) (s 
 unfolding fields_of
 length_sent Igmp own group response timing s sources fits =
     let long : length (without_checksum Igmp (query_with timing group response s sources)) ≡ 12 + length sources * 4 =
-        (let all = length_query 4 group (first_bytes Igmp response) (fields_of timing s sources) in omega (arith, all)) in
+    (let all = length_query 4 group (first_bytes Igmp response) (fields_of timing s sources) in omega (arith, all)) in
     let same = signed Igmp own group response timing s sources (12 + length sources * 4) long (omega arith) in
     omega (arith, same, fits)
 length_sent Mld own group response timing s sources fits =
     let long : length (without_checksum Mld (query_with timing group response s sources)) ≡ 28 + length sources * 16 =
-        (let all = length_query 16 group (first_bytes Mld response) (fields_of timing s sources) in omega (arith, all)) in
+    (let all = length_query 16 group (first_bytes Mld response) (fields_of timing s sources) in omega (arith, all)) in
     let same = signed Mld own group response timing s sources (28 + length sources * 16) long (omega arith) in
     omega (arith, same, fits)
 

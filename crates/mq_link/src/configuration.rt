@@ -36,11 +36,11 @@ impl Defaults {
     /// The defaults where a group may have so many sources.
     pub(crate) const fn with_group_sources(group_sources: u32) -> Defaults
         ensures { result ≡ record {
-            robustness = 2;
-            query_seconds = 125;
-            response_interval = 10000;
-            last_member_interval = 1000;
-            limits = record { groups = 1024; group_sources = group_sources; sources = 16384; scheduled = 256 };
+          robustness = 2;
+          query_seconds = 125;
+          response_interval = 10000;
+          last_member_interval = 1000;
+          limits = record { groups = 1024; group_sources = group_sources; sources = 16384; scheduled = 256 };
         } }
     {
         Defaults {

@@ -15,7 +15,7 @@ use crate::family::Family;
 use crate::outlet::Outlet;
 use mq_sched::{QueryParts, Sink};
 use mq_table::Timing;
-use mq_wire::{QuerierFields, Qrv, Query, QueryVersion, Sources, WireKey};
+use mq_wire::{Qrv, QuerierFields, Query, QueryVersion, Sources, WireKey};
 use std::marker::Model;
 
 /// How many bytes the longest query has, one of IGMP with 366 sources. The longest of MLD, with 89, has 1452.
