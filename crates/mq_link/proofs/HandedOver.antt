@@ -1,5 +1,5 @@
 -- What a sender has handed to its outlet after some queries.
-use Rattle.std.proofs.Common.{◌≡◌, ℕ, ◌+◌, Bool, true, false, not, List, [], ◌∷◌, ◌++◌, refl, sym, ap, ◌∙◌, subst, arith, cond}
+use Rattle.std.proofs.Common.{◌≡◌, ℕ, ◌+◌, Bool, not, List, [], ◌∷◌, ◌++◌, sym, ap, ◌∙◌, subst, arith, cond}
 use Rattle.std.specs.Prelude.{map as list_map}
 use Rattle.std.specs.List.{count_by}
 use Rattle.std.proofs.lemmas.List.Sums.{sum_by-cons}
@@ -52,23 +52,20 @@ pub handed_all : {F O K E : Type 0} (takes : O → ℕ → List ℕ → Bool →
     → AllFit (per_query family) queries → Sends (TakesQuery takes family) old queries new
     → HandsAll takes family old.terms queries (tally_of old) (tally_of new)
 handed_all takes family old [] new fit same =
-    record { answers = []; handed = ap (λ s. s.outlet.now) same; sent = ap (λ s. s.sent) (sym same) ∙ none_on old.sent; unsent = ap (λ s. s.unsent) (sym same) ∙ none_on old.unsent }
+    record { answers = []; handed = ap (λ s. s.outlet) same; sent = ap (λ s. s.sent) (sym same) ∙ none_on old.sent; unsent = ap (λ s. s.unsent) (sym same) ∙ none_on old.unsent }
 handed_all takes family old (query ∷ queries) new fit sends =
     let between = sends.0 in
     let one = sends.1.hands.handed (first_fits family query queries fit) in
     let rest = handed_all takes family between queries new (others_fit (per_query family) query queries fit) sends.2 in
     record {
       answers = one.0 ∷ rest.answers;
-      handed = (between.outlet.now, one.1, subst (λ terms. HandsOver takes between.outlet.now (list_map (outgoing_on family terms) queries) rest.answers new.outlet.now) sends.1.same_terms rest.handed);
+      handed = (between.outlet, one.1, subst (λ terms. HandsOver takes between.outlet (list_map (outgoing_on family terms) queries) rest.answers new.outlet) sends.1.same_terms rest.handed);
       sent = counted_more old.sent (λ b. b) one.0 rest.answers between.sent new.sent one.2 rest.sent;
       unsent = counted_more old.unsent not one.0 rest.answers between.unsent new.unsent one.3 rest.unsent;
     }
 
--- by the same sender
-pub same_sender : {F O K E : Type 0} (takes : O → ℕ → List ℕ → Bool → O → Type 0) (family : Family) (old : Sender F O K E) (queries : List SentQuery) (new : Sender F O K E)
-    → Sends (TakesQuery takes family) old queries new
-    → (new.terms ≡ old.terms) × (new.outlet.ghost_name ≡ old.outlet.ghost_name)
-same_sender takes family old [] new same = (ap (λ s. s.terms) (sym same), ap (λ s. s.outlet.ghost_name) (sym same))
-same_sender takes family old (query ∷ queries) new sends =
-    let rest = same_sender takes family sends.0 queries new sends.2 in
-    (rest.0 ∙ sends.1.same_terms, rest.1 ∙ sends.1.same_outlet)
+-- on the same terms
+pub same_terms : {F O K E : Type 0} (takes : O → ℕ → List ℕ → Bool → O → Type 0) (family : Family) (old : Sender F O K E) (queries : List SentQuery) (new : Sender F O K E)
+    → Sends (TakesQuery takes family) old queries new → new.terms ≡ old.terms
+same_terms takes family old [] new same = ap (λ s. s.terms) (sym same)
+same_terms takes family old (query ∷ queries) new sends = same_terms takes family sends.0 queries new sends.2 ∙ sends.1.same_terms

@@ -1,8 +1,8 @@
 -- The timing in force differs from the configured one in the variables alone that queries of other routers carry.
-use Rattle.std.proofs.Common.{◌≡◌, ℕ, Bool, true, false, cond, refl, Option, None, Some}
+use Rattle.std.proofs.Common.{ℕ, Bool, true, false, cond, refl, Option, None, Some}
 use Rattle.mq_table.specs.declared.timing.Timing.{Timing}
 use Rattle.mq_sched.specs.declared.announced.Announced.{Announced}
-use Rattle.mq_sched.specs.Election.{ElectionState, Role, Querier, Other, is_querier, election_at, adopted, heard, deadline_ended, returned, general_is_due, after_general, ticked}
+use Rattle.mq_sched.specs.Election.{ElectionState, Querier, is_querier, election_at, adopted, heard, deadline_ended, returned, general_is_due, after_general, ticked}
 use Rattle.mq_link.specs.Handing.{KeepsIntervals}
 use Rattle.std.specs.Prelude.{nat_lt, not, ◌||◌}
 

@@ -1,5 +1,5 @@
 -- What a link is configured with by default.
-use Rattle.mq_wire.specs.Family.{Family, Igmp, Mld}
+use Rattle.mq_wire.specs.Family.{Family}
 use Rattle.mq_link.specs.declared.configuration.Defaults.{Defaults}
 use Rattle.mq_link.specs.Family.{per_query}
 

@@ -5,6 +5,13 @@
 //!   was applied, ignored, or refused by a `Refusal`;
 //! - what a configuration may hold: `Limits`, and the `ConfigFault` of one that may not be;
 //! - what is counted: `MessageKind`.
+//!
+//! The code stands below them:
+//! - the family: `Family`, which `Igmp` and `Mld` implement, each with its envelope;
+//! - the configuration: `Config`, made where it has no fault;
+//! - why a datagram is dropped: `dropping`;
+//! - what goes out: the `Outlet` that takes datagrams, and the `Sender` before it;
+//! - what is counted: `Counts`.
 #![tactic(auto)]
 
 pub mod answers;
@@ -29,6 +36,16 @@ mod sending;
 mod serving;
 mod statements;
 mod storing;
+pub mod mld;
+pub mod outlet;
+pub mod sending;
 
 pub use answers::{DropReason, MessageKind, Received, Refusal};
-pub use configuration::{ConfigFault, LimitName, Limits};
+pub use config::Config;
+pub use configuration::{ConfigFault, Defaults, LimitName, Limits};
+pub use counts::Counts;
+pub use family::Family;
+pub use igmp::{Igmp, IgmpEnvelope};
+pub use mld::{Mld, MldEnvelope};
+pub use outlet::Outlet;
+pub use sending::Sender;

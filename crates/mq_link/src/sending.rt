@@ -135,30 +135,47 @@ fn fits_one<F: Family>(query: &QueryParts<'_, F::Address>) -> bool
     }
 }
 
-/// Hands queries to an outlet on the terms of a router, and counts its answers, each up to the greatest number.
+/// An outlet with what its sending needs: the terms of a router, and how many messages it answered by true and by false
+/// since they were set. It hands over each query that one message holds.
 #[derive(Drop)]
-pub(crate) struct Sender<'a, F: Family, O> {
+pub struct Sender<F: Family, O> {
     terms: QueryTerms<F>,
-    outlet: &'a mut O,
+    outlet: O,
     sent: u64,
     unsent: u64,
 }
 
-impl<'a, F: Family, O: Outlet<F::Address>> Sender<'a, F, O> {
-    /// One that has handed over nothing.
-    pub(crate) fn new(terms: QueryTerms<F>, outlet: &'a mut O) -> Sender<'a, F, O>
-        ensures terms { result.terms ≡ terms }
-        ensures same_outlet { result.outlet.ghost_name ≡ outlet.entry.ghost_name }
-        ensures outlet { result.outlet.now ≡ outlet.old }
+impl<F: Family, O: Outlet<F::Address>> Sender<F, O> {
+    /// A sender to this outlet for a router so configured.
+    pub fn new(config: &Config<F>, outlet: O) -> Sender<F, O>
+        ensures terms { result.terms ≡ record { own = config.now.own; timing = config.now.timing } }
+        ensures outlet { result.outlet ≡ outlet }
         ensures sent { result.sent ≡ 0 }
         ensures unsent { result.unsent ≡ 0 }
     {
         Sender {
-            terms,
+            terms: QueryTerms::new(config, config.timing()),
             outlet,
             sent: 0,
             unsent: 0,
         }
+    }
+
+    /// The outlet.
+    pub fn outlet(&self) -> &O
+        ensures { result.now ≡ self.now.outlet }
+    {
+        &self.outlet
+    }
+
+    /// From now on queries go on the terms of this router where this timing is in force, and are counted from 0.
+    pub(crate) fn begin(&mut self, config: &Config<F>, timing: Timing)
+        requires { KeepsIntervals config.now.timing timing }
+        ensures { self.new ≡ record self.old { terms = record { own = config.now.own; timing = timing }; sent = 0; unsent = 0 } }
+    {
+        self.terms = QueryTerms::new(config, timing);
+        self.sent = 0;
+        self.unsent = 0;
     }
 
     /// How many queries were sent so far.
@@ -178,8 +195,7 @@ impl<'a, F: Family, O: Outlet<F::Address>> Sender<'a, F, O> {
     /// Hands over one datagram, and counts the answer.
     fn hand_over(&mut self, to: F::Address, bytes: &[u8]) -> bool
         ensures terms { self.new.terms ≡ self.old.terms }
-        ensures same_outlet { self.new.outlet.ghost_name ≡ self.old.outlet.ghost_name }
-        ensures takes { O.takes self.old.outlet.now (F.Address.number to) bytes.now result self.new.outlet.now }
+        ensures takes { O.takes self.old.outlet (F.Address.number to) bytes.now result self.new.outlet }
         ensures sent { self.new.sent ≡ counted_on self.old.sent (one_if result) }
         ensures unsent { self.new.unsent ≡ counted_on self.old.unsent (one_if (not result)) }
     {
@@ -193,7 +209,7 @@ impl<'a, F: Family, O: Outlet<F::Address>> Sender<'a, F, O> {
     }
 }
 
-impl<'a, F: Family, O: Outlet<F::Address>> Sink<F::Address> for Sender<'a, F, O> {
+impl<F: Family, O: Outlet<F::Address>> Sink<F::Address> for Sender<F, O> {
     ghost takes = { TakesQuery O.takes F.FAMILY };
 
     fn send(&mut self, query: QueryParts<'_, F::Address>) -> bool

@@ -1,4 +1,4 @@
-use Rattle.std.proofs.Common.{◌≡◌, ◌≤◌, ℕ, length, ap, sym, ◌∙◌, arith}
+use Rattle.std.proofs.Common.{◌≡◌, length, ap, arith}
 use Rattle.mq_wire.specs.Canon.{canon}
 use Rattle.mq_wire.specs.Numbered.{numbered_query}
 use Rattle.mq_sched.specs.Sink.{query_of}
