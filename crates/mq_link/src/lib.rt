@@ -32,13 +32,10 @@ mod naming;
 pub mod outlet;
 mod refusing;
 mod scratch;
-mod sending;
+pub mod sending;
 mod serving;
 mod statements;
 mod storing;
-pub mod mld;
-pub mod outlet;
-pub mod sending;
 
 pub use answers::{DropReason, MessageKind, Received, Refusal};
 pub use config::Config;
