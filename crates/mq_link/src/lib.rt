@@ -32,6 +32,7 @@ mod naming;
 pub mod outlet;
 mod refusing;
 mod scratch;
+mod seen;
 pub mod sending;
 mod serving;
 mod statements;
