@@ -32,3 +32,4 @@ pub mod HandedOver
 pub mod AllFits
 pub mod Intervals
 pub mod CountedRows
+pub mod ByDefault
