@@ -40,3 +40,4 @@ pub mod KeptGroups
 pub mod CountedRows
 pub mod WithGroup
 pub mod SeenLists
+pub mod ByDefault

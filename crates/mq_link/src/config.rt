@@ -1,9 +1,12 @@
 //! Configurations.
 
-ghost use Rattle.std.specs.Prelude.{◌≡◌, false};
+ghost use Rattle.std.specs.Prelude.{◌≡◌, ℕ, Bool, true, false};
+ghost use Rattle.mq_wire.specs.Family.{Family};
 ghost use Rattle.mq_link.specs.Configuration as spec;
 ghost use Rattle.mq_link.specs.Configuration.{is_outside, IsFaultless};
 ghost use Rattle.mq_link.specs.Configured.{variables, configured, IsGivenOrFaulty};
+ghost use Rattle.mq_link.specs.Defaults.{configured_by_default};
+ghost use Rattle.mq_link.specs.Family.{is_router_address};
 
 use crate::configuration::{ConfigFault, LimitName, Limits};
 use crate::family::Family;
@@ -133,6 +136,14 @@ impl<F: Family> Config<F> {
         self.source_specific
     }
 }
+
+/// The defaults of a family have no fault where the router's own address is one that it may have. It does nothing: its
+/// contract is the law.
+pub fn defaults_have_no_fault()
+    ensures { (family : Family) (own : ℕ) (source_specific : Bool)
+        → is_router_address family own ≡ true
+        → IsFaultless (configured_by_default family own source_specific) }
+{}
 
 /// Whether a number isn't one of these.
 fn is_outside(low: u32, high: u32, number: u32) -> bool
