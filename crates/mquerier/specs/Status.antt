@@ -129,11 +129,13 @@ pub record Performs (request : Request) (input : Input) (output errors : Output)
   pub refused : status ≡ 2 → (output.new ≡ output.old) × (failure : Failure) × IsRefused request failure × Told errors failure
   pub unread : IsOfMessage request → input.new ≡ input.old
 
--- There is no request: standard error was told some text, as a line at least, and the status is 2, or that memory
--- ran out, and it is 1.
+-- standard error was told some text, which is a line at least
+abbrev pub TellsLines : (errors : Output) → Type 0
+TellsLines errors = (text : List ℕ) × IsTold errors (text ++ codes "\n")
+
+-- There is no request: standard error was told why, and the status is 2, or that memory ran out, and it is 1.
 abbrev pub IsWordless : (errors : Output) → (status : ℕ) → Type 0
-IsWordless errors status =
-    ((status ≡ 2) × (text : List ℕ) × IsTold errors (text ++ codes "\n")) ⊎ ((status ≡ 1) × Told errors Memory)
+IsWordless errors status = ((status ≡ 2) × TellsLines errors) ⊎ ((status ≡ 1) × Told errors Memory)
 
 -- the same, where nothing was read or written besides
 pub record IsUnread (input : Input) (output errors : Output) (status : ℕ) : Type 0 where

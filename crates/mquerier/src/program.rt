@@ -5,7 +5,7 @@ ghost use Rattle.mq_count.specs.Streams.{inner_of, has_failed};
 ghost use Rattle.mq_replay.specs.Printing.{Prints};
 ghost use Rattle.mquerier.specs.Changes.{input_by, output_by};
 ghost use Rattle.mquerier.specs.Failures.{status_of};
-ghost use Rattle.mquerier.specs.Status.{IsOfMessage, IsWordless, Told, Performs, Runs};
+ghost use Rattle.mquerier.specs.Status.{IsOfMessage, IsWordless, TellsLines, Told, Performs, Runs};
 
 use crate::failure::{DONE, FAULTY, Failure, REFUSED, line_of, status_of_failure};
 use crate::work::work;
@@ -34,7 +34,10 @@ pub fn run<S: AsStr, R: Read, W: Write, E: Write>(
         (output_by W.contents output.old output.new)
         (output_by E.contents errors.old errors.new)
         result }
+    // Status 2 reads and writes nothing, and is told.
     ensures refused { result ≡ 2 → output.new ≡ output.old }
+    ensures unread { result ≡ 2 → input.new ≡ input.old }
+    ensures told { result ≡ 2 → TellsLines (output_by E.contents errors.old errors.new) }
 {
     match request_of(alloc, words) {
         Ok(request) => perform(alloc, &request, input, output, errors),

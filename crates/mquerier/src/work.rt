@@ -1,6 +1,6 @@
 //! The work that is asked for.
 
-ghost use Rattle.std.specs.Prelude.{◌≡◌, ◌||◌, true, false, MatchResult, is_err};
+ghost use Rattle.std.specs.Prelude.{◌≡◌, ◌||◌, true, false, IfErr, MatchResult, is_err};
 ghost use Rattle.std.specs.Option.{option_copied};
 ghost use Rattle.std.specs.Io.KnownBytes.{Keeps};
 ghost use Rattle.hex.specs.Hex.{decode_of};
@@ -175,7 +175,7 @@ fn listing<R: Read, W: Write>(
 fn flush<W: Write>(output: &mut Watched<W>) -> Result<(), Failure>
     ensures bytes { Keeps (W.contents (inner_of output.old)) (W.contents (inner_of output.new)) }
     ensures failed { has_failed output.new ≡ has_failed output.old || is_err result }
-    ensures write { (failure : Failure) → result ≡ Err failure → failure ≡ Failure.Write }
+    ensures write { IfErr result (λ failure. failure ≡ Failure.Write) }
 {
     match output.flush() {
         Ok(()) => Ok(()),

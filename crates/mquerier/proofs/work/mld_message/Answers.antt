@@ -25,7 +25,7 @@ returns-in_err-flush-clause-works g c =
     let p = err_from_is_err_and c.from_residual-in_err-flush.result c.from_residual-in_err-flush.ensures.1 in
     let pseudo = pseudo_header c.in-Some-read_v6.source c.in-Some-read_v6-2.destination in
     let line = line_written _ _ _ Mld pseudo _ _ _ (c.in_ok-bytes.ensures ∙ ap Ok (sym c.deref.ensures.value)) c.in-Ok.ensures.line c.in_err-flush.ensures.bytes in
-    rw (p.1, p.2, c.in_err-flush.ensures.write _ refl, c.in-Some.is, c.in-Some-to.is) (λ e. absurd (omega (arith, e)), λ e. (c.in-Ok.is_message, line.0, (c.in-Some-read_v6.source, c.in-Some-read_v6-2.destination, c.in-Some-read_v6.ensures, c.in-Some-read_v6-2.ensures, line.1), (inl line.2, c.in_err-flush.ensures.failed ∙ or-true _)))
+    rw (p.1, p.2, c.in_err-flush.ensures.write, c.in-Some.is, c.in-Some-to.is) (λ e. absurd (omega (arith, e)), λ e. (c.in-Ok.is_message, line.0, (c.in-Some-read_v6.source, c.in-Some-read_v6-2.destination, c.in-Some-read_v6.ensures, c.in-Some-read_v6-2.ensures, line.1), (inl line.2, c.in_err-flush.ensures.failed ∙ or-true _)))
 
 pub returns-clause-works : goal.returns-clause-works
 returns-clause-works g c =
