@@ -56,7 +56,12 @@ pub(crate) fn query_length<K: WireKey>(head: &[u8], fields: &QuerierFields<'_, K
 }
 
 /// Writes a query with a checksum of 0 behind these first bytes.
-fn write_without_checksum<K: WireKey>(head: &[u8], group: K, fields: &QuerierFields<'_, K>, out: &mut [u8])
+fn write_without_checksum<K: WireKey>(
+    head: &[u8],
+    group: K,
+    fields: &QuerierFields<'_, K>,
+    out: &mut [u8],
+)
     requires counted { length fields.now.sources ≤ 65535 }
     requires room { length head.now + K.WIDTH + 4 + length fields.now.sources * K.WIDTH ≡ length out.old }
     ensures { out.new ≡ head.now ++ big_bytes K.WIDTH (K.number group) ++ fields_bytes K.WIDTH fields.now }

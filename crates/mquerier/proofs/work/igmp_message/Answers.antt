@@ -1,4 +1,4 @@
-use Rattle.std.proofs.Common.{ap, sym, Ok, ◌∙◌, inl, refl, arith, []}
+use Rattle.std.proofs.Common.{ap, sym, Ok, ◌∙◌, inl, arith, []}
 use Rattle.std.proofs.Math.Bool.{or-true}
 use Rattle.std.proofs.lemmas.Result.{err_from_is_err_and}
 use Rattle.mq_wire.specs.Family.{Igmp}
