@@ -46,7 +46,9 @@ impl PcapReader {
     ) -> Result<Option<Packet>, PcapFault>
         requires { most_bytes ≤ length buffer.old }
         ensures reads { progress_of self.old ≡ Progress.Reading
-            → Reads (form_of self.old) (number_of self.old) (input_of R.remaining reader.old) (input_of R.remaining reader.new) buffer.new result }
+            → Reads (form_of self.old) (number_of self.old)
+            (input_of R.remaining reader.old) (input_of R.remaining reader.new)
+            buffer.new result }
         ensures again { IsAgain (progress_of self.old) result }
         ensures untouched { (progress_of self.old ≡ Progress.Reading → ⊥)
             → (reader.new ≡ reader.old) × (buffer.new ≡ buffer.old) }
