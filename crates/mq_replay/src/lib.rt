@@ -14,10 +14,10 @@ mod buffer;
 mod line_key;
 mod lines;
 mod listing;
-mod moments;
 mod pieces;
 mod printing;
 mod replay_fault;
+mod stamps;
 
 pub use lines::{igmp_line, mld_line};
 pub use listing::show;

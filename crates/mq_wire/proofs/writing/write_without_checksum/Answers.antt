@@ -4,7 +4,7 @@ use Rattle.byteorder.specs.Endian.{big_bytes}
 use Rattle.byteorder.specs.Numbers.{length-bytes_high_first}
 use Rattle.mq_wire.specs.Canon.{fields_bytes}
 use Rattle.mq_wire.proofs.WrittenParts.{next_part}
-use Rattle.mq_wire.proofs.writing.write_unsigned.Goals as goal
+use Rattle.mq_wire.proofs.writing.write_without_checksum.Goals as goal
 
 pub returns : goal.returns
 returns g c =
