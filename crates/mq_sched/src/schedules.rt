@@ -142,14 +142,21 @@ impl Schedule {
     }
 }
 
+/// Whether a source has a sending to go.
+pub(crate) fn source_has_sendings<K: Key>(source: &Source<K>) -> bool
+    ensures { result ≡ item_has_sendings source.now }
+{
+    match source.timer {
+        SourceTimer::Running(_, sendings) => 0 < sendings,
+        SourceTimer::Stopped => false,
+    }
+}
+
 /// Whether some source of the list has a sending to go.
 fn any_has_sendings<K: Key>(row: &[Source<K>]) -> bool
     ensures { result ≡ list_any item_has_sendings row.now }
 {
-    row.iter().any(|x| match x.timer {
-        SourceTimer::Running(_, sendings) => 0 < sendings,
-        SourceTimer::Stopped => false,
-    })
+    row.iter().any(|x| source_has_sendings(x))
 }
 
 /// Whether some source of the group has a sending to go.

@@ -4,7 +4,7 @@ use Rattle.std.specs.FinSet as set
 use Rattle.mq_table.specs.declared.kind.Kind.{Kind}
 use Rattle.mq_table.specs.declared.timing.Timing.{Timing}
 use Rattle.mq_table.specs.Group.{GroupState, group_deadline, timer_at, deadline_of, forwards_in}
-use Rattle.mq_table.specs.Table.{NamedSources, Line, line_met, change_of}
+use Rattle.mq_table.specs.Table.{NamedSources, TableRow, table_row_met, change_of}
 
 -- a record that comes for a group, at a moment
 pub record Arrival : Type 0 where
@@ -14,8 +14,8 @@ pub record Arrival : Type 0 where
   pub kind : Kind
   pub named : NamedSources
 
-abbrev pub line_for : Arrival → Line
-line_for r = line_met r.timing r.now r.group r.kind r.named
+abbrev pub table_row_for : Arrival → TableRow
+table_row_for r = table_row_met r.timing r.now r.group r.kind r.named
 
 -- what it leaves of the group
 abbrev pub group_after : Arrival → GroupState

@@ -14,7 +14,7 @@ ghost use Rattle.mq_table.specs.Table.{NamedSources};
 ghost use Rattle.mq_table.specs.OlderHosts.{translated, older_report};
 ghost use Rattle.mq_table.specs.Expiry.{expired};
 ghost use Rattle.mq_table.specs.Lowering.{group_lowered, sources_lowered};
-ghost use Rattle.mq_table.specs.Laws.{Arrival, line_for, group_after, ForwardsAfter, IsNoLater, AllAhead};
+ghost use Rattle.mq_table.specs.Laws.{Arrival, table_row_for, group_after, ForwardsAfter, IsNoLater, AllAhead};
 
 use crate::kind::Kind;
 
@@ -31,7 +31,7 @@ pub fn expiry_keeps_form()
     ensures ahead { (now : ℕ) (g : GroupState) → AllAhead now (expired now g) }
 {}
 
-/// So does each line of the tables, which never ends a group that is held.
+/// So does each row of the tables, which never ends a group that is held.
 pub fn records_keep_form()
     ensures any { (r : Arrival) → IsAnyGroup r.group → IsAnyGroup (group_after r) }
     ensures held { (r : Arrival) → IsWellFormed r.group → IsWellFormed (group_after r) }
@@ -47,7 +47,7 @@ pub fn reports_and_queries_keep_form()
         → IsWellFormed g → IsWellFormed (sources_lowered timing now asked g) }
 {}
 
-/// A record brings no source that it doesn't name, and changes no deadline but those that its line
+/// A record brings no source that it doesn't name, and changes no deadline but those that its row
 /// sets.
 pub fn records_change_what_they_name()
     // Each source of the new state was there before, or is in the record.
@@ -55,18 +55,18 @@ pub fn records_change_what_they_name()
         → IsSome (timer_at (group_after r) s)
         → IsSome (timer_at r.group s) ⊎ IsTrue (set.contains r.named s) }
 
-    // A deadline that the line doesn't set is the one from before.
+    // A deadline that the row doesn't set is the one from before.
     ensures kept { (r : Arrival) (s : ℕ)
-        → (line_for r).restart s ≡ false → (line_for r).copy s ≡ false
+        → (table_row_for r).restart s ≡ false → (table_row_for r).copy s ≡ false
         → (deadline : ℕ) → deadline_of (timer_at (group_after r) s) ≡ Some deadline
         → deadline_of (timer_at r.group s) ≡ Some deadline }
 
     // The deadlines that it sets: to the group membership interval, or to the group timer from before.
     ensures restarted { (r : Arrival) (s : ℕ)
-        → (line_for r).restart s ≡ true
+        → (table_row_for r).restart s ≡ true
         → deadline_of (timer_at (group_after r) s) ≡ Some (r.now + membership_interval r.timing) }
     ensures copied { (r : Arrival) (s : ℕ)
-        → (line_for r).copy s ≡ true
+        → (table_row_for r).copy s ≡ true
         → deadline_of (timer_at (group_after r) s) ≡ group_deadline r.group.mode }
 
     // A source that runs has as many sendings to go as before, and none where it didn't run.

@@ -26,5 +26,5 @@ pub use kind::Kind;
 pub use mq_count::OlderVersion;
 pub use older_hosts::{Hosts, translate};
 pub use sources::Source;
-pub use timers::{FilterMode, SourceTimer};
+pub use timers::{FilterMode, SourceTimer, runs_on};
 pub use timing::Timing;

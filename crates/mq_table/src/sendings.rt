@@ -5,7 +5,7 @@ ghost use Rattle.std.specs.List.{list_any};
 ghost use Rattle.mq_count.specs.Spending.{Spends};
 ghost use Rattle.mq_sets.specs.Ascending.{IsAscending, set_of};
 ghost use Rattle.mq_table.specs.Sets.{◌∩◌};
-ghost use Rattle.mq_table.specs.Group.{timer_at, is_ahead, deadline_of};
+ghost use Rattle.mq_table.specs.Group.{timer_at};
 ghost use Rattle.mq_table.specs.Sendings.{some_source, above, source_counted, source_cleared, sendings_started, sendings_counted, sendings_cleared};
 ghost use Rattle.mq_table.specs.AskedSources.{is_first, source_if_asked, is_asked_above};
 ghost use Rattle.mq_table.specs.MadeSources.{timer_recounted, source_recounted};
@@ -13,21 +13,10 @@ ghost use Rattle.mq_table.specs.Stored.{number_in, size_of};
 
 use crate::group::Group;
 use crate::sources::Source;
-use crate::timers::SourceTimer;
+use crate::timers::{SourceTimer, runs_on};
 use crate::timing::Timing;
 use mq_count::{Key, Meter, Moment};
 use std::cmp::Ordering;
-
-/// Whether a timer runs on after a moment. At most one comparison.
-fn is_above(timer: &SourceTimer, limit: Moment, m: &mut Meter) -> bool
-    ensures answer { result ≡ is_ahead limit (deadline_of (Some timer.now)) }
-    ensures spent { Spends 0 1 m.old m.new }
-{
-    match timer {
-        SourceTimer::Stopped => false,
-        SourceTimer::Running(deadline, _) => !m.reached(*deadline, limit),
-    }
-}
 
 /// Whether the next of the addresses asked for is this one. At most one comparison.
 fn is_next<K: Key>(asked: &[K], next: usize, address: K, m: &mut Meter) -> bool
@@ -69,7 +58,7 @@ fn ask_each<K: Key>(
         let held = sources[place];
         if is_next(asked, next, held.address, m) {
             next += 1;
-            if is_above(&held.timer, limit, m) {
+            if runs_on(held.timer.deadline(), limit, m) {
                 some = true;
                 sources[place] = Source {
                     address: held.address,

@@ -3,7 +3,7 @@ use Rattle.std.specs.Ordering.{nat_cmp}
 use Rattle.std.specs.FinMap.{get-empty}
 use Rattle.mq_table.specs.Group.{is_running}
 use Rattle.mq_table.specs.declared.kind.Kind.TheVariants.{IsIn, IsEx, ToIn, ToEx, Allow, Block}
-use Rattle.mq_table.proofs.Lines.{forwards_in-group_after}
+use Rattle.mq_table.proofs.TableRows.{forwards_in-group_after}
 use Rattle.mq_table.proofs.laws.forwards_after_each_kind.Goals as goal
 
 pub returns-clause-is_in : goal.returns-clause-is_in

@@ -1,4 +1,4 @@
-use Rattle.mq_table.proofs.Lines.{restarted, copied, sendings_kept, known, deadline_kept, unnamed_as_before}
+use Rattle.mq_table.proofs.TableRows.{restarted, copied, sendings_kept, known, deadline_kept, unnamed_as_before}
 use Rattle.mq_table.proofs.laws.records_change_what_they_name.Goals as goal
 
 pub returns-clause-known : goal.returns-clause-known

@@ -1,7 +1,7 @@
 use Rattle.std.proofs.Common.{arith, ap}
 use Rattle.mq_sets.specs.Pools.{PoolState, cells_in}
 use Rattle.mq_sets.proofs.Stored.{cells_in-rows_of}
-use Rattle.mq_sets.proofs.pools.Pool.room.Goals as goal
+use Rattle.mq_sets.proofs.pools.Pool.free_cells.Goals as goal
 
 pub returns : goal.returns
 returns g c =

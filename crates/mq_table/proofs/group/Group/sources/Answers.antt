@@ -1,5 +1,5 @@
 use Rattle.mq_table.proofs.SourceLists.{len-timers_in}
-use Rattle.mq_table.proofs.group.Group.row.Goals as goal
+use Rattle.mq_table.proofs.group.Group.sources.Goals as goal
 
 pub returns-clause-len : goal.returns-clause-len
 returns-clause-len g c =
