@@ -3,12 +3,10 @@
 #![tactic(auto)]
 
 pub mod changes;
-pub mod examples;
 mod expiry;
 pub mod group;
 pub mod heads;
 pub mod kind;
-pub mod laws;
 mod lowering;
 mod merged_records;
 pub mod older_hosts;
