@@ -24,10 +24,9 @@ test:
 mutants:
 	@tools/gate mutants
 
-# How fast captures are listed beside tcpdump, and what reserved storage costs: bench/README.md. It proves nothing.
+# How fast captures are listed beside tcpdump (bench/README.md). It proves nothing.
 bench: bin/mquerier
-	bench/show
-	bench/run
+	@bench/show
 
 install: bin/mquerier
 	install -d $(DESTDIR)$(PREFIX)/bin
