@@ -1,12 +1,9 @@
 -- Words in which rounds are spoken of.
-use Rattle.std.specs.Prelude.{ℕ, ◌<◌, ◌≤◌, Bool, true, false, ◌||◌, ◌==◌, if◌then◌else◌, List, [], ◌∷◌, length, IfSome}
+use Rattle.std.specs.Prelude.{ℕ, ◌<◌, Bool, true, false, ◌||◌, ◌==◌, List, [], ◌∷◌, IfSome}
 use Rattle.std.specs.List.{list_any}
-use Rattle.std.specs.List.Sorted.{IsStrictlyIncreasing}
-use Rattle.mq_table.specs.declared.timing.Timing.{Timing}
-use Rattle.mq_table.specs.Sets.{Set, ◌∩◌, ◌∖◌}
-use Rattle.mq_table.specs.Sendings.{has_sendings, above}
-use Rattle.mq_sched.specs.Schedule.{ScheduleState, ScheduledGroup, IsScheduleOf}
-use Rattle.mq_sched.specs.Sending.{SentQuery, GeneralQuery, GroupQuery, SourcesQuery, acted, is_due, sources_where, messages_due, after_round}
+use Rattle.mq_table.specs.Sets.{Set}
+use Rattle.mq_sched.specs.Schedule.{ScheduleState}
+use Rattle.mq_sched.specs.Sending.{SentQuery, GeneralQuery, GroupQuery, SourcesQuery}
 
 -- the sources that some query of a round asks for
 abbrev pub asked_in : List SentQuery → Set

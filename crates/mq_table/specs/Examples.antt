@@ -1,11 +1,7 @@
 -- Words of the worked examples: the timing of the standards' defaults, and a timer. Moments are milliseconds.
-use Rattle.std.specs.Prelude.{◌≡◌, ℕ, Bool, List, [], ◌∷◌, Option, None, Some}
-use Rattle.std.specs.FinMap as map
-use Rattle.std.specs.FinSet as set
-use Rattle.mq_table.specs.declared.kind.Kind.{Kind}
+use Rattle.std.specs.Prelude.{ℕ}
 use Rattle.mq_table.specs.declared.timing.Timing.{Timing}
-use Rattle.mq_table.specs.Group.{GroupState, FilterMode, Include, Exclude, SourceTimer, Stopped, Running}
-use Rattle.mq_table.specs.Table.{NamedSources, GroupChange, change_of}
+use Rattle.mq_table.specs.Group.{SourceTimer, Running}
 
 -- the defaults of RFC 3376 section 8 and RFC 3810 section 9
 abbrev pub default_timing : Timing
