@@ -10,7 +10,7 @@ use Rattle.mq_sched.specs.Runs.{runs_of, AllButLast}
 use Rattle.mq_sched.specs.Sending.{SentQuery, GeneralQuery, GroupQuery, SourcesQuery, is_due, group_due, sources_where, sources_queries, group_messages, source_messages}
 use Rattle.mq_laws.specs.Schedules.{Round, queries_of, set_runs, clear_runs, set_sources, clear_sources, AllFit}
 use Rattle.mq_sched.proofs.InRuns.{together, full}
-use Rattle.std.proofs.Common.{zero, suc, ◌+◌, drop, arith}
+use Rattle.std.proofs.Common.{zero, suc, drop, arith}
 use Rattle.std.proofs.lemmas.List.{length-take}
 use Rattle.mq_sched.specs.Runs.{runs_within}
 
