@@ -23,7 +23,7 @@ use Rattle.mq_table.specs.Sets.{Set}
 use Rattle.mq_table.specs.Group.{GroupState, is_include, vacant, is_vacant, running, stopped, IsAnyGroup}
 use Rattle.mq_table.specs.Stored.{size_of}
 use Rattle.mq_table.specs.Timing.{membership_interval}
-use Rattle.mq_table.specs.Table.{NamedSources, GroupChange, line, change_of}
+use Rattle.mq_table.specs.Table.{NamedSources, GroupChange, table_row, change_of}
 use Rattle.mq_table.specs.OlderHosts.{hosts_of, translated, translated_change, older_host, older_report}
 use Rattle.mq_table.specs.Lowering.{lowered_to}
 use Rattle.mq_table.proofs.Held.{IsAnyGroup-change_of, IsWellFormed-older_report}
@@ -72,7 +72,7 @@ pub record IsSound (config : Configuration) (group : ℕ) (schedule : ScheduleSt
   pub fits : IsScheduleOf change.group (settled change.group schedule)
   pub specific : is_source_specific config group ≡ true → IsSourceSpecific change.group
 
-include_line : (gmi : ℕ) (mode : FilterMode) (kind : Kind) (X Y A : Set) → is_include mode ≡ true → is_exclude_kind kind ≡ false → is_include (line gmi mode kind X Y A).mode ≡ true
+include_line : (gmi : ℕ) (mode : FilterMode) (kind : Kind) (X Y A : Set) → is_include mode ≡ true → is_exclude_kind kind ≡ false → is_include (table_row gmi mode kind X Y A).mode ≡ true
 include_line gmi (Exclude d) kind X Y A h k = cc
 include_line gmi Include IsIn X Y A h k = refl
 include_line gmi Include IsEx X Y A h k = cc
