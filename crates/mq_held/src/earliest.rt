@@ -102,7 +102,7 @@ pub(crate) fn earliest_moment<K: Key>(group: &Group<K>, schedule: Schedule, m: &
     ensures spent { Spends 0 (size_of group.now.state + 4) m.old m.new }
 {
     let first = earliest_of_head(group.mode(), group.v1(), group.v2(), schedule, m);
-    let earliest = earliest_with_row(first, group.row(), m);
+    let earliest = earliest_with_row(first, group.sources(), m);
     earliest.unwrap()
 }
 

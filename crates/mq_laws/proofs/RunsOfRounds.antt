@@ -8,20 +8,8 @@ use Rattle.mq_table.specs.Lowering.{lowered_to}
 use Rattle.mq_table.specs.Sendings.{has_sendings, above}
 use Rattle.mq_sched.specs.Runs.{runs_of, AllButLast}
 use Rattle.mq_sched.specs.Sending.{SentQuery, GeneralQuery, GroupQuery, SourcesQuery, is_due, group_due, sources_where, sources_queries, group_messages, source_messages}
-use Rattle.mq_laws.specs.Schedules.{Round, queries_of, set_runs, clear_runs, set_sources, clear_sources, AllFit}
+use Rattle.mq_laws.specs.Schedules.{Round, queries_of, set_runs, clear_runs, set_sources, clear_sources}
 use Rattle.mq_sched.proofs.InRuns.{together, full}
-use Rattle.std.proofs.Common.{zero, suc, drop, arith}
-use Rattle.std.proofs.lemmas.List.{length-take}
-use Rattle.mq_sched.specs.Runs.{runs_within}
-
-fits_within : (most n group : ℕ) (flag : Bool) (xs : List ℕ) → AllFit n (list_map (SourcesQuery group flag) (runs_within most n xs))
-fits_within most n group flag [] = tt
-fits_within zero n group flag (x ∷ xs) = tt
-fits_within (suc most) n group flag (x ∷ xs) = (omega (arith, length-take n (x ∷ xs)), fits_within most n group flag (drop n (x ∷ xs)))
-
--- no run is longer than one message holds
-pub fits : (n group : ℕ) (flag : Bool) (xs : List ℕ) → AllFit n (sources_queries n group flag xs)
-fits n group flag xs = fits_within (length xs) n group flag xs
 
 set_runs-append : (xs ys : List SentQuery) → set_runs (xs ++ ys) ≡ set_runs xs ++ set_runs ys
 set_runs-append [] ys = refl
@@ -46,12 +34,6 @@ clear_runs-both : (group : ℕ) (set clear : List (List ℕ)) → clear_runs (li
 clear_runs-both group [] [] = refl
 clear_runs-both group [] (run ∷ clear) = ap (λ rest. run ∷ rest) (clear_runs-both group [] clear)
 clear_runs-both group (run ∷ set) clear = clear_runs-both group set clear
-
-fit_append : (n : ℕ) (xs ys : List SentQuery) → AllFit n xs → AllFit n ys → AllFit n (xs ++ ys)
-fit_append n [] ys a b = b
-fit_append n (GeneralQuery ∷ xs) ys a b = fit_append n xs ys a b
-fit_append n (GroupQuery g f ∷ xs) ys a b = fit_append n xs ys a b
-fit_append n (SourcesQuery g f ss ∷ xs) ys a b = (a.0, fit_append n xs ys a.1 b)
 
 -- the runs of the sources of either flag, whether they are due or not
 abbrev set_list : Round → List ℕ
@@ -112,15 +94,3 @@ set_full r = subst (AllButLast (λ run. length run ≡ r.per_query)) (sym (set_r
 
 pub clear_full : (r : Round) → AllButLast (λ run. length run ≡ r.per_query) (clear_runs (queries_of r))
 clear_full r = subst (AllButLast (λ run. length run ≡ r.per_query)) (sym (clear_runs-of r)) (full_if r.per_query (sources_due r) (clear_list r))
-
--- no query of a round has more sources than one message holds
-pub all_fit : (r : Round) → AllFit r.per_query (queries_of r)
-all_fit r = fit_append r.per_query (group_part r) (sources_part r) (of_group (is_due r.now (group_due r.before.schedule.group_query))) (of_sources (sources_due r))
-  where
-    of_group : (b : Bool) → AllFit r.per_query (cond b (GroupQuery r.address (is_ahead (lowered_to r.timing r.now) (group_deadline r.before.group.mode)) ∷ []) [])
-    of_group true = tt
-    of_group false = tt
-
-    of_sources : (b : Bool) → AllFit r.per_query (cond b (sources_queries r.per_query r.address true (set_list r) ++ sources_queries r.per_query r.address false (clear_list r)) [])
-    of_sources true = fit_append r.per_query (sources_queries r.per_query r.address true (set_list r)) (sources_queries r.per_query r.address false (clear_list r)) (fits r.per_query r.address true (set_list r)) (fits r.per_query r.address false (clear_list r))
-    of_sources false = tt

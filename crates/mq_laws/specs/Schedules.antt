@@ -45,14 +45,6 @@ AscendIn (GroupQuery group flag ∷ queries) = AscendIn queries
 AscendIn (SourcesQuery group flag sources ∷ queries) =
     (0 < length sources) × IsStrictlyIncreasing sources × AscendIn queries
 
--- no query has more sources than one message holds
-abbrev pub AllFit : (per_query : ℕ) → List SentQuery → Type 0
-AllFit per_query [] = Unit {0}
-AllFit per_query (GeneralQuery ∷ queries) = AllFit per_query queries
-AllFit per_query (GroupQuery group flag ∷ queries) = AllFit per_query queries
-AllFit per_query (SourcesQuery group flag sources ∷ queries) =
-    (length sources ≤ per_query) × AllFit per_query queries
-
 -- the lists of sources of a round's queries with S set, and of those with S clear
 abbrev pub set_runs : List SentQuery → List (List ℕ)
 set_runs [] = []

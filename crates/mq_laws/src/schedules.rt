@@ -11,7 +11,8 @@ ghost use Rattle.mq_sched.specs.Runs.{AllButLast};
 ghost use Rattle.mq_sched.specs.Schedule.{query_sendings, ScheduleState, ScheduledGroup, IsScheduleOf, settled, cleared};
 ghost use Rattle.mq_sched.specs.Sending.{is_due, group_due, messages_due};
 ghost use Rattle.mq_sched.specs.Election.{ElectionState, ticked, next_moment};
-ghost use Rattle.mq_laws.specs.Schedules.{Round, queries_of, state_after, Asking, after_asking, IsFitting, AscendIn, set_runs, clear_runs, set_sources, clear_sources, AllFit};
+ghost use Rattle.mq_laws.specs.Schedules.{Round, queries_of, state_after, Asking, after_asking, IsFitting, AscendIn, set_runs, clear_runs, set_sources, clear_sources};
+ghost use Rattle.mq_sched.specs.Rounds.{AllFit};
 ghost use Rattle.mq_sched.specs.Rounds.{asked_in, asks_group, IsQuietAt};
 
 use mq_table::Timing;

@@ -10,3 +10,4 @@ pub mod StayHeld
 pub mod Without
 pub mod Collecting
 pub mod Room
+pub mod FittingRounds

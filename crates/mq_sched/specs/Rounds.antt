@@ -1,5 +1,5 @@
 -- Words in which rounds are spoken of.
-use Rattle.std.specs.Prelude.{ℕ, ◌<◌, Bool, true, false, ◌||◌, ◌==◌, List, [], ◌∷◌, IfSome}
+use Rattle.std.specs.Prelude.{ℕ, ◌<◌, ◌≤◌, length, Bool, true, false, ◌||◌, ◌==◌, List, [], ◌∷◌, IfSome}
 use Rattle.std.specs.List.{list_any}
 use Rattle.mq_table.specs.Sets.{Set}
 use Rattle.mq_sched.specs.Schedule.{ScheduleState}
@@ -24,3 +24,11 @@ asks_group (SourcesQuery group flag sources ∷ queries) = asks_group queries
 pub record IsQuietAt (now : ℕ) (schedule : ScheduleState) : Type 0 where
   pub group : IfSome schedule.group_query (λ q. now < q.due)
   pub sources : IfSome schedule.sources_due (λ due. now < due)
+
+-- no query has more sources than one message holds
+abbrev pub AllFit : (per_query : ℕ) → List SentQuery → Type 0
+AllFit per_query [] = Unit {0}
+AllFit per_query (GeneralQuery ∷ queries) = AllFit per_query queries
+AllFit per_query (GroupQuery group flag ∷ queries) = AllFit per_query queries
+AllFit per_query (SourcesQuery group flag sources ∷ queries) =
+    (length sources ≤ per_query) × AllFit per_query queries

@@ -1,4 +1,5 @@
-use Rattle.mq_laws.proofs.RunsOfRounds.{set_together, clear_together, set_full, clear_full, all_fit}
+use Rattle.mq_laws.proofs.RunsOfRounds.{set_together, clear_together, set_full, clear_full}
+use Rattle.mq_sched.proofs.FittingRounds.{all_fit}
 use Rattle.mq_laws.proofs.schedules.a_round_is_in_runs.Goals as goal
 
 pub returns-clause-set : goal.returns-clause-set
@@ -14,4 +15,4 @@ pub returns-clause-clear_full : goal.returns-clause-clear_full
 returns-clause-clear_full c = clear_full
 
 pub returns-clause-fit : goal.returns-clause-fit
-returns-clause-fit c = all_fit
+returns-clause-fit c r = all_fit r.per_query r.timing r.now r.address r.before
