@@ -34,7 +34,8 @@ impl<F: Family> Model for Config<F> {
 
     ghost view = { λ c. configured F.FAMILY c.timing c.limits (F.Address.number c.own) c.source_specific };
 
-    ghost invariant = { λ c. IsFaultless (configured F.FAMILY c.timing c.limits (F.Address.number c.own) c.source_specific)
+    ghost invariant = { λ c.
+        IsFaultless (configured F.FAMILY c.timing c.limits (F.Address.number c.own) c.source_specific)
         × (c.response_interval ≡ c.timing.response_interval) × (c.last_member_interval ≡ c.timing.last_member_interval) };
 }
 
@@ -56,34 +57,32 @@ impl<F: Family> Config<F> {
         ensures { let timing = variables robustness query_seconds response_interval last_member_interval in
             IsGivenOrFaulty (configured F.FAMILY timing limits (F.Address.number own) source_specific) result }
     {
-        let fault = configuration_fault::<F>(
+        if let Some(fault) = configuration_fault::<F>(
             robustness,
             query_seconds,
             response_interval,
             last_member_interval,
             &limits,
             own,
-        );
-        if let Some(fault) = fault {
+        ) {
             return Err(fault);
         }
-        let timing = Timing::new(
+        let Some(timing) = Timing::new(
             robustness,
             query_seconds,
             response_interval,
             last_member_interval,
-        );
-        match timing {
-            Some(timing) => Ok(Config {
-                timing,
-                response_interval,
-                last_member_interval,
-                limits,
-                own,
-                source_specific,
-            }),
-            None => unreachable!(),
-        }
+        ) else {
+            unreachable!()
+        };
+        Ok(Config {
+            timing,
+            response_interval,
+            last_member_interval,
+            limits,
+            own,
+            source_specific,
+        })
     }
 
     /// Each has no fault, and is one of its family. It does nothing: its contract is the fact.

@@ -39,7 +39,8 @@ impl<F: Family> Model for QueryTerms<F> {
 
     ghost view = { λ t. record { own = F.Address.number t.own; timing = t.timing } };
 
-    ghost invariant = { λ t. (t.response ≡ t.timing.response_interval) × (t.last_member ≡ t.timing.last_member_interval) };
+    ghost invariant = { λ t.
+        (t.response ≡ t.timing.response_interval) × (t.last_member ≡ t.timing.last_member_interval) };
 }
 
 impl<F: Family> QueryTerms<F> {
@@ -172,7 +173,11 @@ impl<F: Family, O: Outlet<F::Address>> Sender<F, O> {
     /// From now on queries go on the terms of this router where this timing is in force, and are counted from 0.
     pub(crate) fn begin(&mut self, config: &Config<F>, timing: Timing)
         requires { KeepsIntervals config.now.timing timing }
-        ensures { self.new ≡ record self.old { terms = record { own = config.now.own; timing = timing }; sent = 0; unsent = 0 } }
+        ensures { self.new ≡ record self.old {
+          terms = record { own = config.now.own; timing = timing };
+          sent = 0;
+          unsent = 0;
+        } }
     {
         self.terms = QueryTerms::new(config, timing);
         self.sent = 0;
