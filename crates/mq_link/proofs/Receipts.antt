@@ -25,7 +25,8 @@ use Rattle.mq_link.specs.Heard.{announced_by}
 use Rattle.mq_link.specs.Receive.{Envelope, message_in, unless_faulty, read_of, drop_reason, envelope_tests, setting_of, taken_in, counting_read, taken_or_dropped, receipt_after}
 use Rattle.mq_link.specs.Tests.{first_named}
 use Rattle.mq_link.proofs.Ticked.{IsCarriedBy, IsWellFormed-query_heard}
-use Rattle.mq_link.proofs.Recorded.{AreSound, stated_leaves, all_judged_leave}
+use Rattle.mq_link.specs.Sound.{AreSound}
+use Rattle.mq_link.proofs.Recorded.{stated_leaves, all_judged_leave}
 
 -- what the queries that are read announce is what their fields can carry
 abbrev pub IsCarriedIn : Message ℕ → Type 0

@@ -33,6 +33,7 @@ use Rattle.mq_sched.specs.Sending.{acted, after_change, is_due, after_round}
 use Rattle.mq_sched.specs.Election.{is_querier}
 use Rattle.mq_sched.proofs.Fits.{fits_after_record, fits_acted, fits_after_round}
 use Rattle.mq_sched.proofs.StayHeld.{held_acted, held_after_round}
+use Rattle.mq_link.specs.Sound.{AreSound}
 use Rattle.mq_link.specs.declared.configuration.Limits.{Limits}
 use Rattle.mq_link.specs.declared.answers.Refusal.{Refusal}
 use Rattle.mq_link.specs.declared.answers.Refusal.TheVariants.{Groups as TooManyGroups, GroupSources, Sources, Scheduled, Repeated, Long}
@@ -270,12 +271,6 @@ within-with_group limits groups group e none within = record {
     by_place other true true = let n = no_sources in omega arith
     by_place other true false = not_above limits.group_sources (sources_of e) tests.1
     by_place other false b = within.group_sources other
-
--- The groups of a link, in a setting, are as it may hold them.
-pub record AreSound (at : Setting) (groups : Groups) : Type 0 where
-  pub all : All (IsHeldAs at.config) groups
-  pub within : AreWithin at.config.limits groups
-  pub silent : is_querier at.election.role ≡ false → All (λ _. IsSilent) groups
 
 pub changed_leaves : (at : Setting) (group : ℕ) (groups : Groups) (change : Option GroupChange) → 0 < at.election.timing.robustness → is_admitted at.config.family group ≡ true → AreSound at groups → IfSome change (IsSound at.config group (group_at groups group).schedule) → AreSound at (changed_or_refused at group groups change).groups
 changed_leaves at group groups None positive admitted h sound = h

@@ -23,3 +23,4 @@ pub mod Configured
 pub mod Handing
 pub mod Sender
 pub mod Counted
+pub mod Sound
