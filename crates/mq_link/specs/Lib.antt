@@ -16,6 +16,7 @@ pub mod ManySources
 pub mod Changing
 pub mod Judging
 pub mod Scratch
+pub mod Serving
 pub mod Reading
 pub mod Defaults
 pub mod Configured

@@ -36,6 +36,7 @@ pub mod sending;
 mod serving;
 mod statements;
 mod storing;
+mod ticking;
 
 pub use answers::{DropReason, MessageKind, Received, Refusal};
 pub use config::Config;
