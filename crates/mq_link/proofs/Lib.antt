@@ -30,6 +30,8 @@ pub mod MadeEntries
 pub mod LoweredSoFar
 pub mod DoneEntries
 pub mod TickedEntries
+pub mod ServedPlaces
+pub mod TickedPlaces
 pub mod Octets
 pub mod Numbered
 pub mod Lengths

@@ -37,6 +37,7 @@ pub mod sending;
 mod serving;
 mod statements;
 mod storing;
+mod ticking;
 
 pub use answers::{DropReason, MessageKind, Received, Refusal};
 pub use config::Config;
