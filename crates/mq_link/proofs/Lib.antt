@@ -32,6 +32,8 @@ pub mod DoneEntries
 pub mod TickedEntries
 pub mod ServedPlaces
 pub mod TickedPlaces
+pub mod ClearedPlaces
+pub mod HeardGroups
 pub mod Octets
 pub mod Numbered
 pub mod Lengths

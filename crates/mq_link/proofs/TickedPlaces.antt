@@ -69,7 +69,7 @@ fewer_behind (e ∷ es) zero (suc b) le = let rest : sum_by entry_sources (drop 
 fewer_behind (e ∷ es) (suc a) zero le = absurd (omega arith)
 fewer_behind (e ∷ es) (suc a) (suc b) le = fewer_behind es a b (omega arith)
 
-sources_of_entries : (es : GroupEntries) → sum_by entry_sources es ≡ sum_by sources_of (list_map (λ (e : ℕ × ScheduledGroup). e.1) es)
+pub sources_of_entries : (es : GroupEntries) → sum_by entry_sources es ≡ sum_by sources_of (list_map (λ (e : ℕ × ScheduledGroup). e.1) es)
 sources_of_entries [] = refl
 sources_of_entries (e ∷ es) = sum_by-cons entry_sources e es ∙ ap (λ n. sources_of e.1 + n) (sources_of_entries es) ∙ sym (sum_by-cons sources_of e.1 (list_map (λ (e : ℕ × ScheduledGroup). e.1) es))
 

@@ -23,6 +23,7 @@ pub mod counts;
 pub mod dropping;
 pub mod examples;
 pub mod family;
+mod hearing;
 pub mod igmp;
 pub mod laws;
 mod limiting;
