@@ -22,3 +22,5 @@ pub mod Configured
 pub mod Handing
 pub mod Sender
 pub mod Counted
+pub mod Link
+pub mod LinkCode
