@@ -39,3 +39,4 @@ pub mod Intervals
 pub mod KeptGroups
 pub mod CountedRows
 pub mod WithGroup
+pub mod LinkStored
