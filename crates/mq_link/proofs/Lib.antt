@@ -40,3 +40,6 @@ pub mod KeptGroups
 pub mod CountedRows
 pub mod WithGroup
 pub mod LinkStored
+pub mod DueSent
+pub mod HandedOut
+pub mod LinkTicked

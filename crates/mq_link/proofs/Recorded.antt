@@ -39,6 +39,7 @@ use Rattle.mq_link.specs.declared.answers.Refusal.TheVariants.{Groups as TooMany
 use Rattle.mq_link.specs.Family.{is_admitted, v1_mutes_leave}
 use Rattle.mq_link.specs.Configuration.{Configuration}
 use Rattle.mq_link.specs.Counters.{Ignored, Refused}
+pub use Rattle.mq_link.specs.Sound.{AreSound}
 use Rattle.mq_link.specs.State.{Groups, unheld, group_at, with_group, sources_of, sources_in, schedules_in, IsSourceSpecific, is_source_specific, IsHeldAs, IsSilent, AreWithin}
 use Rattle.mq_link.specs.Record.{Statement, RecordOf, OlderJoin, OlderLeave, is_exclude_kind, is_muted, asking_nothing, change_stated, limit_passed, Setting, leaving, unless_passed, changed_by, after_sending, sent_at_once, changed_or_refused, change_in, stated, Seen, Entrance, Stops, GoesOn, entrance, entrance_as, kind_named, is_repeated, seen_after, judged_from, judged, all_judged}
 use Rattle.mq_link.specs.Tests.{first_named}
@@ -270,12 +271,6 @@ within-with_group limits groups group e none within = record {
     by_place other true true = let n = no_sources in omega arith
     by_place other true false = not_above limits.group_sources (sources_of e) tests.1
     by_place other false b = within.group_sources other
-
--- The groups of a link, in a setting, are as it may hold them.
-pub record AreSound (at : Setting) (groups : Groups) : Type 0 where
-  pub all : All (IsHeldAs at.config) groups
-  pub within : AreWithin at.config.limits groups
-  pub silent : is_querier at.election.role ≡ false → All (λ _. IsSilent) groups
 
 pub changed_leaves : (at : Setting) (group : ℕ) (groups : Groups) (change : Option GroupChange) → 0 < at.election.timing.robustness → is_admitted at.config.family group ≡ true → AreSound at groups → IfSome change (IsSound at.config group (group_at groups group).schedule) → AreSound at (changed_or_refused at group groups change).groups
 changed_leaves at group groups None positive admitted h sound = h

@@ -24,3 +24,5 @@ pub mod Sender
 pub mod Counted
 pub mod Link
 pub mod LinkCode
+pub mod Serving
+pub mod Sound

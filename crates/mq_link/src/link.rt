@@ -1,21 +1,26 @@
 //! The whole of one link.
 
-ghost use Rattle.std.specs.Prelude.{◌≡◌, ℕ, ◌<◌, ◌≤◌, ◌^◌, length, IfOk};
+ghost use Rattle.std.specs.Prelude.{◌≡◌, ℕ, ◌+◌, ◌*◌, ◌<◌, ◌≤◌, ◌^◌, length, IfOk};
 ghost use Rattle.std.specs.FinMap as map;
+ghost use Rattle.mq_count.specs.Spending.{Spends};
 ghost use Rattle.mq_sets.specs.Ascending.{IsAscending};
 ghost use Rattle.mq_table.specs.Stored.{number_in, timers_in};
 ghost use Rattle.mq_sched.specs.Election.{is_querier};
 ghost use Rattle.mq_sched.specs.StoredElection.{IsOtherOf};
-ghost use Rattle.mq_held.specs.Groups.{group_at, sources_of};
+ghost use Rattle.mq_held.specs.Groups.{group_at, sources_of, sources_in};
 ghost use Rattle.mq_held.specs.Places.{HasPlace};
+ghost use Rattle.mq_link.specs.Link.{HasTicked};
 ghost use Rattle.mq_link.specs.State as state;
 ghost use Rattle.mq_link.specs.State.{link_at};
-ghost use Rattle.mq_link.specs.Tick.{next_of};
+ghost use Rattle.mq_link.specs.Tick.{moment_of, next_of};
 
 use crate::config::Config;
 use crate::counts::Counts;
+use crate::due::{do_due, later};
 use crate::family::Family;
+use crate::outlet::Outlet;
 use crate::scratch::Scratch;
+use crate::sending::Sender;
 use mq_count::{Meter, Moment};
 use mq_held::{HeldGroup, HeldGroups};
 use mq_sched::{Election, OtherQuerier};
@@ -79,6 +84,34 @@ impl<F: Family> Link<F> {
             scratch,
             places,
         })
+    }
+
+    /// Does what is due at or before `now`; a moment before the last one counts as the last one. In this order: timers end;
+    /// the other querier's deadline ends; the general query is sent, if it is due; then what is due for the groups (RFC 3376
+    /// sections 6.5, 6.6.2 and 6.6.3, RFC 3810 sections 7.5, 7.6.2 and 7.6.3). However late it is called, each goes once. At
+    /// most four comparisons for each source, 27 for each group and three more; before the next moment, three at most.
+    pub fn tick<O: Outlet<F::Address>>(&mut self, now: Moment, sender: &mut Sender<F, O>)
+        requires in_range { now ≤ 2 ^ 53 }
+        ensures config { self.new.config ≡ self.old.config }
+        ensures ticks { HasTicked O.takes now self.old self.new sender.old.outlet sender.new.outlet }
+        ensures spent { let groups = self.old.state.groups in
+            Spends 2 (4 * sources_in groups + 27 * map.len groups + 3) self.old.spent self.new.spent }
+        ensures quiet { moment_of self.old.state now < next_of self.old.state → Spends 2 3 self.old.spent self.new.spent }
+    {
+        self.config.is_faultless();
+        let now = later(self.last, now, &mut self.meter);
+        do_due(
+            &self.config,
+            &mut self.held,
+            &mut self.election,
+            &mut self.scratch.before,
+            &mut self.places,
+            now,
+            &mut self.meter,
+            sender,
+        );
+        self.counts.count_answers(sender.sent(), sender.unsent());
+        self.last = now;
     }
 
     /// What it is configured with.
