@@ -1,5 +1,6 @@
 -- What is stored of a link, at its start and after its calls.
-use Rattle.std.proofs.Common.{◌≡◌, ℕ, ◌+◌, ◌*◌, ◌<◌, ◌≤◌, ◌^◌, max, List, [], ◌∷◌, Bool, true, false, Some, length, refl, sym, ap, ◌∙◌, subst, arith, leb}
+use Rattle.std.proofs.Common.{◌≡◌, ℕ, ◌+◌, ◌*◌, ◌<◌, ◌≤◌, ◌^◌, max, List, [], ◌∷◌, Bool, true, false, Some, length, take, drop, ◌++◌, length-append, length-drop, refl, sym, ap, ◌∙◌, subst, arith, leb}
+use Rattle.std.proofs.lemmas.List.{length-take}
 use Rattle.std.specs.List.{list_any}
 use Rattle.std.specs.Option.{unwrap_or}
 use Rattle.std.specs.Ordering.{nat_cmp}
@@ -74,10 +75,17 @@ served_in config state scratch h room group e is =
     let wide = room.before in
     record { held = as_held.held; fits = as_held.fits; room_for = omega arith }
 
+-- places that were lent come back as many
+pub places_back : (n : ℕ) (lent stored : List ℕ) → length lent ≡ length stored → n ≡ length stored → length (take n (lent ++ drop (length lent) stored)) ≡ length stored
+places_back n lent stored same all =
+    simp (length-take, length-append, length-drop) (omega arith)
+
 -- before the next moment no group has anything due
 none_reached : (now : ℕ) (ms : List ℕ) → AllAbove now ms → list_any (λ t. leb t now) ms ≡ false
 none_reached now [] h = refl
-none_reached now (t ∷ ms) h = rw not_reached now t h.0 (none_reached now ms h.1)
+none_reached now (t ∷ ms) h =
+    let later = not_reached now t h.0 in
+    rw later (none_reached now ms h.1)
 
 pub none_due : (state : LinkState) (now : ℕ) → now < next_of state → (group : ℕ) (e : ScheduledGroup) → map.get state.groups group ≡ Some e → has_due now e ≡ false
 none_due state now before group e is =
