@@ -45,3 +45,7 @@ pub mod CountedRows
 pub mod WithGroup
 pub mod SeenLists
 pub mod ByDefault
+pub mod LinkStored
+pub mod DueSent
+pub mod HandedOut
+pub mod LinkTicked

@@ -40,7 +40,7 @@ abbrev pub AllAbove : ℕ → List ℕ → Type 0
 AllAbove m [] = Unit {0}
 AllAbove m (x ∷ xs) = (m < x) × AllAbove m xs
 
-above_least : (m n : ℕ) (ms : List ℕ) → m < least n ms → (m < n) × AllAbove m ms
+pub above_least : (m n : ℕ) (ms : List ℕ) → m < least n ms → (m < n) × AllAbove m ms
 above_least m n [] h = (h, tt)
 above_least m n (x ∷ xs) h = let rest : m < least n xs = omega arith in let r = above_least m n xs rest in (r.0, (omega arith, r.1))
 

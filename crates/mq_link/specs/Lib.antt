@@ -24,4 +24,6 @@ pub mod Configured
 pub mod Handing
 pub mod Sender
 pub mod Counted
+pub mod Link
+pub mod LinkCode
 pub mod Sound

@@ -1,8 +1,10 @@
 -- What a query makes of a sender.
 use Rattle.std.specs.Prelude.{◌≡◌, ℕ, Bool, List}
 use Rattle.mq_wire.specs.Family.{Family}
+use Rattle.mq_table.specs.declared.timing.Timing.{Timing}
 use Rattle.mq_sched.specs.Sending.{SentQuery}
 use Rattle.mq_link.specs.declared.sending.Sender.{Sender}
+use Rattle.mq_link.specs.Configuration.{Configuration}
 use Rattle.mq_link.specs.Handing.{Tally, HandsOne}
 
 -- its outlet, and what it has counted
@@ -13,3 +15,7 @@ tally_of s = record { outlet = s.outlet; sent = s.sent; unsent = s.unsent }
 pub record TakesQuery {F O K E : Type 0} (takes : O → ℕ → List ℕ → Bool → O → Type 0) (family : Family) (old : Sender F O K E) (query : SentQuery) (new : Sender F O K E) : Type 0 where
   pub same_terms : new.terms ≡ old.terms
   pub hands : HandsOne takes family old.terms query (tally_of old) (tally_of new)
+
+-- with its outlet, on the terms of a router so configured where a timing is in force, and with nothing counted
+abbrev pub begun : {F O K E : Type 0} → Configuration → Timing → Sender F O K E → Sender F O K E
+begun config timing s = record s { terms = record { own = config.own; timing = timing }; sent = 0; unsent = 0 }

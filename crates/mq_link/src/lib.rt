@@ -11,7 +11,8 @@
 //! - the configuration: `Config`, made where it has no fault;
 //! - why a datagram is dropped: `dropping`;
 //! - what goes out: the `Outlet` that takes datagrams, and the `Sender` before it;
-//! - what is counted: `Counts`.
+//! - what is counted: `Counts`;
+//! - and the whole, over all of these: `Link`.
 #![tactic(auto)]
 
 pub mod answers;
@@ -21,12 +22,14 @@ pub mod config;
 pub mod configuration;
 pub mod counts;
 pub mod dropping;
+mod due;
 pub mod examples;
 pub mod family;
 mod hearing;
 pub mod igmp;
 pub mod laws;
 mod limiting;
+pub mod link;
 mod lowering;
 pub mod mld;
 mod naming;
@@ -46,6 +49,7 @@ pub use configuration::{ConfigFault, Defaults, LimitName, Limits};
 pub use counts::Counts;
 pub use family::Family;
 pub use igmp::{Igmp, IgmpEnvelope};
+pub use link::Link;
 pub use mld::{Mld, MldEnvelope};
 pub use outlet::Outlet;
 pub use sending::Sender;

@@ -1,0 +1,17 @@
+use Rattle.std.proofs.Common.{◌≡◌, ℕ, ap, sym, ◌∙◌}
+use Rattle.mq_link.specs.Link.{LinkValue}
+use Rattle.mq_link.specs.State as state
+use Rattle.mq_link.proofs.KeptGroups.{has_place_within, absent_unheld}
+use Rattle.mq_link.proofs.LinkStored.{absent_forwards}
+use Rattle.mq_link.proofs.link.Link.forwards.Goals as goal
+
+pub entry-requires : goal.entry-requires
+entry-requires g c =
+    record { place = has_place_within c.self.inside.held.groups (g.F.Address.Key.number c.args.group) c.in-Ok.place c.in-Ok.ensures.found }
+
+pub returns-in-Err : goal.returns-in-Err
+returns-in-Err g c =
+    let group = g.F.Address.Key.number c.args.group in
+    let source = g.F.Address.Key.number c.args.source in
+    let absent = absent_unheld c.self.inside.held.groups group c.in-Err.field-0 c.in-Err.ensures.absent in
+    sym (ap (λ (v : LinkValue). state.forwards v.state group source) (sym c.self.view_is) ∙ absent_forwards c.self.inside.held.groups group source absent)

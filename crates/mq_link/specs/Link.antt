@@ -1,0 +1,42 @@
+-- What a contract sees of a link, and what a call makes of it.
+use Rattle.std.specs.Prelude.{◌≡◌, ℕ, ◌≤◌, ◌^◌, List, Bool, length}
+use Rattle.mq_held.specs.Held.{HeldState}
+use Rattle.mq_sched.specs.StoredElection.{RouterElection}
+use Rattle.mq_link.specs.declared.scratch.Scratch.{Scratch}
+use Rattle.mq_link.specs.Configuration.{Configuration}
+use Rattle.mq_link.specs.Counters.{Counters}
+use Rattle.mq_link.specs.Handing.{HandsOver, KeepsIntervals}
+use Rattle.mq_link.specs.Run.{Ticks}
+use Rattle.mq_link.specs.Scratch.{HasRoom}
+use Rattle.mq_link.specs.Sent.{Outgoing}
+use Rattle.mq_link.specs.State.{LinkState, IsWellFormed}
+
+-- Its configuration, its state, and how many comparisons its calls have made.
+pub record LinkValue : Type 0 where
+  pub config : Configuration
+  pub state : LinkState
+  pub spent : ℕ
+
+-- the state whose parts are stored
+abbrev pub state_in : HeldState → RouterElection → (last : ℕ) → Counters → LinkState
+state_in held election last counters =
+    record { groups = held.groups; election = election.state; last = last; counters = counters }
+
+-- What is stored of the groups and the election is of one configuration, and there is room for what it allows.
+pub record IsLinkStored {K : Type 0} (config : Configuration) (held : HeldState) (election : RouterElection) (last : ℕ) (counters : Counters) (scratch : Scratch K) (places : List ℕ) : Type 0 where
+  pub state : IsWellFormed config (state_in held election last counters)
+  pub in_range : last ≤ 2 ^ 53
+  pub own : election.own ≡ config.own
+  pub configured : election.configured ≡ config.timing
+  pub intervals : KeepsIntervals config.timing election.state.timing
+  pub group_room : held.group_room ≡ config.limits.groups
+  pub source_room : held.source_room ≡ config.limits.sources
+  pub scratch_room : HasRoom config.limits.group_sources scratch
+  pub place_room : length places ≡ config.limits.groups
+
+-- A tick at a moment, with the messages that the outlet was handed by it and its answers.
+pub record HasTicked {O : Type 0} (takes : O → ℕ → List ℕ → Bool → O → Type 0) (now : ℕ) (before after : LinkValue) (old new : O) : Type 0 where
+  pub messages : List Outgoing
+  pub answers : List Bool
+  pub ticks : Ticks before.config now before.state messages answers after.state
+  pub handed : HandsOver takes old messages answers new

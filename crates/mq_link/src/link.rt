@@ -1,0 +1,205 @@
+//! The whole of one link.
+
+ghost use Rattle.std.specs.Prelude.{◌≡◌, ℕ, ◌+◌, ◌*◌, ◌<◌, ◌≤◌, ◌^◌, length, IfOk};
+ghost use Rattle.std.specs.FinMap as map;
+ghost use Rattle.mq_count.specs.Spending.{Spends};
+ghost use Rattle.mq_sets.specs.Ascending.{IsAscending};
+ghost use Rattle.mq_table.specs.Stored.{number_in, timers_in};
+ghost use Rattle.mq_sched.specs.Election.{is_querier};
+ghost use Rattle.mq_sched.specs.StoredElection.{IsOtherOf};
+ghost use Rattle.mq_held.specs.Groups.{group_at, sources_of, sources_in};
+ghost use Rattle.mq_held.specs.Places.{HasPlace};
+ghost use Rattle.mq_link.specs.Link.{HasTicked};
+ghost use Rattle.mq_link.specs.State as state;
+ghost use Rattle.mq_link.specs.State.{link_at};
+ghost use Rattle.mq_link.specs.Tick.{moment_of, next_of};
+
+use crate::config::Config;
+use crate::counts::Counts;
+use crate::due::{do_due, later};
+use crate::family::Family;
+use crate::outlet::Outlet;
+use crate::scratch::Scratch;
+use crate::sending::Sender;
+use mq_count::{Meter, Moment};
+use mq_held::{HeldGroup, HeldGroups};
+use mq_sched::{Election, OtherQuerier};
+use mq_sets::Memory;
+use mq_table::Timing;
+use std::alloc::Global;
+use std::marker::Model;
+
+/// One link of a multicast router, as the definitions have it: its configuration, its state, and how many comparisons it
+/// has made. All storage is taken by `new`, and no other call takes any.
+#[derive(Drop)]
+pub struct Link<F: Family> {
+    config: Config<F>,
+    held: HeldGroups<F::Address>,
+    election: Election<F::Address>,
+    last: Moment,
+    counts: Counts,
+    meter: Meter,
+    scratch: Scratch<F::Address>,
+    places: Vec<usize>,
+}
+
+impl<F: Family> Model for Link<F> {
+    ghost use Rattle.mq_table.specs.contracts.timers.FilterMode as filter_mode;
+    ghost use Rattle.mq_table.specs.contracts.timers.SourceTimer as source_timer;
+    ghost use Rattle.mq_sched.specs.contracts.queries.QuerySchedule as query_schedule;
+    ghost use Rattle.mq_link.specs.Link.{LinkValue, IsLinkStored, state_in};
+    ghost use Rattle.mq_link.specs.LinkCode.{link_code};
+
+    ghost Value = { LinkValue };
+
+    ghost coded = { link_code filter_mode.the_row.coded source_timer.the_row.coded query_schedule.the_row.coded };
+
+    ghost view = { λ l. record { config = l.config; state = state_in l.held l.election l.last l.counts; spent = l.meter } };
+
+    ghost invariant = { λ l. IsLinkStored l.config l.held l.election l.last l.counts l.scratch l.places.items };
+}
+
+impl<F: Family> Link<F> {
+    /// A link that starts at `start`: nothing is held, and it is querier, with its first general query due (RFC 3376
+    /// section 8.7, RFC 3810 section 9.7). It takes the memory for all that its limits allow; or answers `Memory`, where
+    /// that was refused.
+    pub fn new(alloc: Global, config: Config<F>, start: Moment) -> Result<Link<F>, Memory>
+        requires in_range { start ≤ 2 ^ 53 }
+        ensures { IfOk result (λ link. link ≡ record { config = config; state = link_at config start; spent = 0 }) }
+    {
+        config.is_faultless();
+        let limits = config.limits();
+        let groups = limits.groups as usize;
+        let held = HeldGroups::with_room(alloc, groups, limits.sources as usize)?;
+        let scratch = Scratch::with_room(alloc, limits.group_sources as usize)?;
+        let places = vec![in alloc; 0; groups]?;
+        let election = Election::new(config.own(), config.timing(), start);
+        Ok(Link {
+            config,
+            held,
+            election,
+            last: start,
+            counts: Counts::none(),
+            meter: Meter::new(),
+            scratch,
+            places,
+        })
+    }
+
+    /// Does what is due at or before `now`; a moment before the last one counts as the last one. In this order: timers end;
+    /// the other querier's deadline ends; the general query is sent, if it is due; then what is due for the groups (RFC 3376
+    /// sections 6.5, 6.6.2 and 6.6.3, RFC 3810 sections 7.5, 7.6.2 and 7.6.3). However late it is called, each goes once. At
+    /// most four comparisons for each source, 27 for each group and three more; before the next moment, three at most.
+    pub fn tick<O: Outlet<F::Address>>(&mut self, now: Moment, sender: &mut Sender<F, O>)
+        requires in_range { now ≤ 2 ^ 53 }
+        ensures config { self.new.config ≡ self.old.config }
+        ensures ticks { HasTicked O.takes now self.old self.new sender.old.outlet sender.new.outlet }
+        ensures spent { let groups = self.old.state.groups in
+            Spends 2 (4 * sources_in groups + 27 * map.len groups + 3) self.old.spent self.new.spent }
+        ensures quiet { moment_of self.old.state now < next_of self.old.state → Spends 2 3 self.old.spent self.new.spent }
+    {
+        self.config.is_faultless();
+        let now = later(self.last, now, &mut self.meter);
+        do_due(
+            &self.config,
+            &mut self.held,
+            &mut self.election,
+            &mut self.scratch.before,
+            &mut self.places,
+            now,
+            &mut self.meter,
+            sender,
+        );
+        self.counts.count_answers(sender.sent(), sender.unsent());
+        self.last = now;
+    }
+
+    /// What it is configured with.
+    pub fn config(&self) -> &Config<F>
+        ensures { result.now ≡ self.now.config }
+    {
+        &self.config
+    }
+
+    /// What it has counted.
+    pub fn counts(&self) -> &Counts
+        ensures { result.now ≡ self.now.state.counters }
+    {
+        &self.counts
+    }
+
+    /// How many comparisons its calls have made. It stays at the greatest u64.
+    pub fn spent(&self) -> u64
+        ensures { result ≡ self.now.spent }
+    {
+        self.meter.spent()
+    }
+
+    /// Whether it is querier (RFC 3376 section 6.6.2, RFC 3810 section 7.6.2).
+    pub fn is_querier(&self) -> bool
+        ensures { result ≡ is_querier self.now.state.election.role }
+    {
+        self.election.is_querier()
+    }
+
+    /// The other router that is querier, or None where this one is.
+    pub fn other_querier(&self) -> Option<OtherQuerier<F::Address>>
+        ensures { IsOtherOf F.Address.number self.now.state.election.role result }
+    {
+        self.election.other_querier()
+    }
+
+    /// The timing in force: the configured one, but for what was taken over from the queries of other routers (RFC 3376
+    /// sections 4.1.6 and 4.1.7, RFC 3810 sections 5.1.8 and 5.1.9).
+    pub fn timing(&self) -> Timing
+        ensures { result ≡ self.now.state.election.timing }
+    {
+        self.election.timing()
+    }
+
+    /// How many groups it holds.
+    pub fn len(&self) -> usize
+        ensures { result ≡ map.len self.now.state.groups }
+    {
+        self.held.len()
+    }
+
+    /// The group at a place, its rank in the ascending list of the addresses of all groups, counted from 0, as it stands in
+    /// the storage.
+    pub fn entry(&self, place: usize) -> HeldGroup<'_, F::Address>
+        requires place { place < map.len self.now.state.groups }
+        ensures place { HasPlace self.now.state.groups (F.Address.number result.address) place }
+        ensures group { (address : ℕ) → HasPlace self.now.state.groups address place →
+            record { group = record { mode = result.mode; sources = timers_in F.Address.number result.sources.now; v1 = result.v1; v2 = result.v2 }; schedule = result.schedule } ≡ group_at self.now.state.groups address }
+        ensures ascending { IsAscending (number_in F.Address.number) result.sources.now }
+        ensures len { (address : ℕ) → HasPlace self.now.state.groups address place →
+            length result.sources.now ≡ sources_of (group_at self.now.state.groups address) }
+    {
+        self.held.entry(place)
+    }
+
+    /// When a tick has something to do next: the earliest of all deadlines and due moments. It compares two moments on a
+    /// meter of its own, which is not counted in `spent`, and of which no bound speaks.
+    pub fn next_deadline(&self) -> Moment
+        ensures { result ≡ next_of self.now.state }
+    {
+        let next = self.election.next_moment();
+        match self.held.earliest() {
+            None => next,
+            Some(earliest) => Meter::new().earlier(next, earliest),
+        }
+    }
+
+    /// Whether what a source sends to a group is forwarded, as of the last moment handed in (RFC 3376 section 6.3, RFC
+    /// 3810 section 7.3). It compares addresses on a meter of its own, which is not counted in `spent`, and of which no
+    /// bound speaks.
+    pub fn forwards(&self, group: F::Address, source: F::Address) -> bool
+        ensures { result ≡ state.forwards self.now.state (F.Address.number group) (F.Address.number source) }
+    {
+        let mut m = Meter::new();
+        match self.held.find(group, &mut m) {
+            Ok(place) => self.held.entry(place).forwards(source, &mut m),
+            Err(_) => false,
+        }
+    }
+}
