@@ -1,16 +1,15 @@
 -- What is stored of a link, at its start and after its calls.
-use Rattle.std.proofs.Common.{◌≡◌, ℕ, ◌+◌, ◌*◌, ◌<◌, ◌≤◌, ◌^◌, max, List, [], ◌∷◌, Bool, true, false, Some, length, take, drop, ◌++◌, length-append, length-drop, refl, sym, ap, ◌∙◌, subst, arith, leb}
+use Rattle.std.proofs.Common.{◌≡◌, ℕ, ◌<◌, ◌≤◌, ◌^◌, List, [], ◌∷◌, false, Some, length, take, drop, ◌++◌, length-append, length-drop, refl, sym, ap, ◌∙◌, subst, arith, leb}
 use Rattle.std.proofs.lemmas.List.{length-take}
 use Rattle.std.specs.List.{list_any}
 use Rattle.std.specs.Option.{unwrap_or}
 use Rattle.std.specs.Ordering.{nat_cmp}
 use Rattle.std.specs.FinMap as map
 use Rattle.mq_held.specs.Groups.{Groups, group_at, unheld, sources_of}
-use Rattle.mq_held.specs.Moments.{moments_of, moments_in, least}
+use Rattle.mq_held.specs.Moments.{moments_of, moments_in}
 use Rattle.mq_held.specs.Places.{has_due}
 use Rattle.mq_held.specs.Held.{HeldState}
 use Rattle.mq_table.specs.Group.{forwards_in, is_running}
-use Rattle.mq_table.specs.declared.timing.Timing.{Timing}
 use Rattle.mq_sched.specs.Election.{ElectionState, election_at, next_moment}
 use Rattle.mq_sched.specs.Schedule.{ScheduledGroup}
 use Rattle.mq_sched.specs.StoredElection.{RouterElection}

@@ -1,14 +1,11 @@
-use Rattle.std.proofs.Common.{◌≡◌, ℕ, ◌+◌, ◌*◌, ◌<◌, ◌≤◌, max, List, length, refl, ap, sym, ◌∙◌, subst, arith}
+use Rattle.std.proofs.Common.{◌≡◌, ◌<◌, max, length, refl, ap, sym, ◌∙◌, subst, arith}
 use Rattle.mq_count.specs.Spending.{Spends}
 use Rattle.mq_count.proofs.Spent.{Spends-join_within}
-use Rattle.mq_table.specs.declared.timing.Timing.{Timing}
-use Rattle.mq_sched.specs.Election.{ticked}
 use Rattle.mq_sched.specs.StoredElection.{RouterElection}
-use Rattle.mq_link.specs.Counters.{Counters}
 use Rattle.mq_link.specs.Link.{LinkValue, HasTicked, state_in}
 use Rattle.mq_link.specs.Scratch.{HasRoom}
 use Rattle.mq_link.specs.State.{LinkState}
-use Rattle.mq_link.specs.Tick.{tick_at, next_of, moment_of}
+use Rattle.mq_link.specs.Tick.{tick_at, next_of}
 use Rattle.mq_link.proofs.Faultless.{timing_in_range}
 use Rattle.mq_link.proofs.HandedOut.{with_answers}
 use Rattle.mq_link.proofs.Intervals.{kept-ticked}
