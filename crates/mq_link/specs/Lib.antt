@@ -17,6 +17,7 @@ pub mod Changing
 pub mod Judging
 pub mod Scratch
 pub mod Serving
+pub mod Hearing
 pub mod Reading
 pub mod Defaults
 pub mod Configured
