@@ -18,6 +18,7 @@ pub mod Judging
 pub mod Scratch
 pub mod Seen
 pub mod Serving
+pub mod Hearing
 pub mod Reading
 pub mod Defaults
 pub mod Configured

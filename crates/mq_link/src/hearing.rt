@@ -1,6 +1,6 @@
 //! What a query that is heard does to the election and to the groups.
 
-ghost use Rattle.std.specs.Prelude.{◌≡◌, ℕ, ◌+◌, ◌-◌, ◌*◌, ◌^◌, ◌<◌, ◌≤◌, Option, None, IfSome, IsSome, is_some, ◌||◌};
+ghost use Rattle.std.specs.Prelude.{◌≡◌, ℕ, ◌+◌, ◌-◌, ◌*◌, ◌^◌, ◌<◌, ◌≤◌, IfSome};
 ghost use Rattle.std.specs.FinMap as map;
 ghost use Rattle.mq_count.specs.Spending.{Spends};
 ghost use Rattle.mq_sets.specs.Search.{bitlen};
@@ -10,12 +10,12 @@ ghost use Rattle.mq_held.specs.Groups.{group_at, sources_of, sources_in};
 ghost use Rattle.mq_held.specs.Places.{HasPlace};
 ghost use Rattle.mq_wire.specs.Canon.{source_count};
 ghost use Rattle.mq_wire.specs.Numbered.{numbered_query, numbered_version};
+ghost use Rattle.mq_link.specs.Configuration.{Configuration};
 ghost use Rattle.mq_link.specs.Heard.{announced_by, groups_cleared, groups_lowered, query_heard};
+ghost use Rattle.mq_link.specs.Hearing.{ArePartsOf};
 ghost use Rattle.mq_link.specs.Serving.{IsServed, AreServed};
 ghost use Rattle.mq_link.specs.State.{LinkState};
 
-use crate::config::Config;
-use crate::family::Family;
 use crate::lowering::lower;
 use mq_count::{Key, Meter, Moment};
 use mq_held::HeldGroups;
@@ -23,8 +23,8 @@ use mq_sched::{Announced, Election};
 use mq_table::{Group, Timing};
 use mq_wire::{Query, QueryVersion, WireKey};
 
-/// Drops what is to go for the group at a place, if anything is. At most one comparison for each of its sources, four more,
-/// and one for each binary digit of how many other groups there are.
+/// Drops what is to go for the group at a place, if anything is. At most one comparison for each of its sources, four
+/// more, and one for each binary digit of how many other groups there are.
 fn clear_place<K: Key>(held: &mut HeldGroups<K>, place: usize, group: &mut Group<K>, m: &mut Meter)
     requires place { place < map.len held.old.groups }
     requires served { (address : ℕ) → HasPlace held.old.groups address place →
@@ -46,8 +46,9 @@ fn clear_place<K: Key>(held: &mut HeldGroups<K>, place: usize, group: &mut Group
     }
 }
 
-/// Drops what is to go for each group, as a router does that is no longer querier (RFC 3376 section 6.6.2, RFC 3810 section
-/// 7.6.2). Groups for which nothing is to go are left alone. At most one comparison for each source, and 20 for each group.
+/// Drops what is to go for each group, as a router does that is no longer querier (RFC 3376 section 6.6.2, RFC 3810
+/// section 7.6.2). Groups for which nothing is to go are left alone. At most one comparison for each source, and 20 for
+/// each group.
 pub(crate) fn clear_groups<K: Key>(held: &mut HeldGroups<K>, group: &mut Group<K>, m: &mut Meter)
     requires few { map.len held.old.groups ≤ 65535 }
     requires served { AreServed group.old.room held.old.groups }
@@ -62,8 +63,8 @@ pub(crate) fn clear_groups<K: Key>(held: &mut HeldGroups<K>, group: &mut Group<K
     }
 }
 
-/// Lowers what a query asks for in its group, if that is held. At most one comparison for each source of the group, 12 for
-/// each source that the query names, and 37 more.
+/// Lowers what a query asks for in its group, if that is held. At most one comparison for each source of the group, 12
+/// for each source that the query names, and 37 more.
 pub(crate) fn lower_held<K: WireKey>(
     held: &mut HeldGroups<K>,
     query: &Query<'_, K>,
@@ -76,7 +77,8 @@ pub(crate) fn lower_held<K: WireKey>(
     requires few { map.len held.old.groups ≤ 65535 }
     requires served { AreServed group.old.room held.old.groups }
     requires small { (address : ℕ) → sources_of (group_at held.old.groups address) ≤ 1024 }
-    ensures groups { held.new.groups ≡ groups_lowered timing.now now (numbered_query K.number query.now) held.old.groups }
+    ensures groups { let asked = numbered_query K.number query.now in
+        held.new.groups ≡ groups_lowered timing.now now asked held.old.groups }
     ensures room { group.old.room ≤ group.new.room }
     ensures group_room { held.new.group_room ≡ held.old.group_room }
     ensures source_room { held.new.source_room ≡ held.old.source_room }
@@ -104,32 +106,31 @@ fn announcement<K: WireKey>(version: &QueryVersion<'_, K>) -> Option<Announced>
     }
 }
 
-/// Takes a query that was heard from another router (RFC 3376 sections 6.6.1 and 6.6.2, RFC 3810 sections 7.6.1 and 7.6.2):
-/// the election takes note of it; a router that loses the role by it drops what is to go for each group; then what the query
-/// asks for is lowered, by the timing that is in force then. At most two comparisons for each source that is held, 20 for
-/// each group, 12 for each source that the query names, and 38 more.
-pub(crate) fn hear<F: Family>(
-    config: &Config<F>,
-    election: &mut Election<F::Address>,
-    held: &mut HeldGroups<F::Address>,
-    group: &mut Group<F::Address>,
-    source: F::Address,
-    query: &Query<'_, F::Address>,
+/// Takes a query that was heard from another router (RFC 3376 sections 6.6.1 and 6.6.2, RFC 3810 sections 7.6.1 and
+/// 7.6.2): the election takes note of it; a router that loses the role by it drops what is to go for each group; then
+/// what the query asks for is lowered, by the timing that is in force then. At most two comparisons for each source that
+/// is held, 20 for each group, 12 for each source that the query names, and 38 more.
+pub(crate) fn hear<K: WireKey>(
+    election: &mut Election<K>,
+    held: &mut HeldGroups<K>,
+    group: &mut Group<K>,
+    source: K,
+    query: &Query<'_, K>,
     now: Moment,
     m: &mut Meter,
 )
     requires in_range { now ≤ 2 ^ 53 }
-    requires own { election.old.own ≡ config.now.own }
-    requires configured { election.old.configured ≡ config.now.timing }
     requires carried { IfSome (announced_by (numbered_version query.now.version)) IsCarried }
     requires few { map.len held.old.groups ≤ 65535 }
     requires served { AreServed group.old.room held.old.groups }
     requires small { (address : ℕ) → sources_of (group_at held.old.groups address) ≤ 1024 }
-    ensures groups { (state : LinkState) → state.groups ≡ held.old.groups → state.election ≡ election.old.state →
-        let after = query_heard config.now now (F.Address.number source) (numbered_query F.Address.number query.now) state in
+    ensures groups { (config : Configuration) (state : LinkState) →
+        ArePartsOf config state election.old held.old.groups →
+        let after = query_heard config now (K.number source) (numbered_query K.number query.now) state in
         held.new.groups ≡ after.groups }
-    ensures election { (state : LinkState) → state.groups ≡ held.old.groups → state.election ≡ election.old.state →
-        let after = query_heard config.now now (F.Address.number source) (numbered_query F.Address.number query.now) state in
+    ensures election { (config : Configuration) (state : LinkState) →
+        ArePartsOf config state election.old held.old.groups →
+        let after = query_heard config now (K.number source) (numbered_query K.number query.now) state in
         election.new.state ≡ after.election }
     ensures own { election.new.own ≡ election.old.own }
     ensures configured { election.new.configured ≡ election.old.configured }

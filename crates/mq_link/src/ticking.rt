@@ -23,8 +23,8 @@ use mq_sched::Sink;
 use mq_table::{Group, Timing};
 
 /// Serves the group at a place, and puts it back, or takes it out where it is INCLUDE without sources then; answers
-/// whether it was taken out. At most four comparisons for each of its sources, ten more, and one for each binary digit of
-/// how many other groups there are.
+/// whether it was taken out. At most four comparisons for each of its sources, ten more, and one for each binary digit
+/// of how many other groups there are.
 fn tick_place<K: Key, S: Sink<K>>(
     held: &mut HeldGroups<K>,
     place: usize,
@@ -73,9 +73,9 @@ fn tick_place<K: Key, S: Sink<K>>(
     put_or_remove(held, place, group, schedule, m)
 }
 
-/// Ends what has run out of the groups, and sends what is due for them, by ascending group. Those that have no moment at or
-/// before `now` are left alone. At most four comparisons for each source, 27 for each group and one more; where no group has
-/// such a moment, one at most.
+/// Ends what has run out of the groups, and sends what is due for them, by ascending group. Those that have no moment at
+/// or before `now` are left alone. At most four comparisons for each source, 27 for each group and one more; where no
+/// group has such a moment, one at most.
 pub(crate) fn tick_groups<K: Key, S: Sink<K>>(
     held: &mut HeldGroups<K>,
     group: &mut Group<K>,
@@ -99,8 +99,9 @@ pub(crate) fn tick_groups<K: Key, S: Sink<K>>(
     ensures group_room { held.new.group_room ≡ held.old.group_room }
     ensures source_room { held.new.source_room ≡ held.old.source_room }
     ensures spent { Spends 0 (4 * sources_in held.old.groups + 27 * map.len held.old.groups + 1) m.old m.new }
-    ensures quiet { let is_quiet = (address : ℕ) (e : ScheduledGroup) → map.get held.old.groups address ≡ Some e → has_due now e ≡ false in
-        is_quiet → Spends 0 1 m.old m.new }
+    ensures quiet { let none_is_due =
+        (address : ℕ) (e : ScheduledGroup) → map.get held.old.groups address ≡ Some e → has_due now e ≡ false in
+        none_is_due → Spends 0 1 m.old m.new }
 {
     let count = held.due(now, places, m);
     let mut gone = 0;

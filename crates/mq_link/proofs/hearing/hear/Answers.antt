@@ -36,7 +36,7 @@ lower_held-requires-clause-small g c address = elim c.if-hear.branch [
 pub returns-clause-spent : goal.returns-clause-spent
 returns-clause-spent g c =
     let groups = c.args.held.now.groups in
-    let asked = g.F.Address.Key.number c.args.query.now.group in
+    let asked = g.K.Key.number c.args.query.now.group in
     let between : Spends 0 (sources_in groups + 20 * map.len groups) c.hear.new.m c.if-hear.m = elim c.if-hear.branch [
       | then-hear w ↦ rw w.m-is w.clear_groups.ensures.spent
       | else-hear w ↦ rw w.m-is (Spends-within 0 (sources_in groups + 20 * map.len groups) (Spends-none c.hear.new.m) (omega arith) (omega arith))
