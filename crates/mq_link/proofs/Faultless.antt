@@ -12,8 +12,10 @@ use Rattle.mq_table.specs.Timing.{query_interval}
 use Rattle.mq_sched.specs.Schedule.{ScheduledGroup}
 use Rattle.mq_link.specs.declared.configuration.ConfigFault.{ConfigFault}
 use Rattle.mq_link.specs.declared.configuration.ConfigFault.TheVariants.{Robustness, QueryInterval, ResponseInterval, LastMember}
+use Rattle.mq_link.specs.declared.configuration.LimitName.{LimitName}
+use Rattle.mq_link.specs.declared.configuration.LimitName.TheVariants.{Groups, GroupSources, Sources, Scheduled}
 use Rattle.mq_link.specs.Family.{response_unit, greatest_response}
-use Rattle.mq_link.specs.Configuration.{Configuration, is_outside, timing_fault, else_fault, IsFaultless}
+use Rattle.mq_link.specs.Configuration.{Configuration, is_outside, limit_fault, timing_fault, else_fault, as_fault, IsFaultless}
 use Rattle.mq_link.specs.Tests.{first_named}
 use Rattle.mq_link.specs.State.{unheld, sources_of, schedules_of, IsWellFormed, link_at}
 use Rattle.mq_link.proofs.Bounds.{no_sources}
@@ -23,6 +25,14 @@ first_none : (a b : Option ConfigFault) → else_fault a b ≡ None → a ≡ No
 first_none None b h = refl
 first_none (Some fault) b h = cc
 
+second_none : (a b : Option ConfigFault) → else_fault a b ≡ None → b ≡ None
+second_none None b h = h
+second_none (Some fault) b h = cc
+
+no_limit : (which : Option LimitName) → as_fault which ≡ None → which ≡ None
+no_limit None h = refl
+no_limit (Some which) h = cc
+
 inside : (low high n : ℕ) → is_outside low high n ≡ false → IsWithin low high n
 inside low high n h = by_tests (ltb n low) (ltb high n) refl refl h
   where
@@ -31,7 +41,7 @@ inside low high n h = by_tests (ltb n low) (ltb high n) refl refl h
     by_tests false true p q h = cc
     by_tests false false p q h = record { at_least = ltb-false n low p; at_most = ltb-false high n q }
 
-none_of_four : (a b c d : Bool) (w x y z : ConfigFault) → first_named ((w, a) ∷ (x, b) ∷ (y, c) ∷ (z, d) ∷ []) ≡ None → (a ≡ false) × (b ≡ false) × (c ≡ false) × (d ≡ false)
+none_of_four : {X : Type 0} (a b c d : Bool) (w x y z : X) → first_named ((w, a) ∷ (x, b) ∷ (y, c) ∷ (z, d) ∷ []) ≡ None → (a ≡ false) × (b ≡ false) × (c ≡ false) × (d ≡ false)
 none_of_four true b c d w x y z h = cc
 none_of_four false true c d w x y z h = cc
 none_of_four false false true d w x y z h = cc
@@ -46,6 +56,14 @@ left_false false b h = refl
 response_within : (family : Family) (n : ℕ) → IsWithin (response_unit family) (greatest_response family) n → IsWithin 1 8387584 n
 response_within Igmp n h = record { at_least = let a = h.at_least in omega arith; at_most = let b = h.at_most in omega arith }
 response_within Mld n h = record { at_least = let a = h.at_least in omega arith; at_most = let b = h.at_most in omega arith }
+
+-- a group has at most so many sources
+pub few_sources : (config : Configuration) → IsFaultless config → config.limits.group_sources ≤ 1024
+few_sources config h =
+    let l = config.limits in
+    let none = no_limit (limit_fault l) (first_none (as_fault (limit_fault l)) _ (second_none (timing_fault config.family config.timing) _ h)) in
+    let tests = none_of_four (is_outside 1 65535 l.groups) (is_outside 1 1024 l.group_sources) (is_outside 1 65535 l.sources) (is_outside 1 65535 l.scheduled) Groups GroupSources Sources Scheduled none in
+    (inside 1 1024 l.group_sources tests.1).at_most
 
 pub timing_in_range : (config : Configuration) → IsFaultless config → AreInRange config.timing
 timing_in_range config h =

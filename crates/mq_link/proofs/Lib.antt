@@ -49,3 +49,5 @@ pub mod LinkStored
 pub mod DueSent
 pub mod HandedOut
 pub mod LinkTicked
+pub mod ChangedSizes
+pub mod StatedSteps

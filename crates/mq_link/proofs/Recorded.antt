@@ -157,7 +157,7 @@ acted_v1 false timing now asks query e = (refl, refl)
 acted_v1 true timing now true query e = (refl, refl)
 acted_v1 true timing now false query e = (refl, refl)
 
-acted_size : (q : Bool) (timing : Timing) (now : ℕ) (asks : Bool) (query : Set) (e : ScheduledGroup) → size_of (acted q timing now asks query e).group ≤ size_of e.group
+pub acted_size : (q : Bool) (timing : Timing) (now : ℕ) (asks : Bool) (query : Set) (e : ScheduledGroup) → size_of (acted q timing now asks query e).group ≤ size_of e.group
 acted_size false timing now asks query e = omega arith
 acted_size true timing now true query e = len-kept _ e.group.sources
 acted_size true timing now false query e = len-kept _ e.group.sources
