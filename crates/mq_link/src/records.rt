@@ -206,6 +206,7 @@ fn take_record<F: Family, S: Sink<F::Address>>(
         let digits = 2 * bitlen (map.len held.old.groups) + bitlen (map.len seen.old.counts) in
         Spends 0 (sizes + 17 * length view.now.sources + 12 + digits) m.old m.new }
 {
+    config.is_faultless();
     let kind = match enter(config, view) {
         Ok(kind) => kind,
         Err(fate) => return fate,
