@@ -3,6 +3,7 @@ pub mod Bounds
 pub mod HeldAs
 pub mod Ticked
 pub mod Recorded
+pub mod JudgedRecords
 pub mod Receipts
 pub mod Faultless
 pub mod Unchanged

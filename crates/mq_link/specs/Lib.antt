@@ -15,6 +15,7 @@ pub mod Examples
 pub mod ManySources
 pub mod Changing
 pub mod Judging
+pub mod Entering
 pub mod Scratch
 pub mod Seen
 pub mod Serving
