@@ -1,5 +1,5 @@
 -- What a contract sees of a link, and what a call makes of it.
-use Rattle.std.specs.Prelude.{◌≡◌, ℕ, ◌≤◌, ◌^◌, List, Bool, length}
+use Rattle.std.specs.Prelude.{◌≡◌, ℕ, ◌≤◌, ◌^◌, List, [], Bool, length}
 use Rattle.mq_count.specs.Spending.{Spends}
 use Rattle.mq_held.specs.Held.{HeldState}
 use Rattle.mq_sched.specs.StoredElection.{RouterElection}
@@ -8,11 +8,12 @@ use Rattle.mq_link.specs.declared.scratch.Scratch.{Scratch}
 use Rattle.mq_link.specs.Configuration.{Configuration}
 use Rattle.mq_link.specs.Counters.{Counters}
 use Rattle.mq_link.specs.Handing.{HandsOver, KeepsIntervals}
-use Rattle.mq_link.specs.Receive.{Envelope}
+use Rattle.mq_link.specs.Receive.{Envelope, Receipt}
 use Rattle.mq_link.specs.Run.{Ticks, Receives}
 use Rattle.mq_link.specs.Scratch.{HasRoom}
 use Rattle.mq_link.specs.Sent.{Outgoing}
 use Rattle.mq_link.specs.State.{LinkState, IsWellFormed}
+use Rattle.mq_link.specs.Tick.{Step}
 
 -- Its configuration, its state, and how many comparisons its calls have made.
 pub record LinkValue : Type 0 where
@@ -24,6 +25,18 @@ pub record LinkValue : Type 0 where
 abbrev pub state_in : HeldState → RouterElection → (last : ℕ) → Counters → LinkState
 state_in held election last counters =
     record { groups = held.groups; election = election.state; last = last; counters = counters }
+
+-- a step that has left what is stored, and of which nothing is to be sent any more
+abbrev pub silent_step : HeldState → RouterElection → (last : ℕ) → Counters → Step
+silent_step held election last counters =
+    record { state = state_in held election last counters; queries = []; timing = election.state.timing }
+
+-- What is stored then, and the answer, are those of a receipt.
+pub record IsReceived (receipt : Receipt) (held : HeldState) (election : RouterElection) (counters : Counters) (answer : Received) : Type 0 where
+  pub groups_are : held.groups ≡ receipt.step.state.groups
+  pub election_is : election.state ≡ receipt.step.state.election
+  pub counters_are : counters ≡ receipt.step.state.counters
+  pub answer_is : answer ≡ receipt.answer
 
 -- What is stored of the groups and the election is of one configuration, and there is room for what it allows.
 pub record IsLinkStored {K : Type 0} (config : Configuration) (held : HeldState) (election : RouterElection) (last : ℕ) (counters : Counters) (scratch : Scratch K) (places : List ℕ) : Type 0 where

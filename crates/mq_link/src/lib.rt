@@ -34,6 +34,7 @@ mod lowering;
 pub mod mld;
 mod naming;
 pub mod outlet;
+mod receiving;
 mod recording;
 mod refusing;
 mod scratch;

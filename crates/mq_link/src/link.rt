@@ -9,16 +9,18 @@ ghost use Rattle.mq_sched.specs.Election.{is_querier};
 ghost use Rattle.mq_sched.specs.StoredElection.{IsOtherOf};
 ghost use Rattle.mq_held.specs.Groups.{group_at, sources_of, sources_in};
 ghost use Rattle.mq_held.specs.Places.{HasPlace};
-ghost use Rattle.mq_link.specs.Link.{HasTicked};
+ghost use Rattle.mq_link.specs.Link.{HasTicked, HasReceived};
 ghost use Rattle.mq_link.specs.State as state;
 ghost use Rattle.mq_link.specs.State.{link_at};
 ghost use Rattle.mq_link.specs.Tick.{moment_of, next_of};
 
+use crate::answers::Received;
 use crate::config::Config;
 use crate::counts::Counts;
 use crate::due::{do_due, later};
 use crate::family::Family;
 use crate::outlet::Outlet;
+use crate::receiving::take_in;
 use crate::scratch::Scratch;
 use crate::sending::Sender;
 use mq_count::{Meter, Moment};
@@ -112,6 +114,50 @@ impl<F: Family> Link<F> {
         );
         self.counts.count_answers(sender.sent(), sender.unsent());
         self.last = now;
+    }
+
+    /// Takes a datagram that came at `now`: first it does what a tick does then; then the datagram is read, and dropped, or
+    /// taken. Answers what became of it. The envelope is what its packet says of it, the body its bytes without the IP
+    /// header (RFC 3376 sections 4, 6.4 and 7.3.2, RFC 3810 sections 5, 7.4 and 8.3.2).
+    pub fn receive<O: Outlet<F::Address>>(
+        &mut self,
+        envelope: &F::Envelope,
+        body: &[u8],
+        now: Moment,
+        sender: &mut Sender<F, O>,
+    ) -> Received
+        requires in_range { now ≤ 2 ^ 53 }
+        ensures config { self.new.config ≡ self.old.config }
+        ensures receives { HasReceived O.takes (F.envelope_of envelope.now) body.now now result self.old self.new
+            sender.old.outlet sender.new.outlet }
+    {
+        self.config.is_faultless();
+        let now = later(self.last, now, &mut self.meter);
+        do_due(
+            &self.config,
+            &mut self.held,
+            &mut self.election,
+            &mut self.scratch.before,
+            &mut self.places,
+            now,
+            &mut self.meter,
+            sender,
+        );
+        let received = take_in(
+            &self.config,
+            &mut self.held,
+            &mut self.election,
+            &mut self.counts,
+            &mut self.scratch,
+            now,
+            envelope,
+            body,
+            &mut self.meter,
+            sender,
+        );
+        self.counts.count_answers(sender.sent(), sender.unsent());
+        self.last = now;
+        received
     }
 
     /// What it is configured with.
