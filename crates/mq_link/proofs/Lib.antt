@@ -43,3 +43,4 @@ pub mod LinkStored
 pub mod DueSent
 pub mod HandedOut
 pub mod LinkTicked
+pub mod LinkReceived
