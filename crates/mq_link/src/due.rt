@@ -73,7 +73,7 @@ pub(crate) fn do_due<F: Family, O: Outlet<F::Address>>(
     ensures sent { let in_force = (ticked config.now.timing now election.old.state).timing in
         Sends (TakesQuery O.takes F.FAMILY) (begun config.now in_force sender.old)
         (general_messages config.now.timing now election.old.state
-            ++ queries_due F.FAMILY in_force now (groups_expired now held.old.groups))
+        ++ queries_due F.FAMILY in_force now (groups_expired now held.old.groups))
         sender.new }
     ensures room { group.old.room ≤ group.new.room }
     ensures group_room { held.new.group_room ≡ held.old.group_room }

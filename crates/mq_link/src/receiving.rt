@@ -87,7 +87,16 @@ fn take_message<F: Family, O: Outlet<F::Address>>(
     match message {
         Message::Query(query) => {
             let source = F::source(envelope);
-            hear(config, election, held, &mut scratch.before, source, query, now, m);
+            hear(
+                config,
+                election,
+                held,
+                &mut scratch.before,
+                source,
+                query,
+                now,
+                m,
+            );
             Received::Taken {
                 applied: 0,
                 ignored: 0,
@@ -96,14 +105,20 @@ fn take_message<F: Family, O: Outlet<F::Address>>(
         }
         Message::OldReport(version, group) => {
             let said = Said::OlderJoin(*version);
-            take_statement(config, election, now, *group, said, held, scratch, counts, m, sender)
+            take_statement(
+                config, election, now, *group, said, held, scratch, counts, m, sender,
+            )
         }
         Message::Leave(group) => {
             let said = Said::OlderLeave;
-            take_statement(config, election, now, *group, said, held, scratch, counts, m, sender)
+            take_statement(
+                config, election, now, *group, said, held, scratch, counts, m, sender,
+            )
         }
         Message::Report(records) => {
-            take_records(config, election, now, records, held, scratch, counts, m, sender)
+            take_records(
+                config, election, now, records, held, scratch, counts, m, sender,
+            )
         }
     }
 }

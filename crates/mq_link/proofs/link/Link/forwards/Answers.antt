@@ -1,4 +1,4 @@
-use Rattle.std.proofs.Common.{◌≡◌, ℕ, ap, sym, ◌∙◌}
+use Rattle.std.proofs.Common.{ap, sym, ◌∙◌}
 use Rattle.mq_link.specs.Link.{LinkValue}
 use Rattle.mq_link.specs.State as state
 use Rattle.mq_link.proofs.KeptGroups.{has_place_within, absent_unheld}

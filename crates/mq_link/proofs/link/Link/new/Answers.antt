@@ -1,7 +1,6 @@
-use Rattle.std.proofs.Common.{◌≡◌, ℕ, ap, sym, ◌∙◌, arith}
+use Rattle.std.proofs.Common.{ap, ◌∙◌, arith}
 use Rattle.mq_held.specs.Held.{HeldState}
 use Rattle.mq_link.specs.declared.configuration.Limits.{Limits}
-use Rattle.mq_link.specs.Scratch.{HasRoom}
 use Rattle.mq_link.proofs.LinkStored.{stored_at_start}
 use Rattle.mq_link.proofs.link.Link.new.Goals as goal
 
