@@ -4,7 +4,7 @@ PREFIX ?= /usr/local
 SOURCES := $(shell tools/build --sources)
 FIRST_PATH := message igmp 1600f8faef010203
 
-.PHONY: all run test bench install clean
+.PHONY: all run test mutants bench install clean
 
 all: bin/mquerier
 
@@ -16,15 +16,17 @@ bin/mquerier: $(SOURCES)
 run: bin/mquerier
 	@bin/mquerier show < samples/igmp.pcap
 
-# The whole gate. Its last line counts what passed.
+# Shows that it holds here: proofs, tests, and runs of the program with refused calls. The last line counts what passed.
 test:
-	@tools/gate
+	@tools/gate test
 
-# What reserved storage costs at several sizes, and how fast captures are listed beside tcpdump, which has to be there.
-# No part of the gate.
+# Shows that the contracts are strong: each wrong body of crates/*/wrong-bodies is refused.
+mutants:
+	@tools/gate mutants
+
+# How fast captures are listed beside tcpdump (bench/README.md). It proves nothing.
 bench: bin/mquerier
-	bench/run
-	bench/show
+	@bench/show
 
 install: bin/mquerier
 	install -d $(DESTDIR)$(PREFIX)/bin

@@ -1,9 +1,11 @@
-//! The tests of the libraries of one group, its schedule, the election and deadlines, through their public calls
-//! alone. They stand in a crate above these, since a crate that has tests is proved twice.
+//! The tests of the libraries of one group, its schedule, the election, deadlines and the storage of groups, through
+//! their public calls alone. They stand in a crate above these, since a crate that has tests is proved twice.
 #![tactic(auto)]
 
 #[cfg(test)]
 mod facts;
+#[cfg(test)]
+mod held;
 #[cfg(test)]
 mod sched;
 #[cfg(test)]

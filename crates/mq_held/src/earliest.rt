@@ -67,7 +67,8 @@ fn earliest_of_head(
     schedule: Schedule,
     m: &mut Meter,
 ) -> Option<Moment>
-    ensures earliest { result ≡ earliest_of (those_of (group_of.group_deadline mode ∷ v1 ∷ v2 ∷ sending.group_due schedule.group_query ∷ schedule.sources_due ∷ [])) }
+    ensures earliest { let queries = sending.group_due schedule.group_query ∷ schedule.sources_due ∷ [] in
+        result ≡ earliest_of (those_of (group_of.group_deadline mode ∷ v1 ∷ v2 ∷ queries)) }
     ensures spent { Spends 0 4 m.old m.new }
 {
     let hosts = earlier(v1, v2, m);
@@ -102,7 +103,7 @@ pub(crate) fn earliest_moment<K: Key>(group: &Group<K>, schedule: Schedule, m: &
     ensures spent { Spends 0 (size_of group.now.state + 4) m.old m.new }
 {
     let first = earliest_of_head(group.mode(), group.v1(), group.v2(), schedule, m);
-    let earliest = earliest_with_row(first, group.row(), m);
+    let earliest = earliest_with_row(first, group.sources(), m);
     earliest.unwrap()
 }
 

@@ -36,7 +36,8 @@ impl<'a, K: Key> HeldGroup<'a, K> {
     /// binary digit of how many sources there are.
     pub fn forwards(&self, source: K, m: &mut Meter) -> bool
         requires ascending { IsAscending (number_in K.number) self.now.sources.now }
-        ensures answer { let g : GroupState = record { mode = self.now.mode; sources = timers_in K.number self.now.sources.now; v1 = self.now.v1; v2 = self.now.v2 } in
+        ensures answer { let timers = timers_in K.number self.now.sources.now in
+            let g : GroupState = record { mode = self.now.mode; sources = timers; v1 = self.now.v1; v2 = self.now.v2 } in
             result ≡ forwards_in g (K.number source) }
         ensures spent { Spends 0 (bitlen (length self.now.sources.now)) m.old m.new }
     {

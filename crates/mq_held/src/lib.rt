@@ -1,4 +1,16 @@
 //! The storage of the groups that a link holds.
+//!
+//! ```text
+//! let mut held = HeldGroups::with_room(alloc, 500, 4000)?;
+//! match held.find(address, &mut m) {
+//!     Ok(place) => held.put(place, &group, schedule, &mut m),
+//!     Err(place) => held.insert(place, address, &group, schedule, &mut m),
+//! }
+//! let count = held.due(now, &mut places, &mut m);
+//! ```
+//!
+//! - `HeldGroups`: the finite map from address to group with its schedule, and what may be asked of it.
+//! - `HeldGroup`: one of them, as it stands there.
 #![tactic(auto)]
 
 mod earliest;

@@ -11,10 +11,10 @@ use Rattle.mq_wire.specs.declared.records.RecordView.{RecordView}
 use Rattle.mq_table.specs.declared.timing.Timing.{Timing}
 use Rattle.mq_table.specs.Table.{GroupChange}
 use Rattle.mq_sched.specs.Election.{ElectionState, returned, general_is_due, general_messages}
-use Rattle.mq_sched.specs.Laws.{AllFit}
+use Rattle.mq_sched.specs.Rounds.{AllFit}
 use Rattle.mq_sched.specs.Schedule.{ScheduledGroup}
 use Rattle.mq_sched.specs.Sending.{SentQuery, GeneralQuery, GroupQuery, SourcesQuery, messages_due}
-use Rattle.mq_sched.proofs.RunsOfRounds.{all_fit}
+use Rattle.mq_sched.proofs.FittingRounds.{all_fit}
 use Rattle.mq_link.specs.declared.answers.DropReason.{DropReason}
 use Rattle.mq_link.specs.declared.answers.Refusal.{Refusal}
 use Rattle.mq_link.specs.declared.answers.Refusal.TheVariants.{Repeated}
@@ -34,7 +34,7 @@ fit_append n (SourcesQuery g f ss ∷ xs) ys a b = (a.0, fit_append n xs ys a.1 
 
 -- what is due for a group
 pub fits-messages_due : (n : ℕ) (timing : Timing) (now group : ℕ) (e : ScheduledGroup) → AllFit n (messages_due n timing now group e)
-fits-messages_due n timing now group e = all_fit (record { per_query = n; timing = timing; now = now; address = group; before = e })
+fits-messages_due n timing now group e = all_fit n timing now group e
 
 fits_if : (n : ℕ) (b : Bool) → AllFit n (cond b (GeneralQuery ∷ []) [])
 fits_if n true = tt

@@ -1,19 +1,18 @@
 -- What a step hands out, from what a sender has taken of it.
-use Rattle.std.proofs.Common.{◌≡◌, ℕ, ◌+◌, ◌-◌, ◌^◌, min, Bool, not, refl, suc, List, [], ◌∷◌, ◌++◌, length, sym, ap, ◌∙◌, subst, arith}
+use Rattle.std.proofs.Common.{◌≡◌, ℕ, Bool, not, refl, suc, List, [], ◌∷◌, length, sym, ap, ◌∙◌, subst, arith}
 use Rattle.std.specs.Prelude.{map as list_map}
 use Rattle.std.specs.List.{count_by}
 use Rattle.mq_count.specs.Streams.{counted_on}
 use Rattle.mq_wire.specs.Family.{Family}
-use Rattle.mq_sched.specs.Laws.{AllFit}
-use Rattle.mq_sched.specs.Sending.{SentQuery}
+use Rattle.mq_sched.specs.Rounds.{AllFit}
 use Rattle.mq_sched.specs.Sink.{Sends}
 use Rattle.mq_link.specs.declared.sending.Sender.{Sender}
 use Rattle.mq_link.specs.Configuration.{Configuration}
 use Rattle.mq_link.specs.Counters.{Counters}
 use Rattle.mq_link.specs.Family.{per_query}
-use Rattle.mq_link.specs.Handing.{HandsOver, HandsAll, Terms, outgoing_on}
+use Rattle.mq_link.specs.Handing.{HandsOver, Terms, outgoing_on}
 use Rattle.mq_link.specs.Run.{answered, HandsOut}
-use Rattle.mq_link.specs.Sender.{TakesQuery, tally_of, begun}
+use Rattle.mq_link.specs.Sender.{TakesQuery, begun}
 use Rattle.mq_link.specs.Sent.{Outgoing, outgoing_of}
 use Rattle.mq_link.specs.State.{LinkState}
 use Rattle.mq_link.specs.Tick.{Step}

@@ -1,5 +1,5 @@
 -- What the place of a group says of the groups.
-use Rattle.std.proofs.Common.{◌≡◌, ℕ, ◌+◌, ◌≤◌, ◌<◌, Bool, true, false, cond, refl, length, Option, None, Some, is_some, sym, ap, ◌∙◌, subst, arith}
+use Rattle.std.proofs.Common.{◌≡◌, ℕ, ◌+◌, ◌<◌, Bool, true, false, cond, refl, None, is_some, sym, ap, ◌∙◌, arith}
 use Rattle.std.specs.Option.{unwrap_or}
 use Rattle.std.specs.Ordering.{nat_cmp, eq_by_cmp}
 use Rattle.std.specs.Cmp.{nat_cmp_total}
@@ -10,7 +10,7 @@ use Rattle.mq_sched.specs.Schedule.{ScheduledGroup}
 use Rattle.mq_held.specs.Groups.{Groups, group_at, with_group, sources_of, unheld}
 use Rattle.mq_held.specs.Places.{HasPlace, GoesAt}
 use Rattle.mq_held.proofs.Sorted.{tied}
-use Rattle.mq_held.proofs.Entries.{place_within, get-place, get-absent}
+use Rattle.mq_held.proofs.Entries.{place_within, get-absent}
 use Rattle.mq_link.proofs.Bounds.{no_sources}
 
 pub has_place_within : (groups : Groups) (address place : ℕ) → HasPlace groups address place → place < map.len groups

@@ -19,7 +19,7 @@ use Rattle.mq_table.specs.declared.timers.FilterMode.TheVariants.{Include}
 use Rattle.mq_table.specs.declared.timers.SourceTimer.{SourceTimer}
 use Rattle.mq_table.specs.Group.{GroupState, is_include, is_running, is_stopped, sendings_of, vacant, is_vacant}
 use Rattle.mq_table.specs.Timing.{membership_interval}
-use Rattle.mq_table.specs.Table.{Line, line, timer_by, GroupChange, change_of}
+use Rattle.mq_table.specs.Table.{TableRow, table_row, timer_by, GroupChange, change_of}
 use Rattle.mq_table.specs.OlderHosts.{hosts_of, translated, translated_change}
 use Rattle.mq_table.specs.Expiry.{ahead, mode_expired, source_expired, held_or_vacant}
 use Rattle.mq_sched.specs.Schedule.{ScheduleState, no_schedule, settled}
@@ -107,8 +107,8 @@ pub record KnownChange : Type 0 where
 abbrev pub as_change : KnownChange → GroupChange
 as_change c = record { group = group_of c.after; query = c.query; query_group = c.query_group }
 
-abbrev pub line_in : Timing → ℕ → FilterMode → Kind → (ℕ → Option SourceTimer) → Set → Line
-line_in timing now mode kind timer named = line (now + membership_interval timing) mode kind (λ s. is_running (timer s)) (λ s. is_stopped (timer s)) named
+abbrev pub line_in : Timing → ℕ → FilterMode → Kind → (ℕ → Option SourceTimer) → Set → TableRow
+line_in timing now mode kind timer named = table_row (now + membership_interval timing) mode kind (λ s. is_running (timer s)) (λ s. is_stopped (timer s)) named
 
 abbrev pub rule_of : Timing → ℕ → FilterMode → Kind → (ℕ → Option SourceTimer) → Set → ℕ → Option SourceTimer
 rule_of timing now mode kind timer named s = timer_by (line_in timing now mode kind timer named) (now + membership_interval timing) mode s (timer s)
@@ -148,7 +148,7 @@ change-known timing now k kind named =
       query_group = (line_in timing now k.mode kind timer names).query_group;
     }
 
-    l : Line
+    l : TableRow
     l = line_in timing now k.mode kind (timer_in k.sources) (named_in named)
 
 -- what older hosts and the source-specific range make of a record

@@ -7,7 +7,7 @@ use Rattle.mq_table.specs.Variables.{AreInRange}
 use Rattle.mq_table.specs.Maps.{kept}
 use Rattle.mq_table.specs.Group.{GroupState, is_vacant, group_deadline}
 use Rattle.mq_table.specs.Expiry.{expired}
-use Rattle.mq_table.specs.Laws.{AllAhead}
+use Rattle.mq_table.specs.Expiry.{AllAhead}
 use Rattle.mq_table.proofs.Maps.{get-kept}
 use Rattle.mq_table.proofs.Ahead.{AllAhead-expired}
 use Rattle.mq_table.specs.Sendings.{sendings_counted}

@@ -30,6 +30,10 @@ pub mod MadeEntries
 pub mod LoweredSoFar
 pub mod DoneEntries
 pub mod TickedEntries
+pub mod ServedPlaces
+pub mod TickedPlaces
+pub mod ClearedPlaces
+pub mod HeardGroups
 pub mod Octets
 pub mod Numbered
 pub mod Lengths
@@ -39,8 +43,11 @@ pub mod Intervals
 pub mod KeptGroups
 pub mod CountedRows
 pub mod WithGroup
+pub mod SeenLists
+pub mod ByDefault
 pub mod LinkStored
 pub mod DueSent
 pub mod HandedOut
 pub mod LinkTicked
+pub mod RecordsRead
 pub mod LinkReceived

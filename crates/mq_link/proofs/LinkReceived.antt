@@ -8,7 +8,7 @@ use Rattle.mq_wire.specs.declared.message.WireFault.{WireFault}
 use Rattle.mq_table.specs.declared.timing.Timing.{Timing}
 use Rattle.mq_held.specs.Held.{HeldState}
 use Rattle.mq_sched.proofs.Collecting.{Sends-append}
-use Rattle.mq_sched.specs.Laws.{AllFit}
+use Rattle.mq_sched.specs.Rounds.{AllFit}
 use Rattle.mq_sched.specs.Sending.{SentQuery}
 use Rattle.mq_sched.specs.Sink.{Sends}
 use Rattle.mq_sched.specs.StoredElection.{RouterElection}

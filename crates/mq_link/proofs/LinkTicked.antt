@@ -1,16 +1,16 @@
 -- What a tick makes of a link.
-use Rattle.std.proofs.Common.{◌≡◌, ℕ, Bool, max, List, ◌++◌, refl, sym, ap, ◌∙◌, subst}
+use Rattle.std.proofs.Common.{◌≡◌, ℕ, Bool, max, List, ◌++◌, sym, ap, subst}
 use Rattle.mq_wire.specs.Family.{Family}
 use Rattle.mq_held.specs.Held.{HeldState}
-use Rattle.mq_sched.specs.Election.{ElectionState, ticked, general_messages}
-use Rattle.mq_sched.specs.Laws.{AllFit}
+use Rattle.mq_sched.specs.Election.{ticked, general_messages}
+use Rattle.mq_sched.specs.Rounds.{AllFit}
 use Rattle.mq_sched.specs.Sink.{Sends}
 use Rattle.mq_sched.specs.StoredElection.{RouterElection}
 use Rattle.mq_link.specs.declared.sending.Sender.{Sender}
 use Rattle.mq_link.specs.Configuration.{Configuration}
 use Rattle.mq_link.specs.Counters.{Counters}
 use Rattle.mq_link.specs.Family.{per_query}
-use Rattle.mq_link.specs.Link.{LinkValue, HasTicked, state_in}
+use Rattle.mq_link.specs.Link.{HasTicked, state_in}
 use Rattle.mq_link.specs.Sender.{TakesQuery, begun}
 use Rattle.mq_link.specs.State.{LinkState}
 use Rattle.mq_link.specs.Tick.{Step, groups_expired, queries_due, groups_after_round, tick_at, tick_of}

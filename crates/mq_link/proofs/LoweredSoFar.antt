@@ -1,5 +1,5 @@
 -- A group some of whose sources were lowered one after the other.
-use Rattle.std.proofs.Common.{◌≡◌, ℕ, ◌+◌, ◌*◌, ◌≤◌, ◌<◌, Bool, true, false, cond, ◌||◌, List, [], ◌∷◌, ◌++◌, length, refl, sym, ap, ◌∙◌, arith, append-nil, append_assoc, length-append, eqb, Option, None, Some}
+use Rattle.std.proofs.Common.{◌≡◌, ℕ, ◌+◌, ◌*◌, ◌≤◌, ◌<◌, min, Bool, false, cond, ◌||◌, List, [], ◌∷◌, ◌++◌, length, sym, ap, ◌∙◌, arith, append-nil, append_assoc, length-append, eqb}
 use Rattle.std.proofs.lemmas.Bool.Decides.{nat_tests}
 use Rattle.std.specs.List.{list_any}
 use Rattle.std.specs.Ordering.{nat_cmp}
@@ -10,7 +10,7 @@ use Rattle.mq_count.specs.Spending.{Spends}
 use Rattle.mq_count.proofs.Spent.{Spends-join_within}
 use Rattle.mq_sets.specs.Search.{bitlen}
 use Rattle.mq_table.specs.declared.timing.Timing.{Timing}
-use Rattle.mq_table.specs.Group.{GroupState, timer_at}
+use Rattle.mq_table.specs.Group.{GroupState}
 use Rattle.mq_table.specs.Lowering.{sources_lowered, lowered_to, source_lowered}
 use Rattle.mq_table.specs.Stored.{StoredGroup, size_of}
 use Rattle.mq_table.proofs.Groups.{same_group}
@@ -36,7 +36,7 @@ none_lowered timing now g = same_group g.mode _ _ g.v1 g.v2 (λ s. sym (timer_at
 pub one_lowered : (timing : Timing) (now : ℕ) (all before left : List ℕ) (from old new : StoredGroup) (from_count count after n : ℕ) (done : List ℕ)
     → IsLowered timing now all before from from_count old count done → before ≡ n ∷ left
     → new.state ≡ sources_lowered timing now (λ s. eqb s n) old.state → new.room ≡ old.room
-    → Spends 0 (bitlen (size_of old.state) + 1) count after
+    → Spends (min 1 (size_of old.state)) (bitlen (size_of old.state) + 1) count after
     → IsLowered timing now all left from from_count new after (done ++ n ∷ [])
 one_lowered timing now all before left from old new from_count count after n done lowered first is room counted =
     let asked = λ (s : ℕ). list_any (λ k. eqb k s) done in

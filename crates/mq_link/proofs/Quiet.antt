@@ -15,7 +15,7 @@ use Rattle.mq_table.specs.declared.timers.SourceTimer.TheVariants.{Stopped, Runn
 use Rattle.mq_table.specs.Maps.{kept}
 use Rattle.mq_table.specs.Group.{GroupState, is_include, is_running, is_stopped, vacant, is_vacant, timer_at, deadline_of, group_deadline, IsWellFormed as IsHeld}
 use Rattle.mq_table.specs.Expiry.{ahead, mode_expired, at_zero, source_expired, held_or_vacant, expired}
-use Rattle.mq_table.specs.Laws.{AllAhead}
+use Rattle.mq_table.specs.Expiry.{AllAhead}
 use Rattle.mq_table.proofs.Maps.{get-kept}
 use Rattle.mq_table.proofs.Groups.{same_sources}
 use Rattle.mq_table.proofs.Held.{get_of_empty}
@@ -24,7 +24,7 @@ use Rattle.mq_sched.specs.declared.queries.QuerySchedule.{QuerySchedule}
 use Rattle.mq_sched.specs.Schedule.{ScheduleState, ScheduledGroup, settled, IsScheduleOf}
 use Rattle.mq_sched.specs.Sending.{GeneralQuery, is_due, group_due, sources_due_next, group_counted, messages_due, after_round}
 use Rattle.mq_sched.specs.Election.{Role, Querier, Other, ElectionState, deadline_ended, returned, general_is_due, after_general, ticked, general_messages, next_moment}
-use Rattle.mq_sched.specs.Laws.{IsQuietAt}
+use Rattle.mq_sched.specs.Rounds.{IsQuietAt}
 use Rattle.mq_sched.proofs.Rounds.{quiet_is_silent}
 use Rattle.mq_link.specs.Family.{per_query}
 use Rattle.mq_link.specs.Configuration.{Configuration}

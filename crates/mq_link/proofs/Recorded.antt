@@ -23,7 +23,7 @@ use Rattle.mq_table.specs.Sets.{Set}
 use Rattle.mq_table.specs.Group.{GroupState, is_include, vacant, is_vacant, running, stopped, IsAnyGroup}
 use Rattle.mq_table.specs.Stored.{size_of}
 use Rattle.mq_table.specs.Timing.{membership_interval}
-use Rattle.mq_table.specs.Table.{NamedSources, GroupChange, line, change_of}
+use Rattle.mq_table.specs.Table.{NamedSources, GroupChange, table_row, change_of}
 use Rattle.mq_table.specs.OlderHosts.{hosts_of, translated, translated_change, older_host, older_report}
 use Rattle.mq_table.specs.Lowering.{lowered_to}
 use Rattle.mq_table.proofs.Held.{IsAnyGroup-change_of, IsWellFormed-older_report}
@@ -33,13 +33,13 @@ use Rattle.mq_sched.specs.Sending.{acted, after_change, is_due, after_round}
 use Rattle.mq_sched.specs.Election.{is_querier}
 use Rattle.mq_sched.proofs.Fits.{fits_after_record, fits_acted, fits_after_round}
 use Rattle.mq_sched.proofs.StayHeld.{held_acted, held_after_round}
+use Rattle.mq_link.specs.Sound.{AreSound}
 use Rattle.mq_link.specs.declared.configuration.Limits.{Limits}
 use Rattle.mq_link.specs.declared.answers.Refusal.{Refusal}
 use Rattle.mq_link.specs.declared.answers.Refusal.TheVariants.{Groups as TooManyGroups, GroupSources, Sources, Scheduled, Repeated, Long}
 use Rattle.mq_link.specs.Family.{is_admitted, v1_mutes_leave}
 use Rattle.mq_link.specs.Configuration.{Configuration}
 use Rattle.mq_link.specs.Counters.{Ignored, Refused}
-pub use Rattle.mq_link.specs.Sound.{AreSound}
 use Rattle.mq_link.specs.State.{Groups, unheld, group_at, with_group, sources_of, sources_in, schedules_in, IsSourceSpecific, is_source_specific, IsHeldAs, IsSilent, AreWithin}
 use Rattle.mq_link.specs.Record.{Statement, RecordOf, OlderJoin, OlderLeave, is_exclude_kind, is_muted, asking_nothing, change_stated, limit_passed, Setting, leaving, unless_passed, changed_by, after_sending, sent_at_once, changed_or_refused, change_in, stated, Seen, Entrance, Stops, GoesOn, entrance, entrance_as, kind_named, is_repeated, seen_after, judged_from, judged, all_judged}
 use Rattle.mq_link.specs.Tests.{first_named}
@@ -73,7 +73,7 @@ pub record IsSound (config : Configuration) (group : ℕ) (schedule : ScheduleSt
   pub fits : IsScheduleOf change.group (settled change.group schedule)
   pub specific : is_source_specific config group ≡ true → IsSourceSpecific change.group
 
-include_line : (gmi : ℕ) (mode : FilterMode) (kind : Kind) (X Y A : Set) → is_include mode ≡ true → is_exclude_kind kind ≡ false → is_include (line gmi mode kind X Y A).mode ≡ true
+include_line : (gmi : ℕ) (mode : FilterMode) (kind : Kind) (X Y A : Set) → is_include mode ≡ true → is_exclude_kind kind ≡ false → is_include (table_row gmi mode kind X Y A).mode ≡ true
 include_line gmi (Exclude d) kind X Y A h k = cc
 include_line gmi Include IsIn X Y A h k = refl
 include_line gmi Include IsEx X Y A h k = cc

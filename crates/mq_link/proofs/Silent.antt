@@ -35,7 +35,8 @@ use Rattle.mq_link.specs.Receive.{Envelope, setting_of, taken_in, taken_or_dropp
 use Rattle.mq_held.proofs.Sorted.{find_below, first, second, tied}
 use Rattle.mq_link.proofs.HeldAs.{All, settled_silent}
 use Rattle.mq_link.proofs.Ticked.{was_other, ticked_role, silent-groups_expired}
-use Rattle.mq_link.proofs.Recorded.{AreSound, judged_leaves}
+use Rattle.mq_link.specs.Sound.{AreSound}
+use Rattle.mq_link.proofs.Recorded.{judged_leaves}
 use Rattle.mq_link.proofs.Receipts.{sound_in, positive_in, recounted}
 
 abbrev pub Each : {X : Type 0} → (ℕ → X → Type 0) → List (ℕ × X) → Type 0

@@ -16,6 +16,9 @@ pub mod ManySources
 pub mod Changing
 pub mod Judging
 pub mod Scratch
+pub mod Seen
+pub mod Serving
+pub mod Hearing
 pub mod Reading
 pub mod Defaults
 pub mod Configured
@@ -24,5 +27,4 @@ pub mod Sender
 pub mod Counted
 pub mod Link
 pub mod LinkCode
-pub mod Serving
 pub mod Sound

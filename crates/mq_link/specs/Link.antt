@@ -1,6 +1,5 @@
 -- What a contract sees of a link, and what a call makes of it.
 use Rattle.std.specs.Prelude.{◌≡◌, ℕ, ◌≤◌, ◌^◌, List, [], Bool, length}
-use Rattle.mq_count.specs.Spending.{Spends}
 use Rattle.mq_held.specs.Held.{HeldState}
 use Rattle.mq_sched.specs.StoredElection.{RouterElection}
 use Rattle.mq_link.specs.declared.answers.Received.{Received}
@@ -8,9 +7,11 @@ use Rattle.mq_link.specs.declared.scratch.Scratch.{Scratch}
 use Rattle.mq_link.specs.Configuration.{Configuration}
 use Rattle.mq_link.specs.Counters.{Counters}
 use Rattle.mq_link.specs.Handing.{HandsOver, KeepsIntervals}
+use Rattle.mq_link.specs.Reading.{most_records}
 use Rattle.mq_link.specs.Receive.{Envelope, Receipt}
 use Rattle.mq_link.specs.Run.{Ticks, Receives}
 use Rattle.mq_link.specs.Scratch.{HasRoom}
+use Rattle.mq_link.specs.Seen.{SeenState}
 use Rattle.mq_link.specs.Sent.{Outgoing}
 use Rattle.mq_link.specs.State.{LinkState, IsWellFormed}
 use Rattle.mq_link.specs.Tick.{Step}
@@ -39,7 +40,7 @@ pub record IsReceived (receipt : Receipt) (held : HeldState) (election : RouterE
   pub answer_is : answer ≡ receipt.answer
 
 -- What is stored of the groups and the election is of one configuration, and there is room for what it allows.
-pub record IsLinkStored {K : Type 0} (config : Configuration) (held : HeldState) (election : RouterElection) (last : ℕ) (counters : Counters) (scratch : Scratch K) (places : List ℕ) : Type 0 where
+pub record IsLinkStored {K : Type 0} (config : Configuration) (held : HeldState) (election : RouterElection) (last : ℕ) (counters : Counters) (scratch : Scratch K) (seen : SeenState) (places : List ℕ) : Type 0 where
   pub state : IsWellFormed config (state_in held election last counters)
   pub in_range : last ≤ 2 ^ 53
   pub own : election.own ≡ config.own
@@ -48,6 +49,7 @@ pub record IsLinkStored {K : Type 0} (config : Configuration) (held : HeldState)
   pub group_room : held.group_room ≡ config.limits.groups
   pub source_room : held.source_room ≡ config.limits.sources
   pub scratch_room : HasRoom config.limits.group_sources scratch
+  pub seen_room : most_records ≤ seen.room
   pub place_room : length places ≡ config.limits.groups
 
 -- A tick at a moment, with the messages that the outlet was handed by it and its answers.

@@ -7,7 +7,7 @@ use Rattle.mq_table.specs.declared.timers.FilterMode.{FilterMode}
 use Rattle.mq_table.specs.declared.timers.SourceTimer.{SourceTimer}
 use Rattle.mq_table.specs.Variables.{Variables}
 use Rattle.mq_sched.specs.declared.queries.QuerySchedule.{QuerySchedule}
-use Rattle.mq_sched.specs.Election.{Role, Querier, Other, ElectionState}
+use Rattle.mq_sched.specs.Election.{Role, Querier, Other}
 use Rattle.mq_held.specs.Groups.{Groups}
 use Rattle.mq_held.specs.Held.{scheduled_code}
 use Rattle.mq_link.specs.declared.configuration.Limits.{Limits}

@@ -1,10 +1,10 @@
--- What the groups are on which the records of a datagram are judged.
+-- The groups that records meet.
 use Rattle.std.specs.Prelude.{◌≡◌, ℕ, false, Some}
 use Rattle.std.specs.FinMap as map
-use Rattle.mq_sched.specs.Election.{is_querier}
 use Rattle.mq_sched.specs.Schedule.{ScheduledGroup}
+use Rattle.mq_sched.specs.Election.{is_querier}
+use Rattle.mq_link.specs.State.{Groups, AreWithin, IsHeldAs, IsSilent}
 use Rattle.mq_link.specs.Record.{Setting}
-use Rattle.mq_link.specs.State.{Groups, IsHeldAs, IsSilent, AreWithin}
 
 -- The groups of a link, in a setting, are as it may hold them.
 pub record AreSound (at : Setting) (groups : Groups) : Type 0 where

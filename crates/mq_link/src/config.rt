@@ -1,9 +1,12 @@
 //! Configurations.
 
-ghost use Rattle.std.specs.Prelude.{◌≡◌, false};
+ghost use Rattle.std.specs.Prelude.{◌≡◌, ℕ, Bool, true, false};
+ghost use Rattle.mq_wire.specs.Family.{Family};
 ghost use Rattle.mq_link.specs.Configuration as spec;
 ghost use Rattle.mq_link.specs.Configuration.{is_outside, IsFaultless};
 ghost use Rattle.mq_link.specs.Configured.{variables, configured, IsGivenOrFaulty};
+ghost use Rattle.mq_link.specs.Defaults.{configured_by_default};
+ghost use Rattle.mq_link.specs.Family.{is_router_address};
 
 use crate::configuration::{ConfigFault, LimitName, Limits};
 use crate::family::Family;
@@ -31,7 +34,8 @@ impl<F: Family> Model for Config<F> {
 
     ghost view = { λ c. configured F.FAMILY c.timing c.limits (F.Address.number c.own) c.source_specific };
 
-    ghost invariant = { λ c. IsFaultless (configured F.FAMILY c.timing c.limits (F.Address.number c.own) c.source_specific)
+    ghost invariant = { λ c.
+        IsFaultless (configured F.FAMILY c.timing c.limits (F.Address.number c.own) c.source_specific)
         × (c.response_interval ≡ c.timing.response_interval) × (c.last_member_interval ≡ c.timing.last_member_interval) };
 }
 
@@ -53,34 +57,32 @@ impl<F: Family> Config<F> {
         ensures { let timing = variables robustness query_seconds response_interval last_member_interval in
             IsGivenOrFaulty (configured F.FAMILY timing limits (F.Address.number own) source_specific) result }
     {
-        let fault = configuration_fault::<F>(
+        if let Some(fault) = configuration_fault::<F>(
             robustness,
             query_seconds,
             response_interval,
             last_member_interval,
             &limits,
             own,
-        );
-        if let Some(fault) = fault {
+        ) {
             return Err(fault);
         }
-        let timing = Timing::new(
+        let Some(timing) = Timing::new(
             robustness,
             query_seconds,
             response_interval,
             last_member_interval,
-        );
-        match timing {
-            Some(timing) => Ok(Config {
-                timing,
-                response_interval,
-                last_member_interval,
-                limits,
-                own,
-                source_specific,
-            }),
-            None => unreachable!(),
-        }
+        ) else {
+            unreachable!()
+        };
+        Ok(Config {
+            timing,
+            response_interval,
+            last_member_interval,
+            limits,
+            own,
+            source_specific,
+        })
     }
 
     /// Each has no fault, and is one of its family. It does nothing: its contract is the fact.
@@ -133,6 +135,14 @@ impl<F: Family> Config<F> {
         self.source_specific
     }
 }
+
+/// The defaults of a family have no fault where the router's own address is one that it may have. It does nothing: its
+/// contract is the law.
+pub fn defaults_have_no_fault()
+    ensures { (family : Family) (own : ℕ) (source_specific : Bool)
+        → is_router_address family own ≡ true
+        → IsFaultless (configured_by_default family own source_specific) }
+{}
 
 /// Whether a number isn't one of these.
 fn is_outside(low: u32, high: u32, number: u32) -> bool

@@ -21,7 +21,7 @@ use crate::sending::Sender;
 use crate::ticking::tick_groups;
 use mq_count::{Meter, Moment};
 use mq_held::HeldGroups;
-use mq_sched::{Election, QueryParts, Sink};
+use mq_sched::Election;
 use mq_table::Group;
 use mq_wire::WireKey;
 
@@ -34,17 +34,11 @@ pub(crate) fn later(a: Moment, b: Moment, m: &mut Meter) -> Moment
 }
 
 /// Sends a general query, if it is due.
-fn send_general<'a, F: Family, O: Outlet<F::Address>>(
-    is_due: bool,
-    none: &'a [F::Address],
-    sender: &mut Sender<F, O>,
-)
+fn send_general<F: Family, O: Outlet<F::Address>>(is_due: bool, sender: &mut Sender<F, O>)
     ensures { Sends (TakesQuery O.takes F.FAMILY) sender.old (if is_due then GeneralQuery ∷ [] else []) sender.new }
 {
     if is_due {
-        let _count = none.len();
-        let query: QueryParts<'a, F::Address> = QueryParts::General;
-        sender.send(query);
+        sender.send_general();
     }
 }
 
@@ -85,7 +79,7 @@ pub(crate) fn do_due<F: Family, O: Outlet<F::Address>>(
     let is_due = election.tick(now, m);
     let timing = election.timing();
     sender.begin(config, timing);
-    send_general(is_due, &[], sender);
+    send_general(is_due, sender);
     let per_query = F::Address::PER_QUERY;
     tick_groups(held, group, places, now, &timing, per_query, m, sender);
 }

@@ -22,6 +22,7 @@ use crate::family::Family;
 use crate::outlet::Outlet;
 use crate::receiving::take_in;
 use crate::scratch::Scratch;
+use crate::seen::SeenGroups;
 use crate::sending::Sender;
 use mq_count::{Meter, Moment};
 use mq_held::{HeldGroup, HeldGroups};
@@ -30,6 +31,9 @@ use mq_sets::Memory;
 use mq_table::Timing;
 use std::alloc::Global;
 use std::marker::Model;
+
+/// As many records as a Report may have, whose number is told in 16 bits (RFC 3376 section 4.2.3, RFC 3810 section 5.2.3).
+const MOST_RECORDS: usize = 65535;
 
 /// One link of a multicast router, as the definitions have it: its configuration, its state, and how many comparisons it
 /// has made. All storage is taken by `new`, and no other call takes any.
@@ -42,6 +46,7 @@ pub struct Link<F: Family> {
     counts: Counts,
     meter: Meter,
     scratch: Scratch<F::Address>,
+    seen: SeenGroups<F::Address>,
     places: Vec<usize>,
 }
 
@@ -58,7 +63,7 @@ impl<F: Family> Model for Link<F> {
 
     ghost view = { λ l. record { config = l.config; state = state_in l.held l.election l.last l.counts; spent = l.meter } };
 
-    ghost invariant = { λ l. IsLinkStored l.config l.held l.election l.last l.counts l.scratch l.places.items };
+    ghost invariant = { λ l. IsLinkStored l.config l.held l.election l.last l.counts l.scratch l.seen l.places.items };
 }
 
 impl<F: Family> Link<F> {
@@ -74,6 +79,7 @@ impl<F: Family> Link<F> {
         let groups = limits.groups as usize;
         let held = HeldGroups::with_room(alloc, groups, limits.sources as usize)?;
         let scratch = Scratch::with_room(alloc, limits.group_sources as usize)?;
+        let seen = SeenGroups::with_room(alloc, MOST_RECORDS)?;
         let places = vec![in alloc; 0; groups]?;
         let election = Election::new(config.own(), config.timing(), start);
         Ok(Link {
@@ -84,6 +90,7 @@ impl<F: Family> Link<F> {
             counts: Counts::none(),
             meter: Meter::new(),
             scratch,
+            seen,
             places,
         })
     }
@@ -149,6 +156,7 @@ impl<F: Family> Link<F> {
             &mut self.election,
             &mut self.counts,
             &mut self.scratch,
+            &mut self.seen,
             now,
             envelope,
             body,

@@ -51,7 +51,12 @@ impl Family for Mld {
 
     ghost FAMILY = { wire.Mld };
 
-    ghost envelope_of = { λ e. record { source = e.source; destination = e.destination; hop_limit = e.hop_limit; alert = e.alert } };
+    ghost envelope_of = { λ e. record {
+      source = e.source;
+      destination = e.destination;
+      hop_limit = e.hop_limit;
+      alert = e.alert;
+    } };
 
     ghost RESPONSE_UNIT = { 1 };
 

@@ -1,10 +1,10 @@
 //! What a datagram does to a link, after the tick of its moment.
 
-ghost use Rattle.std.specs.Prelude.{◌≡◌, ◌≤◌, ◌^◌, None, Ok};
+ghost use Rattle.std.specs.Prelude.{◌≡◌, ◌≤◌, ◌^◌, None, Ok, length};
 ghost use Rattle.mq_sched.specs.Sink.{Sends};
 ghost use Rattle.mq_wire.specs.Numbered.{numbered_message};
 ghost use Rattle.mq_link.specs.Link.{IsReceived, silent_step, state_in};
-ghost use Rattle.mq_link.specs.Reading.{numbered_read};
+ghost use Rattle.mq_link.specs.Reading.{numbered_read, most_records, records_in, IsCarriedIn};
 ghost use Rattle.mq_link.specs.Receive as spec;
 ghost use Rattle.mq_link.specs.Scratch.{HasRoom};
 ghost use Rattle.mq_link.specs.Sender.{TakesQuery};
@@ -17,8 +17,9 @@ use crate::dropping::drop_reason;
 use crate::family::Family;
 use crate::hearing::hear;
 use crate::outlet::Outlet;
-use crate::recording::{take_records, take_statement};
+use crate::records::{take_records, take_statement};
 use crate::scratch::Scratch;
+use crate::seen::SeenGroups;
 use crate::sending::Sender;
 use crate::statements::Said;
 use mq_count::{Meter, Moment};
@@ -58,6 +59,7 @@ fn take_message<F: Family, O: Outlet<F::Address>>(
     election: &mut Election<F::Address>,
     counts: &mut Counts,
     scratch: &mut Scratch<F::Address>,
+    seen: &mut SeenGroups<F::Address>,
     now: Moment,
     envelope: &F::Envelope,
     message: &Message<'_, F::Address>,
@@ -69,7 +71,10 @@ fn take_message<F: Family, O: Outlet<F::Address>>(
     requires configured { election.old.configured ≡ config.now.timing }
     requires well_formed { IsWellFormed config.now (state_in held.old election.old now counts.old) }
     requires kept { spec.drop_reason config.now (F.envelope_of envelope.now) (Ok (numbered_message F.Address.number message.now)) ≡ None }
+    requires carried { IsCarriedIn (numbered_message F.Address.number message.now) }
+    requires counted { length (records_in (numbered_message F.Address.number message.now)) ≤ most_records }
     requires scratch_room { HasRoom config.now.limits.group_sources scratch.old }
+    requires seen_room { most_records ≤ seen.old.room }
     requires group_room { held.old.group_room ≡ config.now.limits.groups }
     requires source_room { held.old.source_room ≡ config.now.limits.sources }
     ensures taken { let said = numbered_message F.Address.number message.now in
@@ -81,22 +86,15 @@ fn take_message<F: Family, O: Outlet<F::Address>>(
     ensures own { election.new.own ≡ election.old.own }
     ensures configured { election.new.configured ≡ election.old.configured }
     ensures scratch_room { HasRoom config.now.limits.group_sources scratch.new }
+    ensures seen_room { seen.new.room ≡ seen.old.room }
     ensures group_room { held.new.group_room ≡ held.old.group_room }
     ensures source_room { held.new.source_room ≡ held.old.source_room }
 {
     match message {
         Message::Query(query) => {
             let source = F::source(envelope);
-            hear(
-                config,
-                election,
-                held,
-                &mut scratch.before,
-                source,
-                query,
-                now,
-                m,
-            );
+            config.is_faultless();
+            hear(election, held, &mut scratch.before, source, query, now, m);
             Received::Taken {
                 applied: 0,
                 ignored: 0,
@@ -117,7 +115,7 @@ fn take_message<F: Family, O: Outlet<F::Address>>(
         }
         Message::Report(records) => {
             take_records(
-                config, election, now, records, held, scratch, counts, m, sender,
+                config, election, now, records, held, scratch, seen, counts, m, sender,
             )
         }
     }
@@ -130,6 +128,7 @@ pub(crate) fn take_in<F: Family, O: Outlet<F::Address>>(
     election: &mut Election<F::Address>,
     counts: &mut Counts,
     scratch: &mut Scratch<F::Address>,
+    seen: &mut SeenGroups<F::Address>,
     now: Moment,
     envelope: &F::Envelope,
     body: &[u8],
@@ -141,6 +140,7 @@ pub(crate) fn take_in<F: Family, O: Outlet<F::Address>>(
     requires configured { election.old.configured ≡ config.now.timing }
     requires well_formed { IsWellFormed config.now (state_in held.old election.old now counts.old) }
     requires scratch_room { HasRoom config.now.limits.group_sources scratch.old }
+    requires seen_room { most_records ≤ seen.old.room }
     requires group_room { held.old.group_room ≡ config.now.limits.groups }
     requires source_room { held.old.source_room ≡ config.now.limits.sources }
     ensures received { let around = F.envelope_of envelope.now in
@@ -154,6 +154,7 @@ pub(crate) fn take_in<F: Family, O: Outlet<F::Address>>(
     ensures own { election.new.own ≡ election.old.own }
     ensures configured { election.new.configured ≡ election.old.configured }
     ensures scratch_room { HasRoom config.now.limits.group_sources scratch.new }
+    ensures seen_room { seen.new.room ≡ seen.old.room }
     ensures group_room { held.new.group_room ≡ held.old.group_room }
     ensures source_room { held.new.source_room ≡ held.old.source_room }
 {
@@ -165,7 +166,7 @@ pub(crate) fn take_in<F: Family, O: Outlet<F::Address>>(
     }
     match read {
         Ok(message) => take_message(
-            config, held, election, counts, scratch, now, envelope, &message, m, sender,
+            config, held, election, counts, scratch, seen, now, envelope, &message, m, sender,
         ),
         Err(_) => unreachable!(),
     }

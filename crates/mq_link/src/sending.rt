@@ -3,6 +3,7 @@
 ghost use Rattle.std.specs.Prelude.{◌≡◌, ◌≤◌, ◌==◌, ◌<◌, ◌↔◌, IsTrue, ℕ, false, [], not, if◌then◌else◌, length, take, map};
 ghost use Rattle.mq_count.specs.Streams.{counted_on};
 ghost use Rattle.mq_wire.specs.Numbered.{numbered_query};
+ghost use Rattle.mq_sched.specs.Sending.{GeneralQuery};
 ghost use Rattle.mq_sched.specs.Sink.{query_of};
 ghost use Rattle.mq_link.specs.Family as family;
 ghost use Rattle.mq_link.specs.Handing.{outgoing_on, FitsOne, KeepsIntervals};
@@ -38,7 +39,8 @@ impl<F: Family> Model for QueryTerms<F> {
 
     ghost view = { λ t. record { own = F.Address.number t.own; timing = t.timing } };
 
-    ghost invariant = { λ t. (t.response ≡ t.timing.response_interval) × (t.last_member ≡ t.timing.last_member_interval) };
+    ghost invariant = { λ t.
+        (t.response ≡ t.timing.response_interval) × (t.last_member ≡ t.timing.last_member_interval) };
 }
 
 impl<F: Family> QueryTerms<F> {
@@ -125,7 +127,7 @@ fn destination<F: Family>(group: F::Address) -> F::Address
     }
 }
 
-/// How many sources one message holds, or fewer, of the sources of a query.
+/// Whether one message holds a query.
 fn fits_one<F: Family>(query: &QueryParts<'_, F::Address>) -> bool
     ensures { IsTrue result ↔ FitsOne F.FAMILY (query_of F.Address.number query.now) }
 {
@@ -171,7 +173,11 @@ impl<F: Family, O: Outlet<F::Address>> Sender<F, O> {
     /// From now on queries go on the terms of this router where this timing is in force, and are counted from 0.
     pub(crate) fn begin(&mut self, config: &Config<F>, timing: Timing)
         requires { KeepsIntervals config.now.timing timing }
-        ensures { self.new ≡ record self.old { terms = record { own = config.now.own; timing = timing }; sent = 0; unsent = 0 } }
+        ensures { self.new ≡ record self.old {
+          terms = record { own = config.now.own; timing = timing };
+          sent = 0;
+          unsent = 0;
+        } }
     {
         self.terms = QueryTerms::new(config, timing);
         self.sent = 0;
@@ -190,6 +196,14 @@ impl<F: Family, O: Outlet<F::Address>> Sender<F, O> {
         ensures { result ≡ self.now.unsent }
     {
         self.unsent
+    }
+
+    /// Sends a general query. Answers whether the outlet sent it.
+    pub(crate) fn send_general<'q>(&'q mut self) -> bool
+        ensures { TakesQuery O.takes F.FAMILY self.old GeneralQuery self.new }
+    {
+        let query: QueryParts<'q, F::Address> = QueryParts::General;
+        self.send(query)
     }
 
     /// Hands over one datagram, and counts the answer.

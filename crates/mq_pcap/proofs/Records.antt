@@ -11,7 +11,7 @@ use Rattle.mq_pcap.specs.declared.form.Endian.TheVariants.{Big, Little}
 use Rattle.mq_pcap.specs.declared.form.Form.{Form}
 use Rattle.mq_pcap.specs.declared.fault.PcapFault.TheVariants as fault
 use Rattle.mq_pcap.specs.Capture.{number_in, stamp_of, captured_length, most_bytes, endless}
-use Rattle.mq_pcap.specs.Filling.{Source, Takes, Fills}
+use Rattle.mq_pcap.specs.Filling.{InputState, Takes, Fills}
 use Rattle.mq_pcap.specs.Reading.{Reads}
 use Rattle.mq_pcap.proofs.Filled.{Takes-trans}
 
@@ -30,14 +30,14 @@ pub length_of_header : (form : Form) (header body : List ℕ) → length header 
 length_of_header form header body size = captured_length-append form header body (omega (arith, size))
 
 -- a header that was filled was taken
-header_taken : {E : Type 0} (old mid : Source) (header : List ℕ) (count : ℕ) → length header ≡ 16 → 16 ≤ count → Fills {E = E} old mid header (Ok count) → Takes old mid header
+header_taken : {E : Type 0} (old mid : InputState) (header : List ℕ) (count : ℕ) → length header ≡ 16 → 16 ≤ count → Fills {E = E} old mid header (Ok count) → Takes old mid header
 header_taken old mid header count size whole fills =
     subst (λ bytes. Takes old mid bytes) (fills.fills.0 ∙ take_all count header (omega (arith, size))) fills.takes
 
-none_failed : {E : Type 0} (old mid new : Source) (header body : List ℕ) (count : ℕ) (answer : Result ℕ E) → Fills {E = E} old mid header (Ok count) → Fills mid new body answer → new.failed ≡ (old.failed || is_err answer)
+none_failed : {E : Type 0} (old mid new : InputState) (header body : List ℕ) (count : ℕ) (answer : Result ℕ E) → Fills {E = E} old mid header (Ok count) → Fills mid new body answer → new.failed ≡ (old.failed || is_err answer)
 none_failed old mid new header body count answer first second = rw (← or-false old.failed, ← first.failed) second.failed
 
-pub record_read : {E : Type 0} (form : Form) (number : ℕ) (old mid new : Source) (header body rest : List ℕ) (count n m stamp : ℕ) →
+pub record_read : {E : Type 0} (form : Form) (number : ℕ) (old mid new : InputState) (header body rest : List ℕ) (count n m stamp : ℕ) →
     number < endless → length header ≡ 16 → 16 ≤ count → n ≡ captured_length form header → (within : n ≤ most_bytes) → length body ≡ n → n ≤ m → stamp ≡ stamp_of form header →
     Fills {E = E} old mid header (Ok count) → Fills {E = E} mid new body (Ok m) →
     Reads form number old new (body ++ rest) (Ok (Some (record { stamp_ms = stamp; length = n; within = within })))
@@ -60,7 +60,7 @@ record_read form number old mid new header body rest count n m stamp few size wh
       failed = none_failed old mid new header body count (Ok m) first second;
     }
 
-pub data_cut : {E : Type 0} (form : Form) (number : ℕ) (old mid new : Source) (header body rest : List ℕ) (count n m : ℕ) →
+pub data_cut : {E : Type 0} (form : Form) (number : ℕ) (old mid new : InputState) (header body rest : List ℕ) (count n m : ℕ) →
     number < endless → length header ≡ 16 → 16 ≤ count → n ≡ captured_length form header → n ≤ most_bytes → length body ≡ n → m < n →
     Fills {E = E} old mid header (Ok count) → Fills {E = E} mid new body (Ok m) →
     Reads form number old new (body ++ rest) (Err (fault.CutData number))
@@ -79,7 +79,7 @@ data_cut form number old mid new header body rest count n m few size whole annou
       failed = none_failed old mid new header body count (Ok m) first second;
     }
 
-pub data_failed : {E : Type 0} (form : Form) (number : ℕ) (old mid new : Source) (header body rest : List ℕ) (count n : ℕ) (e : E) →
+pub data_failed : {E : Type 0} (form : Form) (number : ℕ) (old mid new : InputState) (header body rest : List ℕ) (count n : ℕ) (e : E) →
     length header ≡ 16 → 16 ≤ count → n ≡ captured_length form header → n ≤ most_bytes → length body ≡ n →
     Fills {E = E} old mid header (Ok count) → Fills mid new body (Err e) →
     Reads form number old new (body ++ rest) (Err fault.Read)

@@ -9,7 +9,7 @@ use Rattle.mq_pcap.specs.declared.reader_state.Progress.{Progress}
 use Rattle.mq_pcap.specs.declared.reader_state.Progress.TheVariants.{Reading, Ended, Stopped}
 use Rattle.mq_pcap.specs.declared.reader_state.PcapReader.{PcapReader}
 use Rattle.mq_pcap.specs.Capture.{is_read, IsRecord, header_of, captured_length, most_bytes, endless, record_fault}
-use Rattle.mq_pcap.specs.Filling.{Source, Takes}
+use Rattle.mq_pcap.specs.Filling.{InputState, Takes}
 
 -- whether an answer is that fault
 abbrev pub is_read_fault : {X : Type 0} → Result X PcapFault → Bool
@@ -17,7 +17,7 @@ is_read_fault (Ok x) = false
 is_read_fault (Err f) = is_read f
 
 -- a fault of bytes that go on is one, whatever follows; any other comes at the end of the stream
-abbrev pub IsKnownThere : PcapFault → Source → Type 0
+abbrev pub IsKnownThere : PcapFault → InputState → Type 0
 IsKnownThere fault.Endless new = Unit {0}
 IsKnownThere (fault.TooLong number) new = Unit {0}
 IsKnownThere f new = IsAtEnd new.ahead
@@ -29,7 +29,7 @@ IsBegun form bytes =
     ⊎ ((captured_length form bytes ≤ most_bytes) × (length bytes < 16 + captured_length form bytes))
 
 -- what is answered of the bytes that were taken where record `number` should stand
-abbrev pub IsAnswerTo : Form → ℕ → Source → (buffer bytes : List ℕ) → Result (Option Packet) PcapFault → Type 0
+abbrev pub IsAnswerTo : Form → ℕ → InputState → (buffer bytes : List ℕ) → Result (Option Packet) PcapFault → Type 0
 IsAnswerTo form number new buffer bytes (Ok (Some packet)) =
     (number < endless)
     × IsRecord form bytes (record { stamp = packet.stamp_ms; bytes = take packet.length buffer })
@@ -39,7 +39,7 @@ IsAnswerTo form number new buffer bytes (Err f) =
     (record_fault form number bytes ≡ Some f) × IsKnownThere f new
 
 -- a record was read, or the end or a fault met
-pub record Reads (form : Form) (number : ℕ) (old new : Source) (buffer : List ℕ)
+pub record Reads (form : Form) (number : ℕ) (old new : InputState) (buffer : List ℕ)
     (answer : Result (Option Packet) PcapFault) : Type 0 where
   pub bytes : List ℕ
   pub takes : Takes old new bytes
@@ -47,7 +47,7 @@ pub record Reads (form : Form) (number : ℕ) (old new : Source) (buffer : List 
   pub failed : new.failed ≡ (old.failed || is_read_fault answer)
 
 -- what is answered of the bytes that were taken where the file's header should stand
-abbrev pub IsOpenedBy : Source → (bytes : List ℕ) → Result PcapReader PcapFault → Type 0
+abbrev pub IsOpenedBy : InputState → (bytes : List ℕ) → Result PcapReader PcapFault → Type 0
 IsOpenedBy new bytes (Ok reader) =
     (length bytes ≡ 24) × (header_of bytes ≡ Ok reader.form) × (reader.number ≡ 1) × (reader.progress ≡ Reading)
 IsOpenedBy new bytes (Err f) =
@@ -55,7 +55,7 @@ IsOpenedBy new bytes (Err f) =
     ⊎ ((header_of bytes ≡ Err f) × ((length bytes ≡ 24) ⊎ IsAtEnd new.ahead))
 
 -- a capture was opened, or a fault met
-pub record Opens (old new : Source) (answer : Result PcapReader PcapFault) : Type 0 where
+pub record Opens (old new : InputState) (answer : Result PcapReader PcapFault) : Type 0 where
   pub bytes : List ℕ
   pub takes : Takes old new bytes
   pub answers : IsOpenedBy new bytes answer

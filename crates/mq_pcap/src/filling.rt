@@ -1,8 +1,7 @@
 //! Filling a buffer from a stream that hands out pieces of any size.
 
 ghost use Rattle.std.specs.Prelude.{◌≡◌, IfErr};
-ghost use Rattle.mq_count.specs.Streams.{inner_of, has_failed, taken_from};
-ghost use Rattle.mq_pcap.specs.Filling.{Source, Fills};
+ghost use Rattle.mq_pcap.specs.Filling.{Fills, input_of};
 
 use crate::fault::PcapFault;
 use mq_count::Watched;
@@ -12,9 +11,9 @@ use std::io::Read;
 /// read that gives no byte is the end of the stream. A fault is `Read`.
 #[inline(always)]
 pub(crate) fn fill<R: Read>(reader: &mut Watched<R>, buffer: &mut [u8]) -> Result<usize, PcapFault>
-    ensures fills { let old : Source = record { ahead = R.remaining (inner_of reader.old); taken = taken_from reader.old; failed = has_failed reader.old } in
-        let new : Source = record { ahead = R.remaining (inner_of reader.new); taken = taken_from reader.new; failed = has_failed reader.new } in
-        Fills old new buffer.new result }
+    ensures fills { Fills
+        (input_of R.remaining reader.old) (input_of R.remaining reader.new)
+        buffer.new result }
     ensures fault { IfErr result (λ f. f ≡ PcapFault.Read) }
 {
     let mut count = 0;

@@ -2,11 +2,11 @@
 
 ghost use Rattle.std.specs.Prelude.{◌≡◌, ◌+◌, ◌≤◌, ◌<◌, length, slice_range};
 ghost use Rattle.std.specs.Int.{w32, w128, from_be_bytes};
-ghost use Rattle.mq_pcap.specs.Frame.{carried_of, carried_in, in_type, in_ethernet, in_raw_ip, in_ipv4, in_ipv6, behind_options, mld_in, word_at};
+ghost use Rattle.mq_pcap.specs.Frame.{carried_of, carried_in, in_type, in_ethernet, in_raw_ip, in_ipv4, in_ipv6, behind_options, mld_in};
 
+use crate::form::Endian;
 use crate::link_type::LinkType;
 use crate::options::has_router_alert;
-use byteorder::{BigEndian, ByteOrder};
 use mq_count::{Addr4, Addr6};
 
 /// What a frame carries.
@@ -75,14 +75,14 @@ fn ethernet(frame: &[u8]) -> Inner<'_>
     if frame.len() < 14 {
         return Inner::Cut;
     }
-    let kind = word(frame, 12);
+    let kind = Endian::Big.word(frame, 12);
     if kind != TAGGED {
         return by_type(kind, &frame[14..]);
     }
     if frame.len() < 18 {
         return Inner::Cut;
     }
-    by_type(word(frame, 16), &frame[18..])
+    by_type(Endian::Big.word(frame, 16), &frame[18..])
 }
 
 /// What stands behind an Ethernet header, by the type that it names.
@@ -124,11 +124,11 @@ fn ipv4(packet: &[u8]) -> Inner<'_>
         return Inner::Other;
     }
     let header = usize::from(packet[0] % 16) * 4;
-    let total = usize::from(word(packet, 2));
+    let total = usize::from(Endian::Big.word(packet, 2));
     if header < 20 || total < header {
         return Inner::Other;
     }
-    let fragment = word(packet, 6);
+    let fragment = Endian::Big.word(packet, 6);
     if fragment / 0x2000 % 2 == 1 || fragment % 0x2000 != 0 {
         return Inner::Fragment;
     }
@@ -159,7 +159,7 @@ fn ipv6(packet: &[u8]) -> Inner<'_>
     if next != HOP_BY_HOP && next != ICMPV6 {
         return Inner::Other;
     }
-    let end = 40 + usize::from(word(packet, 4));
+    let end = 40 + usize::from(Endian::Big.word(packet, 4));
     if packet.len() < end {
         return Inner::Cut;
     }
@@ -204,14 +204,6 @@ fn mld<'a>(packet: &'a [u8], alert: bool, body: &'a [u8]) -> Inner<'a>
         alert,
         body,
     }
-}
-
-/// The 16 bits at a place.
-fn word(bytes: &[u8], place: usize) -> u16
-    requires { place + 2 ≤ length bytes.now }
-    ensures { result ≡ word_at place bytes.now }
-{
-    BigEndian::read_u16(&bytes[place..])
 }
 
 fn address4(bytes: &[u8], place: usize) -> Addr4

@@ -17,3 +17,4 @@ pub use form::{Endian, Form, Fraction};
 pub use frame::{Inner, unwrap_frame};
 pub use link_type::LinkType;
 pub use reader_state::{Packet, PcapReader, Progress};
+pub use record::GREATEST_PACKET;

@@ -1,8 +1,8 @@
 //! The packets of a capture, one after another.
 
 ghost use Rattle.std.specs.Prelude.{◌≡◌, ◌+◌, ◌≤◌, length};
-ghost use Rattle.mq_count.specs.Streams.{inner_of, has_failed, taken_from};
-ghost use Rattle.mq_pcap.specs.Filling.{Source};
+ghost use Rattle.mq_pcap.specs.Capture.{most_bytes};
+ghost use Rattle.mq_pcap.specs.Filling.{input_of};
 ghost use Rattle.mq_pcap.specs.Reading.{Opens, Reads, form_of, number_of, progress_of, progress_after, records_in, IsAgain};
 
 use crate::fault::PcapFault;
@@ -17,9 +17,7 @@ use std::io::Read;
 impl PcapReader {
     /// Reads the header of a capture.
     pub fn open<R: Read>(reader: &mut Watched<R>) -> Result<PcapReader, PcapFault>
-        ensures { let old : Source = record { ahead = R.remaining (inner_of reader.old); taken = taken_from reader.old; failed = has_failed reader.old } in
-            let new : Source = record { ahead = R.remaining (inner_of reader.new); taken = taken_from reader.new; failed = has_failed reader.new } in
-            Opens old new result }
+        ensures { Opens (input_of R.remaining reader.old) (input_of R.remaining reader.new) result }
     {
         let mut header = [0; FILE_HEADER];
         let count = fill(reader, &mut header)?;
@@ -38,19 +36,19 @@ impl PcapReader {
         self.form.link
     }
 
-    /// Reads the next packet into the front of `buffer`, which has at least 262144 bytes; None at the end of
-    /// the capture. After a fault it answers the same fault, and after None it answers None, and then neither
+    /// Reads the next packet into the front of `buffer`, which has room for `GREATEST_PACKET`; None at the end
+    /// of the capture. After a fault it answers the same fault, and after None it answers None, and then neither
     /// reads nor writes.
     pub fn next<R: Read>(
         &mut self,
         reader: &mut Watched<R>,
         buffer: &mut [u8],
     ) -> Result<Option<Packet>, PcapFault>
-        requires { 262144 ≤ length buffer.old }
-        ensures reads { let old : Source = record { ahead = R.remaining (inner_of reader.old); taken = taken_from reader.old; failed = has_failed reader.old } in
-            let new : Source = record { ahead = R.remaining (inner_of reader.new); taken = taken_from reader.new; failed = has_failed reader.new } in
-            progress_of self.old ≡ Progress.Reading
-            → Reads (form_of self.old) (number_of self.old) old new buffer.new result }
+        requires { most_bytes ≤ length buffer.old }
+        ensures reads { progress_of self.old ≡ Progress.Reading
+            → Reads (form_of self.old) (number_of self.old)
+            (input_of R.remaining reader.old) (input_of R.remaining reader.new)
+            buffer.new result }
         ensures again { IsAgain (progress_of self.old) result }
         ensures untouched { (progress_of self.old ≡ Progress.Reading → ⊥)
             → (reader.new ≡ reader.old) × (buffer.new ≡ buffer.old) }

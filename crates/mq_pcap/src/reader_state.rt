@@ -1,6 +1,7 @@
 //! What a reader of captures keeps from call to call.
 
 ghost use Rattle.std.specs.Prelude.{◌≤◌};
+ghost use Rattle.mq_pcap.specs.Capture.{most_bytes};
 
 use crate::fault::PcapFault;
 use crate::form::Form;
@@ -10,9 +11,9 @@ use crate::form::Form;
 pub struct Packet {
     /// The moment of the packet in milliseconds: its seconds, and its fraction's whole milliseconds.
     pub stamp_ms: u64,
-    /// How many bytes were captured, at most 262144.
+    /// How many bytes were captured, at most `GREATEST_PACKET`.
     pub length: usize,
-    ghost within: { length ≤ 262144 },
+    ghost within: { length ≤ most_bytes },
 }
 
 /// How far a reader is.

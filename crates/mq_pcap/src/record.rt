@@ -1,8 +1,8 @@
 //! One record of a capture.
 
 ghost use Rattle.std.specs.Prelude.{◌≤◌, length};
-ghost use Rattle.mq_count.specs.Streams.{inner_of, has_failed, taken_from};
-ghost use Rattle.mq_pcap.specs.Filling.{Source};
+ghost use Rattle.mq_pcap.specs.Capture.{most_bytes};
+ghost use Rattle.mq_pcap.specs.Filling.{input_of};
 ghost use Rattle.mq_pcap.specs.Reading.{Reads};
 
 use crate::fault::PcapFault;
@@ -12,8 +12,8 @@ use crate::reader_state::Packet;
 use mq_count::Watched;
 use std::io::Read;
 
-/// The most bytes of a packet.
-const MOST: usize = 262_144;
+/// The most bytes that a packet may have.
+pub const GREATEST_PACKET: usize = 262_144;
 
 /// The first record number that no capture may have.
 const ENDLESS: u64 = 4_294_967_296;
@@ -29,10 +29,10 @@ pub(crate) fn read_record<R: Read>(
     reader: &mut Watched<R>,
     buffer: &mut [u8],
 ) -> Result<Option<Packet>, PcapFault>
-    requires { 262144 ≤ length buffer.old }
-    ensures { let old : Source = record { ahead = R.remaining (inner_of reader.old); taken = taken_from reader.old; failed = has_failed reader.old } in
-        let new : Source = record { ahead = R.remaining (inner_of reader.new); taken = taken_from reader.new; failed = has_failed reader.new } in
-        Reads form number old new buffer.new result }
+    requires { most_bytes ≤ length buffer.old }
+    ensures { Reads form number
+        (input_of R.remaining reader.old) (input_of R.remaining reader.new)
+        buffer.new result }
 {
     if number >= ENDLESS {
         let mut byte = [0; 1];
@@ -50,7 +50,7 @@ pub(crate) fn read_record<R: Read>(
         return Err(PcapFault::CutHeader { number });
     }
     let length = form.order.double_word(&header, 8) as usize;
-    if length > MOST {
+    if length > GREATEST_PACKET {
         return Err(PcapFault::TooLong { number });
     }
     if fill(reader, &mut buffer[..length])? < length {

@@ -6,9 +6,9 @@ use Rattle.mq_pcap.specs.declared.fault.PcapFault.TheVariants as fault
 use Rattle.mq_pcap.specs.declared.form.Form.{Form}
 use Rattle.mq_pcap.specs.declared.reader_state.Packet.{Packet}
 use Rattle.mq_pcap.specs.declared.link_type.LinkType.{LinkType}
-use Rattle.mq_replay.specs.declared.moments.Moments.{Moments}
+use Rattle.mq_replay.specs.declared.stamps.Stamps.{Stamps}
 use Rattle.mq_pcap.specs.Capture.{Captured, AreRecords, captured_length, most_bytes, endless}
-use Rattle.mq_pcap.specs.Filling.{Source, Takes}
+use Rattle.mq_pcap.specs.Filling.{InputState, Takes}
 use Rattle.mq_pcap.specs.Reading.{Reads, IsBegun}
 use Rattle.mq_pcap.proofs.Filled.{Takes-nil, Takes-trans}
 use Rattle.mq_pcap.specs.Frame.{carried_in}
@@ -22,7 +22,7 @@ use Rattle.mq_replay.proofs.Passing.{nothing_passed, both_passed, broken_behind}
 
 -- Some bytes behind the file's header were read as packets, whose lines are `said`. Whatever follows, its records
 -- are those behind these packets, and its lines those behind these lines.
-pub record IsReadTo (form : Form) (old now : Source) (first : Option ℕ) (before number : ℕ) : Type 0 where
+pub record IsReadTo (form : Form) (old now : InputState) (first : Option ℕ) (before number : ℕ) : Type 0 where
   pub bytes : List ℕ
   pub packets : List Captured
   pub said : List ℕ
@@ -31,7 +31,7 @@ pub record IsReadTo (form : Form) (old now : Source) (first : Option ℕ) (befor
   pub records : (rest : List ℕ) (more : List Captured) (end : Option PcapFault) → AreRecords form (number + 1) rest more end → AreRecords form 1 (bytes ++ rest) (packets ++ more) end
   pub lines : (more : List Captured) (text : List ℕ) → AreLines form.link first before (number + 1) more text → AreLines form.link None 0 1 (packets ++ more) (said ++ text)
 
-pub none_read : (form : Form) (s : Source) → IsReadTo form s s None 0 0
+pub none_read : (form : Form) (s : InputState) → IsReadTo form s s None 0 0
 none_read form s =
     record {
       bytes = [];
@@ -43,12 +43,12 @@ none_read form s =
       lines = λ more text h. h;
     }
 
-pub none_put : (form : Form) (s : Source) (before : Option (List ℕ)) (held : List ℕ) → (r : IsReadTo form s s None 0 0) × Passes before before held held r.said
+pub none_put : (form : Form) (s : InputState) (before : Option (List ℕ)) (held : List ℕ) → (r : IsReadTo form s s None 0 0) × Passes before before held held r.said
 unfolding none_read
 none_put form s before held = (none_read form s, nothing_passed before held)
 
 -- one packet more was read
-pub next_read : (form : Form) (old mid new : Source) (first : Option ℕ) (before number : ℕ) (buffer line : List ℕ) (packet : Packet)
+pub next_read : (form : Form) (old mid new : InputState) (first : Option ℕ) (before number : ℕ) (buffer line : List ℕ) (packet : Packet)
     → (r : IsReadTo form old mid first before number) → Reads form (number + 1) mid new buffer (Ok (Some packet))
     → IsPacketLine form.link (number + 1) (moment_of first before packet.stamp_ms) (take packet.length buffer) line
     → (s : IsReadTo form old new (Some (unwrap_or first packet.stamp_ms)) (moment_of first before packet.stamp_ms) (number + 1)) × (s.said ≡ r.said ++ line)
@@ -71,7 +71,7 @@ next_read form old mid new first before number buffer line packet r reads is_lin
     )
 
 -- what was read, where these bytes follow and no packet
-pub all_read : (form : Form) (old mid : Source) (first : Option ℕ) (before number : ℕ) (r : IsReadTo form old mid first before number) (rest : List ℕ) (end : Option PcapFault)
+pub all_read : (form : Form) (old mid : InputState) (first : Option ℕ) (before number : ℕ) (r : IsReadTo form old mid first before number) (rest : List ℕ) (end : Option PcapFault)
     → AreRecords form (number + 1) rest [] end → AreRecords form 1 (r.bytes ++ rest) r.packets end × AreLines form.link None 0 1 r.packets r.said
 all_read form old mid first before number r rest end h =
     let records = r.records rest [] end h in
@@ -100,7 +100,7 @@ begun_ends form number (byte ∷ bytes) begun =
     by_number form number (byte ∷ bytes) (omega arith) begun (nat_lt number endless) refl (nat_lt (length (byte ∷ bytes)) 16) refl
 
 -- what the packets that were read come to, where a call ends
-ended_with : (form : Form) (old mid new : Source) (before after : Option (List ℕ)) (held left : List ℕ) (first : Option ℕ) (last number : ℕ) (r : IsReadTo form old mid first last number)
+ended_with : (form : Form) (old mid new : InputState) (before after : Option (List ℕ)) (held left : List ℕ) (first : Option ℕ) (last number : ℕ) (r : IsReadTo form old mid first last number)
     → (bytes : List ℕ) → Takes mid new bytes → (end : Option PcapFault) → AreRecords form (number + 1) bytes [] end → (it : Result ℕ ReplayFault)
     → IsEndedBy (Ok form) r.packets end (r.bytes ++ bytes) old new it → IsPut before after held left r.said it → PutsPackets form old new before after held left it
 ended_with form old mid new before after held left first last number r bytes takes end records it ended put =
@@ -118,14 +118,14 @@ ended_with form old mid new before after held left first last number r bytes tak
     }
 
 -- the input ended
-pub ended_well : (form : Form) (old mid new : Source) (before after : Option (List ℕ)) (held left : List ℕ) (first : Option ℕ) (last number : ℕ) (buffer : List ℕ) (r : IsReadTo form old mid first last number)
+pub ended_well : (form : Form) (old mid new : InputState) (before after : Option (List ℕ)) (held left : List ℕ) (first : Option ℕ) (last number : ℕ) (buffer : List ℕ) (r : IsReadTo form old mid first last number)
     → Passes before after held left r.said → mid.failed ≡ old.failed → Reads form (number + 1) mid new buffer (Ok None) → PutsPackets form old new before after held left (Ok number)
 ended_well form old mid new before after held left first last number buffer r passed same reads =
     ended_with form old mid new before after held left first last number r reads.bytes reads.takes None reads.answers.0 (Ok number)
     (refl, reads.answers.1, sym r.count, reads.failed ∙ or-false mid.failed ∙ same) passed
 
 -- the capture has a fault, or a read failed
-pub ended_faulty : (form : Form) (old mid new : Source) (before after : Option (List ℕ)) (held left : List ℕ) (first : Option ℕ) (last number : ℕ) (buffer : List ℕ) (f : PcapFault) (r : IsReadTo form old mid first last number)
+pub ended_faulty : (form : Form) (old mid new : InputState) (before after : Option (List ℕ)) (held left : List ℕ) (first : Option ℕ) (last number : ℕ) (buffer : List ℕ) (f : PcapFault) (r : IsReadTo form old mid first last number)
     → Passes before after held left r.said → mid.failed ≡ old.failed → Reads form (number + 1) mid new buffer (Err f) → PutsPackets form old new before after held left (Err (answer.Pcap f))
 ended_faulty form old mid new before after held left first last number buffer fault.Read r passed same reads =
     let begun = begun_ends form (number + 1) reads.bytes reads.answers in
@@ -146,7 +146,7 @@ ended_faulty form old mid new before after held left first last number buffer fa
     ended_with form old mid new before after held left first last number r reads.bytes reads.takes (Some fault.Endless) reads.answers.0 _ (refl, reads.answers.1, reads.failed ∙ or-false mid.failed ∙ same) passed
 
 -- a packet more was read, and its line was put, or broke off
-pub next_put : {T E : Type 0} (form : Form) (old mid new : Source) (before now after : Option (List ℕ)) (held more left : List ℕ) (first : Option ℕ) (last number : ℕ) (buffer : List ℕ) (packet : Packet) (x : T)
+pub next_put : {T E : Type 0} (form : Form) (old mid new : InputState) (before now after : Option (List ℕ)) (held more left : List ℕ) (first : Option ℕ) (last number : ℕ) (buffer : List ℕ) (packet : Packet) (x : T)
     → (r : IsReadTo form old mid first last number) → Passes before now held more r.said → Reads form (number + 1) mid new buffer (Ok (Some packet))
     → PutsPacket {E = E} now after more left (number + 1) (moment_of first last packet.stamp_ms) (carried_in form.link (take packet.length buffer)) (Ok x)
     → (s : IsReadTo form old new (Some (unwrap_or first packet.stamp_ms)) (moment_of first last packet.stamp_ms) (number + 1)) × Passes before after held left s.said
@@ -155,7 +155,7 @@ next_put form old mid new before now after held more left first last number buff
     let next = next_read form old mid new first last number buffer line packet r reads (put.said, put.is_said, refl) in
     (next.0, rw next.1 (both_passed before now after held more left r.said line passed put.put))
 
-pub next_broken : {T E : Type 0} (form : Form) (old mid new : Source) (before now after : Option (List ℕ)) (held more left : List ℕ) (first : Option ℕ) (last number : ℕ) (buffer : List ℕ) (packet : Packet) (e : E)
+pub next_broken : {T E : Type 0} (form : Form) (old mid new : InputState) (before now after : Option (List ℕ)) (held more left : List ℕ) (first : Option ℕ) (last number : ℕ) (buffer : List ℕ) (packet : Packet) (e : E)
     → (r : IsReadTo form old mid first last number) → Passes before now held more r.said → Reads form (number + 1) mid new buffer (Ok (Some packet))
     → PutsPacket {T = T} now after more left (number + 1) (moment_of first last packet.stamp_ms) (carried_in form.link (take packet.length buffer)) (Err e)
     → PutsPackets form old new before after held left (Err answer.Write)
@@ -165,7 +165,7 @@ next_broken form old mid new before now after held more left first last number b
     ended_with form old new new before after held left _ _ (number + 1) next.0 [] (Takes-nil new) None refl (Err answer.Write) tt (rw next.1 (broken_behind before now after held more r.said line passed put.put))
 
 -- the same of what the code names otherwise
-pub read_as : (form form' : Form) (number number' : ℕ) (mid new : Source) (buffer : List ℕ) (a a' : Result (Option Packet) PcapFault) → form' ≡ form → number' ≡ number → a' ≡ a
+pub read_as : (form form' : Form) (number number' : ℕ) (mid new : InputState) (buffer : List ℕ) (a a' : Result (Option Packet) PcapFault) → form' ≡ form → number' ≡ number → a' ≡ a
     → Reads form' number' mid new buffer a' → Reads form number mid new buffer a
 read_as form form' number number' mid new buffer a a' is_form is_number is_answer reads =
     subst (λ (f : Form). Reads f number mid new buffer a) is_form
@@ -178,19 +178,19 @@ packet_as now after more left number moment moment' link link' frame it is_momen
     subst (λ (m : ℕ). PutsPacket now after more left number m (carried_in link' frame) it) is_moment
     (subst (λ (l : LinkType). PutsPacket now after more left number moment (carried_in l frame) it) is_link put)
 
-pub next_put_as : {T E : Type 0} (form : Form) (old mid new : Source) (before now after : Option (List ℕ)) (held more left : List ℕ) (first : Option ℕ) (last number : ℕ) (buffer : List ℕ) (packet : Packet) (x : T)
-    (link : LinkType) (moment : ℕ) (moments : Moments)
-    → moments ≡ record { first = Some (unwrap_or first packet.stamp_ms); before = moment } → moment ≡ moment_of first last packet.stamp_ms → link ≡ form.link
+pub next_put_as : {T E : Type 0} (form : Form) (old mid new : InputState) (before now after : Option (List ℕ)) (held more left : List ℕ) (first : Option ℕ) (last number : ℕ) (buffer : List ℕ) (packet : Packet) (x : T)
+    (link : LinkType) (moment : ℕ) (stamps : Stamps)
+    → stamps ≡ record { first = Some (unwrap_or first packet.stamp_ms); before = moment } → moment ≡ moment_of first last packet.stamp_ms → link ≡ form.link
     → (r : IsReadTo form old mid first last number) → Passes before now held more r.said → Reads form (number + 1) mid new buffer (Ok (Some packet))
     → PutsPacket {E = E} now after more left (number + 1) moment (carried_in link (take packet.length buffer)) (Ok x)
-    → (s : IsReadTo form old new moments.first moments.before (number + 1)) × Passes before after held left s.said
-next_put_as {E} form old mid new before now after held more left first last number buffer packet x link moment moments are is_moment is_link r passed reads put =
+    → (s : IsReadTo form old new stamps.first stamps.before (number + 1)) × Passes before after held left s.said
+next_put_as {E} form old mid new before now after held more left first last number buffer packet x link moment stamps are is_moment is_link r passed reads put =
     let all = next_put {E = E} form old mid new before now after held more left first last number buffer packet x r passed reads (packet_as now after more left (number + 1) moment (moment_of first last packet.stamp_ms) link form.link (take packet.length buffer) (Ok x) is_moment is_link put) in
-    let same : record { first = Some (unwrap_or first packet.stamp_ms); before = moment_of first last packet.stamp_ms } ≡ moments =
+    let same : record { first = Some (unwrap_or first packet.stamp_ms); before = moment_of first last packet.stamp_ms } ≡ stamps =
     (λ i. record { first = Some (unwrap_or first packet.stamp_ms); before = sym is_moment i }) ∙ sym are in
-    subst (λ (m : Moments). (s : IsReadTo form old new m.first m.before (number + 1)) × Passes before after held left s.said) same all
+    subst (λ (m : Stamps). (s : IsReadTo form old new m.first m.before (number + 1)) × Passes before after held left s.said) same all
 
-pub next_broken_as : {T E : Type 0} (form : Form) (old mid new : Source) (before now after : Option (List ℕ)) (held more left : List ℕ) (first : Option ℕ) (last number : ℕ) (buffer : List ℕ) (packet : Packet) (e : E)
+pub next_broken_as : {T E : Type 0} (form : Form) (old mid new : InputState) (before now after : Option (List ℕ)) (held more left : List ℕ) (first : Option ℕ) (last number : ℕ) (buffer : List ℕ) (packet : Packet) (e : E)
     (link : LinkType) (moment : ℕ) → moment ≡ moment_of first last packet.stamp_ms → link ≡ form.link
     → (r : IsReadTo form old mid first last number) → Passes before now held more r.said → Reads form (number + 1) mid new buffer (Ok (Some packet))
     → PutsPacket {T = T} now after more left (number + 1) moment (carried_in link (take packet.length buffer)) (Err e)

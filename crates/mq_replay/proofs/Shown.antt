@@ -10,7 +10,7 @@ use Rattle.mq_pcap.specs.declared.fault.PcapFault.TheVariants as fault
 use Rattle.mq_pcap.specs.declared.form.Form.{Form}
 use Rattle.mq_pcap.specs.declared.reader_state.PcapReader.{PcapReader}
 use Rattle.mq_pcap.specs.Capture.{Captured, AreRecords, header_of, is_read}
-use Rattle.mq_pcap.specs.Filling.{Source, Takes}
+use Rattle.mq_pcap.specs.Filling.{InputState, Takes}
 use Rattle.mq_pcap.specs.Reading.{Opens, form_of}
 use Rattle.mq_pcap.proofs.FileHeader.{header_of-append}
 use Rattle.mq_pcap.proofs.Filled.{Takes-nil, Takes-trans}
@@ -27,7 +27,7 @@ unfolding header_of
 cut_header bytes short = rw (lt-ltb (length bytes) 24 short) refl
 
 -- a fault of the file
-by_fault : (header : Result Form PcapFault) (packets : List Captured) (bytes : List ℕ) (old new : Source) (f : PcapFault) → IsOfTheFile header f bytes new → new.failed ≡ (old.failed || is_read f)
+by_fault : (header : Result Form PcapFault) (packets : List Captured) (bytes : List ℕ) (old new : InputState) (f : PcapFault) → IsOfTheFile header f bytes new → new.failed ≡ (old.failed || is_read f)
     → IsEndedBy header packets (Some f) bytes old new (Err (answer.Pcap f))
 by_fault header packets bytes old new fault.Read of_the_file failed = failed ∙ or-true old.failed
 by_fault header packets bytes old new fault.Magic of_the_file failed = (refl, of_the_file, failed ∙ or-false old.failed)
@@ -38,7 +38,7 @@ by_fault header packets bytes old new (fault.CutData at) of_the_file failed = (r
 by_fault header packets bytes old new (fault.TooLong at) of_the_file failed = (refl, of_the_file, failed ∙ or-false old.failed)
 by_fault header packets bytes old new fault.Endless of_the_file failed = (refl, of_the_file, failed ∙ or-false old.failed)
 
-no_packets : (old new : Source) (before : Option (List ℕ)) (held : List ℕ) (f g : PcapFault) (bytes : List ℕ) → Takes old new bytes → header_of bytes ≡ Err g
+no_packets : (old new : InputState) (before : Option (List ℕ)) (held : List ℕ) (f g : PcapFault) (bytes : List ℕ) → Takes old new bytes → header_of bytes ≡ Err g
     → IsEndedBy (Err g) [] (Some g) bytes old new (Err (answer.Pcap f)) → PutsListing old new before before held held (Err (answer.Pcap f))
 no_packets old new before held f g bytes takes header ended =
     record {
@@ -54,7 +54,7 @@ no_packets old new before held f g bytes takes header ended =
       put = nothing_passed before held;
     }
 
-pub opened_faulty : (old new : Source) (before : Option (List ℕ)) (held : List ℕ) (f : PcapFault) → Opens old new (Err f) → PutsListing old new before before held held (Err (answer.Pcap f))
+pub opened_faulty : (old new : InputState) (before : Option (List ℕ)) (held : List ℕ) (f : PcapFault) → Opens old new (Err f) → PutsListing old new before before held held (Err (answer.Pcap f))
 opened_faulty old new before held f opens = by_answer opens.answers
   where
     by_answer : ((f ≡ fault.Read) × (length opens.bytes < 24)) ⊎ ((header_of opens.bytes ≡ Err f) × ((length opens.bytes ≡ 24) ⊎ IsAtEnd new.ahead)) → PutsListing old new before before held held (Err (answer.Pcap f))
@@ -65,7 +65,7 @@ opened_faulty old new before held f opens = by_answer opens.answers
         no_packets old new before held f f opens.bytes opens.takes header (by_fault (Err f) [] opens.bytes old new f whole opens.failed)
 
 -- the bytes of the header come before those of the packets
-ended_behind : (form : Form) (packets : List Captured) (end : Option PcapFault) (header bytes : List ℕ) (old mid new : Source) (r : Result ℕ ReplayFault) → mid.failed ≡ old.failed → (r ≡ Err answer.Memory → ⊥)
+ended_behind : (form : Form) (packets : List Captured) (end : Option PcapFault) (header bytes : List ℕ) (old mid new : InputState) (r : Result ℕ ReplayFault) → mid.failed ≡ old.failed → (r ≡ Err answer.Memory → ⊥)
     → IsEndedBy (Ok form) packets end bytes mid new r → IsEndedBy (Ok form) packets end (header ++ bytes) old new r
 ended_behind form packets end header bytes old mid new (Ok count) same unlike ended = (ended.0, ended.1, ended.2, ended.3 ∙ same)
 ended_behind form packets end header bytes old mid new (Err answer.Write) same unlike ended = tt
@@ -79,7 +79,7 @@ ended_behind form packets end header bytes old mid new (Err (answer.Pcap (fault.
 ended_behind form packets end header bytes old mid new (Err (answer.Pcap (fault.TooLong at))) same unlike ended = (ended.0, ended.1, ended.2 ∙ same)
 ended_behind form packets end header bytes old mid new (Err (answer.Pcap fault.Endless)) same unlike ended = (ended.0, ended.1, ended.2 ∙ same)
 
-pub opened_well : (old mid new : Source) (before after : Option (List ℕ)) (held left : List ℕ) (capture : PcapReader) (r : Result ℕ ReplayFault) → Opens old mid (Ok capture) → (r ≡ Err answer.Memory → ⊥)
+pub opened_well : (old mid new : InputState) (before after : Option (List ℕ)) (held left : List ℕ) (capture : PcapReader) (r : Result ℕ ReplayFault) → Opens old mid (Ok capture) → (r ≡ Err answer.Memory → ⊥)
     → PutsPackets (form_of capture) mid new before after held left r → PutsListing old new before after held left r
 opened_well old mid new before after held left capture r opens unlike puts =
     let size = opens.answers.0 in
@@ -107,7 +107,7 @@ put_passed before after held left text (Err (answer.Pcap f)) unlike put = put
 put_passed before after held left text (Err answer.Write) unlike put = absurd (cc)
 put_passed before after held left text (Err answer.Memory) unlike put = put
 
-pub not_flushed : (old new : Source) (before mid after : Option (List ℕ)) (held left : List ℕ) (r : Result ℕ ReplayFault) → held ≡ [] → is_write r ≡ false
+pub not_flushed : (old new : InputState) (before mid after : Option (List ℕ)) (held left : List ℕ) (r : Result ℕ ReplayFault) → held ≡ [] → is_write r ≡ false
     → PutsListing old new before mid held left r → GrowsByBeginning mid after (left ++ []) → Shows old new before after (Err answer.Write)
 not_flushed old new before mid after held left r none unlike puts begun =
     record {
@@ -125,7 +125,7 @@ not_flushed old new before mid after held left r none unlike puts begun =
     }
 
 -- nothing was taken and nothing written
-pub nothing_shown : (s : Source) (before : Option (List ℕ)) → Shows s s before before (Err answer.Memory)
+pub nothing_shown : (s : InputState) (before : Option (List ℕ)) → Shows s s before before (Err answer.Memory)
 nothing_shown s before =
     record {
       bytes = [];

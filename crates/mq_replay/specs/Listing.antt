@@ -7,7 +7,7 @@ use Rattle.mq_pcap.specs.declared.fault.PcapFault.TheVariants as fault
 use Rattle.mq_pcap.specs.declared.form.Form.{Form}
 use Rattle.mq_pcap.specs.declared.link_type.LinkType.{LinkType}
 use Rattle.mq_pcap.specs.Capture.{Captured, Captures}
-use Rattle.mq_pcap.specs.Filling.{Source, Takes}
+use Rattle.mq_pcap.specs.Filling.{InputState, Takes}
 use Rattle.mq_pcap.specs.Frame.{Carried, Igmp, Mld, Other, Cut, Fragment, carried_in}
 use Rattle.mq_pcap.specs.Reading.{IsKnownThere}
 use Rattle.mq_wire.specs.Family as family
@@ -60,12 +60,12 @@ IsListing (Err f) packets text = text ≡ []
 
 -- Why a fault of the bytes that were taken is one of the whole file: they end it, or the fault doesn't depend on
 -- what follows.
-abbrev pub IsOfTheFile : Result Form PcapFault → PcapFault → (bytes : List ℕ) → Source → Type 0
+abbrev pub IsOfTheFile : Result Form PcapFault → PcapFault → (bytes : List ℕ) → InputState → Type 0
 IsOfTheFile (Ok form) f bytes new = IsKnownThere f new
 IsOfTheFile (Err f') f bytes new = (length bytes ≡ 24) ⊎ IsAtEnd new.ahead
 
 -- what the input does, by the answer
-abbrev pub IsEndedBy : Result Form PcapFault → (packets : List Captured) → (end : Option PcapFault) → (bytes : List ℕ) → (old new : Source) → Result ℕ ReplayFault → Type 0
+abbrev pub IsEndedBy : Result Form PcapFault → (packets : List Captured) → (end : Option PcapFault) → (bytes : List ℕ) → (old new : InputState) → Result ℕ ReplayFault → Type 0
 IsEndedBy header packets end bytes old new (Ok count) =
     (end ≡ None) × IsAtEnd new.ahead × (count ≡ length packets) × (new.failed ≡ old.failed)
 IsEndedBy header packets end bytes old new (Err (answer.Pcap fault.Read)) = new.failed ≡ true
@@ -82,7 +82,7 @@ IsWritten old new text r = Appends old new text
 -- A capture was shown. Some bytes were taken from the input, and what was written is the listing of the capture
 -- that they are, taken as a whole file. They are the whole file, or its beginning up to a fault that what follows
 -- doesn't change, unless a read or a write failed.
-pub record Shows (old new : Source) (before after : Option (List ℕ)) (r : Result ℕ ReplayFault) : Type 0 where
+pub record Shows (old new : InputState) (before after : Option (List ℕ)) (r : Result ℕ ReplayFault) : Type 0 where
   pub bytes : List ℕ
   pub header : Result Form PcapFault
   pub packets : List Captured

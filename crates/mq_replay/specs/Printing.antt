@@ -1,6 +1,17 @@
 -- What printing a text on a writer does to the bytes that the writer is known to hold.
-use Rattle.std.specs.Prelude.{◌≡◌, ℕ, ◌<◌, List, ◌++◌, length, Option, Result, Ok, Err}
+use Rattle.std.specs.Prelude.{◌≡◌, ℕ, ◌<◌, Bool, List, ◌++◌, length, Option, Result, Ok, Err}
 use Rattle.std.specs.Io.KnownBytes.{Appends}
+use Rattle.mq_count.specs.declared.streams.Watched.{Watched}
+use Rattle.mq_count.specs.Streams.{inner_of, has_failed}
+
+-- a stream that is written on: the bytes that it holds, where they are known, and whether a call has failed
+pub record OutputState : Type 0 where
+  pub held : Option (List ℕ)
+  pub failed : Bool
+
+-- that of a watched writer, where the bytes of the stream in it are known by ‘contents’
+abbrev pub output_of : {W : Type 0} → (contents : W → Option (List ℕ)) → Watched W → OutputState
+output_of contents writer = record { held = contents (inner_of writer); failed = has_failed writer }
 
 -- old has grown by a beginning of the text, and not by all of it
 pub record GrowsByBeginning (old new : Option (List ℕ)) (text : List ℕ) : Type 0 where

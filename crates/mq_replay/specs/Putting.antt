@@ -3,7 +3,7 @@ use Rattle.std.specs.Prelude.{ℕ, List, ◌++◌, Option, None, Result, Ok, Err
 use Rattle.mq_pcap.specs.declared.fault.PcapFault.{PcapFault}
 use Rattle.mq_pcap.specs.declared.form.Form.{Form}
 use Rattle.mq_pcap.specs.Capture.{Captured, Captures, AreRecords}
-use Rattle.mq_pcap.specs.Filling.{Source, Takes}
+use Rattle.mq_pcap.specs.Filling.{InputState, Takes}
 use Rattle.mq_pcap.specs.Frame.{Carried}
 use Rattle.mq_replay.specs.declared.replay_fault.ReplayFault.{ReplayFault}
 use Rattle.mq_replay.specs.declared.replay_fault.ReplayFault.TheVariants as answer
@@ -28,7 +28,7 @@ IsPut old new held left text (Err answer.Write) = GrowsByBeginning old new (held
 IsPut old new held left text r = Passes old new held left text
 
 -- the lines of the packets behind a file's header were put
-pub record PutsPackets (form : Form) (old new : Source) (before after : Option (List ℕ)) (held left : List ℕ) (r : Result ℕ ReplayFault) : Type 0 where
+pub record PutsPackets (form : Form) (old new : InputState) (before after : Option (List ℕ)) (held left : List ℕ) (r : Result ℕ ReplayFault) : Type 0 where
   pub bytes : List ℕ
   pub packets : List Captured
   pub end : Option PcapFault
@@ -40,7 +40,7 @@ pub record PutsPackets (form : Form) (old new : Source) (before after : Option (
   pub put : IsPut before after held left text r
 
 -- the lines of a capture were put
-pub record PutsListing (old new : Source) (before after : Option (List ℕ)) (held left : List ℕ) (r : Result ℕ ReplayFault) : Type 0 where
+pub record PutsListing (old new : InputState) (before after : Option (List ℕ)) (held left : List ℕ) (r : Result ℕ ReplayFault) : Type 0 where
   pub bytes : List ℕ
   pub header : Result Form PcapFault
   pub packets : List Captured

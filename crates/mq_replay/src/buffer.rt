@@ -23,7 +23,9 @@ pub(crate) fn make_room<W: Write>(
     buffer: &mut Buffer,
     writer: &mut Watched<W>,
 ) -> Result<(), LineFault>
-    ensures text { Puts (W.contents (inner_of writer.old)) (W.contents (inner_of writer.new)) buffer.old.items buffer.new.items [] result }
+    ensures text { Puts
+        (W.contents (inner_of writer.old)) (W.contents (inner_of writer.new))
+        buffer.old.items buffer.new.items [] result }
     ensures room { IfOk result (λ _. array_vec_len buffer.new + 256 ≤ 4096) }
     ensures failed { has_failed writer.new ≡ has_failed writer.old || is_err result }
 {
@@ -35,7 +37,9 @@ pub(crate) fn make_room<W: Write>(
 
 /// Writes what the buffer holds.
 pub(crate) fn flush<W: Write>(buffer: &mut Buffer, writer: &mut Watched<W>) -> Result<(), LineFault>
-    ensures text { Puts (W.contents (inner_of writer.old)) (W.contents (inner_of writer.new)) buffer.old.items buffer.new.items [] result }
+    ensures text { Puts
+        (W.contents (inner_of writer.old)) (W.contents (inner_of writer.new))
+        buffer.old.items buffer.new.items [] result }
     ensures empty { IfOk result (λ _. buffer.new.items ≡ []) }
     ensures failed { has_failed writer.new ≡ has_failed writer.old || is_err result }
 {

@@ -1,4 +1,4 @@
-//! What is printed of messages: their lines, and those of their faults.
+//! What is printed of messages and captures: lines of messages and of their faults, and listings.
 //!
 //! ```text
 //! let mut output = Watched::new(writer);
@@ -7,6 +7,7 @@
 //! ```
 //!
 //! - Lines: `igmp_line`, `mld_line`.
+//! - The listing of a capture: `show`, and `ReplayFault`, which says why it ended early.
 //! - Printing on a watched writer: `print`, and `LineFault`, which says that a write failed.
 #![tactic(auto)]
 
@@ -14,10 +15,10 @@ mod buffer;
 mod line_key;
 mod lines;
 mod listing;
-mod moments;
 mod pieces;
 mod printing;
 mod replay_fault;
+mod stamps;
 
 pub use lines::{igmp_line, mld_line};
 pub use listing::show;

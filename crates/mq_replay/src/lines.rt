@@ -27,7 +27,9 @@ use std::io::Write;
 /// or their fault, and answers false. After a fault of the writer a beginning of the line was
 /// written. The line goes to the writer in pieces, and takes no memory.
 pub fn igmp_line<W: Write>(body: &[u8], writer: &mut Watched<W>) -> Result<bool, LineFault>
-    ensures line { PrintsLine (W.contents (inner_of writer.old)) (W.contents (inner_of writer.new)) Igmp [] body.now result }
+    ensures line { PrintsLine
+        (W.contents (inner_of writer.old)) (W.contents (inner_of writer.new))
+        Igmp [] body.now result }
     ensures failed { has_failed writer.new ≡ has_failed writer.old || is_err result }
 {
     let mut buffer = Buffer::new();
@@ -44,7 +46,9 @@ pub fn mld_line<W: Write>(
     body: &[u8],
     writer: &mut Watched<W>,
 ) -> Result<bool, LineFault>
-    ensures line { PrintsLine (W.contents (inner_of writer.old)) (W.contents (inner_of writer.new)) Mld (pseudo_header source destination (length body.now)) body.now result }
+    ensures line { PrintsLine
+        (W.contents (inner_of writer.old)) (W.contents (inner_of writer.new))
+        Mld (pseudo_header source destination (length body.now)) body.now result }
     ensures failed { has_failed writer.new ≡ has_failed writer.old || is_err result }
 {
     let mut buffer = Buffer::new();
@@ -59,7 +63,9 @@ pub(crate) fn put_igmp<W: Write>(
     buffer: &mut Buffer,
     writer: &mut Watched<W>,
 ) -> Result<bool, LineFault>
-    ensures line { PutsLine (W.contents (inner_of writer.old)) (W.contents (inner_of writer.new)) buffer.old.items buffer.new.items Igmp [] body.now result }
+    ensures line { PutsLine
+        (W.contents (inner_of writer.old)) (W.contents (inner_of writer.new))
+        buffer.old.items buffer.new.items Igmp [] body.now result }
     ensures failed { has_failed writer.new ≡ has_failed writer.old || is_err result }
 {
     put_answer(read_igmp(body), buffer, writer)
@@ -73,7 +79,9 @@ pub(crate) fn put_mld<W: Write>(
     buffer: &mut Buffer,
     writer: &mut Watched<W>,
 ) -> Result<bool, LineFault>
-    ensures line { PutsLine (W.contents (inner_of writer.old)) (W.contents (inner_of writer.new)) buffer.old.items buffer.new.items Mld (pseudo_header source destination (length body.now)) body.now result }
+    ensures line { PutsLine
+        (W.contents (inner_of writer.old)) (W.contents (inner_of writer.new))
+        buffer.old.items buffer.new.items Mld (pseudo_header source destination (length body.now)) body.now result }
     ensures failed { has_failed writer.new ≡ has_failed writer.old || is_err result }
 {
     put_answer(read_mld(source, destination, body), buffer, writer)
@@ -85,7 +93,9 @@ fn put_answer<K: LineKey, W: Write>(
     buffer: &mut Buffer,
     writer: &mut Watched<W>,
 ) -> Result<bool, LineFault>
-    ensures line { AnswersBy (W.contents (inner_of writer.old)) (W.contents (inner_of writer.new)) buffer.old.items buffer.new.items (is_ok answer.entry) (line_of (answer_text K.family (numbered_answer K.number answer.entry))) result }
+    ensures line { AnswersBy
+        (W.contents (inner_of writer.old)) (W.contents (inner_of writer.new))
+        buffer.old.items buffer.new.items (is_ok answer.entry) (line_of (answer_text K.family (numbered_answer K.number answer.entry))) result }
     ensures failed { has_failed writer.new ≡ has_failed writer.old || is_err result }
 {
     match answer {
@@ -105,7 +115,9 @@ fn put_answer<K: LineKey, W: Write>(
 
 /// Puts the end of a line.
 fn put_end<W: Write>(buffer: &mut Buffer, writer: &mut Watched<W>) -> Result<(), LineFault>
-    ensures text { Puts (W.contents (inner_of writer.old)) (W.contents (inner_of writer.new)) buffer.old.items buffer.new.items (codes "\n") result }
+    ensures text { Puts
+        (W.contents (inner_of writer.old)) (W.contents (inner_of writer.new))
+        buffer.old.items buffer.new.items (codes "\n") result }
     ensures failed { has_failed writer.new ≡ has_failed writer.old || is_err result }
 {
     make_room(buffer, writer)?;
@@ -119,7 +131,9 @@ fn put_message<K: LineKey, W: Write>(
     buffer: &mut Buffer,
     writer: &mut Watched<W>,
 ) -> Result<(), LineFault>
-    ensures text { Puts (W.contents (inner_of writer.old)) (W.contents (inner_of writer.new)) buffer.old.items buffer.new.items (message_text K.family (numbered_message K.number message.entry)) result }
+    ensures text { Puts
+        (W.contents (inner_of writer.old)) (W.contents (inner_of writer.new))
+        buffer.old.items buffer.new.items (message_text K.family (numbered_message K.number message.entry)) result }
     ensures failed { has_failed writer.new ≡ has_failed writer.old || is_err result }
 {
     make_room(buffer, writer)?;
@@ -149,7 +163,9 @@ fn put_query_sources<K: LineKey, W: Write>(
     buffer: &mut Buffer,
     writer: &mut Watched<W>,
 ) -> Result<(), LineFault>
-    ensures text { Puts (W.contents (inner_of writer.old)) (W.contents (inner_of writer.new)) buffer.old.items buffer.new.items (sources_text K.family (query_sources (numbered_version version.entry))) result }
+    ensures text { Puts
+        (W.contents (inner_of writer.old)) (W.contents (inner_of writer.new))
+        buffer.old.items buffer.new.items (sources_text K.family (query_sources (numbered_version version.entry))) result }
     ensures failed { has_failed writer.new ≡ has_failed writer.old || is_err result }
 {
     match version {
@@ -164,7 +180,9 @@ fn put_records<K: LineKey, W: Write>(
     buffer: &mut Buffer,
     writer: &mut Watched<W>,
 ) -> Result<(), LineFault>
-    ensures text { Puts (W.contents (inner_of writer.old)) (W.contents (inner_of writer.new)) buffer.old.items buffer.new.items (records_text K.family records.entry) result }
+    ensures text { Puts
+        (W.contents (inner_of writer.old)) (W.contents (inner_of writer.new))
+        buffer.old.items buffer.new.items (records_text K.family records.entry) result }
     ensures failed { has_failed writer.new ≡ has_failed writer.old || is_err result }
 {
     for view in records {
@@ -179,7 +197,9 @@ fn put_record<K: LineKey, W: Write>(
     buffer: &mut Buffer,
     writer: &mut Watched<W>,
 ) -> Result<(), LineFault>
-    ensures text { Puts (W.contents (inner_of writer.old)) (W.contents (inner_of writer.new)) buffer.old.items buffer.new.items (record_text K.family (numbered_record K.number view.entry)) result }
+    ensures text { Puts
+        (W.contents (inner_of writer.old)) (W.contents (inner_of writer.new))
+        buffer.old.items buffer.new.items (record_text K.family (numbered_record K.number view.entry)) result }
     ensures failed { has_failed writer.new ≡ has_failed writer.old || is_err result }
 {
     make_room(buffer, writer)?;
@@ -196,7 +216,9 @@ fn put_sources<K: LineKey, W: Write>(
     buffer: &mut Buffer,
     writer: &mut Watched<W>,
 ) -> Result<(), LineFault>
-    ensures text { Puts (W.contents (inner_of writer.old)) (W.contents (inner_of writer.new)) buffer.old.items buffer.new.items (sources_text K.family sources.entry) result }
+    ensures text { Puts
+        (W.contents (inner_of writer.old)) (W.contents (inner_of writer.new))
+        buffer.old.items buffer.new.items (sources_text K.family sources.entry) result }
     ensures failed { has_failed writer.new ≡ has_failed writer.old || is_err result }
 {
     for source in sources {

@@ -2,8 +2,9 @@
 
 ghost use Rattle.std.specs.Prelude.{◌≡◌, ◌≤◌, ◌+◌, ◌++◌, ◌||◌, is_err, length};
 ghost use Rattle.arrayvec.specs.ArrayVec.{array_vec_len};
-ghost use Rattle.mq_count.specs.Streams.{inner_of, has_failed, taken_from};
-ghost use Rattle.mq_pcap.specs.Filling.{Source};
+ghost use Rattle.mq_count.specs.Streams.{inner_of, has_failed};
+ghost use Rattle.mq_pcap.specs.Capture.{most_bytes};
+ghost use Rattle.mq_pcap.specs.Filling.{input_of};
 ghost use Rattle.mq_pcap.specs.Frame.{carried_in, carried_of};
 ghost use Rattle.mq_pcap.specs.Reading.{form_of, number_of, progress_of};
 ghost use Rattle.mq_pcap.specs.declared.reader_state.Progress.TheVariants.{Reading};
@@ -14,17 +15,14 @@ ghost use Rattle.mq_replay.specs.Text.{address_text};
 use crate::buffer::{Buffer, flush, make_room, put, put_decimal};
 use crate::line_key::LineKey;
 use crate::lines::{put_igmp, put_mld};
-use crate::moments::Moments;
 use crate::pieces::put_address;
 use crate::printing::LineFault;
 use crate::replay_fault::ReplayFault;
+use crate::stamps::Stamps;
 use mq_count::Watched;
-use mq_pcap::{Inner, LinkType, PcapReader, unwrap_frame};
+use mq_pcap::{GREATEST_PACKET, Inner, LinkType, PcapReader, unwrap_frame};
 use std::alloc::Global;
 use std::io::{Read, Write};
-
-/// The most bytes of a packet.
-const PACKET: usize = 262_144;
 
 /// Writes a line for each packet of a capture, and answers how many they are. Memory for one packet is taken
 /// before anything is read or written. Where the capture has a fault, the lines of all packets before it are
@@ -34,13 +32,14 @@ pub fn show<R: Read, W: Write>(
     reader: &mut Watched<R>,
     writer: &mut Watched<W>,
 ) -> Result<u64, ReplayFault>
-    ensures shows { let old : Source = record { ahead = R.remaining (inner_of reader.old); taken = taken_from reader.old; failed = has_failed reader.old } in
-        let new : Source = record { ahead = R.remaining (inner_of reader.new); taken = taken_from reader.new; failed = has_failed reader.new } in
-        Shows old new (W.contents (inner_of writer.old)) (W.contents (inner_of writer.new)) result }
+    ensures shows { Shows
+        (input_of R.remaining reader.old) (input_of R.remaining reader.new)
+        (W.contents (inner_of writer.old)) (W.contents (inner_of writer.new))
+        result }
     ensures failed { has_failed writer.new ≡ has_failed writer.old || is_write result }
     ensures memory { result ≡ Err ReplayFault.Memory → (reader.new ≡ reader.old) × (writer.new ≡ writer.old) }
 {
-    let mut packet = match vec![in alloc; 0; PACKET] {
+    let mut packet = match vec![in alloc; 0; GREATEST_PACKET] {
         Ok(packet) => packet,
         Err(_) => return Err(ReplayFault::Memory),
     };
@@ -53,10 +52,11 @@ fn show_by<R: Read, W: Write>(
     reader: &mut Watched<R>,
     writer: &mut Watched<W>,
 ) -> Result<u64, ReplayFault>
-    requires { 262144 ≤ length packet.old }
-    ensures shows { let old : Source = record { ahead = R.remaining (inner_of reader.old); taken = taken_from reader.old; failed = has_failed reader.old } in
-        let new : Source = record { ahead = R.remaining (inner_of reader.new); taken = taken_from reader.new; failed = has_failed reader.new } in
-        Shows old new (W.contents (inner_of writer.old)) (W.contents (inner_of writer.new)) result }
+    requires { most_bytes ≤ length packet.old }
+    ensures shows { Shows
+        (input_of R.remaining reader.old) (input_of R.remaining reader.new)
+        (W.contents (inner_of writer.old)) (W.contents (inner_of writer.new))
+        result }
     ensures failed { has_failed writer.new ≡ has_failed writer.old || is_write result }
     ensures no_memory { result ≡ Err ReplayFault.Memory → ⊥ }
 {
@@ -83,10 +83,11 @@ fn put_listing<R: Read, W: Write>(
     reader: &mut Watched<R>,
     writer: &mut Watched<W>,
 ) -> Result<u64, ReplayFault>
-    requires { 262144 ≤ length packet.old }
-    ensures puts { let old : Source = record { ahead = R.remaining (inner_of reader.old); taken = taken_from reader.old; failed = has_failed reader.old } in
-        let new : Source = record { ahead = R.remaining (inner_of reader.new); taken = taken_from reader.new; failed = has_failed reader.new } in
-        PutsListing old new (W.contents (inner_of writer.old)) (W.contents (inner_of writer.new)) buffer.old.items buffer.new.items result }
+    requires { most_bytes ≤ length packet.old }
+    ensures puts { PutsListing
+        (input_of R.remaining reader.old) (input_of R.remaining reader.new)
+        (W.contents (inner_of writer.old)) (W.contents (inner_of writer.new))
+        buffer.old.items buffer.new.items result }
     ensures failed { has_failed writer.new ≡ has_failed writer.old || is_write result }
     ensures no_memory { result ≡ Err ReplayFault.Memory → ⊥ }
 {
@@ -102,20 +103,21 @@ fn put_packets<R: Read, W: Write>(
     reader: &mut Watched<R>,
     writer: &mut Watched<W>,
 ) -> Result<u64, ReplayFault>
-    requires room { 262144 ≤ length packet.old }
+    requires room { most_bytes ≤ length packet.old }
     requires first { number_of capture.old ≡ 1 }
     requires reading { progress_of capture.old ≡ Reading }
-    ensures puts { let old : Source = record { ahead = R.remaining (inner_of reader.old); taken = taken_from reader.old; failed = has_failed reader.old } in
-        let new : Source = record { ahead = R.remaining (inner_of reader.new); taken = taken_from reader.new; failed = has_failed reader.new } in
-        PutsPackets (form_of capture.old) old new (W.contents (inner_of writer.old)) (W.contents (inner_of writer.new)) buffer.old.items buffer.new.items result }
+    ensures puts { PutsPackets (form_of capture.old)
+        (input_of R.remaining reader.old) (input_of R.remaining reader.new)
+        (W.contents (inner_of writer.old)) (W.contents (inner_of writer.new))
+        buffer.old.items buffer.new.items result }
     ensures failed { has_failed writer.new ≡ has_failed writer.old || is_write result }
     ensures no_memory { result ≡ Err ReplayFault.Memory → ⊥ }
 {
     let mut number = 0;
-    let mut moments = Moments::new();
+    let mut stamps = Stamps::new();
     while let Some(read) = capture.next(reader, packet)? {
         number += 1;
-        let moment = moments.next(read.stamp_ms);
+        let moment = stamps.moment_of_next(read.stamp_ms);
         let frame = &packet[..read.length];
         put_packet(number, moment, capture.link(), frame, buffer, writer)?;
     }
@@ -131,7 +133,9 @@ fn put_packet<W: Write>(
     buffer: &mut Buffer,
     writer: &mut Watched<W>,
 ) -> Result<(), LineFault>
-    ensures line { PutsPacket (W.contents (inner_of writer.old)) (W.contents (inner_of writer.new)) buffer.old.items buffer.new.items number moment (carried_in link frame.now) result }
+    ensures line { PutsPacket
+        (W.contents (inner_of writer.old)) (W.contents (inner_of writer.new))
+        buffer.old.items buffer.new.items number moment (carried_in link frame.now) result }
     ensures failed { has_failed writer.new ≡ has_failed writer.old || is_err result }
 {
     make_room(buffer, writer)?;
@@ -158,7 +162,9 @@ fn put_said<W: Write>(
     writer: &mut Watched<W>,
 ) -> Result<(), LineFault>
     requires { array_vec_len buffer.old + 100 ≤ 4096 }
-    ensures line { PutsSaid (W.contents (inner_of writer.old)) (W.contents (inner_of writer.new)) buffer.old.items buffer.new.items (carried_of inner.entry) result }
+    ensures line { PutsSaid
+        (W.contents (inner_of writer.old)) (W.contents (inner_of writer.new))
+        buffer.old.items buffer.new.items (carried_of inner.entry) result }
     ensures failed { has_failed writer.new ≡ has_failed writer.old || is_err result }
 {
     match inner {

@@ -1,4 +1,4 @@
-//! The pieces of the lines of messages and faults. Each fits the room of one.
+//! The pieces of the lines of messages and faults.
 
 ghost use Rattle.std.specs.Prelude.{◌≡◌, ◌≤◌, ◌+◌, ◌++◌, codes, length};
 ghost use Rattle.std.specs.Fmt.{decimal};

@@ -19,7 +19,9 @@ pub enum LineFault {
 /// Writes all of a text, in as many writes as it takes. A fault comes only from a write that failed
 /// or took nothing, and no write follows it. It takes no memory.
 pub fn print<W: Write>(text: &[u8], writer: &mut Watched<W>) -> Result<(), LineFault>
-    ensures text { Prints (W.contents (inner_of writer.old)) (W.contents (inner_of writer.new)) text.now result }
+    ensures text { Prints
+        (W.contents (inner_of writer.old)) (W.contents (inner_of writer.new))
+        text.now result }
     ensures failed { has_failed writer.new ≡ has_failed writer.old || is_err result }
 {
     let mut rest = text;

@@ -16,12 +16,12 @@ use Rattle.mq_table.specs.declared.timers.SourceTimer.{SourceTimer}
 use Rattle.mq_table.specs.declared.timers.SourceTimer.TheVariants.{Stopped, Running}
 use Rattle.mq_table.specs.Group.{GroupState, is_include, is_vacant, vacant, timer_at, deadline_of, sendings_of, is_ahead}
 use Rattle.mq_table.specs.Timing.{last_member_count}
-use Rattle.mq_table.specs.Table.{NamedSources, line_met, change_of}
+use Rattle.mq_table.specs.Table.{NamedSources, table_row_met, change_of}
 use Rattle.mq_table.specs.Expiry.{ahead, mode_expired, at_zero, source_expired, expired}
 use Rattle.mq_table.specs.Lowering.{lowered_to, mode_lowered}
 use Rattle.mq_table.proofs.Maps.{get-kept}
 use Rattle.mq_table.proofs.Groups.{same_sources}
-use Rattle.mq_table.proofs.Lines.{timer_at-change_of}
+use Rattle.mq_table.proofs.TableRows.{timer_at-change_of}
 use Rattle.mq_table.specs.Sendings.{some_source, has_sendings, source_cleared, above, source_asked, sendings_counted}
 use Rattle.mq_sched.specs.Schedule.{QuerySchedule, ScheduleState, ScheduledGroup, IsScheduleOf, settled, cleared}
 use Rattle.mq_sched.specs.Sending.{group_asked, sources_asked, acted, is_due, group_counted, sources_due_next, after_round}
@@ -58,7 +58,7 @@ fits_settled old new schedule fits no_gain = record {
     by_sendings true e = fits.sources_sendings ∙ sendings_before old new no_gain e
     by_sendings false e = refl
 
--- no line of the tables gives a source more sendings than it had
+-- no row of the tables gives a source more sendings than it had
 by_rule_no_gain : (x y : Bool) (d n : ℕ) → ltb 0 (sendings_of (cond x (Some (Running d n)) (cond y (Some Stopped) None))) ≡ true → ltb 0 n ≡ true
 by_rule_no_gain true y d n e = e
 by_rule_no_gain false true d n e = absurd (false≢true e)
@@ -66,7 +66,7 @@ by_rule_no_gain false false d n e = absurd (false≢true e)
 
 record_no_gain : (timing : Timing) (now : ℕ) (g : GroupState) (kind : Kind) (named : NamedSources) (s : ℕ) → has_sendings (change_of timing now g kind named).group s ≡ true → has_sendings g s ≡ true
 record_no_gain timing now g kind named s e =
-    let l = line_met timing now g kind named in
+    let l = table_row_met timing now g kind named in
     by_rule_no_gain (l.x s) (l.y s) _ (sendings_of (timer_at g s)) (ap (λ t. ltb 0 (sendings_of t)) (sym (timer_at-change_of timing now g kind named s)) ∙ e)
 
 pub fits_after_record : (timing : Timing) (now : ℕ) (g : GroupState) (schedule : ScheduleState) (kind : Kind) (named : NamedSources) → IsScheduleOf g schedule → (let new = (change_of timing now g kind named).group in IsScheduleOf new (settled new schedule))

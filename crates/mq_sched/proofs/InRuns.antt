@@ -1,11 +1,7 @@
 -- Lists in runs: what they are together, and how long each is.
-use Rattle.std.proofs.Common.{◌≡◌, ℕ, zero, suc, ◌+◌, ◌<◌, ◌≤◌, List, [], ◌∷◌, Bool, ◌++◌, length, take, drop, refl, ap, ◌∙◌, arith, length-drop}
-use Rattle.std.proofs.lemmas.List.{take-append-drop, take_at, drop_at, length-append, length-take, length-take-le, get_or-take, get_or-drop}
-use Rattle.std.specs.Prelude.{map as list_map}
+use Rattle.std.proofs.Common.{◌≡◌, ℕ, zero, suc, ◌<◌, ◌≤◌, List, [], ◌∷◌, ◌++◌, length, take, drop, refl, ap, ◌∙◌, arith, length-drop}
+use Rattle.std.proofs.lemmas.List.{take-append-drop, take_at, drop_at, length-append, length-take-le}
 use Rattle.std.specs.List.{concat}
-use Rattle.std.specs.List.Sorted.{IsStrictlyIncreasing}
-use Rattle.mq_sched.specs.Laws.{AllFit}
-use Rattle.mq_sched.specs.Sending.{SourcesQuery, sources_queries}
 use Rattle.mq_sched.specs.Runs.{runs_within, runs_of, AllButLast}
 
 shorter : (n most : ℕ) (x : ℕ) (xs : List ℕ) → 0 < n → length (x ∷ xs) ≤ suc most → length (drop n (x ∷ xs)) ≤ most
@@ -39,15 +35,6 @@ full_within (suc most) n (x ∷ xs) =
 pub full : (n : ℕ) (xs : List ℕ) → AllButLast (λ run. length run ≡ n) (runs_of n xs)
 full n xs = full_within (length xs) n xs
 
-fits_within : (most n group : ℕ) (flag : Bool) (xs : List ℕ) → AllFit n (list_map (SourcesQuery group flag) (runs_within most n xs))
-fits_within most n group flag [] = tt
-fits_within zero n group flag (x ∷ xs) = tt
-fits_within (suc most) n group flag (x ∷ xs) = (omega (arith, length-take n (x ∷ xs)), fits_within most n group flag (drop n (x ∷ xs)))
-
--- no run is longer than one message holds
-pub fits : (n group : ℕ) (flag : Bool) (xs : List ℕ) → AllFit n (sources_queries n group flag xs)
-fits n group flag xs = fits_within (length xs) n group flag xs
-
 -- more runs are allowed than there are
 same_within : (most more n : ℕ) (xs : List ℕ) → 0 < n → length xs ≤ most → length xs ≤ more → runs_within most n xs ≡ runs_within more n xs
 same_within most more n [] positive enough also = refl
@@ -64,17 +51,3 @@ first_run n (x ∷ xs) rest positive long =
     let behind : drop n ((x ∷ xs) ++ rest) ≡ rest = drop_at (x ∷ xs) rest n long in
     (λ i. front i ∷ runs_within (length (xs ++ rest)) n (behind i))
     ∙ ap (λ runs. (x ∷ xs) ∷ runs) (same_within (length (xs ++ rest)) (length rest) n rest positive (omega (arith, length-append xs rest)) (omega arith))
-
--- a part of an ascending list ascends
-pub increasing-take : (n : ℕ) (xs : List ℕ) → IsStrictlyIncreasing xs → IsStrictlyIncreasing (take n xs)
-increasing-take n xs up k within =
-    let in_run : k + 1 < n = omega (arith, within, length-take n xs) in
-    let in_list : k + 1 < length xs = omega (arith, within, length-take n xs) in
-    let first : k < n = omega arith in
-    rw (get_or-take n xs k 0 first, get_or-take n xs (k + 1) 0 in_run) (up k in_list)
-
-pub increasing-drop : (n : ℕ) (xs : List ℕ) → IsStrictlyIncreasing xs → IsStrictlyIncreasing (drop n xs)
-increasing-drop n xs up k within =
-    let in_list : n + k + 1 < length xs = omega (arith, within, length-drop n xs) in
-    let next : n + (k + 1) ≡ n + k + 1 = omega arith in
-    rw (get_or-drop n xs k 0, get_or-drop n xs (k + 1) 0, next) (up (n + k) in_list)

@@ -4,12 +4,10 @@ pub mod InRuns
 pub mod Rounds
 pub mod Asked
 pub mod Fits
-pub mod Explicit
-pub mod Ascending
 pub mod Due
 pub mod Electing
 pub mod StayHeld
 pub mod Without
-pub mod RunsOfRounds
 pub mod Collecting
 pub mod Room
+pub mod FittingRounds

@@ -1,10 +1,11 @@
 -- Places, each of which stands once in an order: counts, and places that move.
-use Rattle.std.proofs.Common.{ℕ, ◌+◌, ◌-◌, ◌<◌, ◌≤◌, ◌≡◌, ◌==◌, Bool, true, false, cond, arith, refl, List, [], ◌∷◌, length, get_or, map, ap, ⊎_elim}
+use Rattle.std.proofs.Common.{ℕ, ◌+◌, ◌-◌, ◌<◌, ◌≤◌, ◌≡◌, ◌==◌, Bool, true, false, cond, arith, refl, List, [], ◌∷◌, ◌++◌, length, get_or, set, map, take, drop, sym, ap, ⊎_elim}
 use Rattle.std.specs.List.{All, count_by}
 use Rattle.std.specs.List.Sorted.{IsNonDecreasingBy}
 use Rattle.std.proofs.lemmas.Bool.{cases_lt, eq-eqb, lt-ltb, le-ltb}
 use Rattle.std.proofs.lemmas.Bool.Decides.{eqb_tells}
-use Rattle.std.proofs.lemmas.List.{get_or_default, get_or-map, length-map}
+use Rattle.std.proofs.lemmas.List.{get_or_default, get_or-map, get_or-set_other, length-map}
+use Rattle.std.proofs.lemmas.List.Edits.{map_over_more}
 use Rattle.std.proofs.lemmas.List.Elements.{All-head, All-tail}
 use Rattle.std.proofs.lemmas.List.Folds.{fold-map}
 use Rattle.std.proofs.lemmas.List.Sums.{sum_by-le, sum_by-cons, get_or-le-sum_by}
@@ -14,6 +15,18 @@ use Rattle.mq_sched.specs.Deadlines.{moved_up, moved_down}
 -- an item of a list does not depend on what stands for one that is not there
 pub get_or_any : (order : List ℕ) (k d : ℕ) → k < length order → get_or order k d ≡ get_or order k 0
 get_or_any order k d in_list = get_or_default order k d 0 in_list
+
+-- the places of an order have moved up to some index; those from there on are as they were
+pub record MovedUpTo (h : ℕ → ℕ) (initial order : List ℕ) (k : ℕ) : Type 0 where
+  pub moved : order ≡ map h (take k initial) ++ drop k initial
+  pub rest : (j : ℕ) → k ≤ j → get_or order j 0 ≡ get_or initial j 0
+
+-- one more moves
+pub moves_one_more : (h : ℕ → ℕ) (initial order : List ℕ) (k n : ℕ) → k < length initial → k < length order → n ≡ h (get_or order k 0) → MovedUpTo h initial order k → MovedUpTo h initial (set order k n) (k + 1)
+moves_one_more h initial order k n within in_list is so_far = record {
+  moved = rw is (map_over_more h initial order k (get_or order k 0) within so_far.moved (sym (get_or_any order k (get_or order k 0) in_list)));
+  rest = λ j behind. rw (get_or-set_other order k j n 0 (λ same. absurd (omega (arith, same)))) (so_far.rest j (omega arith));
+}
 
 module _ (p : ℕ → Bool) where
   -- an item that passes counts, and where none does nothing counts

@@ -20,7 +20,7 @@ use Rattle.mq_sched.specs.Schedule.{QuerySchedule, query_sendings, ScheduledGrou
 use Rattle.mq_sched.specs.Sending.{SentQuery, GeneralQuery, GroupQuery, SourcesQuery, is_due, group_due, sources_where, sources_queries, group_messages, source_messages, messages_due, group_counted, sources_due_next, after_round}
 use Rattle.mq_sched.specs.Runs.{runs_of}
 use Rattle.mq_sched.proofs.InRuns.{together}
-use Rattle.mq_sched.specs.Laws.{asked_in, asks_group, IsQuietAt}
+use Rattle.mq_sched.specs.Rounds.{asked_in, asks_group, IsQuietAt}
 
 or-false : (b : Bool) → (b || false) ≡ b
 or-false true = refl

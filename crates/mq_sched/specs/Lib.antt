@@ -8,5 +8,5 @@ pub mod Collected
 pub mod Announcement
 pub mod Election
 pub mod StoredElection
-pub mod Laws
+pub mod Rounds
 pub mod Examples

@@ -21,7 +21,7 @@ pub data SentQuery : Type 0 where
   SourcesQuery : (group : ℕ) (s : Bool) (sources : List ℕ) → SentQuery
 
 -- Send Q(G): the group timer is lowered, and as many queries as the last member query count are to
--- go, the first now. INCLUDE has no group timer, and no line of the tables asks for its group.
+-- go, the first now. INCLUDE has no group timer, and no row of the tables asks for its group.
 abbrev pub group_asked : Timing → ℕ → ScheduledGroup → ScheduledGroup
 group_asked timing now e = record {
   group = group_lowered timing now e.group;
@@ -48,7 +48,7 @@ sources_asked timing now asked e =
       };
     }
 
--- the queries of a line of the tables are sent by the querier alone (RFC 3376 sections 6.4.2 and 6.6.3.2,
+-- the queries of a row of the tables are sent by the querier alone (RFC 3376 sections 6.4.2 and 6.6.3.2,
 -- RFC 3810 sections 7.1 and 7.4.2)
 abbrev pub acted : (is_querier : Bool) → Timing → ℕ → (query_group : Bool) → (query : Set)
     → ScheduledGroup → ScheduledGroup

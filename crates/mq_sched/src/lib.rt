@@ -9,8 +9,6 @@ pub mod announced;
 mod deadline_order;
 pub mod deadlines;
 pub mod election;
-pub mod examples;
-pub mod laws;
 pub mod queries;
 pub mod roles;
 mod runs;

@@ -7,32 +7,33 @@ ghost use Rattle.mq_sched.specs.Sending.{SourcesQuery, sources_queries};
 ghost use Rattle.mq_sched.specs.Sink.{Sends, SendsOn};
 ghost use Rattle.mq_sched.specs.Collected.{goes_with, going_with};
 
+use crate::schedules::source_has_sendings;
 use crate::sinks::{QueryParts, Sink};
 use arrayvec::ArrayVec;
 use mq_count::{Key, Meter, Moment};
-use mq_table::{Source, SourceTimer};
+use mq_table::{Source, runs_on};
 
 /// The most sources that a message may hold: those of an IGMP query on an MTU of 1500.
 const MOST_PER_QUERY: usize = 366;
 
 /// Sources that are collected for one message, fewer than it holds.
 #[derive(Drop)]
-struct Run<K: Key> {
+struct Collected<K: Key> {
     group: K,
     s: bool,
     per_query: usize,
     sources: ArrayVec<K, MOST_PER_QUERY>,
 }
 
-impl<K: Key> Run<K> {
+impl<K: Key> Collected<K> {
     /// Nothing is collected.
-    fn new(group: K, s: bool, per_query: usize) -> Run<K>
+    fn new(group: K, s: bool, per_query: usize) -> Collected<K>
         ensures group { result.group ≡ group }
         ensures flag { result.s ≡ s }
         ensures per_query { result.per_query ≡ per_query }
         ensures empty { result.sources.items ≡ [] }
     {
-        Run {
+        Collected {
             group,
             s,
             per_query,
@@ -90,12 +91,7 @@ fn goes<K: Key>(source: &Source<K>, s: bool, limit: Moment, m: &mut Meter) -> bo
     ensures answer { result ≡ goes_with limit s source.now }
     ensures spent { Spends 0 1 m.old m.new }
 {
-    match &source.timer {
-        SourceTimer::Running(deadline, sendings) if 0 < *sendings => {
-            m.reached(*deadline, limit) != s
-        }
-        _ => false,
-    }
+    source_has_sendings(source) && runs_on(source.timer.deadline(), limit, m) == s
 }
 
 /// Sends the queries for those of a group's sources that go with an S flag. At most one comparison
@@ -116,11 +112,11 @@ pub(crate) fn send_sources<K: Key, S: Sink<K>>(
     ensures spent { Spends 0 (length row.now) m.old m.new }
 {
     K::is_small();
-    let mut run = Run::new(group, s, per_query);
+    let mut collected = Collected::new(group, s, per_query);
     for source in row {
         if goes(source, s, limit, m) {
-            run.push(source.address, sink);
+            collected.push(source.address, sink);
         }
     }
-    run.finish(sink);
+    collected.finish(sink);
 }

@@ -1,6 +1,6 @@
 //! What is still to go for one group.
 
-ghost use Rattle.std.specs.Prelude.{◌≡◌, ℕ, ◌+◌, ◌*◌, ◌^◌, ◌≤◌, true, Some, IsSome};
+ghost use Rattle.std.specs.Prelude.{◌≡◌, ℕ, ◌+◌, ◌*◌, ◌^◌, ◌≤◌, true, Some, IsSome, length, min};
 ghost use Rattle.mq_count.specs.Spending.{Spends};
 ghost use Rattle.mq_sets.specs.Ascending.{IsAscending, set_of};
 ghost use Rattle.mq_table.specs.Group.{timer_at};
@@ -108,7 +108,7 @@ impl Schedule {
     /// Starts the group-and-source-specific query for sources that the group holds: those whose
     /// timers are above the last member query time are lowered to it, the last member query count of
     /// sendings are to go for each, and the first is due at once. Where there is none, all stays (RFC
-    /// 3376 section 6.6.3.2, RFC 3810 section 7.6.3.2). At most two comparisons for each source.
+    /// 3376 section 6.6.3.2, RFC 3810 section 7.6.3.2). At most two comparisons for each source of the group.
     pub fn start_sources<K: Key>(
         &mut self,
         group: &mut Group<K>,
@@ -123,7 +123,7 @@ impl Schedule {
         ensures asked { let e : ScheduledGroup = record { group = group.old.state; schedule = self.old } in
             record { group = group.new.state; schedule = self.new } ≡ sources_asked timing.now now (set_of K.number asked.now) e }
         ensures room { group.new.room ≡ group.old.room }
-        ensures spent { Spends 0 (2 * size_of group.old.state) m.old m.new }
+        ensures spent { Spends (min 1 (length asked.now)) (2 * size_of group.old.state) m.old m.new }
     {
         if group.start_sendings(asked, now, timing, m) {
             self.sources_due = Some(now);
@@ -142,14 +142,21 @@ impl Schedule {
     }
 }
 
+/// Whether a source has a sending to go.
+pub(crate) fn source_has_sendings<K: Key>(source: &Source<K>) -> bool
+    ensures { result ≡ item_has_sendings source.now }
+{
+    match source.timer {
+        SourceTimer::Running(_, sendings) => 0 < sendings,
+        SourceTimer::Stopped => false,
+    }
+}
+
 /// Whether some source of the list has a sending to go.
 fn any_has_sendings<K: Key>(row: &[Source<K>]) -> bool
     ensures { result ≡ list_any item_has_sendings row.now }
 {
-    row.iter().any(|x| match x.timer {
-        SourceTimer::Running(_, sendings) => 0 < sendings,
-        SourceTimer::Stopped => false,
-    })
+    row.iter().any(|x| source_has_sendings(x))
 }
 
 /// Whether some source of the group has a sending to go.

@@ -2,7 +2,6 @@
 
 ghost use Rattle.std.specs.Prelude.{◌≡◌, ◌+◌, ◌-◌, ◌*◌, ◌^◌, ◌<◌, ◌≤◌, if◌then◌else◌, nat_lt};
 ghost use Rattle.mq_count.specs.Spending.{Spends};
-ghost use Rattle.mq_table.specs.Group.{is_ahead, group_deadline};
 ghost use Rattle.mq_table.specs.Sendings.{sendings_counted};
 ghost use Rattle.mq_table.specs.Stored.{size_of};
 ghost use Rattle.mq_sched.specs.Schedule.{ScheduledGroup};
@@ -14,7 +13,7 @@ use crate::runs::send_sources;
 use crate::schedules::{Schedule, has_sendings};
 use crate::sinks::{QueryParts, Sink};
 use mq_count::{Key, Meter, Moment};
-use mq_table::{FilterMode, Group, Timing};
+use mq_table::{Group, Timing, runs_on};
 
 /// A query that was sent at `now`, if it is to go once more.
 fn counted(query: &QuerySchedule, now: Moment, timing: &Timing) -> Option<QuerySchedule>
@@ -30,17 +29,6 @@ fn counted(query: &QuerySchedule, now: Moment, timing: &Timing) -> Option<QueryS
         })
     } else {
         None
-    }
-}
-
-/// Whether the group timer, which only EXCLUDE has, runs on after a moment. At most one comparison.
-fn is_above<K: Key>(group: &Group<K>, limit: Moment, m: &mut Meter) -> bool
-    ensures answer { result ≡ is_ahead limit (group_deadline group.now.state.mode) }
-    ensures spent { Spends 0 1 m.old m.new }
-{
-    match &group.mode() {
-        FilterMode::Include => false,
-        FilterMode::Exclude(deadline) => !m.reached(*deadline, limit),
     }
 }
 
@@ -64,7 +52,7 @@ impl Schedule {
         if let Some(query) = &self.group_query {
             if m.reached(query.due, now) {
                 let limit = now.after(timing.last_member_time());
-                let s = is_above(group, limit, m);
+                let s = runs_on(group.mode().deadline(), limit, m);
                 let left = counted(query, now, timing);
                 let query: QueryParts<'a, K> = QueryParts::Group { group: address, s };
                 sink.send(query);

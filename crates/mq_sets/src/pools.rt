@@ -83,7 +83,7 @@ impl<T: Copy> Pool<T> {
     }
 
     /// How many cells are free: what is left of the limit when all rows have theirs.
-    pub fn room(&self) -> usize
+    pub fn free_cells(&self) -> usize
         ensures { result + cells_in self.now.rows ≡ self.now.cell_limit }
     {
         self.cell_limit - self.used

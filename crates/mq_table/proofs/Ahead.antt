@@ -6,7 +6,7 @@ use Rattle.std.specs.Ordering.{nat_cmp}
 use Rattle.std.specs.FinMap as map
 use Rattle.mq_table.specs.Group.{GroupState, FilterMode, Include, Exclude, SourceTimer, Stopped, Running, is_vacant, vacant, timer_at, deadline_of, group_deadline}
 use Rattle.mq_table.specs.Expiry.{ahead, mode_expired, at_zero, source_expired, expired}
-use Rattle.mq_table.specs.Laws.{AllAhead}
+use Rattle.mq_table.specs.Expiry.{AllAhead}
 use Rattle.mq_table.proofs.Maps.{get-kept}
 use Rattle.mq_table.proofs.Composed.{ended_at}
 

@@ -18,71 +18,71 @@ use Rattle.mq_table.specs.declared.timing.Timing.{Timing}
 use Rattle.mq_table.specs.Sets.{Set}
 use Rattle.mq_table.specs.Group.{GroupState, FilterMode, Include, Exclude, SourceTimer, running, stopped, timer_at}
 use Rattle.mq_table.specs.Timing.{membership_interval}
-use Rattle.mq_table.specs.Table.{line, timer_by, change_of}
+use Rattle.mq_table.specs.Table.{table_row, timer_by, change_of}
 use Rattle.mq_table.specs.AtSource.{timer_after, is_asked_after, mode_after, asks_group_after}
 use Rattle.mq_table.specs.Stored.{timers_in, named_in, number_in}
 use Rattle.mq_table.specs.MergedRecord.{source_with, source_made, source_asked}
 use Rattle.mq_table.proofs.Groups.{same_sources}
-use Rattle.mq_table.proofs.Lines.{timer_by-nothing, timer_at-change_of}
+use Rattle.mq_table.proofs.TableRows.{timer_by-nothing, timer_at-change_of}
 use Rattle.mq_table.proofs.SourceLists.{get-timers_in}
 
--- Of each source a line sees its timer before and whether it is named.
-line-timer : (gmi : ℕ) (mode : FilterMode) (kind : Kind) (g : GroupState) (A : Set) (s : ℕ) → timer_by (line gmi mode kind (running g) (stopped g) A) gmi mode s (timer_at g s) ≡ timer_after gmi mode kind (timer_at g s) (A s)
-line-timer gmi Include IsIn g A s = refl
-line-timer gmi Include IsEx g A s = refl
-line-timer gmi Include Allow g A s = refl
-line-timer gmi Include Block g A s = refl
-line-timer gmi Include ToEx g A s = refl
-line-timer gmi Include ToIn g A s = refl
-line-timer gmi (Exclude d) IsIn g A s = refl
-line-timer gmi (Exclude d) IsEx g A s = refl
-line-timer gmi (Exclude d) Allow g A s = refl
-line-timer gmi (Exclude d) Block g A s = refl
-line-timer gmi (Exclude d) ToEx g A s = refl
-line-timer gmi (Exclude d) ToIn g A s = refl
+-- Of each source a row of the tables sees its timer before and whether it is named.
+row-timer : (gmi : ℕ) (mode : FilterMode) (kind : Kind) (g : GroupState) (A : Set) (s : ℕ) → timer_by (table_row gmi mode kind (running g) (stopped g) A) gmi mode s (timer_at g s) ≡ timer_after gmi mode kind (timer_at g s) (A s)
+row-timer gmi Include IsIn g A s = refl
+row-timer gmi Include IsEx g A s = refl
+row-timer gmi Include Allow g A s = refl
+row-timer gmi Include Block g A s = refl
+row-timer gmi Include ToEx g A s = refl
+row-timer gmi Include ToIn g A s = refl
+row-timer gmi (Exclude d) IsIn g A s = refl
+row-timer gmi (Exclude d) IsEx g A s = refl
+row-timer gmi (Exclude d) Allow g A s = refl
+row-timer gmi (Exclude d) Block g A s = refl
+row-timer gmi (Exclude d) ToEx g A s = refl
+row-timer gmi (Exclude d) ToIn g A s = refl
 
-line-query : (gmi : ℕ) (mode : FilterMode) (kind : Kind) (g : GroupState) (A : Set) (s : ℕ) → (let l = line gmi mode kind (running g) (stopped g) A in l.query s) ≡ is_asked_after gmi mode kind (timer_at g s) (A s)
-line-query gmi Include IsIn g A s = refl
-line-query gmi Include IsEx g A s = refl
-line-query gmi Include Allow g A s = refl
-line-query gmi Include Block g A s = refl
-line-query gmi Include ToEx g A s = refl
-line-query gmi Include ToIn g A s = refl
-line-query gmi (Exclude d) IsIn g A s = refl
-line-query gmi (Exclude d) IsEx g A s = refl
-line-query gmi (Exclude d) Allow g A s = refl
-line-query gmi (Exclude d) Block g A s = refl
-line-query gmi (Exclude d) ToEx g A s = refl
-line-query gmi (Exclude d) ToIn g A s = refl
+row-query : (gmi : ℕ) (mode : FilterMode) (kind : Kind) (g : GroupState) (A : Set) (s : ℕ) → (let l = table_row gmi mode kind (running g) (stopped g) A in l.query s) ≡ is_asked_after gmi mode kind (timer_at g s) (A s)
+row-query gmi Include IsIn g A s = refl
+row-query gmi Include IsEx g A s = refl
+row-query gmi Include Allow g A s = refl
+row-query gmi Include Block g A s = refl
+row-query gmi Include ToEx g A s = refl
+row-query gmi Include ToIn g A s = refl
+row-query gmi (Exclude d) IsIn g A s = refl
+row-query gmi (Exclude d) IsEx g A s = refl
+row-query gmi (Exclude d) Allow g A s = refl
+row-query gmi (Exclude d) Block g A s = refl
+row-query gmi (Exclude d) ToEx g A s = refl
+row-query gmi (Exclude d) ToIn g A s = refl
 
 -- its mode and its query to the group are the same for all sets
-line-mode : (gmi : ℕ) (mode : FilterMode) (kind : Kind) (X Y A : Set) → (let l = line gmi mode kind X Y A in l.mode) ≡ mode_after gmi mode kind
-line-mode gmi Include IsIn X Y A = refl
-line-mode gmi Include IsEx X Y A = refl
-line-mode gmi Include Allow X Y A = refl
-line-mode gmi Include Block X Y A = refl
-line-mode gmi Include ToEx X Y A = refl
-line-mode gmi Include ToIn X Y A = refl
-line-mode gmi (Exclude d) IsIn X Y A = refl
-line-mode gmi (Exclude d) IsEx X Y A = refl
-line-mode gmi (Exclude d) Allow X Y A = refl
-line-mode gmi (Exclude d) Block X Y A = refl
-line-mode gmi (Exclude d) ToEx X Y A = refl
-line-mode gmi (Exclude d) ToIn X Y A = refl
+row-mode : (gmi : ℕ) (mode : FilterMode) (kind : Kind) (X Y A : Set) → (let l = table_row gmi mode kind X Y A in l.mode) ≡ mode_after gmi mode kind
+row-mode gmi Include IsIn X Y A = refl
+row-mode gmi Include IsEx X Y A = refl
+row-mode gmi Include Allow X Y A = refl
+row-mode gmi Include Block X Y A = refl
+row-mode gmi Include ToEx X Y A = refl
+row-mode gmi Include ToIn X Y A = refl
+row-mode gmi (Exclude d) IsIn X Y A = refl
+row-mode gmi (Exclude d) IsEx X Y A = refl
+row-mode gmi (Exclude d) Allow X Y A = refl
+row-mode gmi (Exclude d) Block X Y A = refl
+row-mode gmi (Exclude d) ToEx X Y A = refl
+row-mode gmi (Exclude d) ToIn X Y A = refl
 
-line-query_group : (gmi : ℕ) (mode : FilterMode) (kind : Kind) (X Y A : Set) → (let l = line gmi mode kind X Y A in l.query_group) ≡ asks_group_after gmi mode kind
-line-query_group gmi Include IsIn X Y A = refl
-line-query_group gmi Include IsEx X Y A = refl
-line-query_group gmi Include Allow X Y A = refl
-line-query_group gmi Include Block X Y A = refl
-line-query_group gmi Include ToEx X Y A = refl
-line-query_group gmi Include ToIn X Y A = refl
-line-query_group gmi (Exclude d) IsIn X Y A = refl
-line-query_group gmi (Exclude d) IsEx X Y A = refl
-line-query_group gmi (Exclude d) Allow X Y A = refl
-line-query_group gmi (Exclude d) Block X Y A = refl
-line-query_group gmi (Exclude d) ToEx X Y A = refl
-line-query_group gmi (Exclude d) ToIn X Y A = refl
+row-query_group : (gmi : ℕ) (mode : FilterMode) (kind : Kind) (X Y A : Set) → (let l = table_row gmi mode kind X Y A in l.query_group) ≡ asks_group_after gmi mode kind
+row-query_group gmi Include IsIn X Y A = refl
+row-query_group gmi Include IsEx X Y A = refl
+row-query_group gmi Include Allow X Y A = refl
+row-query_group gmi Include Block X Y A = refl
+row-query_group gmi Include ToEx X Y A = refl
+row-query_group gmi Include ToIn X Y A = refl
+row-query_group gmi (Exclude d) IsIn X Y A = refl
+row-query_group gmi (Exclude d) IsEx X Y A = refl
+row-query_group gmi (Exclude d) Allow X Y A = refl
+row-query_group gmi (Exclude d) Block X Y A = refl
+row-query_group gmi (Exclude d) ToEx X Y A = refl
+row-query_group gmi (Exclude d) ToIn X Y A = refl
 
 -- a source that is neither held nor named isn't asked for
 asked-nothing : (gmi : ℕ) (mode : FilterMode) (kind : Kind) → is_asked_after gmi mode kind None false ≡ false
@@ -184,19 +184,19 @@ module _ {K : Type 0} (number : K → ℕ) (timing : Timing) (now : ℕ) (mode :
       let timers = same_sources (timers_in number (filter_map (source_made rule_of_record) (merged_lists (number_in number) number held named))) _ (λ s.
       get-made number rule_of_record held named up_held up_named s
       ∙ ap (timer_after gmi mode kind (timer_at state_before s)) (sym (contains-named_in number named s))
-      ∙ sym (line-timer gmi mode kind state_before (set.contains (named_in number named)) s)
+      ∙ sym (row-timer gmi mode kind state_before (set.contains (named_in number named)) s)
       ∙ sym (timer_at-change_of timing now state_before kind (named_in number named) s)) in
-      λ i. record { mode = sym (line-mode gmi mode kind (running state_before) (stopped state_before) (set.contains (named_in number named))) i; sources = timers i; v1 = v1; v2 = v2 }
+      λ i. record { mode = sym (row-mode gmi mode kind (running state_before) (stopped state_before) (set.contains (named_in number named))) i; sources = timers i; v1 = v1; v2 = v2 }
 
   pub asked_of : (s : ℕ) → set_of number (filter_map (source_asked rule_of_record) (merged_lists (number_in number) number held named)) s ≡ (change_of timing now state_before kind (named_in number named)).query s
   asked_of s =
       let gmi = now + membership_interval timing in
       set_of-asked number rule_of_record held named up_held up_named s
       ∙ ap (is_asked_after gmi mode kind (timer_at state_before s)) (sym (contains-named_in number named s))
-      ∙ sym (line-query gmi mode kind state_before (set.contains (named_in number named)) s)
+      ∙ sym (row-query gmi mode kind state_before (set.contains (named_in number named)) s)
 
   pub group_asked_of : asks_group_after (now + membership_interval timing) mode kind ≡ (change_of timing now state_before kind (named_in number named)).query_group
-  group_asked_of = sym (line-query_group (now + membership_interval timing) mode kind (running state_before) (stopped state_before) (set.contains (named_in number named)))
+  group_asked_of = sym (row-query_group (now + membership_interval timing) mode kind (running state_before) (stopped state_before) (set.contains (named_in number named)))
 
   -- The same, of values that are known by equations.
   module _ (g : GroupState) (end : ℕ) (is_end : end ≡ now + membership_interval timing) (is_before : state_before ≡ g) where

@@ -19,13 +19,13 @@ use Rattle.mq_count.specs.declared.versions.OlderVersion.TheVariants.{V1, V2}
 use Rattle.mq_table.specs.Sets.{Set}
 use Rattle.mq_table.specs.Maps.{kept}
 use Rattle.mq_table.specs.Timing.{membership_interval}
-use Rattle.mq_table.specs.Table.{NamedSources, line, change_of}
+use Rattle.mq_table.specs.Table.{NamedSources, table_row, change_of}
 use Rattle.mq_table.specs.OlderHosts.{older_report}
 use Rattle.mq_table.specs.Lowering.{lowered_to, mode_lowered, source_lowered, group_lowered, sources_lowered}
 use Rattle.mq_table.specs.Expiry.{mode_expired, source_expired, held_or_vacant, expired}
 use Rattle.mq_table.proofs.Maps.{get-kept}
 use Rattle.mq_table.proofs.Groups.{same_sources}
-use Rattle.mq_table.proofs.Lines.{none_stopped_of, was_included, runs_on}
+use Rattle.mq_table.proofs.TableRows.{none_stopped_of, was_included, runs_on}
 
 ties_itself : (k : ℕ) → eq_by_cmp nat_cmp k k ≡ true
 ties_itself k = grind (arith, nat_tests)
@@ -159,7 +159,7 @@ pub IsWellFormed-sources_lowered : (timing : Timing) (now : ℕ) (asked : Set) (
 IsWellFormed-sources_lowered timing now asked g = IsWellFormed-replaced g g.mode (λ s t. cond (asked s) (source_lowered (lowered_to timing now) t) t) (λ e. e) (λ s t. lowered_runs (lowered_to timing now) (asked s) t)
 
 -- an older Report leaves an EXCLUDE group, which is held
-excluded_by : (gmi : ℕ) (mode : FilterMode) (X Y A : Set) → (line gmi mode IsEx X Y A).mode ≢ Include
+excluded_by : (gmi : ℕ) (mode : FilterMode) (X Y A : Set) → (table_row gmi mode IsEx X Y A).mode ≢ Include
 excluded_by gmi Include X Y A e = cc
 excluded_by gmi (Exclude d) X Y A e = cc
 

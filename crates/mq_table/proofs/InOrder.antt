@@ -1,8 +1,8 @@
 -- Addresses that are looked for in their order among ascending sources that hold them all are found.
-use Rattle.std.proofs.Common.{◌≡◌, ℕ, ◌<◌, ◌==◌, Bool, true, false, cond, ◌||◌, List, [], ◌∷◌, drop, refl, sym, ap, ◌∙◌, inl, inr, ⊎_elim, arith}
+use Rattle.std.proofs.Common.{◌≡◌, ℕ, min, length, ◌<◌, ◌≤◌, ◌==◌, Bool, true, false, cond, ◌||◌, List, [], ◌∷◌, drop, refl, sym, ap, ◌∙◌, inl, inr, ⊎_elim, arith}
 use Rattle.std.specs.Prelude.{map as list_map}
 use Rattle.std.specs.List.{All}
-use Rattle.std.proofs.lemmas.Bool.{false≢true, or_cases, eqb-true, eq-eqb}
+use Rattle.std.proofs.lemmas.Bool.{false≢true, or_cases, or_left, eqb-true, eq-eqb}
 use Rattle.std.proofs.lemmas.Bool.Decides.{eqb_tells}
 use Rattle.std.proofs.lemmas.List.Elements.{All-head, All-tail}
 use Rattle.mq_sets.specs.Ascending.{IsAscending, set_of}
@@ -28,6 +28,12 @@ not_below number n xs above = by_test (set_of number xs n) refl
     by_test : (b : Bool) → set_of number xs n ≡ b → b ≡ false
     by_test true is = absurd (omega (arith, member_above number n n xs above is))
     by_test false is = refl
+
+-- sources that hold an address are some
+pub some_held : {K : Type 0} (number : K → ℕ) (qs : List K) (xs : List (Source K)) → ((s : ℕ) → set_of number qs s ≡ true → set_of (number_in number) xs s ≡ true) → min 1 (length qs) ≤ length xs
+some_held number [] xs held = omega arith
+some_held number (q ∷ qs) [] held = absurd (false≢true (held (number q) (or_left (number q == number q) _ (eq-eqb (number q) (number q) refl))))
+some_held number (q ∷ qs) (x ∷ xs) held = omega arith
 
 module _ {K : Type 0} (number : K → ℕ) where
   -- source by source, whether the first of the addresses ahead is its own; one that is found is passed

@@ -1,6 +1,6 @@
 pub mod Maps
 pub mod Groups
-pub mod Lines
+pub mod TableRows
 pub mod Held
 pub mod Composed
 pub mod Ahead

@@ -1,11 +1,10 @@
--- What lowering does to a deadline.
-use Rattle.std.proofs.Common.{◌≡◌, ℕ, min, Bool, true, false, cond, ◌||◌, Option, None, Some, refl, sym, ap, ◌∙◌, subst, arith}
+-- The timer of a source once sources were lowered.
+use Rattle.std.proofs.Common.{◌≡◌, ℕ, min, Bool, true, false, cond, ◌||◌, Option, None, Some, refl, sym, ap, ◌∙◌, arith}
 use Rattle.std.specs.Option.{option_and_then, option_map}
 use Rattle.mq_table.specs.declared.timing.Timing.{Timing}
 use Rattle.mq_table.specs.Sets.{Set, ◌∪◌}
-use Rattle.mq_table.specs.Group.{GroupState, FilterMode, Include, Exclude, SourceTimer, Stopped, Running, timer_at, deadline_of, group_deadline}
-use Rattle.mq_table.specs.Lowering.{lowered_to, mode_lowered, source_lowered, sources_lowered}
-use Rattle.mq_table.specs.Laws.{IsNoLater}
+use Rattle.mq_table.specs.Group.{GroupState, SourceTimer, Stopped, Running, timer_at}
+use Rattle.mq_table.specs.Lowering.{lowered_to, source_lowered, sources_lowered}
 use Rattle.mq_table.proofs.Maps.{get-kept}
 use Rattle.mq_table.proofs.Groups.{same_group}
 
@@ -19,21 +18,6 @@ timer_at-sources_lowered timing now asked g s =
     by_test false None = refl
     by_test true (Some t) = refl
     by_test false (Some t) = refl
-
-pub group_no_later : (limit : ℕ) (mode : FilterMode) → IsNoLater (group_deadline mode) (group_deadline (mode_lowered limit mode))
-group_no_later limit Include = tt
-group_no_later limit (Exclude d) = omega arith
-
-source_no_later : (limit : ℕ) (b : Bool) (t : Option SourceTimer) → IsNoLater (deadline_of t) (deadline_of (cond b (option_map (source_lowered limit) t) t))
-source_no_later limit true None = tt
-source_no_later limit false None = tt
-source_no_later limit true (Some Stopped) = tt
-source_no_later limit false (Some Stopped) = tt
-source_no_later limit true (Some (Running d n)) = omega arith
-source_no_later limit false (Some (Running d n)) = omega arith
-
-pub sources_no_later : (timing : Timing) (now : ℕ) (asked : Set) (g : GroupState) (s : ℕ) → IsNoLater (deadline_of (timer_at g s)) (deadline_of (timer_at (sources_lowered timing now asked g) s))
-sources_no_later timing now asked g s = subst (λ t. IsNoLater (deadline_of (timer_at g s)) (deadline_of t)) (sym (timer_at-sources_lowered timing now asked g s)) (source_no_later (lowered_to timing now) (asked s) (timer_at g s))
 
 -- lowered twice is lowered once
 lowered_twice : (limit : ℕ) (t : Option SourceTimer) → option_map (source_lowered limit) (option_map (source_lowered limit) t) ≡ option_map (source_lowered limit) t

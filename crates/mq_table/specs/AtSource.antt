@@ -3,26 +3,26 @@
 use Rattle.std.specs.Prelude.{ℕ, Bool, false, Option}
 use Rattle.mq_table.specs.declared.kind.Kind.{Kind}
 use Rattle.mq_table.specs.Group.{FilterMode, SourceTimer, is_running, is_stopped}
-use Rattle.mq_table.specs.Table.{Line, line, timer_by}
+use Rattle.mq_table.specs.Table.{TableRow, table_row, timer_by}
 
--- the line that the record meets, where every source has this timer and is named or not
-abbrev pub line_at : ℕ → FilterMode → Kind → Option SourceTimer → (is_named : Bool) → Line
-line_at gmi mode kind timer is_named =
-    line gmi mode kind (λ _. is_running timer) (λ _. is_stopped timer) (λ _. is_named)
+-- the row of the tables that the record meets, where every source has this timer and is named or not
+abbrev pub table_row_at : ℕ → FilterMode → Kind → Option SourceTimer → (is_named : Bool) → TableRow
+table_row_at gmi mode kind timer is_named =
+    table_row gmi mode kind (λ _. is_running timer) (λ _. is_stopped timer) (λ _. is_named)
 
 -- the source's timer after the record
 abbrev pub timer_after : ℕ → FilterMode → Kind → Option SourceTimer → (is_named : Bool) → Option SourceTimer
 timer_after gmi mode kind timer is_named =
-    timer_by (line_at gmi mode kind timer is_named) gmi mode 0 timer
+    timer_by (table_row_at gmi mode kind timer is_named) gmi mode 0 timer
 
 -- whether the record's Q(G,S) asks for it
 abbrev pub is_asked_after : ℕ → FilterMode → Kind → Option SourceTimer → (is_named : Bool) → Bool
 is_asked_after gmi mode kind timer is_named =
-    let l = line_at gmi mode kind timer is_named in l.query 0
+    let l = table_row_at gmi mode kind timer is_named in l.query 0
 
 -- the mode after the record, and whether Q(G) is sent: the same at each source
 abbrev pub mode_after : ℕ → FilterMode → Kind → FilterMode
-mode_after gmi mode kind = let l = line gmi mode kind (λ _. false) (λ _. false) (λ _. false) in l.mode
+mode_after gmi mode kind = let l = table_row gmi mode kind (λ _. false) (λ _. false) (λ _. false) in l.mode
 
 abbrev pub asks_group_after : ℕ → FilterMode → Kind → Bool
-asks_group_after gmi mode kind = let l = line gmi mode kind (λ _. false) (λ _. false) (λ _. false) in l.query_group
+asks_group_after gmi mode kind = let l = table_row gmi mode kind (λ _. false) (λ _. false) (λ _. false) in l.query_group

@@ -1,9 +1,9 @@
 -- What the end of timers does to a group (RFC 3376 sections 6.2.2, 6.2.3, 6.3, 6.5 and 7.3.2, RFC 3810
 -- sections 7.2.2, 7.2.3, 7.3, 7.5 and 8.3.2). A timer has run out when its deadline is at or before now.
-use Rattle.std.specs.Prelude.{ℕ, if◌then◌else◌, nat_lt, Option, None, Some}
+use Rattle.std.specs.Prelude.{ℕ, ◌<◌, IfSome, if◌then◌else◌, nat_lt, Option, None, Some}
 use Rattle.std.specs.Option.{option_and_then}
 use Rattle.mq_table.specs.Maps.{kept}
-use Rattle.mq_table.specs.Group.{GroupState, FilterMode, Include, Exclude, SourceTimer, Stopped, Running, vacant, is_vacant}
+use Rattle.mq_table.specs.Group.{GroupState, FilterMode, Include, Exclude, SourceTimer, Stopped, Running, vacant, is_vacant, group_deadline, deadline_of, timer_at}
 
 -- a deadline that is still ahead
 abbrev pub ahead : ℕ → ℕ → Option ℕ
@@ -39,3 +39,10 @@ expired now g =
       v1 = option_and_then (ahead now) g.v1;
       v2 = option_and_then (ahead now) g.v2;
     })
+
+-- every timer of the group runs beyond a moment
+pub record AllAhead (now : ℕ) (g : GroupState) : Type 0 where
+  pub group : IfSome (group_deadline g.mode) (λ deadline. now < deadline)
+  pub sources : (s : ℕ) → IfSome (deadline_of (timer_at g s)) (λ deadline. now < deadline)
+  pub v1 : IfSome g.v1 (λ deadline. now < deadline)
+  pub v2 : IfSome g.v2 (λ deadline. now < deadline)

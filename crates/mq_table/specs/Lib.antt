@@ -14,4 +14,3 @@ pub mod Sendings
 pub mod AskedSources
 pub mod MadeSources
 pub mod Examples
-pub mod Laws

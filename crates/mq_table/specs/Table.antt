@@ -19,12 +19,12 @@ use Rattle.mq_table.specs.Timing.{membership_interval}
 abbrev pub NamedSources : Type 0
 NamedSources = FinSet nat_cmp
 
--- One line of the tables: the new state, INCLUDE(x) or EXCLUDE(x,y), and the actions. The timers of
+-- One row of the tables: the new state, INCLUDE(x) or EXCLUDE(x,y), and the actions. The timers of
 -- the sources of `restart` are set to the group membership interval, those of `copy` to the group timer
 -- from before the record. A querier sends Q(G,query), for those of `query` whose timers are above the last
 -- member query time, and Q(G) where `query_group` says so. The actions "(B-A)=0" and "delete" are in the new
 -- X and Y, "group timer=GMI" is in the mode.
-pub record Line : Type 0 where
+pub record TableRow : Type 0 where
   pub mode : FilterMode
   pub x : Set
   pub y : Set
@@ -34,58 +34,58 @@ pub record Line : Type 0 where
   pub query_group : Bool
 
 -- a new state without actions
-abbrev pub include : Set → Line
+abbrev pub include : Set → TableRow
 include A =
     record { mode = Include; x = A; y = ∅; restart = ∅; copy = ∅; query = ∅; query_group = false }
 
-abbrev pub exclude : ℕ → Set → Set → Line
+abbrev pub exclude : ℕ → Set → Set → TableRow
 exclude d X Y =
     record { mode = Exclude d; x = X; y = Y; restart = ∅; copy = ∅; query = ∅; query_group = false }
 
--- The twelve lines. `gmi` is the moment to which a timer runs that is set to the group membership
+-- The twelve rows. `gmi` is the moment to which a timer runs that is set to the group membership
 -- interval, and `d` the deadline of the group timer.
-abbrev pub line : ℕ → FilterMode → Kind → Set → Set → Set → Line
+abbrev pub table_row : ℕ → FilterMode → Kind → Set → Set → Set → TableRow
 -- Current-state records (RFC 3376 section 6.4.1, RFC 3810 section 7.4.1).
 -- INCLUDE(A), IS_IN(B): INCLUDE(A+B), (B)=GMI
-line gmi Include IsIn A Y B = record (include (A ∪ B)) { restart = B }
+table_row gmi Include IsIn A Y B = record (include (A ∪ B)) { restart = B }
 -- INCLUDE(A), IS_EX(B): EXCLUDE(A*B,B-A), (B-A)=0, delete (A-B), group timer=GMI
-line gmi Include IsEx A Y B = exclude gmi (A ∩ B) (B ∖ A)
+table_row gmi Include IsEx A Y B = exclude gmi (A ∩ B) (B ∖ A)
 -- EXCLUDE(X,Y), IS_IN(A): EXCLUDE(X+A,Y-A), (A)=GMI
-line gmi (Exclude d) IsIn X Y A = record (exclude d (X ∪ A) (Y ∖ A)) { restart = A }
+table_row gmi (Exclude d) IsIn X Y A = record (exclude d (X ∪ A) (Y ∖ A)) { restart = A }
 -- EXCLUDE(X,Y), IS_EX(A): EXCLUDE(A-Y,Y*A), (A-X-Y)=GMI, delete (X-A), delete (Y-A), group timer=GMI
-line gmi (Exclude d) IsEx X Y A = record (exclude gmi (A ∖ Y) (Y ∩ A)) { restart = A ∖ X ∖ Y }
+table_row gmi (Exclude d) IsEx X Y A = record (exclude gmi (A ∖ Y) (Y ∩ A)) { restart = A ∖ X ∖ Y }
 -- State-change records (RFC 3376 section 6.4.2, RFC 3810 section 7.4.2).
 -- INCLUDE(A), ALLOW(B): INCLUDE(A+B), (B)=GMI
-line gmi Include Allow A Y B = record (include (A ∪ B)) { restart = B }
+table_row gmi Include Allow A Y B = record (include (A ∪ B)) { restart = B }
 -- INCLUDE(A), BLOCK(B): INCLUDE(A), send Q(G,A*B)
-line gmi Include Block A Y B = record (include A) { query = A ∩ B }
+table_row gmi Include Block A Y B = record (include A) { query = A ∩ B }
 -- INCLUDE(A), TO_EX(B): EXCLUDE(A*B,B-A), (B-A)=0, delete (A-B), send Q(G,A*B), group timer=GMI
-line gmi Include ToEx A Y B = record (exclude gmi (A ∩ B) (B ∖ A)) { query = A ∩ B }
+table_row gmi Include ToEx A Y B = record (exclude gmi (A ∩ B) (B ∖ A)) { query = A ∩ B }
 -- INCLUDE(A), TO_IN(B): INCLUDE(A+B), (B)=GMI, send Q(G,A-B)
-line gmi Include ToIn A Y B = record (include (A ∪ B)) { restart = B; query = A ∖ B }
+table_row gmi Include ToIn A Y B = record (include (A ∪ B)) { restart = B; query = A ∖ B }
 -- EXCLUDE(X,Y), ALLOW(A): EXCLUDE(X+A,Y-A), (A)=GMI
-line gmi (Exclude d) Allow X Y A = record (exclude d (X ∪ A) (Y ∖ A)) { restart = A }
+table_row gmi (Exclude d) Allow X Y A = record (exclude d (X ∪ A) (Y ∖ A)) { restart = A }
 -- EXCLUDE(X,Y), BLOCK(A): EXCLUDE(X+(A-Y),Y), (A-X-Y)=group timer, send Q(G,A-Y)
-line gmi (Exclude d) Block X Y A =
+table_row gmi (Exclude d) Block X Y A =
     record (exclude d (X ∪ (A ∖ Y)) Y) { copy = A ∖ X ∖ Y; query = A ∖ Y }
 -- EXCLUDE(X,Y), TO_EX(A): EXCLUDE(A-Y,Y*A), (A-X-Y)=group timer, delete (X-A), delete (Y-A),
 -- send Q(G,A-Y), group timer=GMI
-line gmi (Exclude d) ToEx X Y A =
+table_row gmi (Exclude d) ToEx X Y A =
     record (exclude gmi (A ∖ Y) (Y ∩ A)) { copy = A ∖ X ∖ Y; query = A ∖ Y }
 -- EXCLUDE(X,Y), TO_IN(A): EXCLUDE(X+A,Y-A), (A)=GMI, send Q(G,X-A), send Q(G)
-line gmi (Exclude d) ToIn X Y A =
+table_row gmi (Exclude d) ToIn X Y A =
     record (exclude d (X ∪ A) (Y ∖ A)) { restart = A; query = X ∖ A; query_group = true }
 
--- One rule makes a line into timers, source by source. `before` is the timer before the record. A
--- source that no action of the line names keeps its deadline; one that was running keeps its
--- sendings to go, and every other has none. (No line copies the group timer of INCLUDE,
+-- One rule makes a row into timers, source by source. `before` is the timer before the record. A
+-- source that no action of the row names keeps its deadline; one that was running keeps its
+-- sendings to go, and every other has none. (No row copies the group timer of INCLUDE,
 -- which has none, or keeps the deadline of a source that has none.)
-abbrev pub timer_by : Line → ℕ → FilterMode → ℕ → Option SourceTimer → Option SourceTimer
-timer_by l gmi mode s before =
+abbrev pub timer_by : TableRow → ℕ → FilterMode → ℕ → Option SourceTimer → Option SourceTimer
+timer_by row gmi mode s before =
     let group = unwrap_or (group_deadline mode) 0 in
     let kept = unwrap_or (deadline_of before) 0 in
-    let deadline = if l.restart s then gmi else (if l.copy s then group else kept) in
-    if l.x s then Some (Running deadline (sendings_of before)) else (if l.y s then Some Stopped else None)
+    let deadline = if row.restart s then gmi else (if row.copy s then group else kept) in
+    if row.x s then Some (Running deadline (sendings_of before)) else (if row.y s then Some Stopped else None)
 
 -- The new group and the queries that go with it. Host-present timers stay.
 pub record GroupChange : Type 0 where
@@ -93,13 +93,13 @@ pub record GroupChange : Type 0 where
   pub query : Set
   pub query_group : Bool
 
-abbrev pub line_met : Timing → ℕ → GroupState → Kind → NamedSources → Line
-line_met timing now g kind named =
-    line (now + membership_interval timing) g.mode kind (running g) (stopped g) (set.contains named)
+abbrev pub table_row_met : Timing → ℕ → GroupState → Kind → NamedSources → TableRow
+table_row_met timing now g kind named =
+    table_row (now + membership_interval timing) g.mode kind (running g) (stopped g) (set.contains named)
 
 abbrev pub change_of : Timing → ℕ → GroupState → Kind → NamedSources → GroupChange
 change_of timing now g kind named =
-    let l = line_met timing now g kind named in
+    let l = table_row_met timing now g kind named in
     let timer = λ (s : ℕ). timer_by l (now + membership_interval timing) g.mode s (timer_at g s) in
     record {
       group = record { mode = l.mode; sources = by_rule g.sources named timer; v1 = g.v1; v2 = g.v2 };

@@ -10,17 +10,18 @@ ghost use Rattle.mq_table.specs.Stored.{size_of};
 
 use crate::group::Group;
 use crate::sources::Source;
-use crate::timers::{FilterMode, SourceTimer};
+use crate::timers::{FilterMode, SourceTimer, runs_on};
 use mq_count::{Key, Meter, Moment};
 
 /// A deadline that is still ahead. At most one comparison.
-fn still_ahead(deadline: Option<Moment>, now: Moment, m: &mut Meter) -> Option<Moment>
-    ensures ahead { result ≡ option_and_then (ahead now) deadline }
+fn still_ahead(deadline: &Option<Moment>, now: Moment, m: &mut Meter) -> Option<Moment>
+    ensures ahead { result ≡ option_and_then (ahead now) deadline.now }
     ensures spent { Spends 0 1 m.old m.new }
 {
-    match deadline {
-        Some(deadline) if !m.reached(deadline, now) => Some(deadline),
-        _ => None,
+    if runs_on(*deadline, now, m) {
+        *deadline
+    } else {
+        None
     }
 }
 
@@ -29,11 +30,10 @@ fn mode_left(mode: &FilterMode, now: Moment, m: &mut Meter) -> FilterMode
     ensures mode { result ≡ mode_expired now mode.now }
     ensures spent { Spends 0 1 m.old m.new }
 {
-    match mode {
-        FilterMode::Exclude(deadline) if !m.reached(*deadline, now) => {
-            FilterMode::Exclude(*deadline)
-        }
-        _ => FilterMode::Include,
+    if runs_on(mode.deadline(), now, m) {
+        *mode
+    } else {
+        FilterMode::Include
     }
 }
 
@@ -48,14 +48,12 @@ fn timer_left(
     ensures timer { result ≡ source_expired mode.now now timer.now }
     ensures spent { Spends 0 1 m.old m.new }
 {
-    match timer {
-        SourceTimer::Running(deadline, sendings) if !m.reached(*deadline, now) => {
-            Some(SourceTimer::Running(*deadline, *sendings))
-        }
-        _ => match mode {
-            FilterMode::Include => None,
-            FilterMode::Exclude(_) => Some(SourceTimer::Stopped),
-        },
+    if runs_on(timer.deadline(), now, m) {
+        return Some(*timer);
+    }
+    match mode {
+        FilterMode::Include => None,
+        FilterMode::Exclude(_) => Some(SourceTimer::Stopped),
     }
 }
 
@@ -109,8 +107,8 @@ impl<K: Key> Group<K> {
         let mode = mode_left(&self.mode, now, m);
         leave_sources(&mut self.sources, &mode, now, m);
         self.mode = mode;
-        self.v1 = still_ahead(self.v1, now, m);
-        self.v2 = still_ahead(self.v2, now, m);
+        self.v1 = still_ahead(&self.v1, now, m);
+        self.v2 = still_ahead(&self.v2, now, m);
         self.let_go_if_vacant();
     }
 }

@@ -1,6 +1,6 @@
 //! The state of one group, stored.
 
-ghost use Rattle.std.specs.Prelude.{◌≡◌, ◌≤◌, length, IfOk};
+ghost use Rattle.std.specs.Prelude.{◌≡◌, ◌≤◌, min, length, IfOk};
 ghost use Rattle.mq_count.specs.Spending.{Spends};
 ghost use Rattle.mq_sets.specs.Ascending.{IsAscending};
 ghost use Rattle.mq_sets.specs.Search.{bitlen};
@@ -45,7 +45,7 @@ impl<K: Key> Group<K> {
     /// The state of every group that isn't held, INCLUDE without sources, with no room. It takes no
     /// memory until it grows, and then from `alloc`.
     pub fn vacant(alloc: Global) -> Group<K>
-        ensures { result.state ≡ vacant }
+        ensures { result ≡ record { state = vacant; room = 0 } }
     {
         Group {
             mode: FilterMode::Include,
@@ -92,15 +92,6 @@ impl<K: Key> Group<K> {
         }
     }
 
-    /// The group's sources with their timers, ascending.
-    pub fn row(&self) -> &[Source<K>]
-        ensures timers { timers_in K.number result.now ≡ self.now.state.sources }
-        ensures ascending { IsAscending (number_in K.number) result.now }
-        ensures len { length result.now ≡ size_of self.now.state }
-    {
-        self.sources.as_slice()
-    }
-
     /// Whether it is INCLUDE without sources, and so not held.
     pub fn is_vacant(&self) -> bool
         ensures { result ≡ is_vacant self.now.state }
@@ -119,13 +110,13 @@ impl<K: Key> Group<K> {
     }
 
     /// The group's sources, ascending, each with its timer: a deadline and how many sendings are
-    /// still to go, or stopped.
+    /// still to go, or stopped. They are the row that `load` takes.
     pub fn sources(&self) -> &[Source<K>]
         ensures timers { timers_in K.number result.now ≡ self.now.state.sources }
         ensures ascending { IsAscending (number_in K.number) result.now }
         ensures len { length result.now ≡ size_of self.now.state }
     {
-        self.row()
+        self.sources.as_slice()
     }
 
     /// Up to when a host of version 1 is taken to be there.
@@ -145,7 +136,8 @@ impl<K: Key> Group<K> {
     /// The timer of a source, or None where the group doesn't have it.
     pub fn timer_of(&self, source: K, m: &mut Meter) -> Option<SourceTimer>
         ensures timer { result ≡ timer_at self.now.state (K.number source) }
-        ensures spent { Spends 0 (bitlen (size_of self.now.state)) m.old m.new }
+        ensures spent { let size = size_of self.now.state in
+            Spends (min 1 size) (bitlen size) m.old m.new }
     {
         match find(self.sources.as_slice(), source, m) {
             Ok(place) => Some(self.sources[place].timer),
@@ -157,7 +149,8 @@ impl<K: Key> Group<K> {
     /// group was told (RFC 3376 section 6.3, RFC 3810 section 7.3).
     pub fn forwards(&self, source: K, m: &mut Meter) -> bool
         ensures answer { result ≡ forwards_in self.now.state (K.number source) }
-        ensures spent { Spends 0 (bitlen (size_of self.now.state)) m.old m.new }
+        ensures spent { let size = size_of self.now.state in
+            Spends (min 1 size) (bitlen size) m.old m.new }
     {
         let timer = self.timer_of(source, m);
         match self.mode {

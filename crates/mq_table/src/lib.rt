@@ -3,12 +3,10 @@
 #![tactic(auto)]
 
 pub mod changes;
-pub mod examples;
 mod expiry;
 pub mod group;
 pub mod heads;
 pub mod kind;
-pub mod laws;
 mod lowering;
 mod merged_records;
 pub mod older_hosts;
@@ -26,5 +24,5 @@ pub use kind::Kind;
 pub use mq_count::OlderVersion;
 pub use older_hosts::{Hosts, translate};
 pub use sources::Source;
-pub use timers::{FilterMode, SourceTimer};
+pub use timers::{FilterMode, SourceTimer, runs_on};
 pub use timing::Timing;

@@ -1,6 +1,6 @@
 //! Lowering timers to the last member query time.
 
-ghost use Rattle.std.specs.Prelude.{◌≡◌, ℕ, ◌+◌, ◌^◌, ◌≤◌, ◌==◌};
+ghost use Rattle.std.specs.Prelude.{◌≡◌, ℕ, ◌+◌, ◌^◌, ◌≤◌, ◌==◌, min};
 ghost use Rattle.mq_count.specs.Spending.{Spends};
 ghost use Rattle.mq_sets.specs.Search.{bitlen};
 ghost use Rattle.mq_table.specs.Lowering.{lowered_to, mode_lowered, source_lowered, group_lowered, sources_lowered};
@@ -50,7 +50,8 @@ impl<K: Key> Group<K> {
         requires in_range { now ≤ 2 ^ 53 }
         ensures state { self.new.state ≡ sources_lowered timing.now now (λ s. s == K.number source) self.old.state }
         ensures room { self.new.room ≡ self.old.room }
-        ensures spent { Spends 0 (bitlen (size_of self.old.state) + 1) m.old m.new }
+        ensures spent { let size = size_of self.old.state in
+            Spends (min 1 size) (bitlen size + 1) m.old m.new }
     {
         let limit = now.after(timing.last_member_time());
         if let Ok(place) = find(self.sources.as_slice(), source, m) {

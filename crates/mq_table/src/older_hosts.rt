@@ -2,12 +2,12 @@
 
 ghost use Rattle.std.specs.Prelude.{◌≡◌, ◌+◌, ◌^◌, ◌≤◌, true, false};
 ghost use Rattle.mq_count.specs.Spending.{Spends};
-ghost use Rattle.mq_table.specs.Group.{is_ahead};
 ghost use Rattle.mq_table.specs.Table.{NamedSources};
 ghost use Rattle.mq_table.specs.OlderHosts.{hosts_of, translated, with_sources, older_host};
 
 use crate::group::Group;
 use crate::kind::Kind;
+use crate::timers::runs_on;
 use crate::timing::Timing;
 use mq_count::{Key, Meter, Moment, OlderVersion};
 
@@ -43,17 +43,6 @@ pub fn translate(
     }
 }
 
-/// Whether a host-present timer runs. At most one comparison.
-fn is_ahead(deadline: Option<Moment>, now: Moment, m: &mut Meter) -> bool
-    ensures runs { result ≡ is_ahead now deadline }
-    ensures spent { Spends 0 1 m.old m.new }
-{
-    match deadline {
-        Some(deadline) => !m.reached(deadline, now),
-        None => false,
-    }
-}
-
 impl<K: Key> Group<K> {
     /// The older versions that have hosts in the group (RFC 3376 section 7.3.2, RFC 3810 section
     /// 8.3.2).
@@ -62,8 +51,8 @@ impl<K: Key> Group<K> {
         ensures spent { Spends 0 2 m.old m.new }
     {
         Hosts {
-            v1: is_ahead(self.v1, now, m),
-            v2: is_ahead(self.v2, now, m),
+            v1: runs_on(self.v1, now, m),
+            v2: runs_on(self.v2, now, m),
         }
     }
 

@@ -1,11 +1,11 @@
 //! Sendings of group-and-source-specific queries, which stand with the timers of the sources.
 
-ghost use Rattle.std.specs.Prelude.{◌≡◌, ℕ, ◌*◌, ◌^◌, ◌<◌, ◌≤◌, true, Some, IsSome, length, map, vec_capacity, drop};
+ghost use Rattle.std.specs.Prelude.{◌≡◌, ℕ, ◌-◌, ◌*◌, ◌^◌, ◌<◌, ◌≤◌, true, Some, IsSome, length, map, min, vec_capacity, drop};
 ghost use Rattle.std.specs.List.{list_any};
 ghost use Rattle.mq_count.specs.Spending.{Spends};
 ghost use Rattle.mq_sets.specs.Ascending.{IsAscending, set_of};
 ghost use Rattle.mq_table.specs.Sets.{◌∩◌};
-ghost use Rattle.mq_table.specs.Group.{timer_at, is_ahead, deadline_of};
+ghost use Rattle.mq_table.specs.Group.{timer_at};
 ghost use Rattle.mq_table.specs.Sendings.{some_source, above, source_counted, source_cleared, sendings_started, sendings_counted, sendings_cleared};
 ghost use Rattle.mq_table.specs.AskedSources.{is_first, source_if_asked, is_asked_above};
 ghost use Rattle.mq_table.specs.MadeSources.{timer_recounted, source_recounted};
@@ -13,27 +13,16 @@ ghost use Rattle.mq_table.specs.Stored.{number_in, size_of};
 
 use crate::group::Group;
 use crate::sources::Source;
-use crate::timers::SourceTimer;
+use crate::timers::{SourceTimer, runs_on};
 use crate::timing::Timing;
 use mq_count::{Key, Meter, Moment};
 use std::cmp::Ordering;
 
-/// Whether a timer runs on after a moment. At most one comparison.
-fn is_above(timer: &SourceTimer, limit: Moment, m: &mut Meter) -> bool
-    ensures answer { result ≡ is_ahead limit (deadline_of (Some timer.now)) }
-    ensures spent { Spends 0 1 m.old m.new }
-{
-    match timer {
-        SourceTimer::Stopped => false,
-        SourceTimer::Running(deadline, _) => !m.reached(*deadline, limit),
-    }
-}
-
-/// Whether the next of the addresses asked for is this one. At most one comparison.
+/// Whether the next of the addresses asked for is this one. One comparison, where there is a next.
 fn is_next<K: Key>(asked: &[K], next: usize, address: K, m: &mut Meter) -> bool
     ensures answer { result ≡ is_first K.number (drop next asked.now) (K.number address) }
     ensures within { result ≡ true → next < length asked.now }
-    ensures spent { Spends 0 1 m.old m.new }
+    ensures spent { Spends (min 1 (length asked.now - next)) 1 m.old m.new }
 {
     if next < asked.len() {
         matches!(asked[next].order(address, m), Ordering::Equal)
@@ -61,7 +50,7 @@ fn ask_each<K: Key>(
     ensures some { let test = is_asked_above K.number limit (set_of K.number asked.now) in
         result ≡ list_any test sources.old.items }
     ensures capacity { vec_capacity sources.new ≡ vec_capacity sources.old }
-    ensures spent { Spends 0 (2 * length sources.old.items) m.old m.new }
+    ensures spent { Spends (min 1 (length asked.now)) (2 * length sources.old.items) m.old m.new }
 {
     let mut next = 0;
     let mut some = false;
@@ -69,7 +58,7 @@ fn ask_each<K: Key>(
         let held = sources[place];
         if is_next(asked, next, held.address, m) {
             next += 1;
-            if is_above(&held.timer, limit, m) {
+            if runs_on(held.timer.deadline(), limit, m) {
                 some = true;
                 sources[place] = Source {
                     address: held.address,
@@ -134,7 +123,7 @@ impl<K: Key> Group<K> {
         ensures some { let lowered = set_of K.number asked.now ∩ above timing.now now self.old.state in
             result ≡ some_source lowered self.old.state }
         ensures room { self.new.room ≡ self.old.room }
-        ensures spent { Spends 0 (2 * size_of self.old.state) m.old m.new }
+        ensures spent { Spends (min 1 (length asked.now)) (2 * size_of self.old.state) m.old m.new }
     {
         let limit = now.after(timing.last_member_time());
         ask_each(

@@ -1,10 +1,7 @@
 //! A source of a group, with its timer.
 
-ghost use Rattle.std.specs.Prelude.{◌≡◌};
-ghost use Rattle.mq_table.specs.Group.{deadline_of, sendings_of};
-
 use crate::timers::SourceTimer;
-use mq_count::{Key, Moment};
+use mq_count::Key;
 use mq_sets::Keyed;
 
 /// A source that a group holds. Slices of sources ascend by their addresses.

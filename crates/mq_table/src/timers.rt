@@ -1,6 +1,10 @@
 //! The filter mode of a group and the timers of its sources.
 
-use mq_count::Moment;
+ghost use Rattle.std.specs.Prelude.{◌≡◌, Some};
+ghost use Rattle.mq_count.specs.Spending.{Spends};
+ghost use Rattle.mq_table.specs.Group.{is_ahead, deadline_of, group_deadline};
+
+use mq_count::{Meter, Moment};
 
 /// The filter mode of a group; in EXCLUDE with the moment up to which the group timer runs, which
 /// RFC 3810 calls the filter timer (RFC 3376 section 6.2.1, RFC 3810 section 7.2.1).
@@ -22,4 +26,40 @@ pub enum SourceTimer {
     /// The deadline, and how many group-and-source-specific queries are still to go for the source
     /// (RFC 3376 section 6.6.3.2, RFC 3810 section 7.6.3.2).
     Running(Moment, u32),
+}
+
+impl FilterMode {
+    /// Up to when the group timer runs, which only EXCLUDE has.
+    pub fn deadline(&self) -> Option<Moment>
+        ensures { result ≡ group_deadline self.now }
+    {
+        match self {
+            FilterMode::Include => None,
+            FilterMode::Exclude(deadline) => Some(*deadline),
+        }
+    }
+}
+
+impl SourceTimer {
+    /// Up to when it runs, if it does.
+    pub fn deadline(&self) -> Option<Moment>
+        ensures { result ≡ deadline_of (Some self.now) }
+    {
+        match self {
+            SourceTimer::Stopped => None,
+            SourceTimer::Running(deadline, _) => Some(*deadline),
+        }
+    }
+}
+
+/// Whether a timer runs on after a moment: whether it has a deadline, and that is later. At most one
+/// comparison.
+pub fn runs_on(deadline: Option<Moment>, moment: Moment, m: &mut Meter) -> bool
+    ensures answer { result ≡ is_ahead moment deadline }
+    ensures spent { Spends 0 1 m.old m.new }
+{
+    match deadline {
+        Some(deadline) => !m.reached(deadline, moment),
+        None => false,
+    }
 }

@@ -3,8 +3,8 @@ use Rattle.std.proofs.Common.{◌≡◌, ℕ, zero, suc, ◌+◌, ◌-◌, ◌*�
 use Rattle.std.proofs.lemmas.Bool.{cases_lt}
 use Rattle.std.proofs.lemmas.Bool.Decides.{nat_tests}
 use Rattle.std.proofs.lemmas.List.{drop-drop}
-use Rattle.mq_text.specs.declared.address_v6.Run.{Run}
-use Rattle.mq_text.specs.AddressV6.{zeros_ahead, longest_zeros, IsFirstLongest, FirstLongestRun}
+use Rattle.mq_text.specs.declared.address_v6.ZeroGroups.{ZeroGroups}
+use Rattle.mq_text.specs.AddressV6.{zeros_ahead, longest_zeros, IsFirstLongest, FirstLongestZeros}
 
 none_in_nothing : (place : ℕ) → zeros_ahead (drop place []) ≤ 0
 none_in_nothing zero = omega arith
@@ -16,13 +16,13 @@ bounded : (group : ℕ) (groups : List ℕ) (most : ℕ) → zeros_ahead (group 
 bounded group groups most here later zero = here
 bounded group groups most here later (suc place) = later place
 
-fewer_before : (group : ℕ) (groups : List ℕ) (run : Run) → zeros_ahead (group ∷ groups) < run.count → IsFirstLongest groups run
+fewer_before : (group : ℕ) (groups : List ℕ) (run : ZeroGroups) → zeros_ahead (group ∷ groups) < run.count → IsFirstLongest groups run
     → (place : ℕ) → place < run.place + 1 → zeros_ahead (drop place (group ∷ groups)) < run.count
 fewer_before group groups run more longest zero before = more
 fewer_before group groups run more longest (suc place) before = longest.first place (omega arith)
 
 -- one group more at the front: the run is the longest that the others have, or the one at the front
-by_front : (group : ℕ) (groups : List ℕ) (later : Run) → IsFirstLongest groups later
+by_front : (group : ℕ) (groups : List ℕ) (later : ZeroGroups) → IsFirstLongest groups later
     → (is_shorter : Bool) → nat_lt (zeros_ahead (group ∷ groups)) later.count ≡ is_shorter
     → IsFirstLongest (group ∷ groups) (if is_shorter then record { place = later.place + 1; count = later.count } else record { place = 0; count = zeros_ahead (group ∷ groups) })
 by_front group groups later longest true shorter =
@@ -40,7 +40,7 @@ by_front group groups later longest false shorter =
       first = λ place before. absurd (omega arith);
     }
 
-pub is_first_longest : FirstLongestRun
+pub is_first_longest : FirstLongestZeros
 is_first_longest [] = record { zeros = refl; longest = none_in_nothing; first = λ place before. absurd (omega arith) }
 is_first_longest (group ∷ groups) = by_front group groups (longest_zeros groups) (is_first_longest groups) (nat_lt (zeros_ahead (group ∷ groups)) (longest_zeros groups).count) refl
 
@@ -64,7 +64,7 @@ not_more (group ∷ groups) (suc some) few = by_first (not_more groups some) (gr
     by_first others true few = let fewer = others (omega (arith, few)) in omega (arith, fewer)
     by_first others false few = absurd (omega (arith, few))
 
-not_before : (groups : List ℕ) (a b : Run) → IsFirstLongest groups a → IsFirstLongest groups b → a.count ≡ b.count → b.place ≤ a.place
+not_before : (groups : List ℕ) (a b : ZeroGroups) → IsFirstLongest groups a → IsFirstLongest groups b → a.count ≡ b.count → b.place ≤ a.place
 not_before groups a b longest_a longest_b same =
     elim (cases_lt a.place b.place) [
       | inl before ↦ let fewer = longest_b.first a.place before in absurd (omega (arith, fewer, longest_a.zeros, same))
@@ -72,7 +72,7 @@ not_before groups a b longest_a longest_b same =
     ]
 
 -- so there is one such run
-one_run : (groups : List ℕ) (a b : Run) → IsFirstLongest groups a → IsFirstLongest groups b → a ≡ b
+one_run : (groups : List ℕ) (a b : ZeroGroups) → IsFirstLongest groups a → IsFirstLongest groups b → a ≡ b
 one_run groups a b longest_a longest_b =
     let up = longest_b.longest a.place in
     let down = longest_a.longest b.place in
@@ -84,7 +84,7 @@ one_run groups a b longest_a longest_b =
 
 -- The first run of all is the longest, where fewer groups stand behind it than it has.
 pub first_run : (groups : List ℕ) (place count : ℕ) → length groups ≡ 8 → ((k : ℕ) → k < place → zeros_ahead (drop k groups) ≡ 0) → zeros_ahead (drop place groups) ≡ count → 0 < count → 8 ≤ place + 2 * count
-    → ◌≡◌ {A = Run} (record { place = place; count = count }) (longest_zeros groups)
+    → ◌≡◌ {A = ZeroGroups} (record { place = place; count = count }) (longest_zeros groups)
 first_run groups place count eight before zeros some many = one_run groups (record { place = place; count = count }) (longest_zeros groups) (record { zeros = zeros; longest = longest; first = first }) (is_first_longest groups)
   where
     first : (k : ℕ) → k < place → zeros_ahead (drop k groups) < count

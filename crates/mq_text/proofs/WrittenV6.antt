@@ -7,7 +7,7 @@ use Rattle.std.proofs.lemmas.Bool.Decides.{nat_tests}
 use Rattle.std.specs.Char.{digit_value}
 use Rattle.std.specs.Fmt.{digit_glyph}
 use Rattle.std.specs.Net.Grammar.{IsGroup}
-use Rattle.mq_text.specs.declared.address_v6.Run.{Run}
+use Rattle.mq_text.specs.declared.address_v6.ZeroGroups.{ZeroGroups}
 use Rattle.mq_text.specs.AddressV6.{groups_of, hexadecimal, with_colons, zeros_ahead, longest_zeros, shortened}
 use Rattle.mq_text.specs.Reading.{AreGroupsBehind, AreGroups, AreShortened, HasGroups}
 use Rattle.std.specs.Int.{w128, to_be_bytes}
@@ -74,7 +74,7 @@ pub written_groups : (groups : List ℕ) → length groups ≡ 8 → AllFit grou
 unfolding HasGroups shortened
 written_groups groups eight fit = by_count (nat_le 2 (longest_zeros groups).count) refl
   where
-    run : Run
+    run : ZeroGroups
     run = longest_zeros groups
 
     by_count : (long : Bool) → nat_le 2 (longest_zeros groups).count ≡ long → (AreGroups (shortened groups (longest_zeros groups)) groups × (length groups ≡ 8)) ⊎ AreShortened (shortened groups (longest_zeros groups)) groups

@@ -3,7 +3,7 @@ use Rattle.std.specs.Prelude.{◌≡◌, ℕ, ◌+◌, ◌*◌, ◌<◌, ◌≤�
 use Rattle.std.specs.Fmt.{digit_glyph}
 use Rattle.std.specs.Int.Digits.{digits_of}
 use Rattle.std.specs.Int.{w128, to_be_bytes}
-use Rattle.mq_text.specs.declared.address_v6.Run.{Run}
+use Rattle.mq_text.specs.declared.address_v6.ZeroGroups.{ZeroGroups}
 
 -- octets as groups of 16 bits, two octets each
 abbrev pub groups_in : List ℕ → List ℕ
@@ -31,7 +31,7 @@ zeros_ahead [] = 0
 zeros_ahead (group ∷ groups) = if group == 0 then zeros_ahead groups + 1 else 0
 
 -- the longest run of zero groups, the first of those that are as long
-abbrev pub longest_zeros : List ℕ → Run
+abbrev pub longest_zeros : List ℕ → ZeroGroups
 longest_zeros [] = record { place = 0; count = 0 }
 longest_zeros (group ∷ groups) =
     let later = longest_zeros groups in
@@ -41,13 +41,13 @@ longest_zeros (group ∷ groups) =
 
 -- A run is the longest of zero groups, and the first of those that are as long: at no place more zero groups
 -- stand one after the other, and at no place before it as many.
-pub record IsFirstLongest (groups : List ℕ) (run : Run) : Type 0 where
+pub record IsFirstLongest (groups : List ℕ) (run : ZeroGroups) : Type 0 where
   pub zeros : zeros_ahead (drop run.place groups) ≡ run.count
   pub longest : (place : ℕ) → zeros_ahead (drop place groups) ≤ run.count
   pub first : (place : ℕ) → place < run.place → zeros_ahead (drop place groups) < run.count
 
 -- groups with `::` in place of that run, where it has at least two
-unfoldable pub shortened : List ℕ → Run → List ℕ
+unfoldable pub shortened : List ℕ → ZeroGroups → List ℕ
 shortened groups run =
     if nat_le 2 run.count
     then with_colons (take run.place groups) ++ codes "::" ++ with_colons (drop (run.place + run.count) groups)
@@ -58,5 +58,5 @@ abbrev pub v6_text : ℕ → List ℕ
 v6_text address = shortened (groups_of address) (longest_zeros (groups_of address))
 
 -- the run that is replaced is the first of the longest
-abbrev pub FirstLongestRun : Type 0
-FirstLongestRun = (groups : List ℕ) → IsFirstLongest groups (longest_zeros groups)
+abbrev pub FirstLongestZeros : Type 0
+FirstLongestZeros = (groups : List ℕ) → IsFirstLongest groups (longest_zeros groups)

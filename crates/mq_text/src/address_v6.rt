@@ -14,7 +14,7 @@ const GLYPHS: [u8; 16] = *b"0123456789abcdef";
 
 /// Consecutive groups of an address: the place of the first, and how many they are.
 #[derive(Clone, Copy)]
-struct Run {
+struct ZeroGroups {
     place: usize,
     count: usize,
 }
@@ -64,14 +64,14 @@ fn group(high: u8, low: u8) -> u16
 
 /// The longest run of zero groups, the first of those that are as long. Mostly that is the first run of all, since
 /// fewer groups than it has are left behind it.
-fn longest_zeros(groups: &[u16; 8]) -> Run
+fn longest_zeros(groups: &[u16; 8]) -> ZeroGroups
     ensures run { result ≡ words.longest_zeros groups.now }
     ensures within { result.place + result.count ≤ 8 }
 {
     let place = first_zero(groups);
     let count = zeros_ahead(&groups[place..]);
     if count > 0 && place + 2 * count >= 8 {
-        return Run { place, count };
+        return ZeroGroups { place, count };
     }
     longest_of_several(groups)
 }
@@ -101,18 +101,18 @@ fn zeros_ahead(groups: &[u16]) -> usize
 }
 
 /// The longest run of zero groups, the first of those that are as long, by a look at each group from the last on.
-fn longest_of_several(groups: &[u16; 8]) -> Run
+fn longest_of_several(groups: &[u16; 8]) -> ZeroGroups
     ensures run { result ≡ words.longest_zeros groups.now }
     ensures within { result.place + result.count ≤ 8 }
 {
-    let mut run = Run { place: 8, count: 0 };
+    let mut run = ZeroGroups { place: 8, count: 0 };
     let mut zeros = 0;
     let mut place = 8;
     while place > 0 {
         place -= 1;
         zeros = if groups[place] == 0 { zeros + 1 } else { 0 };
         if run.count <= zeros {
-            run = Run {
+            run = ZeroGroups {
                 place,
                 count: zeros,
             };

@@ -65,8 +65,8 @@ reads_back Igmp source query w =
 reads_back Mld source query w =
     let message = without_checksum Mld query in
     let long : 4 ≤ length message = omega arith in
-    let signed = length_with_checksum (covered_before Mld source query.group (length message)) message long in
-    subst (λ (len : ℕ). Spells Mld (covered_before Mld source query.group len) (canon Mld source query) (QueryMessage (lowered Mld query w.fields))) (sym signed)
+    let same_length = length_with_checksum (covered_before Mld source query.group (length message)) message long in
+    subst (λ (len : ℕ). Spells Mld (covered_before Mld source query.group len) (canon Mld source query) (QueryMessage (lowered Mld query w.fields))) (sym same_length)
     (subst (λ (version : QueryVersion ℕ). Spells Mld (covered_before Mld source query.group (length (without_checksum Mld (same_version query version)))) (canon Mld source (same_version query version)) (QueryMessage (lowered Mld query w.fields))) (sym w.current)
     (mld_spells source query.group query.response w.fields w.group w.robustness w.counted w.sources))
 

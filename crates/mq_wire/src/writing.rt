@@ -41,8 +41,8 @@ pub(crate) fn write_query<K: WireKey>(
         return Err(Small { needed });
     }
     let message = &mut out[..needed];
-    write_unsigned(head, group, fields, message);
-    sign(pseudo, message);
+    write_without_checksum(head, group, fields, message);
+    write_checksum(pseudo, message);
     Ok(needed)
 }
 
@@ -56,7 +56,12 @@ pub(crate) fn query_length<K: WireKey>(head: &[u8], fields: &QuerierFields<'_, K
 }
 
 /// Writes a query with a checksum of 0 behind these first bytes.
-fn write_unsigned<K: WireKey>(head: &[u8], group: K, fields: &QuerierFields<'_, K>, out: &mut [u8])
+fn write_without_checksum<K: WireKey>(
+    head: &[u8],
+    group: K,
+    fields: &QuerierFields<'_, K>,
+    out: &mut [u8],
+)
     requires counted { length fields.now.sources ≤ 65535 }
     requires room { length head.now + K.WIDTH + 4 + length fields.now.sources * K.WIDTH ≡ length out.old }
     ensures { out.new ≡ head.now ++ big_bytes K.WIDTH (K.number group) ++ fields_bytes K.WIDTH fields.now }
@@ -113,7 +118,7 @@ fn write_fields<K: WireKey>(fields: &QuerierFields<'_, K>, out: &mut [u8])
 }
 
 /// Writes the checksum that the message has behind these bytes into its field.
-fn sign(pseudo: &[u8], message: &mut [u8])
+fn write_checksum(pseudo: &[u8], message: &mut [u8])
     requires header { 4 ≤ length message.old }
     requires even { length pseudo.now % 2 ≡ 0 }
     ensures { message.new ≡ with_checksum pseudo.now message.old }

@@ -1,14 +1,20 @@
--- What printing a failure's line comes to.
-use Rattle.std.proofs.Common.{◌≡◌, ◌||◌, Bool, true, false, List, ℕ, Option, Result, Ok, Err, is_err, inl, inr, ◌∙◌, refl}
+-- What printing on standard error comes to.
+use Rattle.std.proofs.Common.{◌≡◌, ◌||◌, ◌++◌, codes, append_assoc, Bool, List, ℕ, Option, Result, Ok, Err, is_err, inl, inr, ◌∙◌}
+use Rattle.std.proofs.Math.Bool.{or-false, or-true}
 use Rattle.mq_replay.specs.Printing.{Prints}
 use Rattle.mquerier.specs.declared.failure.Failure.{Failure}
-use Rattle.mquerier.specs.Failures.{failure_line}
-use Rattle.mquerier.specs.Status.{Told}
+use Rattle.mquerier.specs.Changes.{Output}
+use Rattle.mquerier.specs.Failures.{failure_text}
+use Rattle.mquerier.specs.Status.{IsTold, Told, TellsLines}
 
-or_true : (b : Bool) → (b || true) ≡ true
-or_true true = refl
-or_true false = refl
+pub told_by_printing : {T E : Type 0} (old new : Option (List ℕ)) (text line : List ℕ) (before after : Bool) (r : Result T E) → Prints old new text r → after ≡ (before || is_err r) → text ≡ line
+    → IsTold (record { old = record { held = old; failed = before }; new = record { held = new; failed = after } }) line
+told_by_printing old new text line before after (Ok x) printed failed is = inl (rw (← is) printed, failed ∙ or-false before)
+told_by_printing old new text line before after (Err e) printed failed is = inr (inr (rw (← is) printed), failed ∙ or-true before)
 
-pub told_by_printing : {T E : Type 0} (old new : Option (List ℕ)) (text : List ℕ) (before after : Bool) (r : Result T E) (failure : Failure) → Prints old new text r → after ≡ (before || is_err r) → text ≡ failure_line failure → Told (record { before = old; after = new; failed = after }) failure
-told_by_printing old new text before after (Ok x) failure printed failed line = inl (rw (← line) printed)
-told_by_printing old new text before after (Err e) failure printed failed line = inr (rw (← line) printed, failed ∙ or_true before)
+-- a failure's line is a text and a line feed
+pub failure_told : (errors : Output) (failure : Failure) → Told errors failure → TellsLines errors
+failure_told errors failure told =
+    let front = codes "mquerier: " in
+    let text = failure_text failure in
+    (front ++ text, rw (append_assoc front text (codes "\n")) told)

@@ -1,3 +1,4 @@
+pub mod Changes
 pub mod Failures
 pub mod HexLine
 pub mod Status

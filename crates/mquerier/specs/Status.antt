@@ -1,41 +1,30 @@
 -- What the program does of what is asked for, and its status.
-use Rattle.std.specs.Prelude.{◌≡◌, ◌≤◌, ◌⊎◌, ℕ, Bool, true, false, List, [], Option, None, Some, Ok, Err, IsErr}
+use Rattle.std.specs.Prelude.{◌≡◌, ◌≤◌, ◌⊎◌, ℕ, Bool, true, false, List, [], ◌++◌, codes, Option, None, Some, Result, Ok, Err, IsErr}
 use Rattle.std.specs.Option.{option_copied}
-use Rattle.std.specs.Io.KnownBytes.{Appends}
 use Rattle.hex.specs.Hex.{decode_of}
 use Rattle.mq_command.specs.declared.Protocol.{Protocol}
 use Rattle.mq_command.specs.declared.Protocol.TheVariants.{Igmp, Mld}
 use Rattle.mq_command.specs.declared.Request.{Request}
 use Rattle.mq_command.specs.declared.Request.TheVariants.{Message, Show}
-use Rattle.mq_pcap.specs.Filling.{Source}
+use Rattle.mq_replay.specs.declared.replay_fault.ReplayFault.{ReplayFault}
 use Rattle.mq_replay.specs.declared.replay_fault.ReplayFault.TheVariants as shown
 use Rattle.mq_replay.specs.Listing.{Shows}
-use Rattle.mq_replay.specs.Printing.{GrowsByBeginning}
 use Rattle.mq_text.specs.Reading.{SpellsV4, SpellsV6}
 use Rattle.mq_wire.specs.Family as family
 use Rattle.mq_wire.specs.PseudoHeader.{pseudo_header}
 use Rattle.mquerier.specs.declared.failure.Failure.{Failure}
 use Rattle.mquerier.specs.declared.failure.Failure.TheVariants.{NoAddresses, NotAnAddress, NotHex, Capture, Memory, Write}
+use Rattle.mquerier.specs.Changes.{Input, Output, Writes, BreaksOff}
 use Rattle.mquerier.specs.Failures.{failure_line}
-use Rattle.mquerier.specs.HexLine.{PrintsHexLine}
+use Rattle.mquerier.specs.HexLine.{IsHexLine}
 
--- A stream that is written on: the bytes that it is known to hold before and after, and whether a call
--- on it has failed by then.
-pub record Stream : Type 0 where
-  pub before : Option (List ℕ)
-  pub after : Option (List ℕ)
-  pub failed : Bool
+-- standard error was told: the text was written, or a beginning of it and then a write failed
+abbrev pub IsTold : (errors : Output) → (text : List ℕ) → Type 0
+IsTold errors text = Writes errors text ⊎ BreaksOff errors text
 
--- a stream that is read, before and after
-pub record Input : Type 0 where
-  pub old : Source
-  pub new : Source
-
--- the failure was told: its line was written, or a beginning of it and then a write failed
-abbrev pub Told : Stream → Failure → Type 0
-Told errors failure =
-    Appends errors.before errors.after (failure_line failure)
-    ⊎ (GrowsByBeginning errors.before errors.after (failure_line failure) × (errors.failed ≡ true))
+-- of a failure it was told the failure's line
+abbrev pub Told : (errors : Output) → Failure → Type 0
+Told errors failure = IsTold errors (failure_line failure)
 
 -- a message of MLD lacks an address
 abbrev pub AreMissing : Protocol → (from to : Option (List ℕ)) → Type 0
@@ -68,54 +57,93 @@ abbrev pub IsAddress : Option (List ℕ) → ℕ → Type 0
 IsAddress None address = ⊥
 IsAddress (Some text) address = SpellsV6 text address
 
--- the line of the message that is asked for was printed, and it has this flag
-abbrev pub PrintsMessage : Protocol → (from to : Option (List ℕ)) → (hex : List ℕ) → Stream → Bool → Type 0
-PrintsMessage Igmp from to hex output flag =
+-- the line of the message that is asked for, or of its fault, as the flag says
+abbrev pub IsAskedLine : Protocol → (from to : Option (List ℕ)) → (hex : List ℕ) → (flag : Bool) → (line : List ℕ) → Type 0
+IsAskedLine Igmp from to hex flag line =
     (IsNoAddress Igmp from → ⊥) × (IsNoAddress Igmp to → ⊥)
-    × PrintsHexLine output.before output.after family.Igmp (λ len. []) hex flag
-PrintsMessage Mld from to hex output flag =
+    × IsHexLine family.Igmp (λ len. []) hex flag line
+IsAskedLine Mld from to hex flag line =
     (source : ℕ) × (destination : ℕ) × IsAddress from source × IsAddress to destination
-    × PrintsHexLine output.before output.after family.Mld (pseudo_header source destination) hex flag
+    × IsHexLine family.Mld (pseudo_header source destination) hex flag line
 
--- What is asked for was done: a line was printed, of a message (true) or of its fault (false), or a capture was
+-- the line of the message that is asked for was written, and it has this flag
+abbrev pub WritesMessage : Protocol → (from to : Option (List ℕ)) → (hex : List ℕ) → Output → (flag : Bool) → Type 0
+WritesMessage protocol from to hex output flag =
+    (line : List ℕ) × IsAskedLine protocol from to hex flag line × Writes output line
+
+-- a capture was shown, with this answer
+abbrev pub WritesListing : Input → Output → Result ℕ ReplayFault → Type 0
+WritesListing input output answer = Shows input.old input.new output.old.held output.new.held answer
+
+-- What is asked for was done: a line was written, of a message (true) or of its fault (false), or a capture was
 -- shown to its end.
-abbrev pub IsDone : Request → Input → Stream → Bool → Type 0
+abbrev pub IsDone : Request → Input → Output → (flag : Bool) → Type 0
 IsDone (Message protocol hex from to) input output flag =
-    PrintsMessage protocol (option_copied from) (option_copied to) hex.now output flag
+    WritesMessage protocol (option_copied from) (option_copied to) hex.now output flag
 IsDone Show input output flag =
-    (flag ≡ true) × (count : ℕ) × Shows input.old input.new output.before output.after (Ok count)
+    (flag ≡ true) × (output.new.failed ≡ output.old.failed) × (count : ℕ) × WritesListing input output (Ok count)
 
--- memory ran out, or a write to the output failed
-abbrev pub IsBrokenOff : (output : Stream) → Failure → Type 0
-IsBrokenOff output Memory = Unit {0}
-IsBrokenOff output Write = output.failed ≡ true
-IsBrokenOff output failure = ⊥
+-- Why a message's line was not written: memory ran out, before any of it was, or the output failed behind a
+-- beginning of it.
+abbrev pub IsBrokenMessage : Protocol → (from to : Option (List ℕ)) → (hex : List ℕ) → Output → Failure → Type 0
+IsBrokenMessage protocol from to hex output Memory = output.new ≡ output.old
+IsBrokenMessage protocol from to hex output Write =
+    (flag : Bool) × (line : List ℕ) × IsAskedLine protocol from to hex flag line × BreaksOff output line
+IsBrokenMessage protocol from to hex output failure = ⊥
 
--- Why the status is 1, where no message's fault was printed: one of these, or the capture has a fault, all lines
--- before which were printed.
-abbrev pub IsBroken : Request → Input → (output : Stream) → Failure → Type 0
-IsBroken (Message protocol hex from to) input output failure = IsBrokenOff output failure
-IsBroken Show input output (Capture f) = Shows input.old input.new output.before output.after (Err (shown.Pcap f))
-IsBroken Show input output failure = IsBrokenOff output failure
+-- Why a capture was not shown to its end: it has a fault, and all lines before that were written; memory ran out,
+-- before anything was read or written; or the output failed, behind a beginning of the lines or, at the flush
+-- behind them, all of those that were to be written.
+abbrev pub IsBrokenListing : Input → Output → Failure → Type 0
+IsBrokenListing input output (Capture f) =
+    (output.new.failed ≡ output.old.failed) × WritesListing input output (Err (shown.Pcap f))
+IsBrokenListing input output Memory = (input.new ≡ input.old) × (output.new ≡ output.old)
+IsBrokenListing input output Write =
+    (output.new.failed ≡ true)
+    × (answer : Result ℕ ReplayFault) × (answer ≡ Err shown.Memory → ⊥) × WritesListing input output answer
+IsBrokenListing input output failure = ⊥
 
-abbrev pub IsFaulty : Request → Input → (output errors : Stream) → Type 0
+-- why the status is 1, where no message's fault was written
+abbrev pub IsBroken : Request → Input → Output → Failure → Type 0
+IsBroken (Message protocol hex from to) input output failure =
+    IsBrokenMessage protocol (option_copied from) (option_copied to) hex.now output failure
+IsBroken Show input output failure = IsBrokenListing input output failure
+
+-- a message's fault was written and standard error told nothing, or the work broke off and that was told
+abbrev pub IsFaulty : Request → Input → (output errors : Output) → Type 0
 IsFaulty request input output errors =
-    IsDone request input output false
+    (IsDone request input output false × (errors.new ≡ errors.old))
     ⊎ ((failure : Failure) × IsBroken request input output failure × Told errors failure)
 
+-- a request for a message, which doesn't read the input
+abbrev pub IsOfMessage : Request → Type 0
+IsOfMessage (Message protocol hex from to) = Unit {0}
+IsOfMessage Show = ⊥
+
 -- What is asked for was done, or not, and this is the status.
-pub record Performs (request : Request) (input : Input) (output errors : Stream) (status : ℕ) : Type 0 where
+pub record Performs (request : Request) (input : Input) (output errors : Output) (status : ℕ) : Type 0 where
   pub at_most_two : status ≤ 2
-  pub done : status ≡ 0 → IsDone request input output true
+  pub done : status ≡ 0 → IsDone request input output true × (errors.new ≡ errors.old)
   pub faulty : status ≡ 1 → IsFaulty request input output errors
   -- only a faulty request is refused, and that is told
-  pub refused : status ≡ 2 → (failure : Failure) × IsRefused request failure × Told errors failure
+  pub refused : status ≡ 2 → (output.new ≡ output.old) × (failure : Failure) × IsRefused request failure × Told errors failure
+  pub unread : IsOfMessage request → input.new ≡ input.old
 
--- Without a request the status is 2, or 1 where memory ran out and that was told.
-abbrev pub IsUnread : Stream → ℕ → Type 0
-IsUnread errors status = (status ≡ 2) ⊎ ((status ≡ 1) × Told errors Memory)
+-- standard error was told some text, which is a line at least
+abbrev pub TellsLines : (errors : Output) → Type 0
+TellsLines errors = (text : List ℕ) × IsTold errors (text ++ codes "\n")
+
+-- There is no request: standard error was told why, and the status is 2, or that memory ran out, and it is 1.
+abbrev pub IsWordless : (errors : Output) → (status : ℕ) → Type 0
+IsWordless errors status = ((status ≡ 2) × TellsLines errors) ⊎ ((status ≡ 1) × Told errors Memory)
+
+-- the same, where nothing was read or written besides
+pub record IsUnread (input : Input) (output errors : Output) (status : ℕ) : Type 0 where
+  pub unread : input.new ≡ input.old
+  pub unwritten : output.new ≡ output.old
+  pub told : IsWordless errors status
 
 -- A run reads a request and performs it, or reads none.
-abbrev pub Runs : Input → (output errors : Stream) → ℕ → Type 0
+abbrev pub Runs : Input → (output errors : Output) → (status : ℕ) → Type 0
 Runs input output errors status =
-    ((request : Request) × Performs request input output errors status) ⊎ IsUnread errors status
+    ((request : Request) × Performs request input output errors status) ⊎ IsUnread input output errors status

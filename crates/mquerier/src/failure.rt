@@ -1,13 +1,12 @@
 //! Why the program did not do what it was asked for, and what standard error is told.
 
-ghost use Rattle.std.specs.Prelude.{◌≡◌, ◌≤◌, ◌+◌, ◌++◌, codes, length};
+ghost use Rattle.std.specs.Prelude.{◌≡◌, ◌≤◌, ◌++◌, codes, length};
 ghost use Rattle.std.specs.Fmt.{decimal};
 ghost use Rattle.arrayvec.specs.ArrayVec.{array_vec_len};
 ghost use Rattle.mquerier.specs.Failures.{status_of, failure_line, failure_text, capture_text};
 
-use arrayvec::ArrayVec;
-use mq_count::write_decimal;
 use mq_pcap::PcapFault;
+use mq_text::{Text, put, put_decimal};
 
 /// The statuses of the program.
 pub const DONE: u8 = 0;
@@ -15,12 +14,6 @@ pub const DONE: u8 = 0;
 pub const FAULTY: u8 = 1;
 
 pub const REFUSED: u8 = 2;
-
-/// The most bytes of a failure's line.
-const LINE: usize = 64;
-
-/// What standard error is told.
-pub type FailureLine = ArrayVec<u8, LINE>;
 
 /// Why the program did not do what it was asked for.
 #[derive(Clone, Copy, Debug, PartialEq, Eq)]
@@ -40,10 +33,10 @@ pub enum Failure {
 }
 
 /// What standard error is told of a failure.
-pub fn line_of(failure: Failure) -> FailureLine
+pub fn line_of(failure: Failure) -> Text
     ensures { result.items ≡ failure_line failure }
 {
-    let mut line = FailureLine::new();
+    let mut line = Text::new();
     put(&mut line, b"mquerier: ");
     put_failure(&mut line, failure);
     put(&mut line, b"\n");
@@ -60,7 +53,7 @@ pub fn status_of_failure(failure: Failure) -> u8
     }
 }
 
-fn put_failure(line: &mut FailureLine, failure: Failure)
+fn put_failure(line: &mut Text, failure: Failure)
     requires { array_vec_len line.old ≡ 10 }
     ensures text { line.new.items ≡ line.old.items ++ failure_text failure }
     ensures room { array_vec_len line.new ≤ 60 }
@@ -75,7 +68,7 @@ fn put_failure(line: &mut FailureLine, failure: Failure)
     }
 }
 
-fn put_capture(line: &mut FailureLine, fault: PcapFault)
+fn put_capture(line: &mut Text, fault: PcapFault)
     requires { array_vec_len line.old ≡ 10 }
     ensures text { line.new.items ≡ line.old.items ++ capture_text fault }
     ensures room { array_vec_len line.new ≤ 60 }
@@ -92,7 +85,7 @@ fn put_capture(line: &mut FailureLine, fault: PcapFault)
     }
 }
 
-fn put_at_record(line: &mut FailureLine, fault: &[u8], number: u64)
+fn put_at_record(line: &mut Text, fault: &[u8], number: u64)
     requires start { array_vec_len line.old ≡ 10 }
     requires short { length fault.now ≤ 15 }
     ensures text { line.new.items ≡ line.old.items ++ (fault.now ++ codes " at record " ++ decimal number) }
@@ -100,15 +93,5 @@ fn put_at_record(line: &mut FailureLine, fault: &[u8], number: u64)
 {
     put(line, fault);
     put(line, b" at record ");
-    let mut digits = [0; 20];
-    let len = write_decimal(number, &mut digits);
-    put(line, &digits[..len]);
-}
-
-fn put(line: &mut FailureLine, text: &[u8])
-    requires { array_vec_len line.old + length text.now ≤ 64 }
-    ensures text { line.new.items ≡ line.old.items ++ text.now }
-    ensures room { array_vec_len line.new ≡ array_vec_len line.old + length text.now }
-{
-    line.try_extend_from_slice(text).unwrap()
+    put_decimal(line, number);
 }

@@ -1,24 +1,27 @@
 //! What the program does with its words and streams.
 
-ghost use Rattle.std.specs.Prelude.{◌≡◌, ◌≤◌};
-ghost use Rattle.mq_count.specs.Streams.{inner_of, has_failed, taken_from};
-ghost use Rattle.mq_pcap.specs.Filling.{Source};
+ghost use Rattle.std.specs.Prelude.{◌≡◌, ◌≤◌, ◌||◌, ◌++◌, codes, is_err};
+ghost use Rattle.mq_count.specs.Streams.{inner_of, has_failed};
+ghost use Rattle.mq_replay.specs.Printing.{Prints};
+ghost use Rattle.mquerier.specs.Changes.{input_by, output_by};
 ghost use Rattle.mquerier.specs.Failures.{status_of};
-ghost use Rattle.mquerier.specs.Status.{Input, Stream, Told, Performs, Runs};
+ghost use Rattle.mquerier.specs.Status.{IsOfMessage, IsWordless, TellsLines, Told, Performs, Runs};
 
 use crate::failure::{DONE, FAULTY, Failure, REFUSED, line_of, status_of_failure};
 use crate::work::work;
+use clap::Error;
 use clap::error::ErrorKind;
 use mq_command::{Request, request_of};
 use mq_count::Watched;
-use mq_replay::print;
+use mq_replay::{LineFault, print};
 use std::alloc::Global;
 use std::convert::AsStr;
 use std::io::{Read, Write};
 
 /// Reads the words, the program's name the first of them, and then performs what they ask for:
 /// `request_of` and `perform`, one after the other. A command line that is refused, or that asks for
-/// help, has the text of `clap` on `errors` and the status 2, and leaves the output as it was.
+/// help, has the text of `clap` on `errors`, as one line or several, and the status 2, and leaves the input and
+/// the output as they were.
 pub fn run<S: AsStr, R: Read, W: Write, E: Write>(
     alloc: Global,
     words: &[S],
@@ -26,20 +29,43 @@ pub fn run<S: AsStr, R: Read, W: Write, E: Write>(
     output: &mut Watched<W>,
     errors: &mut Watched<E>,
 ) -> u8
-    ensures runs { let inp : Input = record { old = record { ahead = R.remaining (inner_of input.old); taken = taken_from input.old; failed = has_failed input.old }; new = record { ahead = R.remaining (inner_of input.new); taken = taken_from input.new; failed = has_failed input.new } } in
-        let out : Stream = record { before = W.contents (inner_of output.old); after = W.contents (inner_of output.new); failed = has_failed output.new } in
-        let err : Stream = record { before = E.contents (inner_of errors.old); after = E.contents (inner_of errors.new); failed = has_failed errors.new } in
-        Runs inp out err result }
+    ensures runs { Runs
+        (input_by R.remaining input.old input.new)
+        (output_by W.contents output.old output.new)
+        (output_by E.contents errors.old errors.new)
+        result }
+    // Status 2 reads and writes nothing, and is told.
     ensures refused { result ≡ 2 → output.new ≡ output.old }
+    ensures unread { result ≡ 2 → input.new ≡ input.old }
+    ensures told { result ≡ 2 → TellsLines (output_by E.contents errors.old errors.new) }
 {
     match request_of(alloc, words) {
         Ok(request) => perform(alloc, &request, input, output, errors),
         Err(error) if error.kind() == ErrorKind::OutOfMemory => told(Failure::Memory, errors),
-        Err(error) => {
-            let _ = write!(errors, "{error}");
-            REFUSED
-        }
+        Err(error) => refused(alloc, &error, errors),
     }
+}
+
+/// Says on standard error what `clap` says of the words, and answers the status.
+fn refused<E: Write>(alloc: Global, error: &Error, errors: &mut Watched<E>) -> u8
+    ensures { IsWordless (output_by E.contents errors.old errors.new) result }
+{
+    let Ok(text) = error.to_string(alloc) else {
+        return told(Failure::Memory, errors);
+    };
+    let _ = print_line(text.trim_end(), errors);
+    REFUSED
+}
+
+/// Prints a text as a line.
+fn print_line<W: Write>(text: &str, writer: &mut Watched<W>) -> Result<(), LineFault>
+    ensures text { Prints
+        (W.contents (inner_of writer.old)) (W.contents (inner_of writer.new))
+        (text.now ++ codes "\n") result }
+    ensures failed { has_failed writer.new ≡ has_failed writer.old || is_err result }
+{
+    print(text.as_bytes(), writer)?;
+    print(b"\n", writer)
 }
 
 /// Does what is asked for, and answers the status: 0 where it is done; 1 where the input is faulty, the
@@ -52,12 +78,14 @@ pub fn perform<R: Read, W: Write, E: Write>(
     output: &mut Watched<W>,
     errors: &mut Watched<E>,
 ) -> u8
-    ensures performs { let inp : Input = record { old = record { ahead = R.remaining (inner_of input.old); taken = taken_from input.old; failed = has_failed input.old }; new = record { ahead = R.remaining (inner_of input.new); taken = taken_from input.new; failed = has_failed input.new } } in
-        let out : Stream = record { before = W.contents (inner_of output.old); after = W.contents (inner_of output.new); failed = has_failed output.new } in
-        let err : Stream = record { before = E.contents (inner_of errors.old); after = E.contents (inner_of errors.new); failed = has_failed errors.new } in
-        Performs request.now inp out err result }
-    // What is refused leaves the output as it was.
+    ensures performs { Performs request.now
+        (input_by R.remaining input.old input.new)
+        (output_by W.contents output.old output.new)
+        (output_by E.contents errors.old errors.new)
+        result }
+    // What is refused leaves the output as it was, and a message the input.
     ensures refused { result ≡ 2 → output.new ≡ output.old }
+    ensures unread { IsOfMessage request.now → input.new ≡ input.old }
 {
     match work(alloc, request, input, output) {
         Ok(true) => DONE,
@@ -69,8 +97,7 @@ pub fn perform<R: Read, W: Write, E: Write>(
 /// Says on standard error what failed, and answers the status.
 fn told<E: Write>(failure: Failure, errors: &mut Watched<E>) -> u8
     ensures status { result ≡ status_of failure }
-    ensures line { let err : Stream = record { before = E.contents (inner_of errors.old); after = E.contents (inner_of errors.new); failed = has_failed errors.new } in
-        Told err failure }
+    ensures line { Told (output_by E.contents errors.old errors.new) failure }
 {
     let _ = print(line_of(failure).as_slice(), errors);
     status_of_failure(failure)

@@ -1,15 +1,15 @@
 //! The work that is asked for.
 
-ghost use Rattle.std.specs.Prelude.{◌≡◌, ◌||◌, true, false, MatchResult, is_err};
+ghost use Rattle.std.specs.Prelude.{◌≡◌, ◌||◌, true, false, IfErr, MatchResult, is_err};
 ghost use Rattle.std.specs.Option.{option_copied};
 ghost use Rattle.std.specs.Io.KnownBytes.{Keeps};
 ghost use Rattle.hex.specs.Hex.{decode_of};
 ghost use Rattle.mq_command.specs.declared.Request.TheVariants.{Show};
 ghost use Rattle.mq_command.specs.declared.Protocol.TheVariants.{Igmp, Mld};
-ghost use Rattle.mq_count.specs.Streams.{inner_of, has_failed, taken_from};
-ghost use Rattle.mq_pcap.specs.Filling.{Source};
-ghost use Rattle.mquerier.specs.Status.{Input, Stream, IsNoAddress};
-ghost use Rattle.mquerier.specs.Working.{IsRefusal, IsUndecoded, Works, WorksOnMessage};
+ghost use Rattle.mq_count.specs.Streams.{inner_of, has_failed};
+ghost use Rattle.mquerier.specs.Changes.{input_by, output_by};
+ghost use Rattle.mquerier.specs.Status.{IsNoAddress, IsOfMessage};
+ghost use Rattle.mquerier.specs.Working.{IsRefusal, IsUndecoded, IsUnwritten, Works, WorksOnMessage};
 
 use crate::failure::Failure;
 use hex::FromHexError;
@@ -27,10 +27,12 @@ pub fn work<R: Read, W: Write>(
     input: &mut Watched<R>,
     output: &mut Watched<W>,
 ) -> Result<bool, Failure>
-    ensures works { let inp : Input = record { old = record { ahead = R.remaining (inner_of input.old); taken = taken_from input.old; failed = has_failed input.old }; new = record { ahead = R.remaining (inner_of input.new); taken = taken_from input.new; failed = has_failed input.new } } in
-        let out : Stream = record { before = W.contents (inner_of output.old); after = W.contents (inner_of output.new); failed = has_failed output.new } in
-        Works request.now inp out result }
-    ensures untouched { IsRefusal result → output.new ≡ output.old }
+    ensures works { Works request.now
+        (input_by R.remaining input.old input.new)
+        (output_by W.contents output.old output.new)
+        result }
+    ensures unwritten { IsUnwritten result → output.new ≡ output.old }
+    ensures unread { IsOfMessage request.now → input.new ≡ input.old }
 {
     match request {
         Request::Message {
@@ -52,9 +54,10 @@ fn message<W: Write>(
     to: Option<&str>,
     output: &mut Watched<W>,
 ) -> Result<bool, Failure>
-    ensures works { let out : Stream = record { before = W.contents (inner_of output.old); after = W.contents (inner_of output.new); failed = has_failed output.new } in
-        WorksOnMessage protocol (option_copied from.entry) (option_copied to.entry) hex.now out result }
-    ensures untouched { IsRefusal result → output.new ≡ output.old }
+    ensures works { WorksOnMessage protocol (option_copied from.entry) (option_copied to.entry) hex.now
+        (output_by W.contents output.old output.new)
+        result }
+    ensures unwritten { IsUnwritten result → output.new ≡ output.old }
 {
     match protocol {
         Protocol::Igmp => igmp_message(alloc, hex, from, to, output),
@@ -70,9 +73,10 @@ fn igmp_message<W: Write>(
     to: Option<&str>,
     output: &mut Watched<W>,
 ) -> Result<bool, Failure>
-    ensures works { let out : Stream = record { before = W.contents (inner_of output.old); after = W.contents (inner_of output.new); failed = has_failed output.new } in
-        WorksOnMessage Igmp (option_copied from.entry) (option_copied to.entry) hex.now out result }
-    ensures untouched { IsRefusal result → output.new ≡ output.old }
+    ensures works { WorksOnMessage Igmp (option_copied from.entry) (option_copied to.entry) hex.now
+        (output_by W.contents output.old output.new)
+        result }
+    ensures unwritten { IsUnwritten result → output.new ≡ output.old }
 {
     if is_no_v4(from) || is_no_v4(to) {
         return Err(Failure::NotAnAddress);
@@ -104,9 +108,10 @@ fn mld_message<W: Write>(
     to: Option<&str>,
     output: &mut Watched<W>,
 ) -> Result<bool, Failure>
-    ensures works { let out : Stream = record { before = W.contents (inner_of output.old); after = W.contents (inner_of output.new); failed = has_failed output.new } in
-        WorksOnMessage Mld (option_copied from.entry) (option_copied to.entry) hex.now out result }
-    ensures untouched { IsRefusal result → output.new ≡ output.old }
+    ensures works { WorksOnMessage Mld (option_copied from.entry) (option_copied to.entry) hex.now
+        (output_by W.contents output.old output.new)
+        result }
+    ensures unwritten { IsUnwritten result → output.new ≡ output.old }
 {
     let Some(from) = from else {
         return Err(Failure::NoAddresses);
@@ -145,10 +150,12 @@ fn listing<R: Read, W: Write>(
     input: &mut Watched<R>,
     output: &mut Watched<W>,
 ) -> Result<bool, Failure>
-    ensures works { let inp : Input = record { old = record { ahead = R.remaining (inner_of input.old); taken = taken_from input.old; failed = has_failed input.old }; new = record { ahead = R.remaining (inner_of input.new); taken = taken_from input.new; failed = has_failed input.new } } in
-        let out : Stream = record { before = W.contents (inner_of output.old); after = W.contents (inner_of output.new); failed = has_failed output.new } in
-        Works Show inp out result }
+    ensures works { Works Show
+        (input_by R.remaining input.old input.new)
+        (output_by W.contents output.old output.new)
+        result }
     ensures accepted { IsRefusal result → ⊥ }
+    ensures unwritten { IsUnwritten result → output.new ≡ output.old }
 {
     match show(alloc, input, output) {
         Ok(_) => {
@@ -168,7 +175,7 @@ fn listing<R: Read, W: Write>(
 fn flush<W: Write>(output: &mut Watched<W>) -> Result<(), Failure>
     ensures bytes { Keeps (W.contents (inner_of output.old)) (W.contents (inner_of output.new)) }
     ensures failed { has_failed output.new ≡ has_failed output.old || is_err result }
-    ensures write { (failure : Failure) → result ≡ Err failure → failure ≡ Failure.Write }
+    ensures write { IfErr result (λ failure. failure ≡ Failure.Write) }
 {
     match output.flush() {
         Ok(()) => Ok(()),

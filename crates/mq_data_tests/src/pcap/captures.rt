@@ -3,7 +3,7 @@
 
 use crate::facts::{expect_none_wrong, expect_none_wrong_at, expect_that};
 use mq_count::{Faulty, Watched};
-use mq_pcap::{LinkType, Packet, PcapFault, PcapReader};
+use mq_pcap::{GREATEST_PACKET, LinkType, Packet, PcapFault, PcapReader};
 use std::alloc::Global;
 use std::io::Read;
 use std::process::Abort;
@@ -16,11 +16,8 @@ const CAPTURE: &[u8] =
 const TOO_LONG: &[u8] =
     b"\xd4\xc3\xb2\xa1\x02\x00\x04\x00\x00\x00\x00\x00\x00\x00\x00\x00\x00\x00\x04\x00\x01\x00\x00\x00\x00\x00\x00\x00\x00\x00\x00\x00\x01\x00\x04\x00\x3c\x00\x00\x00";
 
-/// The least length of a buffer.
-const LEAST: usize = 262_144;
-
 fn new_buffer(rt: &impl Abort, alloc: Global) -> Vec<u8> {
-    vec![in alloc; 0; LEAST].expect(rt, "memory for a buffer")
+    vec![in alloc; 0; GREATEST_PACKET].expect(rt, "memory for a buffer")
 }
 
 /// What a call for the next packet answers.
@@ -79,7 +76,7 @@ fn is_next<R: Read>(
     buffer: &mut [u8],
     name: Name,
 ) -> bool {
-    LEAST <= buffer.len() && pcap.next(reader, buffer) == answer_of(name)
+    GREATEST_PACKET <= buffer.len() && pcap.next(reader, buffer) == answer_of(name)
 }
 
 /// What is wrong with a capture that is read.

@@ -37,7 +37,7 @@ fn replace(pool: &mut Pool<u16>, place: usize, row: &[u16]) -> bool {
         return false;
     }
     let had = pool.row(place).len();
-    if pool.room() < row.len().saturating_sub(had) {
+    if pool.free_cells() < row.len().saturating_sub(had) {
         return false;
     }
     pool.replace(place, row);
@@ -84,7 +84,7 @@ fn wrong_rows(pool: &Pool<u16>, limits: (usize, usize), want: &[&[u16]]) -> Opti
     let Some(used) = cells_of(pool, want) else {
         return Some("the rows");
     };
-    if pool.room() != cells.saturating_sub(used) {
+    if pool.free_cells() != cells.saturating_sub(used) {
         return Some("the room");
     }
     if pool.free_rows() != rows.saturating_sub(want.len()) {
@@ -225,7 +225,7 @@ fn takes_row(pool: &mut Pool<u16>, place: usize, length: usize) -> bool {
 
 /// Whether the first of two rows can go, and the other can have all cells.
 fn takes_all_cells(pool: &mut Pool<u16>) -> bool {
-    remove_row(pool, 0) && replace(pool, 0, &NINES) && pool.room() == 0
+    remove_row(pool, 0) && replace(pool, 0, &NINES) && pool.free_cells() == 0
 }
 
 /// Puts two rows of these lengths into an empty pool, and then fills it with one. What is wrong, in a pool with
@@ -240,7 +240,7 @@ fn wrong_turn(pool: &mut Pool<u16>, first: usize, second: usize) -> Option<&'sta
     if !takes_all_cells(pool) {
         return Some("a row of all cells");
     }
-    if !remove_row(pool, 0) || pool.room() != 20 {
+    if !remove_row(pool, 0) || pool.free_cells() != 20 {
         return Some("no row");
     }
     None
@@ -275,7 +275,7 @@ fn wrong_beside(pool: &Pool<u16>, plain: &[Vec<u16>]) -> Option<&'static str> {
         }
         used = used.saturating_add(row.len());
     }
-    if pool.room().saturating_add(used) != 40 {
+    if pool.free_cells().saturating_add(used) != 40 {
         return Some("the room");
     }
     None

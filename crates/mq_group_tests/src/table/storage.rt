@@ -124,7 +124,7 @@ fn heads_and_rows(rt: HostRuntime) -> Result<(), Fail> {
     let mut group: Group<Addr4> = Group::vacant(rt.alloc());
     assert!(rt; take_steps(rt.alloc(), &mut group, &HEARD));
     let mut lent = Group::with_room(rt.alloc(), 4).expect(&rt, "memory for a group");
-    let row = group.row();
+    let row = group.sources();
     assert!(rt; row.len() <= 4);
     lent.load(group.head(), row);
     expect(line_fails(rt.alloc(), &lent, "exclude 260000 !a !b v2 260000"))

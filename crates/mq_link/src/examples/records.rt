@@ -1,4 +1,4 @@
-//! What single records become: each line of the tables at a router that isn't querier, each refusal, and records that
+//! What single records become: each row of the tables at a router that isn't querier, each refusal, and records that
 //! meet one group.
 
 ghost use Rattle.std.specs.Prelude.{◌≡◌, [], ◌∷◌, ◌++◌, true, false, Some, None};

@@ -1,4 +1,4 @@
-use Rattle.std.proofs.Common.{◌≡◌, ap, sym, ◌∙◌}
+use Rattle.std.proofs.Common.{ap, sym, ◌∙◌}
 use Rattle.mq_table.specs.declared.timing.Timing.{Timing}
 use Rattle.mq_sched.specs.Election.{ticked, general_messages}
 use Rattle.mq_sched.specs.StoredElection.{RouterElection}

@@ -2,4 +2,4 @@ use Rattle.std.proofs.Common.{refl}
 use Rattle.mq_link.proofs.due.send_general.Goals as goal
 
 pub returns-then-is_due : goal.returns-then-is_due
-returns-then-is_due g c = rw c.if-is_due.true (c.send.new.self, c.send.ensures, refl)
+returns-then-is_due g c = rw c.if-is_due.true (c.send_general.new.self, c.send_general.ensures, refl)

@@ -1,9 +1,5 @@
-use Rattle.std.proofs.Common.{◌≡◌, ℕ, ◌<◌, Bool, false, length, sym, ap, ◌∙◌, arith}
+use Rattle.std.proofs.Common.{◌<◌, length, ◌∙◌, arith}
 use Rattle.std.proofs.lemmas.Bool.Decides.{nat_tests}
-use Rattle.mq_wire.specs.declared.query.QueryVersion.{QueryVersion}
-use Rattle.mq_wire.specs.Numbered.{numbered_version}
-use Rattle.mq_table.specs.Lowering.{lowered_by_query}
-use Rattle.mq_link.specs.Heard.{suppresses, asked_by, some_named}
 use Rattle.mq_link.proofs.LoweredSoFar.{lowered_as_set}
 use Rattle.mq_link.proofs.lowering.lower.Goals as goal
 

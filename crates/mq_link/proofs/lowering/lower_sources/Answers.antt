@@ -1,9 +1,6 @@
-use Rattle.std.proofs.Common.{ℕ, List, [], ◌∷◌, ◌++◌, length, ap, ◌∙◌, sym, refl, arith, eqb}
+use Rattle.std.proofs.Common.{ℕ, List, [], ◌∷◌, ◌++◌, ap, ◌∙◌, sym, refl, arith, eqb}
 use Rattle.std.specs.List.{list_any}
-use Rattle.mq_count.proofs.Spent.{Spends-none}
-use Rattle.mq_sets.specs.Search.{bitlen}
 use Rattle.mq_table.specs.Lowering.{sources_lowered}
-use Rattle.mq_table.specs.Stored.{size_of}
 use Rattle.mq_link.proofs.LoweredSoFar.{none_lowered, one_lowered, all_lowered}
 use Rattle.mq_link.proofs.lowering.lower_sources.Goals as goal
 

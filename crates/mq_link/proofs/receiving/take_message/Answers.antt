@@ -1,7 +1,8 @@
-use Rattle.std.proofs.Common.{◌≡◌, ap, refl}
-use Rattle.mq_sched.specs.StoredElection.{RouterElection}
+use Rattle.std.proofs.Common.{◌≡◌, refl}
+use Rattle.mq_link.specs.Hearing.{ArePartsOf}
 use Rattle.mq_link.specs.Link.{state_in}
 use Rattle.mq_link.specs.Receive.{taken_in}
+use Rattle.mq_link.specs.State.{LinkState}
 use Rattle.mq_link.proofs.LinkStored.{served_in}
 use Rattle.mq_link.proofs.receiving.take_message.Goals as goal
 
@@ -13,9 +14,17 @@ pub returns-in-Query-clause-taken : goal.returns-in-Query-clause-taken
 unfolding taken_in
 returns-in-Query-clause-taken g c =
     let source = c.source-source.ensures in
+    let config = c.args.config.now in
+    let state : LinkState = state_in c.args.held.now c.args.election.now c.args.now c.args.counts.now in
+    let parts : ArePartsOf config state c.args.election.now c.args.held.now.groups = record {
+      own = c.requires.own;
+      configured = c.requires.configured;
+      election = refl;
+      groups = refl;
+    } in
     rw (c.in-Query.is, ← source) (record {
-      groups_are = c.hear.ensures.groups;
-      election_is = ap (λ (e : RouterElection). e.state) c.hear.ensures.election;
+      groups_are = c.hear.ensures.groups config state parts;
+      election_is = c.hear.ensures.election config state parts;
       counters_are = refl;
       answer_is = refl;
     })

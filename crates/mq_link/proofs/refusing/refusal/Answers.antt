@@ -1,5 +1,4 @@
-use Rattle.std.proofs.Common.{◌≡◌, ◌+◌, ◌-◌, ℕ, Bool, cond, not, refl, sym, ap, ◌∙◌, arith}
-use Rattle.mq_table.specs.declared.timing.Timing.{Timing}
+use Rattle.std.proofs.Common.{◌≡◌, ◌+◌, ◌-◌, cond, not, sym, ap, ◌∙◌, arith}
 use Rattle.mq_table.specs.Group.{is_vacant}
 use Rattle.mq_sched.specs.Schedule.{ScheduledGroup}
 use Rattle.mq_sched.specs.Sending.{after_round}

@@ -1,4 +1,4 @@
-use Rattle.std.proofs.Common.{ℕ, ◌≤◌, ap, arith}
+use Rattle.std.proofs.Common.{◌≤◌, ap, arith}
 use Rattle.mq_count.proofs.Spent.{Spends-join_within}
 use Rattle.mq_table.specs.Stored.{size_of}
 use Rattle.mq_link.proofs.Bounds.{expired_size}

@@ -1,4 +1,4 @@
-use Rattle.std.proofs.Common.{sym, ap, ◌∙◌}
+use Rattle.std.proofs.Common.{sym, ◌∙◌}
 use Rattle.mq_sched.specs.Schedule.{ScheduledGroup}
 use Rattle.mq_link.proofs.KeptGroups.{has_place_within, absent_unheld}
 use Rattle.mq_link.proofs.storing.load.Goals as goal

@@ -1,7 +1,7 @@
 use Rattle.std.proofs.Common.{◌∙◌, ℕ, ap, arith}
 use Rattle.std.proofs.lemmas.Bool.Decides.{nat_tests}
 use Rattle.mq_count.specs.Streams.{counted_on}
-use Rattle.mq_pcap.specs.Filling.{Takes}
+use Rattle.mq_pcap.specs.Filling.{Takes, input_of}
 use Rattle.mq_pcap.proofs.Filled.{filled_none, filled_more}
 use Rattle.mq_pcap.proofs.filling.fill.Goals as goal
 
@@ -11,7 +11,7 @@ loop-count-init g c = filled_none _ _
 pub loop-count-preserved : goal.loop-count-preserved
 loop-count-preserved g c =
     let ensures = c.in-Ok.ensures in
-    let takes : Takes (record { ahead = g.R.Read.remaining c.loop-count.reader.inner; taken = c.loop-count.reader.taken; failed = c.loop-count.reader.failed }) (record { ahead = g.R.Read.remaining c.read.new.self.inner; taken = c.read.new.self.taken; failed = c.read.new.self.failed }) _ = record {
+    let takes : Takes (input_of g.R.Read.remaining c.loop-count.reader) (input_of g.R.Read.remaining c.read.new.self) _ = record {
       ahead = ensures.bytes.0;
       taken = ensures.taken ∙ ap (λ (n : ℕ). counted_on c.loop-count.reader.taken n) ensures.bound.1;
     } in

@@ -11,7 +11,7 @@ use Rattle.mq_replay.proofs.listing.put_packets.Goals as goal
 pub loop-read-init : goal.loop-read-init
 loop-read-init g c =
     record {
-      put = rw c.new-moments.ensures (none_put _ _ _ _);
+      put = rw c.new-stamps.ensures (none_put _ _ _ _);
       form = refl;
       next = c.requires.first;
       reading = c.requires.reading;
@@ -31,7 +31,7 @@ loop-read-preserved g c =
     let read = read_as _ _ _ _ _ _ _ _ _ now.form now.next answered (c.in_ok-read.ensures.reads now.reading) in
     let form = c.next.ensures.form ∙ now.form in
     record {
-      put = next_put_as _ _ _ _ _ _ _ _ _ _ _ _ _ _ c.in-Some.read _ _ _ _ c.next-moment.ensures.after c.next-moment.ensures.moment (c.link.ensures ∙ ap (λ (f : Form). f.link) form) now.put.0 now.put.1 read c.in_ok-put_packet.ensures.line;
+      put = next_put_as _ _ _ _ _ _ _ _ _ _ _ _ _ _ c.in-Some.read _ _ _ _ c.moment_of_next-moment.ensures.after c.moment_of_next-moment.ensures.moment (c.link.ensures ∙ ap (λ (f : Form). f.link) form) now.put.0 now.put.1 read c.in_ok-put_packet.ensures.line;
       form = form;
       next = c.in_ok-read.ensures.number ∙ ap (λ (a : Result (Option Packet) PcapFault). number_of c.loop-read.capture + records_in a) answered ∙ ap (λ (n : ℕ). n + 1) now.next;
       reading = c.in_ok-read.ensures.progress ∙ ap progress_after answered;
@@ -55,7 +55,7 @@ returns-in_err-put_packet-clause-puts g c =
     let answered = ap Ok c.in-Some.is in
     let read = read_as _ _ _ _ _ _ _ _ _ now.form now.next answered (c.in_ok-read.ensures.reads now.reading) in
     let form = c.next.ensures.form ∙ now.form in
-    rw (p.1, p.2) (next_broken_as _ _ _ _ _ _ _ _ _ _ _ _ _ _ c.in-Some.read _ _ _ c.next-moment.ensures.moment (c.link.ensures ∙ ap (λ (f : Form). f.link) form) now.put.0 now.put.1 read c.in_err-put_packet.ensures.line)
+    rw (p.1, p.2) (next_broken_as _ _ _ _ _ _ _ _ _ _ _ _ _ _ c.in-Some.read _ _ _ c.moment_of_next-moment.ensures.moment (c.link.ensures ∙ ap (λ (f : Form). f.link) form) now.put.0 now.put.1 read c.in_err-put_packet.ensures.line)
 
 pub returns-clause-puts : goal.returns-clause-puts
 returns-clause-puts g c =

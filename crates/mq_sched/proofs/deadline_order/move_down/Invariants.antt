@@ -1,7 +1,6 @@
-use Rattle.std.proofs.Common.{◌≡◌, ◌++◌, ℕ, ◌≤◌, map, take, drop, get_or}
 use Rattle.mq_sched.specs.Deadlines.{moved_down}
+use Rattle.mq_sched.proofs.Places.{MovedUpTo}
 use Rattle.mq_sched.proofs.deadline_order.move_down.Given as goal
 
 abbrev pub invariant-loop-place : goal.invariant-loop-place
-invariant-loop-place l =
-    record { moved : l.order ≡ map (moved_down l.from) (take l.place-index l.initial.order) ++ drop l.place-index l.initial.order; rest : (k : ℕ) → l.place-index ≤ k → get_or l.order k 0 ≡ get_or l.initial.order k 0 }
+invariant-loop-place l = MovedUpTo (moved_down l.from) l.initial.order l.order l.place-index

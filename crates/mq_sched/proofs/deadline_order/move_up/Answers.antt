@@ -1,18 +1,8 @@
-use Rattle.std.proofs.Common.{◌<◌, arith, length, sym, get_or}
-use Rattle.std.proofs.lemmas.List.{get_or-set_other}
-use Rattle.std.proofs.lemmas.List.Edits.{map_over_more}
+use Rattle.std.proofs.Common.{arith}
 use Rattle.mq_sched.specs.Deadlines.{moved_up}
-use Rattle.mq_sched.proofs.Places.{get_or_any}
+use Rattle.mq_sched.proofs.Places.{moves_one_more}
 use Rattle.mq_sched.proofs.deadline_order.move_up.Goals as goal
 
 pub loop-place-preserved : goal.loop-place-preserved
 loop-place-preserved c =
-    let k = c.loop-place.place-index in
-    let order = c.loop-place.order in
-    let in_list : k < length order = omega arith in
-    record {
-      moved =
-          rw c.moved_up.ensures (map_over_more (moved_up c.args.from) c.args.order.now order k (get_or order k 0) (omega arith) c.loop-place.invariant.moved (sym (get_or_any order k (get_or order k 0) in_list)));
-      rest =
-          λ j behind. rw (get_or-set_other order k j c.moved_up.result 0 (λ same. absurd (omega (arith, same)))) (c.loop-place.invariant.rest j (omega arith));
-    }
+    moves_one_more (moved_up c.args.from) c.args.order.now c.loop-place.order c.loop-place.place-index c.moved_up.result (omega arith) (omega arith) c.moved_up.ensures c.loop-place.invariant

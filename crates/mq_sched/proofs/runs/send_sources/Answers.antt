@@ -6,12 +6,12 @@ use Rattle.mq_sched.specs.Sending.{sources_queries}
 use Rattle.mq_sched.specs.Sink.{Sends}
 use Rattle.mq_sched.specs.Collected.{going_with}
 use Rattle.mq_sched.proofs.Collecting.{going_more, going_same}
-use Rattle.mq_sched.proofs.Room.{room_for_run}
+use Rattle.mq_sched.proofs.Room.{room_for_collected}
 use Rattle.mq_sched.proofs.runs.send_sources.Goals as goal
 use Rattle.mq_sched.proofs.runs.send_sources.Goals.{then-goes, else-goes}
 
-pub new-run-requires : goal.new-run-requires
-new-run-requires g c = room_for_run _ _ c.is_small.ensures.1 c.is_small.ensures.0
+pub new-collected-requires : goal.new-collected-requires
+new-collected-requires g c = room_for_collected _ _ c.is_small.ensures.1 c.is_small.ensures.0
 
 pub loop-source-preserved : goal.loop-source-preserved
 loop-source-preserved g c =
@@ -26,7 +26,7 @@ loop-source-preserved g c =
           let more = going_more number c.args.limit c.args.s row place c.source-item.result within c.source-item.is (sym c.goes.ensures.answer ∙ w.if-goes.true) in
           let ahead = rw more at so_far.sent in
           let pushed = rw (so_far.group, so_far.flag, so_far.per_query) at (w.push.ensures.sent (going_with number c.args.limit c.args.s (drop (place + 1) row))) in
-          rw (w.run-is, w.sink-is) (record {
+          rw (w.collected-is, w.sink-is) (record {
             group = ap (λ r. r.group) w.push.ensures.parts ∙ so_far.group;
             flag = ap (λ r. r.s) w.push.ensures.parts ∙ so_far.flag;
             per_query = ap (λ r. r.per_query) w.push.ensures.parts ∙ so_far.per_query;
@@ -36,7 +36,7 @@ loop-source-preserved g c =
           })
       | else-goes w ↦
           let same = going_same number c.args.limit c.args.s row place c.source-item.result within c.source-item.is (sym c.goes.ensures.answer ∙ w.if-goes.false) in
-          rw (w.run-is, w.sink-is) (record {
+          rw (w.collected-is, w.sink-is) (record {
             group = so_far.group;
             flag = so_far.flag;
             per_query = so_far.per_query;
@@ -56,4 +56,4 @@ returns-clause-sent g c =
     let last = rw (so_far.group, so_far.flag, so_far.per_query) at c.finish.ensures in
     so_far.sent c.finish.new.sink
     (subst (λ xs. Sends g.S.Sink.takes c.loop-source.sink (sources_queries c.args.per_query (number c.args.group) c.args.s xs) c.finish.new.sink)
-    (sym (ap (λ xs. list_map number c.loop-source.run.sources.items ++ xs) none ∙ append-nil (list_map number c.loop-source.run.sources.items))) last)
+    (sym (ap (λ xs. list_map number c.loop-source.collected.sources.items ++ xs) none ∙ append-nil (list_map number c.loop-source.collected.sources.items))) last)

@@ -10,5 +10,5 @@ returns-then-out-needed g c =
     let group = g.K.Key.number c.args.group in
     let query = length_query width group c.args.head.now c.args.fields.now in
     let text = c.args.head.now ++ big_bytes width group ++ fields_bytes width c.args.fields.now in
-    let signed = length_with_checksum c.args.pseudo.now text (omega (arith, query, c.requires.header)) in
-    (c.query_length-needed.ensures ∙ sym (signed ∙ query), c.if-out-needed.true, refl)
+    let same_length = length_with_checksum c.args.pseudo.now text (omega (arith, query, c.requires.header)) in
+    (c.query_length-needed.ensures ∙ sym (same_length ∙ query), c.if-out-needed.true, refl)

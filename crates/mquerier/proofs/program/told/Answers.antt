@@ -4,4 +4,4 @@ use Rattle.mquerier.proofs.program.told.Goals as goal
 
 pub returns-clause-line : goal.returns-clause-line
 returns-clause-line g c =
-    told_by_printing _ _ _ _ _ c.print.result c.args.failure c.print.ensures.text c.print.ensures.failed (c.as_slice.ensures.value ∙ c.line_of.ensures)
+    told_by_printing _ _ _ _ _ _ c.print.result c.print.ensures.text c.print.ensures.failed (c.as_slice.ensures ∙ c.line_of.ensures)

@@ -6,6 +6,10 @@ pub returns-clause-found : goal.returns-clause-found
 returns-clause-found g c =
     searched g.K.Key.number c.self.invariant.0 c.self.view_is c.find.result (g.K.Key.number c.args.address) (rw c.as_slice.ensures.value at c.find.ensures.found_in) (rw c.as_slice.ensures.value at c.find.ensures.found)
 
+pub returns-clause-found_in : goal.returns-clause-found_in
+returns-clause-found_in g c =
+    rw (len-held g.K.Key.number c.self.invariant.0 c.self.view_is, ← c.as_slice.ensures.value) c.find.ensures.found_in
+
 pub returns-clause-absent : goal.returns-clause-absent
 returns-clause-absent g c =
     missed g.K.Key.number c.self.invariant.0 c.self.view_is c.find.result (g.K.Key.number c.args.address) (rw c.as_slice.ensures.value at c.find.ensures.absent)

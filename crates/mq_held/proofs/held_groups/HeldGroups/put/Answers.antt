@@ -31,7 +31,7 @@ replace-requires-clause-fits g c =
     let x = c.index-before.result.now in
     let within : c.args.place < length c.self.inside.items.items = omega (arith, c.requires.place, len-held number known was) in
     let has = place-found number known was c.args.place (number x.address) x within (ap (item_number number) (sym c.index-before.ensures)) in
-    omega (arith, c.requires.fits (number x.address) has, sources-held number known was, sources-at number known was (number x.address) c.args.place x has c.index-before.ensures, c.row.ensures.len, ap (λ (s : HeldState). s.source_room) was)
+    omega (arith, c.requires.fits (number x.address) has, sources-held number known was, sources-at number known was (number x.address) c.args.place x has c.index-before.ensures, c.sources.ensures.len, ap (λ (s : HeldState). s.source_room) was)
 
 pub overflow_sub-self : goal.overflow_sub-self
 overflow_sub-self g c =
@@ -48,8 +48,8 @@ invariant_of-self g c =
     let deadlines = c.self.inside.deadlines.deadlines in
     let x : Item g.row.K.Denot = record { address = c.index-before.result.now.address; head = c.head.result; schedule = c.args.schedule } in
     let within : c.args.place < length items = omega (arith, c.requires.place, len-held number known c.self.view_is) in
-    let due = due-of-parts number x.address c.head.result c.args.schedule c.row.result.now c.args.group.now.state c.earliest_moment-due.result c.row.ensures.timers c.head.ensures c.earliest_moment-due.ensures.earliest in
-    let stored = IsStored-set number items rows deadlines c.self.inside.scheduled known c.args.place x c.index-before.result.now c.row.result.now c.earliest_moment-due.result within c.index-before.ensures refl c.row.ensures.ascending due in
+    let due = due-of-parts number x.address c.head.result c.args.schedule c.sources.result.now c.args.group.now.state c.earliest_moment-due.result c.sources.ensures.timers c.head.ensures c.earliest_moment-due.ensures.earliest in
+    let stored = IsStored-set number items rows deadlines c.self.inside.scheduled known c.args.place x c.index-before.result.now c.sources.result.now c.earliest_moment-due.result within c.index-before.ensures refl c.sources.ensures.ascending due in
     let row_limit : c.replace.new.self.row_limit ≡ c.self.inside.sources.row_limit = rw c.replace.ensures refl in
     let cell_limit : c.replace.new.self.cell_limit ≡ c.self.inside.sources.cell_limit = rw c.replace.ensures refl in
     let room : c.change.new.self.room ≡ c.self.inside.deadlines.room = rw c.change.ensures.deadlines refl in
@@ -64,9 +64,9 @@ overflow_add-self g c =
     let deadlines = c.self.inside.deadlines.deadlines in
     let x : Item g.row.K.Denot = record { address = c.index-before.result.now.address; head = c.head.result; schedule = c.args.schedule } in
     let within : c.args.place < length items = omega (arith, c.requires.place, len-held number known c.self.view_is) in
-    let due = due-of-parts number x.address c.head.result c.args.schedule c.row.result.now c.args.group.now.state c.earliest_moment-due.result c.row.ensures.timers c.head.ensures c.earliest_moment-due.ensures.earliest in
-    let stored = IsStored-set number items rows deadlines c.self.inside.scheduled known c.args.place x c.index-before.result.now c.row.result.now c.earliest_moment-due.result within c.index-before.ensures refl c.row.ensures.ascending due in
-    let few = schedules_fit number (set items c.args.place x) (set rows c.args.place c.row.result.now) (set deadlines c.args.place c.earliest_moment-due.result) _ stored in
+    let due = due-of-parts number x.address c.head.result c.args.schedule c.sources.result.now c.args.group.now.state c.earliest_moment-due.result c.sources.ensures.timers c.head.ensures c.earliest_moment-due.ensures.earliest in
+    let stored = IsStored-set number items rows deadlines c.self.inside.scheduled known c.args.place x c.index-before.result.now c.sources.result.now c.earliest_moment-due.result within c.index-before.ensures refl c.sources.ensures.ascending due in
+    let few = schedules_fit number (set items c.args.place x) (set rows c.args.place c.sources.result.now) (set deadlines c.args.place c.earliest_moment-due.result) _ stored in
     omega (arith, few, length-set items c.args.place x, c.self.invariant.3, c.self.invariant.5, c.count_schedules.ensures, c.count_schedules-2.ensures)
 
 pub returns-clause-groups : goal.returns-clause-groups
@@ -74,9 +74,9 @@ returns-clause-groups g c address has =
     let number = g.K.Key.number in
     let known = c.self.invariant.0 in
     let x : Item g.row.K.Denot = record { address = c.index-before.result.now.address; head = c.head.result; schedule = c.args.schedule } in
-    let parts = group-of-parts number x.address c.head.result c.args.schedule c.row.result.now c.args.group.now.state c.row.ensures.timers c.head.ensures in
+    let parts = group-of-parts number x.address c.head.result c.args.schedule c.sources.result.now c.args.group.now.state c.sources.ensures.timers c.head.ensures in
     let key = number-held number known c.self.view_is address c.args.place c.index-before.result.now has c.index-before.ensures in
-    rw c.replace.ensures (held-set number known c.self.view_is address c.args.place x c.row.result.now (record { group = c.args.group.now.state; schedule = c.args.schedule }) has key parts)
+    rw c.replace.ensures (held-set number known c.self.view_is address c.args.place x c.sources.result.now (record { group = c.args.group.now.state; schedule = c.args.schedule }) has key parts)
 
 pub returns-clause-spent : goal.returns-clause-spent
 returns-clause-spent g c =

@@ -51,7 +51,7 @@ invariant_of-self g c =
     let step : Step = silent_step c.do_due.new.held c.do_due.new.election moment c.self.inside.counts in
     let election_is : c.do_due.new.election.state ≡ (tick_at config moment before).state.election = ap (λ (e : RouterElection). e.state) due.election in
     let kept : KeepsIntervals config.timing c.do_due.new.election.state.timing = subst (λ (e : ElectionState). KeepsIntervals config.timing e.timing) (sym election_is) (kept-ticked config.timing moment before.election c.self.invariant.intervals) in
-    stored_after config c.self.inside.held c.self.inside.election c.self.inside.last c.self.inside.counts c.self.inside.scratch c.self.inside.places.items (receipt_after config envelope read step).step.state c.take_in-received.new.held c.take_in-received.new.election moment _ _ _ c.self.invariant
+    stored_after config c.self.inside.held c.self.inside.election c.self.inside.last c.self.inside.counts c.self.inside.scratch c.self.inside.seen c.self.inside.places.items (receipt_after config envelope read step).step.state c.take_in-received.new.held c.take_in-received.new.election moment _ _ _ _ c.self.invariant
     (record {
       well_formed = IsWellFormed-receipt_after config envelope read step own (carried_where_read family (pseudo_of family envelope c.args.body.now) c.args.body.now) formed;
       groups = took.received.groups_are;
@@ -64,6 +64,7 @@ invariant_of-self g c =
       group_room = took.group_room ∙ due.group_room;
       source_room = took.source_room ∙ due.source_room;
       scratch_room = took.scratch_room;
+      seen_room = let a = c.self.invariant.seen_room in let b = took.seen_room in omega (arith, a, b);
       place_room = places_back c.self.inside.places.len c.do_due.new.places c.self.inside.places.items (c.do_due.auto.places ∙ ap length c.deref_mut.ensures.value) (omega (arith, c.self.inside.places.ok.0));
     })
 

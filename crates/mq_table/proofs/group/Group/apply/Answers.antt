@@ -8,7 +8,7 @@ use Rattle.mq_table.specs.AtSource.{mode_after}
 use Rattle.mq_table.specs.Stored.{number_in, named_in, size_of}
 use Rattle.mq_table.specs.MergedRecord.{source_made}
 use Rattle.mq_table.specs.Group.{GroupState, timer_at}
-use Rattle.mq_table.proofs.Lines.{asked_is_held}
+use Rattle.mq_table.proofs.TableRows.{asked_is_held}
 use Rattle.mq_table.proofs.SourceLists.{len-timers_in}
 use Rattle.mq_table.proofs.Changed.{made_ascends, asked_ascends, recorded_group, recorded_query, recorded_query_group}
 use Rattle.mq_table.proofs.group.Group.apply.Goals as goal

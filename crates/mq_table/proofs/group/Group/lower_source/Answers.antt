@@ -27,9 +27,9 @@ returns-in_default-clause-state g c =
 pub returns-in-Ok-clause-spent : goal.returns-in-Ok-clause-spent
 returns-in-Ok-clause-spent g c =
     rw (← c.self.view_is, len-timers_in g.K.Key.number c.self.inside.sources.items c.self.invariant, ← c.as_slice.ensures.value)
-    (Spends-join_within 0 _ c.in-Ok.ensures.spent c.lower.ensures.spent (omega arith) (omega arith))
+    (Spends-join_within _ _ c.in-Ok.ensures.spent c.lower.ensures.spent (omega arith) (omega arith))
 
 pub returns-in_default-clause-spent : goal.returns-in_default-clause-spent
 returns-in_default-clause-spent g c =
     rw (← c.self.view_is, len-timers_in g.K.Key.number c.self.inside.sources.items c.self.invariant, ← c.as_slice.ensures.value)
-    (Spends-within 0 _ c.in_default.ensures.spent (omega arith) (omega arith))
+    (Spends-within _ _ c.in_default.ensures.spent (omega arith) (omega arith))

@@ -18,9 +18,9 @@ returns-in-Err-clause-timer g c =
 pub returns-in-Ok-clause-spent : goal.returns-in-Ok-clause-spent
 returns-in-Ok-clause-spent g c =
     rw (← c.self.view_is, len-timers_in g.K.Key.number c.self.inside.sources.items c.self.invariant, ← c.as_slice.ensures.value)
-    (Spends-within 0 _ c.in-Ok.ensures.spent (omega arith) (omega arith))
+    (Spends-within _ _ c.in-Ok.ensures.spent (omega arith) (omega arith))
 
 pub returns-in-Err-clause-spent : goal.returns-in-Err-clause-spent
 returns-in-Err-clause-spent g c =
     rw (← c.self.view_is, len-timers_in g.K.Key.number c.self.inside.sources.items c.self.invariant, ← c.as_slice.ensures.value)
-    (Spends-within 0 _ c.in-Err.ensures.spent (omega arith) (omega arith))
+    (Spends-within _ _ c.in-Err.ensures.spent (omega arith) (omega arith))

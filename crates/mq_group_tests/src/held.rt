@@ -1,0 +1,3 @@
+//! The storage of the groups of a link.
+
+mod places;

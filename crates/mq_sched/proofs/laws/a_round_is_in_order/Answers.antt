@@ -1,5 +1,0 @@
-use Rattle.mq_sched.proofs.Ascending.{messages_ascend}
-use Rattle.mq_sched.proofs.laws.a_round_is_in_order.Goals as goal
-
-pub returns : goal.returns
-returns c r = messages_ascend r.per_query r.timing r.now r.address r.before

@@ -1,5 +1,0 @@
-use Rattle.mq_table.proofs.Composed.{expired-expired}
-use Rattle.mq_table.proofs.laws.expiry_composes.Goals as goal
-
-pub returns : goal.returns
-returns c = expired-expired

@@ -1,5 +1,0 @@
-use Rattle.mq_table.proofs.Lower.{lowered_both}
-use Rattle.mq_table.proofs.laws.lowering_adds_up.Goals as goal
-
-pub returns : goal.returns
-returns c = lowered_both
