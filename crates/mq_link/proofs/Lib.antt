@@ -52,3 +52,5 @@ pub mod HandedOut
 pub mod LinkTicked
 pub mod ChangedSizes
 pub mod StatedSteps
+pub mod RecordsRead
+pub mod LinkReceived

@@ -18,7 +18,9 @@ use Rattle.mq_link.specs.Configuration.{Configuration, IsFaultless}
 use Rattle.mq_link.specs.Counters.{Counters, no_counts}
 use Rattle.mq_link.specs.Handing.{KeepsIntervals}
 use Rattle.mq_link.specs.Link.{IsLinkStored, state_in}
+use Rattle.mq_link.specs.Reading.{most_records}
 use Rattle.mq_link.specs.Scratch.{HasRoom}
+use Rattle.mq_link.specs.Seen.{SeenState}
 use Rattle.mq_link.specs.Serving.{AreServed}
 use Rattle.mq_link.specs.State.{LinkState, IsWellFormed, link_at}
 use Rattle.mq_link.specs.Tick.{next_of}
@@ -36,7 +38,7 @@ pub absent_forwards : (groups : Groups) (group source : ℕ) → group_at groups
 absent_forwards groups group source is = ap (λ e. forwards_in e.group source) is ∙ none_forwarded source
 
 -- the storage of a link at its start
-pub record IsNew {K : Type 0} (config : Configuration) (held : HeldState) (election : RouterElection) (start : ℕ) (counters : Counters) (scratch : Scratch K) (stored : List ℕ) : Type 0 where
+pub record IsNew {K : Type 0} (config : Configuration) (held : HeldState) (election : RouterElection) (start : ℕ) (counters : Counters) (scratch : Scratch K) (seen : SeenState) (stored : List ℕ) : Type 0 where
   pub faultless : IsFaultless config
   pub in_range : start ≤ 2 ^ 53
   pub groups : held.groups ≡ map.empty
@@ -47,15 +49,16 @@ pub record IsNew {K : Type 0} (config : Configuration) (held : HeldState) (elect
   pub election_is : election.state ≡ election_at config.timing start
   pub counters_are : counters ≡ no_counts
   pub scratch_room : HasRoom config.limits.group_sources scratch
+  pub seen_room : most_records ≤ seen.room
   pub place_room : length stored ≡ config.limits.groups
 
-pub state_at_start : {K : Type 0} (config : Configuration) (held : HeldState) (election : RouterElection) (start : ℕ) (counters : Counters) (scratch : Scratch K) (stored : List ℕ) → IsNew config held election start counters scratch stored → state_in held election start counters ≡ link_at config start
-state_at_start config held election start counters scratch stored h =
+pub state_at_start : {K : Type 0} (config : Configuration) (held : HeldState) (election : RouterElection) (start : ℕ) (counters : Counters) (scratch : Scratch K) (seen : SeenState) (stored : List ℕ) → IsNew config held election start counters scratch seen stored → state_in held election start counters ≡ link_at config start
+state_at_start config held election start counters scratch seen stored h =
     λ i. record { groups = h.groups i; election = h.election_is i; last = start; counters = h.counters_are i }
 
-pub stored_at_start : {K : Type 0} (config : Configuration) (held : HeldState) (election : RouterElection) (start : ℕ) (counters : Counters) (scratch : Scratch K) (stored : List ℕ) → IsNew config held election start counters scratch stored → IsLinkStored config held election start counters scratch stored
-stored_at_start config held election start counters scratch stored h = record {
-  state = subst (IsWellFormed config) (sym (state_at_start config held election start counters scratch stored h)) (IsWellFormed-link_at config start h.faultless);
+pub stored_at_start : {K : Type 0} (config : Configuration) (held : HeldState) (election : RouterElection) (start : ℕ) (counters : Counters) (scratch : Scratch K) (seen : SeenState) (stored : List ℕ) → IsNew config held election start counters scratch seen stored → IsLinkStored config held election start counters scratch seen stored
+stored_at_start config held election start counters scratch seen stored h = record {
+  state = subst (IsWellFormed config) (sym (state_at_start config held election start counters scratch seen stored h)) (IsWellFormed-link_at config start h.faultless);
   in_range = h.in_range;
   own = h.own;
   configured = h.configured;
@@ -63,6 +66,7 @@ stored_at_start config held election start counters scratch stored h = record {
   group_room = h.group_room;
   source_room = h.source_room;
   scratch_room = h.scratch_room;
+  seen_room = h.seen_room;
   place_room = h.place_room;
 }
 
@@ -93,7 +97,7 @@ none_due state now before group e is =
     none_reached now (moments_of e) (from-each (λ _ e. AllAbove now (moments_of e)) (map.entries state.groups) each group e (sym (map.get-entries state.groups group) ∙ is))
 
 -- what is stored after a call: the state is one that a link may be in, and the rooms stay
-pub record IsNext {K : Type 0} (config : Configuration) (held : HeldState) (election : RouterElection) (stored : List ℕ) (after : LinkState) (next : HeldState) (next_election : RouterElection) (last : ℕ) (next_scratch : Scratch K) (next_stored : List ℕ) : Type 0 where
+pub record IsNext {K : Type 0} (config : Configuration) (held : HeldState) (election : RouterElection) (stored : List ℕ) (after : LinkState) (next : HeldState) (next_election : RouterElection) (last : ℕ) (next_scratch : Scratch K) (next_seen : SeenState) (next_stored : List ℕ) : Type 0 where
   pub well_formed : IsWellFormed config after
   pub groups : next.groups ≡ after.groups
   pub election_is : next_election.state ≡ after.election
@@ -105,12 +109,13 @@ pub record IsNext {K : Type 0} (config : Configuration) (held : HeldState) (elec
   pub group_room : next.group_room ≡ held.group_room
   pub source_room : next.source_room ≡ held.source_room
   pub scratch_room : HasRoom config.limits.group_sources next_scratch
+  pub seen_room : most_records ≤ next_seen.room
   pub place_room : length next_stored ≡ length stored
 
-pub stored_after : {K : Type 0} (config : Configuration) (held : HeldState) (election : RouterElection) (last : ℕ) (counters : Counters) (scratch : Scratch K) (stored : List ℕ) (after : LinkState) (next : HeldState) (next_election : RouterElection) (next_last : ℕ) (next_counters : Counters) (next_scratch : Scratch K) (next_stored : List ℕ)
-    → IsLinkStored config held election last counters scratch stored → IsNext config held election stored after next next_election next_last next_scratch next_stored
-    → IsLinkStored config next next_election next_last next_counters next_scratch next_stored
-stored_after config held election last counters scratch stored after next next_election next_last next_counters next_scratch next_stored was h =
+pub stored_after : {K : Type 0} (config : Configuration) (held : HeldState) (election : RouterElection) (last : ℕ) (counters : Counters) (scratch : Scratch K) (seen : SeenState) (stored : List ℕ) (after : LinkState) (next : HeldState) (next_election : RouterElection) (next_last : ℕ) (next_counters : Counters) (next_scratch : Scratch K) (next_seen : SeenState) (next_stored : List ℕ)
+    → IsLinkStored config held election last counters scratch seen stored → IsNext config held election stored after next next_election next_last next_scratch next_seen next_stored
+    → IsLinkStored config next next_election next_last next_counters next_scratch next_seen next_stored
+stored_after config held election last counters scratch seen stored after next next_election next_last next_counters next_scratch next_seen next_stored was h =
     let same : ◌≡◌ {A = LinkState} (record { groups = after.groups; election = after.election; last = after.last; counters = next_counters }) (state_in next next_election next_last next_counters) =
     λ i. record { groups = sym h.groups i; election = sym h.election_is i; last = sym h.last_is i; counters = next_counters }
     in
@@ -123,5 +128,6 @@ stored_after config held election last counters scratch stored after next next_e
       group_room = h.group_room ∙ was.group_room;
       source_room = h.source_room ∙ was.source_room;
       scratch_room = h.scratch_room;
+      seen_room = h.seen_room;
       place_room = h.place_room ∙ was.place_room;
     }

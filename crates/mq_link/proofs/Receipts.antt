@@ -22,19 +22,14 @@ use Rattle.mq_link.specs.State.{Groups, LinkState, IsWellFormed}
 use Rattle.mq_link.specs.Tick.{Step}
 use Rattle.mq_link.specs.Record.{OlderJoin, OlderLeave}
 use Rattle.mq_link.specs.Heard.{announced_by}
+use Rattle.mq_link.specs.Reading.{IsCarriedIn}
 use Rattle.mq_link.specs.Receive.{Envelope, message_in, unless_faulty, read_of, drop_reason, envelope_tests, setting_of, taken_in, counting_read, taken_or_dropped, receipt_after}
 use Rattle.mq_link.specs.Tests.{first_named}
 use Rattle.mq_link.proofs.Ticked.{IsCarriedBy, IsWellFormed-query_heard}
 use Rattle.mq_link.specs.Sound.{AreSound}
 use Rattle.mq_link.proofs.Recorded.{stated_leaves, all_judged_leave}
 
--- what the queries that are read announce is what their fields can carry
-abbrev pub IsCarriedIn : Message ℕ → Type 0
-IsCarriedIn (QueryMessage query) = IsCarriedBy (announced_by query.version)
-IsCarriedIn (OldReport version group) = Unit {0}
-IsCarriedIn (LeaveMessage group) = Unit {0}
-IsCarriedIn (ReportMessage records) = Unit {0}
-
+-- the same of what bytes are read as
 abbrev pub IsCarriedWhere : Result (Message ℕ) WireFault → Type 0
 IsCarriedWhere (Ok message) = IsCarriedIn message
 IsCarriedWhere (Err fault) = Unit {0}

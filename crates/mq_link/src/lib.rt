@@ -35,6 +35,7 @@ pub mod mld;
 mod naming;
 pub mod outlet;
 mod recording;
+mod receiving;
 mod records;
 mod refusing;
 mod scratch;

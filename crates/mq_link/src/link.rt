@@ -9,17 +9,20 @@ ghost use Rattle.mq_sched.specs.Election.{is_querier};
 ghost use Rattle.mq_sched.specs.StoredElection.{IsOtherOf};
 ghost use Rattle.mq_held.specs.Groups.{group_at, sources_of, sources_in};
 ghost use Rattle.mq_held.specs.Places.{HasPlace};
-ghost use Rattle.mq_link.specs.Link.{HasTicked};
+ghost use Rattle.mq_link.specs.Link.{HasTicked, HasReceived};
 ghost use Rattle.mq_link.specs.State as state;
 ghost use Rattle.mq_link.specs.State.{link_at};
 ghost use Rattle.mq_link.specs.Tick.{moment_of, next_of};
 
+use crate::answers::Received;
 use crate::config::Config;
 use crate::counts::Counts;
 use crate::due::{do_due, later};
 use crate::family::Family;
 use crate::outlet::Outlet;
+use crate::receiving::take_in;
 use crate::scratch::Scratch;
+use crate::seen::SeenGroups;
 use crate::sending::Sender;
 use mq_count::{Meter, Moment};
 use mq_held::{HeldGroup, HeldGroups};
@@ -28,6 +31,9 @@ use mq_sets::Memory;
 use mq_table::Timing;
 use std::alloc::Global;
 use std::marker::Model;
+
+/// As many records as a Report may have, whose number is told in 16 bits (RFC 3376 section 4.2.3, RFC 3810 section 5.2.3).
+const MOST_RECORDS: usize = 65535;
 
 /// One link of a multicast router, as the definitions have it: its configuration, its state, and how many comparisons it
 /// has made. All storage is taken by `new`, and no other call takes any.
@@ -40,6 +46,7 @@ pub struct Link<F: Family> {
     counts: Counts,
     meter: Meter,
     scratch: Scratch<F::Address>,
+    seen: SeenGroups<F::Address>,
     places: Vec<usize>,
 }
 
@@ -56,7 +63,7 @@ impl<F: Family> Model for Link<F> {
 
     ghost view = { λ l. record { config = l.config; state = state_in l.held l.election l.last l.counts; spent = l.meter } };
 
-    ghost invariant = { λ l. IsLinkStored l.config l.held l.election l.last l.counts l.scratch l.places.items };
+    ghost invariant = { λ l. IsLinkStored l.config l.held l.election l.last l.counts l.scratch l.seen l.places.items };
 }
 
 impl<F: Family> Link<F> {
@@ -72,6 +79,7 @@ impl<F: Family> Link<F> {
         let groups = limits.groups as usize;
         let held = HeldGroups::with_room(alloc, groups, limits.sources as usize)?;
         let scratch = Scratch::with_room(alloc, limits.group_sources as usize)?;
+        let seen = SeenGroups::with_room(alloc, MOST_RECORDS)?;
         let places = vec![in alloc; 0; groups]?;
         let election = Election::new(config.own(), config.timing(), start);
         Ok(Link {
@@ -82,6 +90,7 @@ impl<F: Family> Link<F> {
             counts: Counts::none(),
             meter: Meter::new(),
             scratch,
+            seen,
             places,
         })
     }
@@ -112,6 +121,51 @@ impl<F: Family> Link<F> {
         );
         self.counts.count_answers(sender.sent(), sender.unsent());
         self.last = now;
+    }
+
+    /// Takes a datagram that came at `now`: first it does what a tick does then; then the datagram is read, and dropped, or
+    /// taken. Answers what became of it. The envelope is what its packet says of it, the body its bytes without the IP
+    /// header (RFC 3376 sections 4, 6.4 and 7.3.2, RFC 3810 sections 5, 7.4 and 8.3.2).
+    pub fn receive<O: Outlet<F::Address>>(
+        &mut self,
+        envelope: &F::Envelope,
+        body: &[u8],
+        now: Moment,
+        sender: &mut Sender<F, O>,
+    ) -> Received
+        requires in_range { now ≤ 2 ^ 53 }
+        ensures config { self.new.config ≡ self.old.config }
+        ensures receives { HasReceived O.takes (F.envelope_of envelope.now) body.now now result self.old self.new
+            sender.old.outlet sender.new.outlet }
+    {
+        self.config.is_faultless();
+        let now = later(self.last, now, &mut self.meter);
+        do_due(
+            &self.config,
+            &mut self.held,
+            &mut self.election,
+            &mut self.scratch.before,
+            &mut self.places,
+            now,
+            &mut self.meter,
+            sender,
+        );
+        let received = take_in(
+            &self.config,
+            &mut self.held,
+            &mut self.election,
+            &mut self.counts,
+            &mut self.scratch,
+            &mut self.seen,
+            now,
+            envelope,
+            body,
+            &mut self.meter,
+            sender,
+        );
+        self.counts.count_answers(sender.sent(), sender.unsent());
+        self.last = now;
+        received
     }
 
     /// What it is configured with.

@@ -25,7 +25,7 @@ invariant_of-self g c =
     let done = c.do_due.ensures in
     let later = c.later-now.ensures.later in
     let room : HasRoom config.limits.group_sources c.self.inside.scratch = c.self.invariant.scratch_room in
-    stored_after config c.self.inside.held c.self.inside.election c.self.inside.last c.self.inside.counts c.self.inside.scratch c.self.inside.places.items (tick_at config moment before).state c.do_due.new.held c.do_due.new.election moment _ _ _ c.self.invariant
+    stored_after config c.self.inside.held c.self.inside.election c.self.inside.last c.self.inside.counts c.self.inside.scratch c.self.inside.seen c.self.inside.places.items (tick_at config moment before).state c.do_due.new.held c.do_due.new.election moment _ _ _ _ c.self.invariant
     (record {
       well_formed = IsWellFormed-tick_at config moment before (timing_in_range config c.is_faultless.ensures.faultless) c.self.invariant.state;
       groups = done.groups;
@@ -38,6 +38,7 @@ invariant_of-self g c =
       group_room = done.group_room;
       source_room = done.source_room;
       scratch_room = record { before = let a = room.before in let b = done.room in omega arith; after = room.after; named = room.named; asked = room.asked };
+      seen_room = c.self.invariant.seen_room;
       place_room = places_back c.self.inside.places.len c.do_due.new.places c.self.inside.places.items (c.do_due.auto.places ∙ ap length c.deref_mut.ensures.value) (omega (arith, c.self.inside.places.ok.0));
     })
 
