@@ -330,4 +330,3 @@ returns-clause-spent g c =
     let round = Spends-join_within 0 (5 * (size_of before.group + length c.args.scratch.now.named.members) + 8) judged c.round.ensures.spent (omega arith) (omega (arith, a, b)) in
     let size_left = ap (λ (e : ScheduledGroup). size_of e.group) left_is ∙ round_keeps_size at.election.timing c.args.now asked in
     Spends-join_within 0 _ round c.keep.ensures.spent (omega arith) (omega (arith, a, b, size_before, size_left))
-
