@@ -4,6 +4,7 @@ pub mod HeldAs
 pub mod Ticked
 pub mod Recorded
 pub mod JudgedRecords
+pub mod TakenRecords
 pub mod Receipts
 pub mod Faultless
 pub mod Unchanged
