@@ -106,6 +106,8 @@ fn count_fate(fate: Fate, tally: &mut Tally, counts: &mut Counts)
 }
 
 /// Takes the statement of an older message for a group that is admitted; it counts as one record, and names no source.
+/// At most six comparisons for each source of the group, twelve more, and two for each binary digit of how many groups
+/// there are.
 pub(crate) fn take_statement<F: Family, S: Sink<F::Address>>(
     config: &Config<F>,
     election: &Election<F::Address>,
@@ -163,10 +165,10 @@ pub(crate) fn take_statement<F: Family, S: Sink<F::Address>>(
 }
 
 /// Takes one record of a Report, by all six steps: what is of an unknown type or for a group that isn't admitted is
-/// ignored; what names too many sources is refused, and so is the fifth record that meets a group that is held; else it is
-/// applied, ignored or refused as a statement of the sources that it names. At most six comparisons for each source of the
-/// group, 17 for each that it names, twelve more, two for each binary digit of how many groups there are, and one for each
-/// of how many were met.
+/// ignored; what names too many sources is refused, and so is the fifth record that meets a group that is held; else it
+/// is applied, ignored or refused as a statement of the sources that it names. At most six comparisons for each source
+/// of the group, 17 for each that it names, twelve more, two for each binary digit of how many groups there are, and one
+/// for each of how many were met.
 fn take_record<F: Family, S: Sink<F::Address>>(
     config: &Config<F>,
     election: &Election<F::Address>,
@@ -218,21 +220,12 @@ fn take_record<F: Family, S: Sink<F::Address>>(
     name_sources(&mut scratch.named, &view.sources, m);
     let said = Said::Record(kind);
     apply(
-        config,
-        election,
-        now,
-        view.group,
-        found,
-        said,
-        held,
-        scratch,
-        m,
-        sink,
+        config, election, now, view.group, found, said, held, scratch, m, sink,
     )
 }
 
-/// Takes the records of a Report, one after the other, each on what those before it leave. There is room to count the
-/// groups that they meet.
+/// Takes the records of a Report, one after the other, each on what those before it leave. There is memory to count each
+/// group that they meet, of which there are no more than records.
 pub(crate) fn take_records<F: Family, S: Sink<F::Address>>(
     config: &Config<F>,
     election: &Election<F::Address>,
@@ -278,9 +271,7 @@ pub(crate) fn take_records<F: Family, S: Sink<F::Address>>(
         refused: 0,
     };
     for record in records.iter() {
-        let fate = take_record(
-            config, election, now, &record, held, scratch, seen, m, sink,
-        );
+        let fate = take_record(config, election, now, &record, held, scratch, seen, m, sink);
         count_fate(fate, &mut tally, counts);
     }
     Received::Taken {
