@@ -82,9 +82,10 @@ pub(crate) fn take_records<F: Family, S: Sink<F::Address>>(
         AreSound at held.old.groups }
     requires robust { 0 < election.now.state.timing.robustness }
     requires scratch_room { HasRoom config.now.limits.group_sources scratch.old }
-    requires seen_room { length records.now ≤ seen.old.room }
     requires group_room { held.old.group_room ≡ config.now.limits.groups }
     requires source_room { held.old.source_room ≡ config.now.limits.sources }
+    requires few { length records.now < 2 ^ 16 }
+    requires seen_room { length records.now ≤ seen.old.room }
     ensures groups { let at : Setting = record { config = config.now; election = election.now.state; now = now } in
         let outcomes = all_judged at map.empty records.now held.old.groups in
         held.new.groups ≡ outcomes.groups }
