@@ -19,7 +19,8 @@ IsCarriedIn (OldReport version group) = Unit {0}
 IsCarriedIn (LeaveMessage group) = Unit {0}
 IsCarriedIn (ReportMessage records) = Unit {0}
 
--- as many records as a Report may have, whose number is told in 16 bits (RFC 3376 section 4.2.3, RFC 3810 section 5.2.3)
+-- as many records as a Report may have, whose number is told in 16 bits (RFC 3376 section 4.2.3, RFC 3810 section
+-- 5.2.3)
 abbrev pub most_records : ℕ
 most_records = 65535
 

@@ -32,7 +32,8 @@ use mq_table::Timing;
 use std::alloc::Global;
 use std::marker::Model;
 
-/// As many records as a Report may have, whose number is told in 16 bits (RFC 3376 section 4.2.3, RFC 3810 section 5.2.3).
+/// As many records as a Report may have, whose number is told in 16 bits (RFC 3376 section 4.2.3, RFC 3810 section
+/// 5.2.3).
 const MOST_RECORDS: usize = 65535;
 
 /// One link of a multicast router, as the definitions have it: its configuration, its state, and how many comparisons it
