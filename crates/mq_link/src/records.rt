@@ -167,8 +167,8 @@ pub(crate) fn take_statement<F: Family, S: Sink<F::Address>>(
 /// Takes one record of a Report, by all six steps: what is of an unknown type or for a group that isn't admitted is
 /// ignored; what names too many sources is refused, and so is the fifth record that meets a group that is held; else it
 /// is applied, ignored or refused as a statement of the sources that it names. At most six comparisons for each source
-/// of the group, 17 for each that it names, twelve more, two for each binary digit of how many groups there are, and one
-/// for each of how many were met.
+/// of the group, 17 for each that it names, twelve more, two for each binary digit of how many groups there are, and
+/// one for each of how many were met.
 fn take_record<F: Family, S: Sink<F::Address>>(
     config: &Config<F>,
     election: &Election<F::Address>,
@@ -224,8 +224,8 @@ fn take_record<F: Family, S: Sink<F::Address>>(
     )
 }
 
-/// Takes the records of a Report, one after the other, each on what those before it leave. There is memory to count each
-/// group that they meet, of which there are no more than records.
+/// Takes the records of a Report, one after the other, each on what those before it leave. There is memory to count
+/// each group that they meet, of which there are no more than records.
 pub(crate) fn take_records<F: Family, S: Sink<F::Address>>(
     config: &Config<F>,
     election: &Election<F::Address>,
