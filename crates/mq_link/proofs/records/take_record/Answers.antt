@@ -6,7 +6,8 @@ use Rattle.mq_sched.specs.Sink.{Sends}
 use Rattle.mq_wire.specs.Numbered.{numbered_record}
 use Rattle.mq_link.specs.Entering.{entered_as}
 use Rattle.mq_link.specs.Record.{Setting, Outcome, RecordOf, stated, met, is_repeated, judged}
-use Rattle.mq_link.proofs.JudgedRecords.{judged_stopped, judged_repeated, judged_stated, short_enough, few_group_sources, both_hold, first_fails, second_fails}
+use Rattle.mq_link.proofs.Faultless.{few_sources}
+use Rattle.mq_link.proofs.JudgedRecords.{judged_stopped, judged_repeated, judged_stated, short_enough, both_hold, first_fails, second_fails}
 use Rattle.mq_link.proofs.records.take_record.Given.{Over}
 use Rattle.mq_link.proofs.records.take_record.Goals as goal
 use Rattle.mq_link.proofs.records.take_record.Goals.{else-is_ok-via-then-is_ok+else-count-ge-MEETINGS, else-is_ok-via-else-is_ok}
@@ -61,7 +62,7 @@ pub name_sources-requires-clause-few : goal.name_sources-requires-clause-few
 name_sources-requires-clause-few g c =
     let r = numbered_record g.F.Address.Key.number c.args.view.now in
     let short = short_enough c.args.config.now r c.in-Ok.kind (sym c.enter.ensures ∙ ap entered_as c.in-Ok.is) in
-    let few = few_group_sources c.args.config.now c.is_faultless.ensures.faultless in
+    let few = few_sources c.args.config.now c.is_faultless.ensures.faultless in
     omega (arith, short, few)
 
 pub apply-requires-clause-named : goal.apply-requires-clause-named
