@@ -1,5 +1,5 @@
 -- A run of a link over the events that it is handed.
-use Rattle.std.specs.Prelude.{◌≡◌, ℕ, ◌≤◌, ◌^◌, List, [], ◌∷◌, ◌++◌, Bool, map as list_map}
+use Rattle.std.specs.Prelude.{◌≡◌, ℕ, List, [], ◌∷◌, ◌++◌, Bool}
 use Rattle.mq_link.specs.declared.events.Event.{Event as Handed}
 use Rattle.mq_link.specs.declared.events.Event.TheVariants.{Tick as HandedTick, Datagram as HandedDatagram}
 use Rattle.mq_link.specs.Handing.{HandsOver}

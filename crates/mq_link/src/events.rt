@@ -9,19 +9,24 @@ use crate::outlet::Outlet;
 use crate::sending::Sender;
 use mq_count::Moment;
 
-/// What a link is handed: a tick at a moment, or a datagram that came at one, with its envelope and its bytes without the
-/// IP header.
+/// What a link is handed.
 pub enum Event<'a, F: Family> {
+    /// A tick at a moment.
     Tick(Moment),
+    /// A datagram.
     Datagram {
+        /// What its packet says of it.
         envelope: F::Envelope,
+        /// Its bytes without the IP header.
         body: &'a [u8],
+        /// The moment at which it came.
         now: Moment,
     },
 }
 
-/// Hands all events to a link, in their order, and tells no answer. What a link does in any such run is what the definitions
-/// say of a run of these events.
+/// Hands all events to a link, in their order: to `tick` or to `receive`. The answers to the datagrams are not told. So
+/// whatever the events, what the link does and what the outlet is handed is a run of them as the definitions have it; and
+/// where `Link::new` made the link, it is a run from its start.
 pub fn run<F: Family, O: Outlet<F::Address>>(
     link: &mut Link<F>,
     events: &[Event<'_, F>],

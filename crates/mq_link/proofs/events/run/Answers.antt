@@ -1,4 +1,4 @@
-use Rattle.std.proofs.Common.{◌+◌, map, drop, sym, ap, ◌∙◌, subst}
+use Rattle.std.proofs.Common.{◌+◌, map, drop, sym, ap, subst}
 use Rattle.std.proofs.Math.ListN.{drop_of_length-le}
 use Rattle.mq_link.specs.Events.{event_of, HasRun}
 use Rattle.mq_link.specs.Run.{Tick, Datagram}
@@ -36,5 +36,7 @@ returns g c =
     let last = c.loop-event.link in
     let outlet = c.loop-event.sender.outlet in
     let none_left = sym (drop_of_length-le xs c.loop-event-test.false) in
-    record { runs = c.loop-event.invariant last outlet
-      (subst (λ ys. HasRun g.O.Outlet.takes (map f ys) last last outlet outlet) none_left (none_run g.O.Outlet.takes last outlet)) }
+    record {
+      runs = c.loop-event.invariant last outlet
+          (subst (λ ys. HasRun g.O.Outlet.takes (map f ys) last last outlet outlet) none_left (none_run g.O.Outlet.takes last outlet));
+    }
