@@ -1,5 +1,5 @@
 -- What becomes of one record, by what it enters with.
-use Rattle.std.proofs.Common.{◌≡◌, ℕ, ◌≤◌, Bool, true, false, cond, not, ◌&&◌, ◌||◌, refl, [], ◌∷◌, length, Option, None, Some, ap, ◌∙◌, sym, arith, ltb}
+use Rattle.std.proofs.Common.{◌≡◌, ℕ, ◌≤◌, Bool, true, false, cond, not, ◌&&◌, ◌||◌, refl, [], ◌∷◌, length, Option, None, Some, ap, ◌∙◌, ltb}
 use Rattle.std.proofs.lemmas.Bool.{ltb-false}
 use Rattle.std.specs.FinSet as set
 use Rattle.mq_wire.specs.declared.records.RecordView.{RecordView}
@@ -13,7 +13,7 @@ use Rattle.mq_link.specs.Family.{is_admitted}
 use Rattle.mq_link.specs.Configuration.{Configuration, is_outside, timing_fault, limit_fault, else_fault, as_fault, IsFaultless}
 use Rattle.mq_link.specs.Counters.{Verdict, Ignored, Refused}
 use Rattle.mq_link.specs.State.{Groups}
-use Rattle.mq_link.specs.Record.{RecordOf, Setting, leaving, stated, Seen, Entrance, Stops, GoesOn, entrance, entrance_as, kind_named, is_repeated, judged_from, judged}
+use Rattle.mq_link.specs.Record.{RecordOf, Setting, leaving, stated, Seen, Stops, GoesOn, entrance, entrance_as, kind_named, is_repeated, judged_from, judged}
 
 module _ (at : Setting) (seen : Seen) (r : RecordView ℕ) (groups : Groups) where
   pub judged_stopped : (verdict : Verdict) → entrance at.config r ≡ Stops verdict → judged at seen r groups ≡ leaving groups verdict

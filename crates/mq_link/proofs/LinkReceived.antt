@@ -1,6 +1,5 @@
 -- What a datagram makes of a link.
-use Rattle.std.proofs.Common.{◌≡◌, ℕ, Bool, max, refl, List, [], ◌∷◌, ◌++◌, append-nil, Option, None, Some, Result, Ok, Err, sym, ap, ◌∙◌, subst}
-use Rattle.std.specs.FinMap as map
+use Rattle.std.proofs.Common.{◌≡◌, ℕ, Bool, max, refl, List, [], ◌++◌, append-nil, Option, None, Some, Result, Ok, Err, sym, ap, ◌∙◌, subst}
 use Rattle.mq_wire.specs.Family.{Family}
 use Rattle.mq_wire.specs.declared.message.Message.{Message}
 use Rattle.mq_wire.specs.declared.message.Message.TheVariants.{Query as QueryMessage, OldReport, Leave as LeaveMessage, Report as ReportMessage}
@@ -20,7 +19,7 @@ use Rattle.mq_link.specs.Counters.{Counters}
 use Rattle.mq_link.specs.Family.{per_query}
 use Rattle.mq_link.specs.Handing.{KeepsIntervals}
 use Rattle.mq_link.specs.Heard.{announced_by}
-use Rattle.mq_link.specs.Link.{LinkValue, HasReceived, IsReceived, state_in, silent_step}
+use Rattle.mq_link.specs.Link.{HasReceived, IsReceived, state_in, silent_step}
 use Rattle.mq_link.specs.Receive.{Envelope, Receipt, taken_in, taken_or_dropped, drop_reason, receipt_after, receipt_of, read_of, pseudo_of, counting_read}
 use Rattle.mq_link.specs.Sender.{TakesQuery, begun}
 use Rattle.mq_link.specs.State.{LinkState}

@@ -1,5 +1,5 @@
 -- What a statement comes to, step by step, by what was done to its group.
-use Rattle.std.proofs.Common.{◌≡◌, ℕ, ◌+◌, ◌*◌, ◌<◌, ◌≤◌, Bool, true, false, cond, Option, None, Some, IfSome, is_some, Result, Ok, Err, MatchResult, List, length, refl, sym, ap, ◌∙◌, subst, arith}
+use Rattle.std.proofs.Common.{◌≡◌, ℕ, ◌+◌, ◌<◌, ◌≤◌, Bool, true, false, Option, None, Some, IfSome, is_some, Result, Ok, Err, MatchResult, List, length, sym, ap, ◌∙◌, subst, arith}
 use Rattle.std.specs.FinMap as map
 use Rattle.std.specs.Result.{is_ok}
 use Rattle.mq_sets.specs.Ascending.{set_of}
@@ -16,7 +16,7 @@ use Rattle.mq_sched.specs.Sending.{after_change, after_round}
 use Rattle.mq_link.specs.declared.answers.Refusal.{Refusal}
 use Rattle.mq_link.specs.declared.statements.Said.{Said}
 use Rattle.mq_link.specs.Changing.{statement_of, change_written}
-use Rattle.mq_link.specs.Counters.{Applied, Ignored, Refused}
+use Rattle.mq_link.specs.Counters.{Ignored}
 use Rattle.mq_link.specs.Family.{is_admitted, v1_mutes_leave}
 use Rattle.mq_link.specs.Record.{Statement, Setting, Outcome, leaving, unless_passed, changed_by, after_sending, sent_at_once, changed_or_refused, change_in, change_stated, is_muted, limit_passed, stated}
 use Rattle.mq_link.specs.Sound.{AreSound}

@@ -218,16 +218,7 @@ fn take_record<F: Family, S: Sink<F::Address>>(
     name_sources(&mut scratch.named, &view.sources, m);
     let said = Said::Record(kind);
     apply(
-        config,
-        election,
-        now,
-        view.group,
-        found,
-        said,
-        held,
-        scratch,
-        m,
-        sink,
+        config, election, now, view.group, found, said, held, scratch, m, sink,
     )
 }
 
@@ -278,9 +269,7 @@ pub(crate) fn take_records<F: Family, S: Sink<F::Address>>(
         refused: 0,
     };
     for record in records.iter() {
-        let fate = take_record(
-            config, election, now, &record, held, scratch, seen, m, sink,
-        );
+        let fate = take_record(config, election, now, &record, held, scratch, seen, m, sink);
         count_fate(fate, &mut tally, counts);
     }
     Received::Taken {

@@ -1,4 +1,4 @@
-use Rattle.std.proofs.Common.{◌≡◌, refl}
+use Rattle.std.proofs.Common.{refl}
 use Rattle.mq_link.specs.Hearing.{ArePartsOf}
 use Rattle.mq_link.specs.Link.{state_in}
 use Rattle.mq_link.specs.Receive.{taken_in}

@@ -1,11 +1,10 @@
-use Rattle.std.proofs.Common.{◌≡◌, Bool, true, false, ◌&&◌, refl, sym, ap, ◌∙◌, subst, arith, leb}
+use Rattle.std.proofs.Common.{◌≡◌, true, false, refl, sym, ap, ◌∙◌, subst, arith, leb}
 use Rattle.std.proofs.lemmas.Bool.Decides.{nat_tests}
 use Rattle.std.specs.FinMap as map
 use Rattle.std.specs.FinSet as set
 use Rattle.mq_sched.specs.Sink.{Sends}
 use Rattle.mq_wire.specs.Numbered.{numbered_record}
 use Rattle.mq_link.specs.Entering.{entered_as}
-use Rattle.mq_link.specs.Judging.{verdict_of}
 use Rattle.mq_link.specs.Record.{Setting, Outcome, RecordOf, stated, met, is_repeated, judged}
 use Rattle.mq_link.proofs.JudgedRecords.{judged_stopped, judged_repeated, judged_stated, short_enough, few_group_sources, both_hold, first_fails, second_fails}
 use Rattle.mq_link.proofs.records.take_record.Given.{Over}

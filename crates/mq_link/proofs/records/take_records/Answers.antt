@@ -1,4 +1,4 @@
-use Rattle.std.proofs.Common.{◌≡◌, refl, length, ap, ◌∙◌, sym, arith}
+use Rattle.std.proofs.Common.{refl, length, ap, ◌∙◌, arith}
 use Rattle.mq_wire.specs.Numbered.{numbered_record}
 use Rattle.mq_link.specs.declared.answers.Received.TheVariants.{Taken}
 use Rattle.mq_link.specs.Record.{Setting}
@@ -8,10 +8,9 @@ use Rattle.mq_link.proofs.records.take_records.Goals as goal
 
 pub loop-record-init : goal.loop-record-init
 loop-record-init g c =
-    let at : Setting = record { config = c.args.config.now; election = c.args.election.now.state; now = c.args.now } in
-    (
+    let at : Setting = record { config = c.args.config.now; election = c.args.election.now.state; now = c.args.now } in (
       rw (c.into_iter-record-iterator.ensures.into_iter_gives ∙ c.iter-record-items.ensures, ap (λ (s : SeenState). s.counts) c.clear.ensures)
-      (none_taken g.S.Sink.takes at c.args.sink.now c.args.counts.now c.args.records.now c.args.held.now.groups c.requires.sound),
+          (none_taken g.S.Sink.takes at c.args.sink.now c.args.counts.now c.args.records.now c.args.held.now.groups c.requires.sound),
       ap (λ (s : SeenState). s.room) c.clear.ensures,
       c.requires.scratch_room,
       refl,
@@ -58,10 +57,9 @@ count_fate-requires-clause-refused g c =
 pub loop-record-preserved : goal.loop-record-preserved
 loop-record-preserved g c =
     let at : Setting = record { config = c.args.config.now; election = c.args.election.now.state; now = c.args.now } in
-    let r = numbered_record g.F.Address.Key.number c.in-Some.record in
-    (
+    let r = numbered_record g.F.Address.Key.number c.in-Some.record in (
       rw (c.take_record-fate.ensures.seen, c.take_record-fate.ensures.groups, c.count_fate.ensures.counts, c.count_fate.ensures.applied, c.count_fate.ensures.ignored, c.count_fate.ensures.refused, c.take_record-fate.ensures.fate)
-      (one_taken g.S.Sink.takes at _ _ c.args.sink.now c.args.counts.now c.loop-record.record-iterator c.next.new.self r c.loop-record.seen.counts c.loop-record.held.groups c.loop-record.sink c.take_record-fate.new.sink c.loop-record.counts _ c.requires.robust c.loop-record.invariant.0 c.in-Some.ensures.steps c.take_record-fate.ensures.sent),
+          (one_taken g.S.Sink.takes at _ _ c.args.sink.now c.args.counts.now c.loop-record.record-iterator c.next.new.self r c.loop-record.seen.counts c.loop-record.held.groups c.loop-record.sink c.take_record-fate.new.sink c.loop-record.counts _ c.requires.robust c.loop-record.invariant.0 c.in-Some.ensures.steps c.take_record-fate.ensures.sent),
       c.take_record-fate.ensures.seen_room ∙ c.loop-record.invariant.1,
       c.take_record-fate.ensures.scratch_room,
       c.take_record-fate.ensures.group_room ∙ c.loop-record.invariant.3,

@@ -1,10 +1,9 @@
-use Rattle.std.proofs.Common.{◌≡◌, ℕ, ◌+◌, ◌*◌, ◌≤◌, max, List, length, refl, ap, sym, ◌∙◌, subst, arith}
+use Rattle.std.proofs.Common.{◌≡◌, length, ap, sym, ◌∙◌, subst, arith}
 use Rattle.mq_sched.specs.Election.{ElectionState}
 use Rattle.mq_sched.specs.StoredElection.{RouterElection}
 use Rattle.mq_link.specs.Handing.{KeepsIntervals}
 use Rattle.mq_link.specs.Link.{LinkValue, HasReceived, state_in, silent_step}
 use Rattle.mq_link.specs.Receive.{receipt_after, pseudo_of}
-use Rattle.mq_link.specs.Scratch.{HasRoom}
 use Rattle.mq_link.specs.State.{LinkState, IsWellFormed}
 use Rattle.mq_link.specs.Tick.{Step, tick_at}
 use Rattle.mq_link.proofs.Faultless.{timing_in_range}
