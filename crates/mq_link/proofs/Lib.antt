@@ -55,3 +55,4 @@ pub mod ChangedSizes
 pub mod StatedSteps
 pub mod RecordsRead
 pub mod LinkReceived
+pub mod EventsRun

@@ -29,3 +29,4 @@ pub mod Counted
 pub mod Link
 pub mod LinkCode
 pub mod Sound
+pub mod Events

@@ -12,7 +12,8 @@
 //! - why a datagram is dropped: `dropping`;
 //! - what goes out: the `Outlet` that takes datagrams, and the `Sender` before it;
 //! - what is counted: `Counts`;
-//! - and the whole, over all of these: `Link`.
+//! - the whole, over all of these: `Link`;
+//! - and a run of it over any events: `run`.
 #![tactic(auto)]
 
 pub mod answers;
@@ -23,6 +24,7 @@ pub mod configuration;
 pub mod counts;
 pub mod dropping;
 mod due;
+pub mod events;
 pub mod examples;
 pub mod family;
 mod hearing;
@@ -50,6 +52,7 @@ pub use answers::{DropReason, MessageKind, Received, Refusal};
 pub use config::Config;
 pub use configuration::{ConfigFault, Defaults, LimitName, Limits};
 pub use counts::Counts;
+pub use events::{Event, run};
 pub use family::Family;
 pub use igmp::{Igmp, IgmpEnvelope};
 pub use link::Link;
