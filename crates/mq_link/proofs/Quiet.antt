@@ -29,8 +29,7 @@ use Rattle.mq_sched.proofs.Rounds.{quiet_is_silent}
 use Rattle.mq_link.specs.Family.{per_query}
 use Rattle.mq_link.specs.Configuration.{Configuration}
 use Rattle.mq_link.specs.State.{Groups, LinkState, IsWellFormed}
-use Rattle.mq_link.specs.Tick.{group_expired, if_held, groups_expired, queries_due, groups_after_round, tick_at, those_of, moments_of, moments_in, least, next_of}
-use Rattle.mq_link.specs.Laws.{waited}
+use Rattle.mq_link.specs.Tick.{group_expired, if_held, groups_expired, queries_due, groups_after_round, tick_at, those_of, moments_of, moments_in, least, next_of, waited}
 use Rattle.mq_link.proofs.Known.{same_answers}
 use Rattle.mq_link.proofs.Silent.{Each, each-entry, from-each}
 use Rattle.mq_link.proofs.HeldAs.{All}

@@ -10,8 +10,7 @@ use Rattle.mq_link.specs.Configuration.{Configuration}
 use Rattle.mq_link.specs.State.{LinkState}
 use Rattle.mq_link.specs.Receive.{message_in, unless_faulty, read_of}
 use Rattle.mq_link.specs.Sent.{outgoing_of}
-use Rattle.mq_link.specs.Run.{Event, Happening, Happens, step_of, answer_to, answered, RunFrom}
-use Rattle.mq_link.specs.Laws.{events_of}
+use Rattle.mq_link.specs.Run.{Event, Happening, Happens, step_of, answer_to, answered, RunFrom, events_of}
 
 -- one happening
 made : Configuration → LinkState → Event × List Bool → Happening

@@ -3,10 +3,9 @@ use Rattle.std.specs.Prelude.{◌≡◌, ℕ, List, [], ◌∷◌, ◌++◌, Boo
 use Rattle.mq_link.specs.declared.events.Event.{Event as Handed}
 use Rattle.mq_link.specs.declared.events.Event.TheVariants.{Tick as HandedTick, Datagram as HandedDatagram}
 use Rattle.mq_link.specs.Handing.{HandsOver}
-use Rattle.mq_link.specs.Laws.{events_alone}
 use Rattle.mq_link.specs.Link.{LinkValue}
 use Rattle.mq_link.specs.Receive.{Envelope}
-use Rattle.mq_link.specs.Run.{Event, Tick, Datagram, Happening, RunFrom}
+use Rattle.mq_link.specs.Run.{Event, Tick, Datagram, Happening, RunFrom, events_alone}
 use Rattle.mq_link.specs.Sent.{Outgoing}
 use Rattle.mq_link.specs.State.{LinkState}
 

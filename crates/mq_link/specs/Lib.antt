@@ -10,9 +10,6 @@ pub mod Receive
 pub mod Sent
 pub mod Run
 pub mod Cost
-pub mod Laws
-pub mod Examples
-pub mod ManySources
 pub mod Changing
 pub mod Judging
 pub mod Entering

@@ -1,5 +1,5 @@
 -- Runs of a link: ticks and datagrams, one after the other, with the outlet's answers.
-use Rattle.std.specs.Prelude.{◌≡◌, ℕ, Bool, List, [], ◌∷◌, length, Option, None, Some}
+use Rattle.std.specs.Prelude.{◌≡◌, ℕ, Bool, List, [], ◌∷◌, length, map as list_map, Option, None, Some}
 use Rattle.mq_link.specs.declared.answers.Received.{Received}
 use Rattle.mq_link.specs.Configuration.{Configuration}
 use Rattle.mq_link.specs.Counters.{count_answers}
@@ -64,3 +64,12 @@ RunFrom config before (h ∷ hs) = Happens config before h × RunFrom config h.a
 -- a run of a link that is made at a moment
 abbrev pub Run : Configuration → (start : ℕ) → List Happening → Type 0
 Run config start happenings = RunFrom config (link_at config start) happenings
+
+-- the events of happenings, with the outlet's answers
+abbrev pub events_of : List Happening → List (Event × List Bool)
+events_of [] = []
+events_of (h ∷ hs) = (h.event, h.answers) ∷ events_of hs
+
+-- and without them
+abbrev pub events_alone : List Happening → List Event
+events_alone happenings = list_map (λ h. h.event) happenings

@@ -1,6 +1,6 @@
 -- What a moment does to a link: timers end, the election may have something to do, and queries are sent that are due
 -- (RFC 3376 sections 6.5, 6.6.2 and 6.6.3, RFC 3810 sections 7.5, 7.6.2 and 7.6.3).
-use Rattle.std.specs.Prelude.{ℕ, max, if◌then◌else◌, List, ◌++◌, Option, None, Some}
+use Rattle.std.specs.Prelude.{ℕ, max, if◌then◌else◌, List, [], ◌++◌, Option, None, Some}
 use Rattle.std.specs.List.{flat_map}
 use Rattle.std.specs.FinMap as map
 use Rattle.mq_table.specs.declared.timing.Timing.{Timing}
@@ -71,3 +71,8 @@ tick_of config now state = tick_at config (moment_of state now) state
 -- when a tick has something to do next: the earliest of all deadlines and due moments
 abbrev pub next_of : LinkState → ℕ
 next_of state = least (next_moment state.election.role) (moments_in state.groups)
+
+-- a link that has waited up to a moment, and sent nothing
+abbrev pub waited : (moment : ℕ) → LinkState → Step
+waited moment state =
+    record { state = record state { last = moment }; queries = []; timing = state.election.timing }

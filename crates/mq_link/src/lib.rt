@@ -1,6 +1,6 @@
 //! One link: the multicast router side of one attached network, for IGMP (RFC 3376) or MLD (RFC 3810).
 //!
-//! Its definitions stand here, with their laws and worked examples, and the names of its answers:
+//! Its definitions stand here, and the names of its answers:
 //! - what became of a datagram: `Received`, with a `DropReason` or the counts of its records, each of which
 //!   was applied, ignored, or refused by a `Refusal`;
 //! - what a configuration may hold: `Limits`, and the `ConfigFault` of one that may not be;
@@ -25,11 +25,9 @@ pub mod counts;
 pub mod dropping;
 mod due;
 pub mod events;
-pub mod examples;
 pub mod family;
 mod hearing;
 pub mod igmp;
-pub mod laws;
 mod limiting;
 pub mod link;
 mod lowering;
