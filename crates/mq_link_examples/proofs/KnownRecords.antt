@@ -53,7 +53,7 @@ held-known gs group = ap is_some (get-known gs group) ∙ either (find nat_cmp g
     either None = refl
     either (Some k) = refl
 
-group-known : (gs : KnownGroups) (group : ℕ) → group_at (as_groups gs) group ≡ as_held (group_in gs group)
+pub group-known : (gs : KnownGroups) (group : ℕ) → group_at (as_groups gs) group ≡ as_held (group_in gs group)
 group-known gs group = ap (λ e. unwrap_or e unheld) (get-known gs group) ∙ either (find nat_cmp group gs)
   where
     either : (k : Option Known) → unwrap_or (option_map as_held k) unheld ≡ as_held (unwrap_or k nothing_known)

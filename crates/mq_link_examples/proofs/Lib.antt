@@ -3,6 +3,7 @@ pub mod KnownSendings
 pub mod KnownLinks
 pub mod KnownRecords
 pub mod KnownReceipts
+pub mod KnownMoments
 pub mod Worked
 pub mod Alike
 pub mod AlikeGroups

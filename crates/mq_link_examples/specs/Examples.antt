@@ -22,8 +22,8 @@ use Rattle.mq_link.specs.declared.answers.MessageKind.{MessageKind}
 use Rattle.mq_link.specs.declared.answers.Refusal.{Refusal}
 use Rattle.mq_link.specs.Configuration.{Configuration}
 use Rattle.mq_link.specs.Counters.{Counters, Verdict, no_counts}
-use Rattle.mq_link.specs.State.{Groups, LinkState}
-use Rattle.mq_link.specs.Tick.{Step, tick_of}
+use Rattle.mq_link.specs.State.{Groups, LinkState, forwards}
+use Rattle.mq_link.specs.Tick.{Step, tick_of, next_of}
 use Rattle.mq_link.specs.Record.{Setting, judged, all_judged}
 use Rattle.mq_link.specs.Receive.{Envelope, receipt_of}
 
@@ -251,3 +251,11 @@ pub record CountsTo (config : Configuration) (envelope : Envelope) (bytes : List
 -- a link that has counted as far as it goes
 abbrev pub with_full_counters : ListedLink → ListedLink
 with_full_counters l = record l { counters = record no_counts { received = 2 ^ 64 - 1; dropped = 2 ^ 64 - 2 } }
+
+-- a tick has something to do next at this moment
+pub record NextIs (l : ListedLink) (moment : ℕ) : Type 0 where
+  pub next : next_of (as_link l) ≡ moment
+
+-- whether what a source sends to a group is forwarded
+pub record Forwards (l : ListedLink) (group source : ℕ) (answer : Bool) : Type 0 where
+  pub forwarded : forwards (as_link l) group source ≡ answer

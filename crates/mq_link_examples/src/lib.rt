@@ -7,7 +7,7 @@
 //! `records`, sendings in several messages in `sendings`, what the families differ in, and bytes, in `families`.
 #![tactic(auto)]
 
-ghost use Rattle.std.specs.Prelude.{◌≡◌, [], ◌∷◌, true, false, Some, None};
+ghost use Rattle.std.specs.Prelude.{◌≡◌, ◌+◌, [], ◌∷◌, true, false, Some, None};
 ghost use Rattle.mq_table.specs.declared.timers.FilterMode.TheVariants.{Include, Exclude};
 ghost use Rattle.mq_table.specs.declared.timers.SourceTimer.TheVariants.{Stopped, Running};
 ghost use Rattle.mq_table.specs.Examples.{default_timing, until};
@@ -15,7 +15,7 @@ ghost use Rattle.mq_sched.specs.Examples.{the_group, scheduled, announced_timing
 ghost use Rattle.mq_sched.specs.Sending.{GeneralQuery, GroupQuery, SourcesQuery};
 ghost use Rattle.mq_link.specs.Counters.{no_counts, count_answers};
 ghost use Rattle.mq_link.specs.State.{link_at};
-ghost use Rattle.mq_link_examples.specs.Examples.{igmp, limited, source_specific_igmp, host, ipv4, from, octets, listed, listed_due, listed_v2, listed_v1, early, late, after, as_link, querier, other, with_full_counters, TicksTo, Comes, CountsTo};
+ghost use Rattle.mq_link_examples.specs.Examples.{igmp, limited, source_specific_igmp, host, ipv4, from, octets, listed, listed_due, listed_v2, listed_v1, early, late, after, as_link, querier, other, with_full_counters, TicksTo, Comes, CountsTo, NextIs, Forwards};
 
 use mq_link::{DropReason, MessageKind, Received, Refusal};
 
@@ -300,4 +300,30 @@ pub fn what_is_counted()
 /// The outlet took the first of two queries: one is sent, and one isn't.
 pub fn what_the_outlet_answered()
     ensures { count_answers (true ∷ false ∷ []) no_counts ≡ record no_counts { sent = 1; unsent = 1 } }
+{}
+
+/// When a tick has something to do next: at the earliest of all deadlines and due moments, of whatever kind it is. A
+/// source that is stopped has none.
+pub fn the_next_moment()
+    ensures general { NextIs (early 0 []) 31250 }
+    ensures other_querier { NextIs (after 0 (other (host 2) 260000 default_timing) []) 260000 }
+    ensures group { NextIs (early 0 ((the_group, listed (Exclude 20000) []) ∷ [])) 20000 }
+    ensures source { NextIs (early 0 ((the_group, listed Include ((1, until 30000) ∷ (2, until 20000) ∷ [])) ∷ [])) 20000 }
+    ensures version_one { NextIs (early 0 ((the_group, listed_v1 261000 20000) ∷ [])) 20000 }
+    ensures version_two { NextIs (early 0 ((the_group, listed_v2 261000 20000 None) ∷ [])) 20000 }
+    ensures group_query { NextIs (early 0 ((the_group, listed_v2 24000 261000 (Some record { sendings = 1; due = 20000 })) ∷ [])) 20000 }
+    ensures sources_query { NextIs (early 0 ((the_group, listed_due Include ((1, Running 24000 1) ∷ []) None (Some 20000)) ∷ [])) 20000 }
+    ensures stopped { NextIs (early 0 ((the_group, listed (Exclude 40000) ((1, Stopped) ∷ [])) ∷ [])) 31250 }
+    ensures of_two { NextIs (early 0 ((the_group, listed (Exclude 30000) []) ∷ (the_group + 1, listed (Exclude 20000) []) ∷ [])) 20000 }
+{}
+
+/// What is forwarded: in INCLUDE the sources that are held, in EXCLUDE all but those that are stopped, and nothing to a
+/// group that isn't held.
+pub fn what_is_forwarded()
+    ensures held { Forwards (early 0 ((the_group, listed Include ((1, until 20000) ∷ [])) ∷ [])) the_group 1 true }
+    ensures unnamed { Forwards (early 0 ((the_group, listed Include ((1, until 20000) ∷ [])) ∷ [])) the_group 2 false }
+    ensures running { Forwards (early 0 ((the_group, listed (Exclude 40000) ((1, until 20000) ∷ (2, Stopped) ∷ [])) ∷ [])) the_group 1 true }
+    ensures stopped { Forwards (early 0 ((the_group, listed (Exclude 40000) ((1, until 20000) ∷ (2, Stopped) ∷ [])) ∷ [])) the_group 2 false }
+    ensures unexcluded { Forwards (early 0 ((the_group, listed (Exclude 40000) ((1, until 20000) ∷ (2, Stopped) ∷ [])) ∷ [])) the_group 3 true }
+    ensures unheld { Forwards (early 0 ((the_group, listed (Exclude 40000) []) ∷ [])) (the_group + 1) 1 false }
 {}
