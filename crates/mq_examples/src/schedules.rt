@@ -13,7 +13,7 @@ ghost use Rattle.mq_table.specs.OlderHosts.{older_report, older_leave};
 ghost use Rattle.mq_table.specs.Expiry.{expired};
 ghost use Rattle.mq_table.specs.Examples.{default_timing, until};
 ghost use Rattle.mq_examples.specs.Groups.{group_in, group_with, naming, included, excluded, heard_v2};
-ghost use Rattle.mq_sched.specs.Runs.{runs_of};
+ghost use Rattle.mq_sched.specs.Portions.{portions_of};
 ghost use Rattle.mq_sched.specs.Schedule.{no_schedule, settled, cleared};
 ghost use Rattle.mq_sched.specs.Sending.{GeneralQuery, GroupQuery, SourcesQuery, messages_due, after_change};
 ghost use Rattle.mq_sched.specs.Election.{Querier, Other, election_at, heard, loses_role, ticked, general_messages};
@@ -106,10 +106,10 @@ pub fn a_sending_in_several_messages()
         ∷ (4, Running 262500 1) ∷ (5, Running 4000 1) ∷ []) None (Some 3000))
         ≡ SourcesQuery the_group true (1 ∷ 4 ∷ []) ∷ SourcesQuery the_group false (2 ∷ 3 ∷ [])
         ∷ SourcesQuery the_group false (5 ∷ []) ∷ [] }
-    ensures many { map length (runs_of 366 (replicate 1024 1)) ≡ 366 ∷ 366 ∷ 292 ∷ [] }
-    ensures one_too_many { map length (runs_of 366 (replicate 367 1)) ≡ 366 ∷ 1 ∷ [] }
-    ensures one_too_many_of_mld { map length (runs_of 89 (replicate 90 1)) ≡ 89 ∷ 1 ∷ [] }
-    ensures just_one { runs_of 3 (1 ∷ 2 ∷ 3 ∷ []) ≡ (1 ∷ 2 ∷ 3 ∷ []) ∷ [] }
+    ensures many { map length (portions_of 366 (replicate 1024 1)) ≡ 366 ∷ 366 ∷ 292 ∷ [] }
+    ensures one_too_many { map length (portions_of 366 (replicate 367 1)) ≡ 366 ∷ 1 ∷ [] }
+    ensures one_too_many_of_mld { map length (portions_of 89 (replicate 90 1)) ≡ 89 ∷ 1 ∷ [] }
+    ensures just_one { portions_of 3 (1 ∷ 2 ∷ 3 ∷ []) ≡ (1 ∷ 2 ∷ 3 ∷ []) ∷ [] }
 {}
 
 /// The round at 3000 is sent then, and not before; a late one is sent once, not once for each moment

@@ -16,7 +16,7 @@ use Rattle.mq_table.specs.Sendings.{has_sendings, above}
 use Rattle.mq_sched.specs.Schedule.{ScheduledGroup}
 use Rattle.mq_sched.specs.Sending.{SentQuery, GeneralQuery, GroupQuery, SourcesQuery, is_due, group_due, sources_where, sources_queries, source_messages, group_messages, messages_due}
 use Rattle.mq_laws.specs.Schedules.{AscendIn}
-use Rattle.mq_sched.specs.Runs.{runs_within}
+use Rattle.mq_sched.specs.Portions.{portions_within}
 use Rattle.std.proofs.lemmas.List.{length-take}
 use Rattle.std.proofs.Common.{◌≡◌, take, length-drop}
 use Rattle.std.proofs.lemmas.List.{get_or-take, get_or-drop}
@@ -61,11 +61,11 @@ ascend_append (GeneralQuery ∷ xs) ys a b = ascend_append xs ys a b
 ascend_append (GroupQuery g f ∷ xs) ys a b = ascend_append xs ys a b
 ascend_append (SourcesQuery g f ss ∷ xs) ys a b = (a.0, a.1, ascend_append xs ys a.2 b)
 
-ascend_runs : (most n group : ℕ) (flag : Bool) (xs : List ℕ) → 0 < n → IsStrictlyIncreasing xs → AscendIn (list_map (SourcesQuery group flag) (runs_within most n xs))
-ascend_runs most n group flag [] positive up = tt
-ascend_runs zero n group flag (x ∷ xs) positive up = tt
-ascend_runs (suc most) n group flag (x ∷ xs) positive up =
-    (omega (arith, length-take n (x ∷ xs)), increasing-take n (x ∷ xs) up, ascend_runs most n group flag (drop n (x ∷ xs)) positive (increasing-drop n (x ∷ xs) up))
+ascend_portions : (most n group : ℕ) (flag : Bool) (xs : List ℕ) → 0 < n → IsStrictlyIncreasing xs → AscendIn (list_map (SourcesQuery group flag) (portions_within most n xs))
+ascend_portions most n group flag [] positive up = tt
+ascend_portions zero n group flag (x ∷ xs) positive up = tt
+ascend_portions (suc most) n group flag (x ∷ xs) positive up =
+    (omega (arith, length-take n (x ∷ xs)), increasing-take n (x ∷ xs) up, ascend_portions most n group flag (drop n (x ∷ xs)) positive (increasing-drop n (x ∷ xs) up))
 
 -- a round has queries or it has none
 ascend_if : (b : Bool) (queries : List SentQuery) → AscendIn queries → AscendIn (cond b queries [])
@@ -73,7 +73,7 @@ ascend_if true queries a = a
 ascend_if false queries a = tt
 
 ascend_where : (n group : ℕ) (flag : Bool) (test : Set) (g : GroupState) → 0 < n → AscendIn (sources_queries n group flag (sources_where test g))
-ascend_where n group flag test g positive = ascend_runs (length (sources_where test g)) n group flag (sources_where test g) positive (IsStrictlyIncreasing-filter test (map.keys g.sources) (keys_ascend g.sources))
+ascend_where n group flag test g positive = ascend_portions (length (sources_where test g)) n group flag (sources_where test g) positive (IsStrictlyIncreasing-filter test (map.keys g.sources) (keys_ascend g.sources))
 
 pub messages_ascend : (n : ℕ) (timing : Timing) (now group : ℕ) (e : ScheduledGroup) → 0 < n → AscendIn (messages_due n timing now group e)
 messages_ascend n timing now group e positive =

@@ -2,4 +2,4 @@ pub mod ChangedSources
 pub mod Lowered
 pub mod AskedLater
 pub mod Ascending
-pub mod RunsOfRounds
+pub mod PortionsOfRounds

@@ -46,19 +46,19 @@ AscendIn (SourcesQuery group flag sources ∷ queries) =
     (0 < length sources) × IsStrictlyIncreasing sources × AscendIn queries
 
 -- the lists of sources of a round's queries with S set, and of those with S clear
-abbrev pub set_runs : List SentQuery → List (List ℕ)
-set_runs [] = []
-set_runs (GeneralQuery ∷ queries) = set_runs queries
-set_runs (GroupQuery group flag ∷ queries) = set_runs queries
-set_runs (SourcesQuery group flag sources ∷ queries) =
-    if flag then sources ∷ set_runs queries else set_runs queries
+abbrev pub set_portions : List SentQuery → List (List ℕ)
+set_portions [] = []
+set_portions (GeneralQuery ∷ queries) = set_portions queries
+set_portions (GroupQuery group flag ∷ queries) = set_portions queries
+set_portions (SourcesQuery group flag sources ∷ queries) =
+    if flag then sources ∷ set_portions queries else set_portions queries
 
-abbrev pub clear_runs : List SentQuery → List (List ℕ)
-clear_runs [] = []
-clear_runs (GeneralQuery ∷ queries) = clear_runs queries
-clear_runs (GroupQuery group flag ∷ queries) = clear_runs queries
-clear_runs (SourcesQuery group flag sources ∷ queries) =
-    if flag then clear_runs queries else sources ∷ clear_runs queries
+abbrev pub clear_portions : List SentQuery → List (List ℕ)
+clear_portions [] = []
+clear_portions (GeneralQuery ∷ queries) = clear_portions queries
+clear_portions (GroupQuery group flag ∷ queries) = clear_portions queries
+clear_portions (SourcesQuery group flag sources ∷ queries) =
+    if flag then clear_portions queries else sources ∷ clear_portions queries
 
 -- the sources that a round has to ask for with S set, and with S clear, ascending
 abbrev pub set_sources : Round → List ℕ

@@ -7,11 +7,11 @@ ghost use Rattle.mq_table.specs.Expiry.{expired};
 ghost use Rattle.mq_laws.specs.Groups.{Arrival, group_after, IsNoLater};
 ghost use Rattle.std.specs.List.{concat};
 ghost use Rattle.mq_table.specs.Sendings.{has_sendings};
-ghost use Rattle.mq_sched.specs.Runs.{AllButLast};
+ghost use Rattle.mq_sched.specs.Portions.{AllButLast};
 ghost use Rattle.mq_sched.specs.Schedule.{query_sendings, ScheduleState, ScheduledGroup, IsScheduleOf, settled, cleared};
 ghost use Rattle.mq_sched.specs.Sending.{is_due, group_due, messages_due};
 ghost use Rattle.mq_sched.specs.Election.{ElectionState, ticked, next_moment};
-ghost use Rattle.mq_laws.specs.Schedules.{Round, queries_of, state_after, Asking, after_asking, IsFitting, AscendIn, set_runs, clear_runs, set_sources, clear_sources};
+ghost use Rattle.mq_laws.specs.Schedules.{Round, queries_of, state_after, Asking, after_asking, IsFitting, AscendIn, set_portions, clear_portions, set_sources, clear_sources};
 ghost use Rattle.mq_sched.specs.Rounds.{AllFit};
 ghost use Rattle.mq_sched.specs.Rounds.{asked_in, asks_group, IsQuietAt};
 
@@ -59,14 +59,14 @@ pub fn a_round_is_in_order()
     ensures { (r : Round) → 0 < r.per_query → AscendIn (queries_of r) }
 {}
 
-/// A round asks for its sources in runs. Those with S set, put together, are the ascending sources
+/// A round asks for its sources in portions. Those with S set, put together, are the ascending sources
 /// that it has to ask for with S set, and each but the last has exactly what one message holds; so
 /// are and have those with S clear.
-pub fn a_round_is_in_runs()
-    ensures set { (r : Round) → 0 < r.per_query → concat (set_runs (queries_of r)) ≡ set_sources r }
-    ensures clear { (r : Round) → 0 < r.per_query → concat (clear_runs (queries_of r)) ≡ clear_sources r }
-    ensures set_full { (r : Round) → AllButLast (λ run. length run ≡ r.per_query) (set_runs (queries_of r)) }
-    ensures clear_full { (r : Round) → AllButLast (λ run. length run ≡ r.per_query) (clear_runs (queries_of r)) }
+pub fn a_round_is_in_portions()
+    ensures set { (r : Round) → 0 < r.per_query → concat (set_portions (queries_of r)) ≡ set_sources r }
+    ensures clear { (r : Round) → 0 < r.per_query → concat (clear_portions (queries_of r)) ≡ clear_sources r }
+    ensures set_full { (r : Round) → AllButLast (λ portion. length portion ≡ r.per_query) (set_portions (queries_of r)) }
+    ensures clear_full { (r : Round) → AllButLast (λ portion. length portion ≡ r.per_query) (clear_portions (queries_of r)) }
     ensures fit { (r : Round) → AllFit r.per_query (queries_of r) }
 {}
 

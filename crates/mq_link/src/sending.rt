@@ -98,17 +98,17 @@ impl<F: Family> QueryTerms<F> {
     }
 
     /// Writes a query that one message holds to the front, and answers where it goes and how many bytes it has.
-    fn write(&self, query: QueryParts<'_, F::Address>, room: &mut [u8]) -> (F::Address, usize)
+    fn write(&self, query: QueryParts<'_, F::Address>, out: &mut [u8]) -> (F::Address, usize)
         requires fits { FitsOne F.FAMILY (query_of F.Address.number query) }
-        requires room { length room.old ≡ 1476 }
+        requires length { length out.old ≡ 1476 }
         ensures to { F.Address.number result.0
             ≡ (outgoing_on F.FAMILY self.now (query_of F.Address.number query.entry)).to }
         ensures within { result.1 ≤ 1476 }
-        ensures bytes { take result.1 room.new
+        ensures bytes { take result.1 out.new
             ≡ (outgoing_on F.FAMILY self.now (query_of F.Address.number query.entry)).bytes }
     {
         let fields = self.fields(query);
-        match F::write(self.own, &fields, room) {
+        match F::write(self.own, &fields, out) {
             Ok(length) => (destination::<F>(fields.group), length),
             Err(_) => unreachable!(),
         }
@@ -232,8 +232,8 @@ impl<F: Family, O: Outlet<F::Address>> Sink<F::Address> for Sender<F, O> {
         if !fits_one::<F>(&query) {
             return false;
         }
-        let mut room = [0; LONGEST];
-        let (to, length) = self.terms.write(query, &mut room);
-        self.hand_over(to, &room[..length])
+        let mut out = [0; LONGEST];
+        let (to, length) = self.terms.write(query, &mut out);
+        self.hand_over(to, &out[..length])
     }
 }

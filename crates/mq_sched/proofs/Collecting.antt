@@ -16,7 +16,7 @@ use Rattle.mq_sched.specs.Schedule.{ScheduledGroup}
 use Rattle.mq_sched.specs.Sending.{SentQuery, SourcesQuery, is_due, sources_where, sources_queries, source_messages}
 use Rattle.mq_sched.specs.Sink.{Sends, SendsOn}
 use Rattle.mq_sched.specs.Collected.{goes_with, going_with}
-use Rattle.mq_sched.proofs.InRuns.{first_run}
+use Rattle.mq_sched.proofs.InPortions.{first_portion}
 
 -- some queries, and then others
 pub Sends-append : {S : Type 0} (takes : S → SentQuery → S → Type 0) (old between new : S) (queries more : List SentQuery) → Sends takes old queries between → Sends takes between more new → Sends takes old (queries ++ more) new
@@ -27,10 +27,10 @@ module _ {K : Type 0} (number : K → ℕ) (n group : ℕ) (flag : Bool) where
   -- a message that becomes full is the first that goes
   full_message : (items : List K) (source : K) (rest : List ℕ) → 0 < n → length items + 1 ≡ n → sources_queries n group flag (list_map number items ++ (number source ∷ rest)) ≡ SourcesQuery group flag (list_map number (items ++ source ∷ [])) ∷ sources_queries n group flag rest
   full_message items source rest positive full =
-      let run : List ℕ = list_map number (items ++ source ∷ []) in
-      let put : list_map number items ++ (number source ∷ rest) ≡ run ++ rest = sym (append_assoc (list_map number items) (number source ∷ []) rest) ∙ ap (λ xs. xs ++ rest) (sym (map-append number items (source ∷ []))) in
-      let long : length run ≡ n = length-map (items ++ source ∷ []) number ∙ length_push items source ∙ full in
-      ap (λ xs. sources_queries n group flag xs) put ∙ ap (list_map (SourcesQuery group flag)) (first_run n run rest positive long)
+      let portion : List ℕ = list_map number (items ++ source ∷ []) in
+      let put : list_map number items ++ (number source ∷ rest) ≡ portion ++ rest = sym (append_assoc (list_map number items) (number source ∷ []) rest) ∙ ap (λ xs. xs ++ rest) (sym (map-append number items (source ∷ []))) in
+      let long : length portion ≡ n = length-map (items ++ source ∷ []) number ∙ length_push items source ∙ full in
+      ap (λ xs. sources_queries n group flag xs) put ∙ ap (list_map (SourcesQuery group flag)) (first_portion n portion rest positive long)
 
   -- it goes, and the others are still to be sent
   pub full_is_sent : {S : Type 0} (takes : S → SentQuery → S → Type 0) (old new : S) (items pushed left : List K) (source : K) (rest : List ℕ) → 0 < n → pushed ≡ items ++ source ∷ [] → length pushed ≡ n → left ≡ []

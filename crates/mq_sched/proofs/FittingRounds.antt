@@ -8,16 +8,16 @@ use Rattle.mq_table.specs.Group.{is_ahead, group_deadline}
 use Rattle.mq_table.specs.Lowering.{lowered_to}
 use Rattle.mq_table.specs.Sendings.{has_sendings, above}
 use Rattle.mq_sched.specs.Rounds.{AllFit}
-use Rattle.mq_sched.specs.Runs.{runs_within}
+use Rattle.mq_sched.specs.Portions.{portions_within}
 use Rattle.mq_sched.specs.Schedule.{ScheduledGroup}
 use Rattle.mq_sched.specs.Sending.{SentQuery, GeneralQuery, GroupQuery, SourcesQuery, is_due, group_due, sources_where, sources_queries, group_messages, source_messages, messages_due}
 
-fits_within : (most n group : ℕ) (flag : Bool) (xs : List ℕ) → AllFit n (list_map (SourcesQuery group flag) (runs_within most n xs))
+fits_within : (most n group : ℕ) (flag : Bool) (xs : List ℕ) → AllFit n (list_map (SourcesQuery group flag) (portions_within most n xs))
 fits_within most n group flag [] = tt
 fits_within zero n group flag (x ∷ xs) = tt
 fits_within (suc most) n group flag (x ∷ xs) = (omega (arith, length-take n (x ∷ xs)), fits_within most n group flag (drop n (x ∷ xs)))
 
--- no run is longer than one message holds
+-- no portion is longer than one message holds
 pub fits : (n group : ℕ) (flag : Bool) (xs : List ℕ) → AllFit n (sources_queries n group flag xs)
 fits n group flag xs = fits_within (length xs) n group flag xs
 

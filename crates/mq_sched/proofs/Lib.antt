@@ -1,6 +1,6 @@
 pub mod Orders
 pub mod Places
-pub mod InRuns
+pub mod InPortions
 pub mod Rounds
 pub mod Asked
 pub mod Fits

@@ -18,8 +18,8 @@ use Rattle.mq_table.proofs.Maps.{get-kept}
 use Rattle.mq_table.specs.Sendings.{some_source, has_sendings, above, source_counted, sendings_counted}
 use Rattle.mq_sched.specs.Schedule.{QuerySchedule, query_sendings, ScheduledGroup, IsScheduleOf}
 use Rattle.mq_sched.specs.Sending.{SentQuery, GeneralQuery, GroupQuery, SourcesQuery, is_due, group_due, sources_where, sources_queries, group_messages, source_messages, messages_due, group_counted, sources_due_next, after_round}
-use Rattle.mq_sched.specs.Runs.{runs_of}
-use Rattle.mq_sched.proofs.InRuns.{together}
+use Rattle.mq_sched.specs.Portions.{portions_of}
+use Rattle.mq_sched.proofs.InPortions.{together}
 use Rattle.mq_sched.specs.Rounds.{asked_in, asks_group, IsQuietAt}
 
 or-false : (b : Bool) → (b || false) ≡ b
@@ -40,12 +40,12 @@ among-append : (xs ys : List ℕ) (s : ℕ) → list_any (λ x. eqb s x) (xs ++ 
 among-append [] ys s = refl
 among-append (x ∷ xs) ys s = ap (λ b. eqb s x || b) (among-append xs ys s) ∙ sym (or_assoc (eqb s x) (list_any (λ x. eqb s x) xs) (list_any (λ x. eqb s x) ys))
 
-asked_in-runs : (group : ℕ) (flag : Bool) (runs : List (List ℕ)) (s : ℕ) → asked_in (list_map (SourcesQuery group flag) runs) s ≡ list_any (λ x. eqb s x) (concat runs)
-asked_in-runs group flag [] s = refl
-asked_in-runs group flag (run ∷ runs) s = ap (λ b. list_any (λ x. eqb s x) run || b) (asked_in-runs group flag runs s) ∙ sym (among-append run (concat runs) s)
+asked_in-portions : (group : ℕ) (flag : Bool) (portions : List (List ℕ)) (s : ℕ) → asked_in (list_map (SourcesQuery group flag) portions) s ≡ list_any (λ x. eqb s x) (concat portions)
+asked_in-portions group flag [] s = refl
+asked_in-portions group flag (portion ∷ portions) s = ap (λ b. list_any (λ x. eqb s x) portion || b) (asked_in-portions group flag portions s) ∙ sym (among-append portion (concat portions) s)
 
 asked_in-sources_queries : (n group : ℕ) (flag : Bool) (xs : List ℕ) (s : ℕ) → 0 < n → asked_in (sources_queries n group flag xs) s ≡ list_any (λ x. eqb s x) xs
-asked_in-sources_queries n group flag xs s positive = asked_in-runs group flag (runs_of n xs) s ∙ ap (list_any (λ x. eqb s x)) (together n xs positive)
+asked_in-sources_queries n group flag xs s positive = asked_in-portions group flag (portions_of n xs) s ∙ ap (list_any (λ x. eqb s x)) (together n xs positive)
 
 -- a number is among those that pass a test where it passes and is among all
 among-filter : (p : Set) (ks : List ℕ) (s : ℕ) → list_any (λ x. eqb s x) (filter p ks) ≡ (p s && list_any (λ x. eqb s x) ks)
@@ -124,9 +124,9 @@ asks_group-append (GeneralQuery ∷ xs) ys = asks_group-append xs ys
 asks_group-append (GroupQuery g f ∷ xs) ys = refl
 asks_group-append (SourcesQuery g f ss ∷ xs) ys = asks_group-append xs ys
 
-no_group_query : (group : ℕ) (flag : Bool) (runs : List (List ℕ)) → asks_group (list_map (SourcesQuery group flag) runs) ≡ false
+no_group_query : (group : ℕ) (flag : Bool) (portions : List (List ℕ)) → asks_group (list_map (SourcesQuery group flag) portions) ≡ false
 no_group_query group flag [] = refl
-no_group_query group flag (run ∷ runs) = no_group_query group flag runs
+no_group_query group flag (portion ∷ portions) = no_group_query group flag portions
 
 -- a round asks the group where its query is due
 pub asks_group-messages_due : (n : ℕ) (timing : Timing) (now group : ℕ) (e : ScheduledGroup) → asks_group (messages_due n timing now group e) ≡ is_due now (group_due e.schedule.group_query)
@@ -143,7 +143,7 @@ asks_group-messages_due n timing now group e =
     first false = refl
 
     second : (b : Bool) → asks_group (cond b (sources_queries n group true (sources_where (has_sendings g ∩ above timing now g) g) ++ sources_queries n group false (sources_where (has_sendings g ∖ above timing now g) g)) []) ≡ false
-    second true = asks_group-append (sources_queries n group true (sources_where (has_sendings g ∩ above timing now g) g)) _ ∙ (λ i. no_group_query group true (runs_of n (sources_where (has_sendings g ∩ above timing now g) g)) i || no_group_query group false (runs_of n (sources_where (has_sendings g ∖ above timing now g) g)) i)
+    second true = asks_group-append (sources_queries n group true (sources_where (has_sendings g ∩ above timing now g) g)) _ ∙ (λ i. no_group_query group true (portions_of n (sources_where (has_sendings g ∩ above timing now g) g)) i || no_group_query group false (portions_of n (sources_where (has_sendings g ∖ above timing now g) g)) i)
     second false = refl
 
 abbrev group_after : Bool → GroupState → GroupState

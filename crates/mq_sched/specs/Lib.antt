@@ -1,7 +1,7 @@
 pub mod Deadlines
 pub mod Schedule
 pub mod StoredSchedule
-pub mod Runs
+pub mod Portions
 pub mod Sending
 pub mod Sink
 pub mod Collected

@@ -9,7 +9,7 @@ use Rattle.mq_table.specs.Timing.{last_member_count}
 use Rattle.mq_table.specs.Table.{GroupChange}
 use Rattle.mq_table.specs.Lowering.{lowered_to, group_lowered}
 use Rattle.mq_table.specs.Sendings.{some_source, has_sendings, above, sendings_started, sendings_counted}
-use Rattle.mq_sched.specs.Runs.{runs_of}
+use Rattle.mq_sched.specs.Portions.{portions_of}
 use Rattle.mq_sched.specs.Schedule.{QuerySchedule, ScheduleState, ScheduledGroup, settled}
 
 -- A query that a router sends: general, to a group, or to a group for some of its sources, which
@@ -74,9 +74,9 @@ group_due (Some q) = Some q.due
 abbrev pub sources_where : Set → GroupState → List ℕ
 sources_where test g = filter test (map.keys g.sources)
 
--- The queries for a list of sources, in runs of what one message holds. No query has an empty list.
+-- The queries for a list of sources, in portions of what one message holds. No query has an empty list.
 abbrev pub sources_queries : (per_query group : ℕ) → Bool → List ℕ → List SentQuery
-sources_queries per_query group s sources = list_map (SourcesQuery group s) (runs_of per_query sources)
+sources_queries per_query group s sources = list_map (SourcesQuery group s) (portions_of per_query sources)
 
 abbrev pub group_messages : Timing → ℕ → ℕ → ScheduledGroup → List SentQuery
 group_messages timing now group e =

@@ -11,7 +11,7 @@ pub mod deadlines;
 pub mod election;
 pub mod queries;
 pub mod roles;
-mod runs;
+mod portions;
 pub mod schedules;
 mod sending;
 pub mod sinks;

@@ -9,7 +9,7 @@ ghost use Rattle.mq_sched.specs.Sending.{is_due, group_messages, source_messages
 ghost use Rattle.mq_sched.specs.Sink.{Sends};
 
 use crate::queries::QuerySchedule;
-use crate::runs::send_sources;
+use crate::portions::send_sources;
 use crate::schedules::{Schedule, has_sendings};
 use crate::sinks::{QueryParts, Sink};
 use mq_count::{Key, Meter, Moment};

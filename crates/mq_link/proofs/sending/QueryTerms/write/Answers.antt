@@ -21,4 +21,4 @@ unreachable-requires g c =
     let same : canon family (g.F.Address.Key.number c.self.inside.own) (numbered_query g.F.Address.Key.number c.fields-fields.result)
     ≡ (outgoing_on family terms query).bytes = λ i. canon family (same_own i) (same_fields i) in
     let long = ap length same in
-    omega (arith, short.0, short.1, long, fits, c.requires.room)
+    omega (arith, short.0, short.1, long, fits, c.requires.length)

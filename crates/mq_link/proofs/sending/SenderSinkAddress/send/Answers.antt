@@ -31,7 +31,7 @@ returns g c =
         handed = λ small. (
           c.hand_over.result,
           subst (λ bytes. takes before.outlet message.to bytes c.hand_over.result c.hand_over.new.self.outlet) written.bytes
-              (subst (λ to. takes before.outlet to (take c.write-to.result.1 c.write-to.new.room) c.hand_over.result c.hand_over.new.self.outlet) written.to handed.takes),
+              (subst (λ to. takes before.outlet to (take c.write-to.result.1 c.write-to.new.out) c.hand_over.result c.hand_over.new.self.outlet) written.to handed.takes),
           handed.sent,
           handed.unsent,
         );

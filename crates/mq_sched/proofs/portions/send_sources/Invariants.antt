@@ -4,7 +4,7 @@ use Rattle.mq_count.specs.Spending.{Spends}
 use Rattle.mq_sched.specs.Sending.{sources_queries}
 use Rattle.mq_sched.specs.Sink.{SendsOn}
 use Rattle.mq_sched.specs.Collected.{going_with}
-use Rattle.mq_sched.proofs.runs.send_sources.Given as goal
+use Rattle.mq_sched.proofs.portions.send_sources.Given as goal
 
 -- what is still to go are the sources collected and those ahead that go
 abbrev pub invariant-loop-source : goal.invariant-loop-source

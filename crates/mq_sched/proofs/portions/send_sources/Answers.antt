@@ -7,8 +7,8 @@ use Rattle.mq_sched.specs.Sink.{Sends}
 use Rattle.mq_sched.specs.Collected.{going_with}
 use Rattle.mq_sched.proofs.Collecting.{going_more, going_same}
 use Rattle.mq_sched.proofs.Room.{room_for_collected}
-use Rattle.mq_sched.proofs.runs.send_sources.Goals as goal
-use Rattle.mq_sched.proofs.runs.send_sources.Goals.{then-goes, else-goes}
+use Rattle.mq_sched.proofs.portions.send_sources.Goals as goal
+use Rattle.mq_sched.proofs.portions.send_sources.Goals.{then-goes, else-goes}
 
 pub new-collected-requires : goal.new-collected-requires
 new-collected-requires g c = room_for_collected _ _ c.is_small.ensures.1 c.is_small.ensures.0

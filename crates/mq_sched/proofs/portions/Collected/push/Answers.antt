@@ -1,6 +1,6 @@
 use Rattle.std.proofs.Common.{arith}
 use Rattle.mq_sched.proofs.Collecting.{full_is_sent}
-use Rattle.mq_sched.proofs.runs.Collected.push.Goals as goal
+use Rattle.mq_sched.proofs.portions.Collected.push.Goals as goal
 
 pub returns-then-len-self-clause-sent : goal.returns-then-len-self-clause-sent
 returns-then-len-self-clause-sent g c rest =

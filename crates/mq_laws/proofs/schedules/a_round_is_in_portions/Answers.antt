@@ -1,6 +1,6 @@
-use Rattle.mq_laws.proofs.RunsOfRounds.{set_together, clear_together, set_full, clear_full}
+use Rattle.mq_laws.proofs.PortionsOfRounds.{set_together, clear_together, set_full, clear_full}
 use Rattle.mq_sched.proofs.FittingRounds.{all_fit}
-use Rattle.mq_laws.proofs.schedules.a_round_is_in_runs.Goals as goal
+use Rattle.mq_laws.proofs.schedules.a_round_is_in_portions.Goals as goal
 
 pub returns-clause-set : goal.returns-clause-set
 returns-clause-set c = set_together
