@@ -56,3 +56,5 @@ pub mod StatedSteps
 pub mod RecordsRead
 pub mod LinkReceived
 pub mod EventsRun
+pub mod Potential
+pub mod RecordCosts
