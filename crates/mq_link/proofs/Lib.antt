@@ -58,3 +58,5 @@ pub mod LinkReceived
 pub mod EventsRun
 pub mod Potential
 pub mod RecordCosts
+pub mod LeastLengths
+pub mod TickedSizes

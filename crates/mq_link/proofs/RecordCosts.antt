@@ -1,6 +1,6 @@
 -- What a record takes, with what is left for the records behind it, is no more than what was left before it and what it
 -- brings.
-use Rattle.std.proofs.Common.{◌≡◌, ℕ, ◌+◌, ◌-◌, ◌*◌, ◌<◌, ◌≤◌, ◌^◌, Bool, true, false, cond, ◌&&◌, refl, List, ◌∷◌, length, Option, None, Some, IfSome, ap, ◌∙◌, subst, arith, leb}
+use Rattle.std.proofs.Common.{◌≡◌, ℕ, ◌+◌, ◌-◌, ◌*◌, ◌<◌, ◌≤◌, ◌^◌, Bool, true, false, cond, ◌&&◌, refl, List, [], ◌∷◌, length, Option, None, Some, IfSome, ap, ◌∙◌, subst, arith, leb}
 use Rattle.std.proofs.Math.Nat.{mul-le-mul_right}
 use Rattle.std.proofs.lemmas.Bool.{true≢false, leb-false}
 use Rattle.std.proofs.lemmas.List.Sums.{sum_by-cons}
@@ -32,6 +32,7 @@ use Rattle.mq_link.specs.Family.{v1_mutes_leave}
 use Rattle.mq_link.specs.Record.{Setting, RecordOf, Outcome, leaving, unless_passed, changed_by, after_sending, sent_at_once, changed_or_refused, change_in, is_muted, limit_passed, stated, Seen, met, Entrance, Stops, GoesOn, entrance, seen_by, seen_after, judged_from, judged}
 use Rattle.mq_link.specs.State.{Groups, unheld, group_at, with_group, sources_of, sources_in}
 use Rattle.mq_link.proofs.ChangedSizes.{translated_few}
+use Rattle.mq_link.proofs.HeardGroups.{own_sources}
 use Rattle.mq_link.proofs.MadeEntries.{round_keeps_size}
 use Rattle.mq_link.proofs.Potential.{left_for, potential, potential-empty, potential-le, potential-falls, changed_left}
 use Rattle.mq_link.proofs.StatedSteps.{asked_few}
@@ -148,3 +149,16 @@ one_paid at all held from before rest r seen groups m next few_groups few_seen s
 
 pub all_paid : (all : List (RecordView ℕ)) (held : Groups) (from : ℕ) (left : List (RecordView ℕ)) (seen : Seen) (groups : Groups) (m : ℕ) → IsPaidSoFar all held from left seen groups m → Spends 0 (24 * sources_in held + sum_by own_cost all) from m
 all_paid all held from left seen groups m h = let enough = h.enough in Spends-within 0 _ h.counted (omega arith) (omega (arith, enough))
+
+-- What the records of a Report bring is within 64 for each byte that they take, and so is what one statement takes.
+pub report_within : (rs : List (RecordView ℕ)) → sum_by own_cost rs ≤ 64 * sum_by (λ r. 8 + 4 * length r.sources) rs
+report_within [] = omega arith
+report_within (r ∷ rs) =
+    let rest = report_within rs in
+    omega (arith, rest, sum_by-cons own_cost r rs, sum_by-cons (λ (r : RecordView ℕ). 8 + 4 * length r.sources) r rs)
+
+pub statement_within : (groups : Groups) (group from m : ℕ) → map.len groups ≤ 65535
+    → Spends 0 (6 * sources_of (group_at groups group) + 12 + 2 * bitlen (map.len groups)) from m
+    → Spends 0 (24 * sources_in groups + 20 * map.len groups + 64 * 8) from m
+statement_within groups group from m few spent =
+    Spends-within 0 _ spent (omega arith) (omega (arith, few_digits (map.len groups) few, own_sources groups group))
