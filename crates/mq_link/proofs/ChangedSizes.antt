@@ -69,10 +69,10 @@ few_by_rule old xs rule =
 changed_few : (timing : Timing) (now : ℕ) (g : GroupState) (kind : Kind) (xs : List ℕ) → size_of (change_of timing now g kind (set.from_list xs)).group ≤ size_of g + length xs
 changed_few timing now g kind xs = few_by_rule g.sources xs _
 
-abbrev IsFew : GroupState → ℕ → Option GroupChange → Type 0
+abbrev pub IsFew : GroupState → ℕ → Option GroupChange → Type 0
 IsFew g n change = IfSome change (λ c. size_of c.group ≤ size_of g + n)
 
-translated_few : (mutes muted : Bool) (timing : Timing) (now : ℕ) (g : GroupState) (kind : Kind) (xs : List ℕ) (hosts : Hosts) → IsFew g (length xs) (option_map (λ (r : Kind × NamedSources). change_of timing now g r.0 r.1) (translated mutes muted hosts kind (set.from_list xs)))
+pub translated_few : (mutes muted : Bool) (timing : Timing) (now : ℕ) (g : GroupState) (kind : Kind) (xs : List ℕ) (hosts : Hosts) → IsFew g (length xs) (option_map (λ (r : Kind × NamedSources). change_of timing now g r.0 r.1) (translated mutes muted hosts kind (set.from_list xs)))
 translated_few mutes muted timing now g kind xs hosts = by_kind muted kind
   where
     change : Kind × NamedSources → GroupChange

@@ -41,3 +41,7 @@ pub mod StatedSteps
 pub mod RecordsRead
 pub mod LinkReceived
 pub mod EventsRun
+pub mod Potential
+pub mod RecordCosts
+pub mod LeastLengths
+pub mod TickedSizes

@@ -9,9 +9,10 @@ ghost use Rattle.mq_sched.specs.Election.{is_querier};
 ghost use Rattle.mq_sched.specs.StoredElection.{IsOtherOf};
 ghost use Rattle.mq_held.specs.Groups.{group_at, sources_of, sources_in};
 ghost use Rattle.mq_held.specs.Places.{HasPlace};
+ghost use Rattle.mq_link.specs.Cost.{cost_of};
 ghost use Rattle.mq_link.specs.Link.{HasTicked, HasReceived};
 ghost use Rattle.mq_link.specs.State as state;
-ghost use Rattle.mq_link.specs.State.{link_at};
+ghost use Rattle.mq_link.specs.State.{held_of, link_at};
 ghost use Rattle.mq_link.specs.Tick.{moment_of, next_of};
 
 use crate::answers::Received;
@@ -106,6 +107,7 @@ impl<F: Family> Link<F> {
         ensures ticks { HasTicked O.takes now self.old self.new sender.old.outlet sender.new.outlet }
         ensures spent { let groups = self.old.state.groups in
             Spends 2 (4 * sources_in groups + 27 * map.len groups + 3) self.old.spent self.new.spent }
+        ensures bounded { Spends 0 (cost_of 0 (held_of self.old.state)) self.old.spent self.new.spent }
         ensures quiet { moment_of self.old.state now < next_of self.old.state → Spends 2 3 self.old.spent self.new.spent }
     {
         self.config.is_faultless();
@@ -126,7 +128,8 @@ impl<F: Family> Link<F> {
 
     /// Takes a datagram that came at `now`: first it does what a tick does then; then the datagram is read, and dropped, or
     /// taken. Answers what became of it. The envelope is what its packet says of it, the body its bytes without the IP
-    /// header (RFC 3376 sections 4, 6.4 and 7.3.2, RFC 3810 sections 5, 7.4 and 8.3.2).
+    /// header (RFC 3376 sections 4, 6.4 and 7.3.2, RFC 3810 sections 5, 7.4 and 8.3.2). At most 64 comparisons for each
+    /// byte of the body and for each group and source that is held as it comes, and 64 more, whatever its records are.
     pub fn receive<O: Outlet<F::Address>>(
         &mut self,
         envelope: &F::Envelope,
@@ -138,6 +141,7 @@ impl<F: Family> Link<F> {
         ensures config { self.new.config ≡ self.old.config }
         ensures receives { HasReceived O.takes (F.envelope_of envelope.now) body.now now result self.old self.new
             sender.old.outlet sender.new.outlet }
+        ensures bounded { Spends 2 (cost_of (length body.now) (held_of self.old.state)) self.old.spent self.new.spent }
     {
         self.config.is_faultless();
         let now = later(self.last, now, &mut self.meter);

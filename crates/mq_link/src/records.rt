@@ -3,13 +3,14 @@
 ghost use Rattle.std.specs.Prelude.{◌≡◌, ◌+◌, ◌*◌, ◌^◌, ◌<◌, ◌≤◌, [], ◌∷◌, length, true};
 ghost use Rattle.std.specs.FinMap as map;
 ghost use Rattle.std.specs.FinSet as set;
-ghost use Rattle.std.specs.List.{count_by};
+ghost use Rattle.std.specs.List.{count_by, sum_by};
 ghost use Rattle.mq_count.specs.Spending.{Spends};
 ghost use Rattle.mq_sets.specs.Search.{bitlen};
 ghost use Rattle.mq_sched.specs.Sink.{Sends};
-ghost use Rattle.mq_held.specs.Groups.{group_at, sources_of};
+ghost use Rattle.mq_held.specs.Groups.{group_at, sources_of, sources_in};
 ghost use Rattle.mq_wire.specs.Numbered.{numbered_record};
 ghost use Rattle.mq_link.specs.Changing.{statement_of};
+ghost use Rattle.mq_link.specs.Cost.{own_cost, record_cost};
 ghost use Rattle.mq_link.specs.Counters.{count_verdict, count_verdicts, is_applied, is_ignored, is_refused};
 ghost use Rattle.mq_link.specs.Entering.{entered_as};
 ghost use Rattle.mq_link.specs.Family as family;
@@ -166,9 +167,10 @@ pub(crate) fn take_statement<F: Family, S: Sink<F::Address>>(
 
 /// Takes one record of a Report, by all six steps: what is of an unknown type or for a group that isn't admitted is
 /// ignored; what names too many sources is refused, and so is the fifth record that meets a group that is held; else it
-/// is applied, ignored or refused as a statement of the sources that it names. At most six comparisons for each source
-/// of the group, 17 for each that it names, twelve more, two for each binary digit of how many groups there are, and
-/// one for each of how many were met.
+/// is applied, ignored or refused as a statement of the sources that it names. None that ends before its group is looked
+/// for takes a comparison; the search takes at most two for each binary digit of how many groups there are, and one for
+/// each of how many were met; and unless it is the fifth record, it takes at most six for each source of the group, 17
+/// for each that it names, and twelve more.
 fn take_record<F: Family, S: Sink<F::Address>>(
     config: &Config<F>,
     election: &Election<F::Address>,
@@ -204,9 +206,8 @@ fn take_record<F: Family, S: Sink<F::Address>>(
     ensures scratch_room { HasRoom config.now.limits.group_sources scratch.new }
     ensures group_room { held.new.group_room ≡ held.old.group_room }
     ensures source_room { held.new.source_room ≡ held.old.source_room }
-    ensures spent { let sizes = 6 * sources_of (group_at held.old.groups (F.Address.number view.now.group)) in
-        let digits = 2 * bitlen (map.len held.old.groups) + bitlen (map.len seen.old.counts) in
-        Spends 0 (sizes + 17 * length view.now.sources + 12 + digits) m.old m.new }
+    ensures spent { let r = numbered_record F.Address.number view.now in
+        Spends 0 (record_cost config.now seen.old.counts r held.old.groups) m.old m.new }
 {
     config.is_faultless();
     let kind = match enter(config, view) {
@@ -225,7 +226,9 @@ fn take_record<F: Family, S: Sink<F::Address>>(
 }
 
 /// Takes the records of a Report, one after the other, each on what those before it leave. There is memory to count
-/// each group that they meet, of which there are no more than records.
+/// each group that they meet, of which there are no more than records. At most 24 comparisons for each source that is
+/// held, 60 for each record, and 41 for each source that it names: since no more than four records do work on a group,
+/// however many there are, no source is gone over more often for the length of the Report.
 pub(crate) fn take_records<F: Family, S: Sink<F::Address>>(
     config: &Config<F>,
     election: &Election<F::Address>,
@@ -263,7 +266,9 @@ pub(crate) fn take_records<F: Family, S: Sink<F::Address>>(
     ensures scratch_room { HasRoom config.now.limits.group_sources scratch.new }
     ensures group_room { held.new.group_room ≡ held.old.group_room }
     ensures source_room { held.new.source_room ≡ held.old.source_room }
+    ensures spent { Spends 0 (24 * sources_in held.old.groups + sum_by own_cost records.now) m.old m.new }
 {
+    config.is_faultless();
     seen.clear();
     let mut tally = Tally {
         applied: 0,

@@ -1,7 +1,9 @@
 use Rattle.std.proofs.Common.{◌≡◌, Ok, sym, ap, ◌∙◌, subst, arith}
+use Rattle.mq_count.proofs.Spent.{Spends-within}
 use Rattle.mq_wire.specs.Numbered.{numbered_message}
 use Rattle.mq_link.specs.Reading.{numbered_read}
 use Rattle.mq_link.specs.Receive.{pseudo_of, read_of}
+use Rattle.mq_link.proofs.LeastLengths.{long_where_read}
 use Rattle.mq_link.proofs.Receipts.{IsCarriedWhere, carried_where_read}
 use Rattle.mq_link.proofs.RecordsRead.{few_where_read}
 use Rattle.mq_link.proofs.receiving.take_in.Goals as goal
@@ -21,3 +23,12 @@ take_message-requires-clause-counted g c =
     let pseudo = pseudo_of family (g.F.Family.envelope_of c.args.envelope.now) c.args.body.now in
     let read : read_of family pseudo c.args.body.now ≡ Ok (numbered_message number c.in-Ok.message) = sym c.read-read.ensures ∙ ap (numbered_read number) c.in-Ok.is in
     few_where_read family pseudo c.args.body.now (numbered_message number c.in-Ok.message) (λ i. let b = c.type_inv.body i in omega (arith, b)) read
+
+pub returns-clause-spent : goal.returns-clause-spent
+returns-clause-spent g c =
+    let family = g.F.Family.FAMILY in
+    let number = g.F.Address.Key.number in
+    let pseudo = pseudo_of family (g.F.Family.envelope_of c.args.envelope.now) c.args.body.now in
+    let read : read_of family pseudo c.args.body.now ≡ Ok (numbered_message number c.in-Ok.message) = sym c.read-read.ensures ∙ ap (numbered_read number) c.in-Ok.is in
+    let long = long_where_read family pseudo c.args.body.now (numbered_message number c.in-Ok.message) read in
+    Spends-within 0 _ c.take_message.ensures.spent (omega arith) (omega (arith, long))

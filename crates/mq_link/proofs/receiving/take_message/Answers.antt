@@ -1,9 +1,13 @@
-use Rattle.std.proofs.Common.{refl}
+use Rattle.std.proofs.Common.{◌≤◌, refl, arith}
+use Rattle.std.specs.FinMap as map
+use Rattle.mq_count.proofs.Spent.{Spends-within}
 use Rattle.mq_link.specs.Hearing.{ArePartsOf}
 use Rattle.mq_link.specs.Link.{state_in}
 use Rattle.mq_link.specs.Receive.{taken_in}
 use Rattle.mq_link.specs.State.{LinkState}
+use Rattle.mq_link.proofs.Faultless.{few_groups}
 use Rattle.mq_link.proofs.LinkStored.{served_in}
+use Rattle.mq_link.proofs.RecordCosts.{report_within, statement_within}
 use Rattle.mq_link.proofs.receiving.take_message.Goals as goal
 
 pub hear-requires-clause-served : goal.hear-requires-clause-served
@@ -62,3 +66,17 @@ returns-in-Report-clause-taken g c =
 pub returns-in-Report-clause-sent : goal.returns-in-Report-clause-sent
 unfolding taken_in
 returns-in-Report-clause-sent g c = rw c.in-Report.is c.take_records.ensures.sent
+
+pub returns-in-OldReport-clause-spent : goal.returns-in-OldReport-clause-spent
+returns-in-OldReport-clause-spent g c =
+    let few : map.len c.args.held.now.groups ≤ 65535 = omega (arith, c.requires.well_formed.within.group_count, few_groups c.args.config.now c.is_faultless.ensures.faultless) in
+    rw c.in-OldReport.is (statement_within c.args.held.now.groups (g.F.Address.Key.number c.in-OldReport.group) _ _ few c.take_statement.ensures.spent)
+
+pub returns-in-Leave-clause-spent : goal.returns-in-Leave-clause-spent
+returns-in-Leave-clause-spent g c =
+    let few : map.len c.args.held.now.groups ≤ 65535 = omega (arith, c.requires.well_formed.within.group_count, few_groups c.args.config.now c.is_faultless.ensures.faultless) in
+    rw c.in-Leave.is (statement_within c.args.held.now.groups (g.F.Address.Key.number c.in-Leave.group) _ _ few c.take_statement-in-Leave.ensures.spent)
+
+pub returns-in-Report-clause-spent : goal.returns-in-Report-clause-spent
+returns-in-Report-clause-spent g c =
+    rw c.in-Report.is (Spends-within 0 _ c.take_records.ensures.spent (omega arith) (omega (arith, report_within c.in-Report.records)))

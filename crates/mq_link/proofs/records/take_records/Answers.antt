@@ -1,8 +1,11 @@
-use Rattle.std.proofs.Common.{refl, length, ap, ◌∙◌, arith}
+use Rattle.std.proofs.Common.{◌≤◌, refl, length, ap, ◌∙◌, arith}
+use Rattle.std.specs.FinMap as map
 use Rattle.mq_wire.specs.Numbered.{numbered_record}
 use Rattle.mq_link.specs.declared.answers.Received.TheVariants.{Taken}
 use Rattle.mq_link.specs.Record.{Setting}
 use Rattle.mq_link.specs.Seen.{SeenState}
+use Rattle.mq_link.proofs.Faultless.{few_groups}
+use Rattle.mq_link.proofs.RecordCosts.{none_paid, one_paid, all_paid}
 use Rattle.mq_link.proofs.TakenRecords.{none_taken, one_taken, all_taken}
 use Rattle.mq_link.proofs.records.take_records.Goals as goal
 
@@ -15,6 +18,8 @@ loop-record-init g c =
       c.requires.scratch_room,
       refl,
       refl,
+      rw (c.into_iter-record-iterator.ensures.into_iter_gives ∙ c.iter-record-items.ensures, ap (λ (s : SeenState). s.counts) c.clear.ensures)
+          (none_paid c.args.records.now c.args.held.now.groups c.args.m.now),
     )
 
 pub take_record-fate-requires-clause-sound : goal.take_record-fate-requires-clause-sound
@@ -57,13 +62,19 @@ count_fate-requires-clause-refused g c =
 pub loop-record-preserved : goal.loop-record-preserved
 loop-record-preserved g c =
     let at : Setting = record { config = c.args.config.now; election = c.args.election.now.state; now = c.args.now } in
-    let r = numbered_record g.F.Address.Key.number c.in-Some.record in (
+    let r = numbered_record g.F.Address.Key.number c.in-Some.record in
+    let most = c.loop-record.invariant.0.sound.within.group_count in
+    let few : map.len c.loop-record.held.groups ≤ 65535 = omega (arith, most, few_groups c.args.config.now c.is_faultless.ensures.faultless) in
+    let met = c.loop-record.invariant.0.few_seen in
+    let few_seen : map.len c.loop-record.seen.counts ≤ 65535 = omega (arith, met, c.requires.few) in (
       rw (c.take_record-fate.ensures.seen, c.take_record-fate.ensures.groups, c.count_fate.ensures.counts, c.count_fate.ensures.applied, c.count_fate.ensures.ignored, c.count_fate.ensures.refused, c.take_record-fate.ensures.fate)
           (one_taken g.S.Sink.takes at _ _ c.args.sink.now c.args.counts.now c.loop-record.record-iterator c.next.new.self r c.loop-record.seen.counts c.loop-record.held.groups c.loop-record.sink c.take_record-fate.new.sink c.loop-record.counts _ c.requires.robust c.loop-record.invariant.0 c.in-Some.ensures.steps c.take_record-fate.ensures.sent),
       c.take_record-fate.ensures.seen_room ∙ c.loop-record.invariant.1,
       c.take_record-fate.ensures.scratch_room,
       c.take_record-fate.ensures.group_room ∙ c.loop-record.invariant.3,
       c.take_record-fate.ensures.source_room ∙ c.loop-record.invariant.4,
+      rw (c.take_record-fate.ensures.seen, c.take_record-fate.ensures.groups)
+          (one_paid at _ _ _ c.loop-record.record-iterator c.next.new.self r c.loop-record.seen.counts c.loop-record.held.groups c.loop-record.m c.take_record-fate.new.m few few_seen c.loop-record.invariant.5 c.in-Some.ensures.steps c.take_record-fate.ensures.spent),
     )
 
 pub returns-clause-groups : goal.returns-clause-groups
@@ -79,3 +90,6 @@ pub returns-clause-answer : goal.returns-clause-answer
 returns-clause-answer g c =
     let all = all_taken _ _ _ _ _ _ _ _ _ _ _ _ c.loop-record.invariant.0 c.in-None.ensures.steps.0 in
     λ i. Taken (all.3 i) (all.4 i) (all.5 i)
+
+pub returns-clause-spent : goal.returns-clause-spent
+returns-clause-spent g c = all_paid _ _ _ _ _ _ _ c.loop-record.invariant.5

@@ -2,10 +2,11 @@ use Rattle.std.proofs.Common.{◌≡◌, length}
 use Rattle.std.specs.FinMap as map
 use Rattle.mq_link.specs.Record.{Setting, all_judged}
 use Rattle.mq_link.specs.Scratch.{HasRoom}
+use Rattle.mq_link.proofs.RecordCosts.{IsPaidSoFar}
 use Rattle.mq_link.proofs.TakenRecords.{IsTakenSoFar}
 use Rattle.mq_link.proofs.records.take_records.Given as goal
 
--- with the records that are left, all comes to what the whole comes to; the rooms stay
+-- with the records that are left, all comes to what the whole comes to, and there is enough left for them; the rooms stay
 abbrev pub invariant-loop-record : goal.invariant-loop-record
 invariant-loop-record g l =
     let at : Setting = record { config = l.fn.config; election = l.fn.election.state; now = l.fn.now } in
@@ -15,3 +16,4 @@ invariant-loop-record g l =
     × HasRoom l.fn.config.limits.group_sources l.scratch
     × (l.held.group_room ≡ l.fn.held.group_room)
     × (l.held.source_room ≡ l.fn.held.source_room)
+    × IsPaidSoFar l.fn.records l.fn.held.groups l.fn.m l.record-iterator l.seen.counts l.held.groups l.m

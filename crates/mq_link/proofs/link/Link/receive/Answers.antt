@@ -1,10 +1,12 @@
 use Rattle.std.proofs.Common.{◌≡◌, length, ap, sym, ◌∙◌, subst, arith}
-use Rattle.mq_sched.specs.Election.{ElectionState}
+use Rattle.mq_count.specs.Spending.{Spends}
+use Rattle.mq_sched.specs.Election.{ElectionState, ticked}
 use Rattle.mq_sched.specs.StoredElection.{RouterElection}
+use Rattle.mq_link.specs.Cost.{cost_of}
 use Rattle.mq_link.specs.Handing.{KeepsIntervals}
 use Rattle.mq_link.specs.Link.{LinkValue, HasReceived, state_in, silent_step}
 use Rattle.mq_link.specs.Receive.{receipt_after, pseudo_of}
-use Rattle.mq_link.specs.State.{LinkState, IsWellFormed}
+use Rattle.mq_link.specs.State.{LinkState, held_of, IsWellFormed}
 use Rattle.mq_link.specs.Tick.{Step, tick_at}
 use Rattle.mq_link.proofs.Faultless.{timing_in_range}
 use Rattle.mq_link.proofs.HandedOut.{with_answers}
@@ -14,6 +16,7 @@ use Rattle.mq_link.proofs.LinkStored.{served_in, stored_after, places_back}
 use Rattle.mq_link.proofs.LinkTicked.{HasDone}
 use Rattle.mq_link.proofs.Receipts.{IsWellFormed-receipt_after, carried_where_read}
 use Rattle.mq_link.proofs.Ticked.{IsWellFormed-tick_at}
+use Rattle.mq_link.proofs.TickedSizes.{received_within}
 use Rattle.mq_link.proofs.link.Link.receive.Goals as goal
 
 pub do_due-requires-clause-served : goal.do_due-requires-clause-served
@@ -84,3 +87,9 @@ returns-clause-receives g c =
     let after : LinkValue = record { config = config; state = state_in c.take_in-received.new.held c.take_in-received.new.election moment c.count_answers.new.self; spent = c.take_in-received.new.m } in
     let there = has_received g.O.Outlet.takes family config envelope c.args.body.now c.self.inside.held c.self.inside.election c.self.inside.last c.args.now c.self.inside.counts c.self.inside.meter c.do_due.new.held c.do_due.new.election moment c.take_in-received.new.held c.take_in-received.new.election c.take_in-received.new.counts c.count_answers.new.self c.take_in-received.result c.take_in-received.new.m c.args.sender.now c.do_due.new.sender c.take_in-received.new.sender c.is_faultless.ensures.family c.later-now.ensures.later done took.received took.sent counted in
     subst (λ (before : LinkValue). HasReceived g.O.Outlet.takes envelope c.args.body.now c.args.now c.take_in-received.result before after c.args.sender.now.outlet c.take_in-received.new.sender.outlet) c.self.view_is there
+
+pub returns-clause-bounded : goal.returns-clause-bounded
+returns-clause-bounded g c =
+    let in_force = (ticked c.self.inside.config.timing c.later-now.result c.self.inside.election.state).timing in
+    let spent = received_within in_force c.later-now.result c.self.inside.held.groups c.do_due.new.held.groups (length c.args.body.now) _ _ _ _ c.do_due.ensures.groups c.later-now.ensures.spent c.do_due.ensures.spent c.take_in-received.ensures.spent in
+    subst (λ (v : LinkValue). Spends 2 (cost_of (length c.args.body.now) (held_of v.state)) v.spent c.take_in-received.new.m) c.self.view_is spent

@@ -1,0 +1,49 @@
+-- A tick leaves no more groups and sources than were held, and so a datagram is bounded by what was held before both.
+use Rattle.std.proofs.Common.{◌≡◌, ℕ, ◌+◌, ◌*◌, ◌≤◌, Option, None, Some, IfSome, sym, subst, arith}
+use Rattle.std.specs.FinMap as map
+use Rattle.mq_count.specs.Spending.{Spends}
+use Rattle.mq_count.proofs.Spent.{Spends-join, Spends-join_within}
+use Rattle.mq_table.specs.declared.timing.Timing.{Timing}
+use Rattle.mq_table.specs.Maps.{kept}
+use Rattle.mq_sched.specs.Schedule.{ScheduledGroup}
+use Rattle.mq_sched.specs.Sending.{after_round}
+use Rattle.mq_link.specs.Cost.{cost_of}
+use Rattle.mq_link.specs.State.{Groups, sources_of, sources_in}
+use Rattle.mq_link.specs.Tick.{group_expired, if_held, groups_expired, groups_after_round}
+use Rattle.mq_link.proofs.Bounds.{NoMore, expired_no_more, round_no_more}
+use Rattle.mq_link.proofs.Entries.{total-kept, len-kept}
+
+sources_kept : (f : ℕ → ScheduledGroup → Option ScheduledGroup) (groups : Groups) → ((k : ℕ) (e : ScheduledGroup) → IfSome (f k e) (NoMore e)) → sources_in (kept f groups) ≤ sources_in groups
+sources_kept f groups no_more = total-kept sources_of f groups (λ k e. of_one (f k e) e (no_more k e))
+  where
+    of_one : (after : Option ScheduledGroup) (e : ScheduledGroup) → IfSome after (NoMore e) → IfSome after (λ a. sources_of a ≤ sources_of e)
+    of_one None e h = tt
+    of_one (Some a) e h = h.sources
+
+module _ (timing : Timing) (now : ℕ) (groups : Groups) where
+  abbrev left : Groups
+  left = groups_after_round timing now (groups_expired now groups)
+
+  sources_left : sources_in left ≤ sources_in groups
+  unfolding groups_expired groups_after_round
+  sources_left =
+      let expired = sources_kept (λ group e. if_held (group_expired now e)) groups (λ _ e. expired_no_more now e) in
+      let sent = sources_kept (λ group e. Some (after_round timing now e)) (groups_expired now groups) (λ _ e. round_no_more timing now e) in
+      omega (arith, expired, sent)
+
+  groups_left : map.len left ≤ map.len groups
+  unfolding groups_expired groups_after_round
+  groups_left =
+      let expired = len-kept (λ group e. if_held (group_expired now e)) groups in
+      let sent = len-kept (λ group e. Some (after_round timing now e)) (groups_expired now groups) in
+      omega (arith, expired, sent)
+
+  pub received_within : (after : Groups) (length old at_now ticked new : ℕ) → after ≡ left
+      → Spends 1 1 old at_now
+      → Spends 1 (4 * sources_in groups + 27 * map.len groups + 2) at_now ticked
+      → Spends 0 (24 * sources_in after + 20 * map.len after + 64 * length) ticked new
+      → Spends 2 (cost_of length (map.len groups + sources_in groups)) old new
+  received_within after length old at_now ticked new is later due taken =
+      let fewer : sources_in after ≤ sources_in groups = subst (λ g. sources_in g ≤ sources_in groups) (sym is) sources_left in
+      let fewer_groups : map.len after ≤ map.len groups = subst (λ (g : Groups). map.len g ≤ map.len groups) (sym is) groups_left in
+      Spends-join_within 2 _ (Spends-join later due) taken (omega arith) (omega (arith, fewer, fewer_groups))
