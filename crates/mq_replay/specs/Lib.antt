@@ -3,4 +3,5 @@ pub mod Listing
 pub mod Numbered
 pub mod Printing
 pub mod Putting
+pub mod ReplayLines
 pub mod Text
