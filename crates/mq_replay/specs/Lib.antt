@@ -3,4 +3,6 @@ pub mod Listing
 pub mod Numbered
 pub mod Printing
 pub mod Putting
+pub mod QueryLines
+pub mod ReplayLines
 pub mod Text
