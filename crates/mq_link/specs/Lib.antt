@@ -10,6 +10,7 @@ pub mod Receive
 pub mod Sent
 pub mod Run
 pub mod Cost
+pub mod LeastCost
 pub mod Laws
 pub mod Examples
 pub mod ManySources
