@@ -1,8 +1,8 @@
 -- What the records of a datagram may still spend on the sources of the groups that are held: each of the first four that
 -- meet a group, six comparisons for each of its sources. What a record spends falls off it, but for what it brings.
-use Rattle.std.proofs.Common.{◌≡◌, ℕ, zero, suc, ◌+◌, ◌-◌, ◌*◌, ◌<◌, ◌≤◌, ◌^◌, Bool, true, false, cond, ◌&&◌, refl, List, [], ◌∷◌, length, get_or, set, Option, None, Some, is_some, sym, ap, ◌∙◌, subst, arith, leb, eqb}
+use Rattle.std.proofs.Common.{◌≡◌, ℕ, zero, suc, ◌+◌, ◌-◌, ◌*◌, ◌<◌, ◌≤◌, Bool, true, false, cond, refl, List, [], ◌∷◌, get_or, set, Option, None, Some, is_some, sym, ap, ◌∙◌, subst, arith}
 use Rattle.std.proofs.Math.Nat.{mul-le-mul_left, mul-le-mul_right}
-use Rattle.std.proofs.lemmas.Bool.{true≢false, leb-true, leb-false}
+use Rattle.std.proofs.lemmas.Bool.{true≢false}
 use Rattle.std.proofs.lemmas.List.Sums.{sum_by-cons, sum_by-set, sum_by-insert, sum_by-remove, sum_by-le-sum_by}
 use Rattle.std.specs.Prelude.{map as list_map}
 use Rattle.std.specs.List.{remove, sum_by}
@@ -14,7 +14,7 @@ use Rattle.std.specs.FinMap.{find}
 use Rattle.mq_table.specs.Group.{is_vacant}
 use Rattle.mq_sched.specs.Schedule.{ScheduledGroup}
 use Rattle.mq_held.specs.Groups.{Groups, unheld, group_at, with_group, sources_of, sources_in}
-use Rattle.mq_held.specs.Places.{HasPlace, GoesAt}
+use Rattle.mq_held.specs.Places.{HasPlace}
 use Rattle.mq_held.proofs.Sorted.{tied}
 use Rattle.mq_held.proofs.Entries.{place_within, key_at, get-place, entries-replaced, entries-deleted, entries-made}
 use Rattle.mq_held.proofs.Places.{held-place, absent-place, goes-absent}

@@ -22,7 +22,8 @@ merged g c =
       | then-is_emptied w ↦ grind (arith, w.named-is, w.clear.ensures)
       | else-is_emptied w ↦ grind (arith, w.named-is)
     ] in
-    merge_spends g.K.Key.number (size_of c.args.before.now.state) c.in_ok-kind.kind c.in_ok-kind.is_emptied c.args.named.now.members c.if-is_emptied.named.members _ c.args.m.now c.acted_as.new.m c.apply_into-asks_group.new.m
+    merge_spends g.K.Key.number (size_of c.args.before.now.state) c.in_ok-kind.kind c.in_ok-kind.is_emptied c.args.named.now.members c.if-is_emptied.named.members
+    (acts_as c.args.muting.v1_mutes_leave c.args.muting.is_muted (hosts_of c.args.before.now.state c.args.now) (statement_of c.args.said (named_in g.K.Key.number c.args.named.now.members))) c.args.m.now c.acted_as.new.m c.apply_into-asks_group.new.m
     (c.in_ok-kind.ensures.acts (named_in g.K.Key.number c.args.named.now.members)) same fewer c.acted_as.ensures.spent c.apply_into-asks_group.ensures.spent
 
 pub returns-in-OlderJoin-clause-spent : goal.returns-in-OlderJoin-clause-spent
