@@ -21,7 +21,7 @@ use Rattle.mq_table.specs.Table.{GroupChange}
 use Rattle.mq_table.specs.OlderHosts.{hosts_of}
 use Rattle.mq_sched.specs.Schedule.{ScheduledGroup}
 use Rattle.mq_sched.specs.Election.{is_querier}
-use Rattle.mq_held.proofs.Amounts.{no_sources}
+use Rattle.mq_held.proofs.Amounts.{no_sources, own_sources}
 use Rattle.mq_held.proofs.Places.{absent-place, goes-absent}
 use Rattle.mq_held.proofs.Sorted.{tied, ties}
 use Rattle.mq_link.specs.declared.answers.Refusal.{Refusal}
@@ -33,7 +33,6 @@ use Rattle.mq_link.specs.LeastCost.{least_judged, least_all}
 use Rattle.mq_link.specs.Record.{Setting, RecordOf, leaving, unless_passed, changed_by, after_sending, sent_at_once, changed_or_refused, change_in, is_muted, limit_passed, stated, Seen, met, Entrance, Stops, GoesOn, entrance, seen_by, seen_after, judged_from, judged}
 use Rattle.mq_link.specs.State.{Groups, unheld, group_at, with_group, sources_of, sources_in}
 use Rattle.mq_link.proofs.ChangedSizes.{translated_few}
-use Rattle.mq_link.proofs.HeardGroups.{own_sources}
 use Rattle.mq_link.proofs.MadeEntries.{round_keeps_size}
 use Rattle.mq_link.proofs.Potential.{left_for, potential, potential-empty, potential-le, potential-falls, changed_left}
 use Rattle.mq_link.proofs.StatedSteps.{asked_few}
