@@ -23,11 +23,10 @@ use Rattle.mq_held.specs.Groups.{unheld, group_at, sources_of, sources_in}
 use Rattle.mq_held.specs.Places.{HasPlace, GoesAt}
 use Rattle.mq_held.proofs.Sorted.{tied, ties}
 use Rattle.mq_held.proofs.Places.{goes-absent}
-use Rattle.mq_held.proofs.Amounts.{total-without}
 use Rattle.mq_link.specs.State.{Groups}
 use Rattle.mq_link.specs.Heard.{suppresses, asked_by, groups_cleared, group_lowered, groups_lowered}
 use Rattle.mq_link.specs.Serving.{IsServed, AreServed}
-use Rattle.mq_link.proofs.Bounds.{no_sources, cleared_no_more, lowered_no_more}
+use Rattle.mq_link.proofs.Bounds.{cleared_no_more, lowered_no_more}
 use Rattle.mq_link.proofs.Entries.{total-kept, len-kept}
 use Rattle.mq_link.proofs.HeldAs.{all-kept}
 use Rattle.mq_link.proofs.ClearedPlaces.{group_found, served_more}
@@ -111,12 +110,6 @@ cleared_small most groups address few = subst (λ (e : Option ScheduledGroup). s
     by_group : (e : Option ScheduledGroup) → sources_of (unwrap_or e unheld) ≤ most → sources_of (unwrap_or (option_and_then (λ e. Some (cleared e)) e) unheld) ≤ most
     by_group None few = few
     by_group (Some e) few = let fewer = (cleared_no_more e).sources in omega arith
-
--- a group has no more sources than all have together
-pub own_sources : (groups : Groups) (address : ℕ) → sources_of (group_at groups address) ≤ sources_in groups
-own_sources groups address =
-    let total = total-without sources_of no_sources groups address in
-    omega arith
 
 -- what lowering so many sources takes in a group that has few
 pub spent_lowering : (sources digits : ℕ) → digits ≤ 11 → sources * (digits + 1) + 1 ≤ 12 * sources + 1

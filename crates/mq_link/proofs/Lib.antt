@@ -45,3 +45,4 @@ pub mod Potential
 pub mod RecordCosts
 pub mod LeastLengths
 pub mod TickedSizes
+pub mod LeastCosts

@@ -1,24 +1,19 @@
 -- What the records of a datagram may still spend on the sources of the groups that are held: each of the first four that
 -- meet a group, six comparisons for each of its sources. What a record spends falls off it, but for what it brings.
-use Rattle.std.proofs.Common.{◌≡◌, ℕ, zero, suc, ◌+◌, ◌-◌, ◌*◌, ◌<◌, ◌≤◌, ◌^◌, Bool, true, false, cond, ◌&&◌, refl, List, [], ◌∷◌, length, get_or, set, Option, None, Some, is_some, sym, ap, ◌∙◌, subst, arith, leb, eqb}
+use Rattle.std.proofs.Common.{◌≡◌, ℕ, zero, suc, ◌+◌, ◌-◌, ◌*◌, ◌<◌, ◌≤◌, Bool, true, false, cond, refl, List, [], ◌∷◌, Option, None, Some, is_some, sym, ap, ◌∙◌, subst, arith}
 use Rattle.std.proofs.Math.Nat.{mul-le-mul_left, mul-le-mul_right}
-use Rattle.std.proofs.lemmas.Bool.{true≢false, leb-true, leb-false}
-use Rattle.std.proofs.lemmas.List.Sums.{sum_by-cons, sum_by-set, sum_by-insert, sum_by-remove, sum_by-le-sum_by}
+use Rattle.std.proofs.lemmas.Bool.{true≢false}
+use Rattle.std.proofs.lemmas.List.Sums.{sum_by-cons, sum_by-le-sum_by}
 use Rattle.std.specs.Prelude.{map as list_map}
-use Rattle.std.specs.List.{remove, sum_by}
+use Rattle.std.specs.List.{sum_by}
 use Rattle.std.specs.Option.{unwrap_or}
 use Rattle.std.specs.Ordering.{nat_cmp, eq_by_cmp}
-use Rattle.std.specs.Cmp.{nat_cmp_total}
 use Rattle.std.specs.FinMap as map
 use Rattle.std.specs.FinMap.{find}
-use Rattle.mq_table.specs.Group.{is_vacant}
 use Rattle.mq_sched.specs.Schedule.{ScheduledGroup}
 use Rattle.mq_held.specs.Groups.{Groups, unheld, group_at, with_group, sources_of, sources_in}
-use Rattle.mq_held.specs.Places.{HasPlace, GoesAt}
 use Rattle.mq_held.proofs.Sorted.{tied}
-use Rattle.mq_held.proofs.Entries.{place_within, key_at, get-place, entries-replaced, entries-deleted, entries-made}
-use Rattle.mq_held.proofs.Places.{held-place, absent-place, goes-absent}
-use Rattle.mq_held.proofs.Amounts.{no_sources, vacant_sources}
+use Rattle.mq_held.proofs.Amounts.{no_sources, vacant_sources, total-with_group}
 use Rattle.mq_link.specs.Record.{Seen, met}
 
 -- of a group of so many sources, that so many records have met
@@ -30,64 +25,6 @@ left_of seen e = left_for (met seen e.0) (sources_of e.1)
 
 abbrev pub potential : Seen → Groups → ℕ
 potential seen groups = sum_by (left_of seen) (map.entries groups)
-
--- A sum over the entries of all groups, once one group has changed, is held, or is no longer held.
-module _ (w : ℕ × ScheduledGroup → ℕ) (groups : Groups) (a : ℕ) where
-  entry_at : (p : ℕ) → HasPlace groups a p → get_or (map.entries groups) p (a, unheld) ≡ (a, group_at groups a)
-  entry_at p has =
-      let key = key_at groups a p has.address_is (a, unheld) in
-      let found = ap (λ (e : Option ScheduledGroup). unwrap_or e unheld) (get-place groups a p has.address_is (a, unheld)) in
-      λ i. (key i, sym found i)
-
-  put : (p : ℕ) (e : ScheduledGroup) → HasPlace groups a p → sum_by w (map.entries (map.insert groups a e)) + w (a, group_at groups a) ≡ sum_by w (map.entries groups) + w (a, e)
-  put p e has =
-      ap (λ es. sum_by w es + w (a, group_at groups a)) (entries-replaced groups a p has.address_is e)
-      ∙ ap (λ x. sum_by w (set (map.entries groups) p (a, e)) + w x) (sym (entry_at p has))
-      ∙ sum_by-set w (map.entries groups) p (a, e) (a, unheld) (place_within groups a p has.address_is)
-
-  taken_out : (p : ℕ) → HasPlace groups a p → sum_by w (map.entries (map.remove groups a)) + w (a, group_at groups a) ≡ sum_by w (map.entries groups)
-  taken_out p has =
-      ap (λ es. sum_by w es + w (a, group_at groups a)) (entries-deleted groups a p has.address_is)
-      ∙ ap (λ x. sum_by w (remove (map.entries groups) p) + w x) (sym (entry_at p has))
-      ∙ sum_by-remove w (map.entries groups) p (a, unheld) (place_within groups a p has.address_is)
-
-  at_absent : map.contains_key groups a ≡ false → group_at groups a ≡ unheld
-  at_absent absent = let found = absent-place groups a absent in ap (λ (e : Option ScheduledGroup). unwrap_or e unheld) (goes-absent groups a found.0 found.1)
-
-  module _ (none : w (a, unheld) ≡ 0) where
-    total-with : (e : ScheduledGroup) → sum_by w (map.entries (map.insert groups a e)) + w (a, group_at groups a) ≡ sum_by w (map.entries groups) + w (a, e)
-    total-with e = by_test (map.contains_key groups a) refl
-      where
-        by_test : (b : Bool) → map.contains_key groups a ≡ b → sum_by w (map.entries (map.insert groups a e)) + w (a, group_at groups a) ≡ sum_by w (map.entries groups) + w (a, e)
-        by_test true held = let found = held-place groups a held in put found.0 e found.1
-        by_test false absent =
-            let found = absent-place groups a absent in
-            let total = ap (sum_by w) (entries-made groups a found.0 found.1.goes e) ∙ sum_by-insert w (map.entries groups) found.0 (a, e) in
-            let here : w (a, group_at groups a) ≡ 0 = ap (λ e. w (a, e)) (at_absent absent) ∙ none in
-            omega (arith, total, here)
-
-    total-without : sum_by w (map.entries (map.remove groups a)) + w (a, group_at groups a) ≡ sum_by w (map.entries groups)
-    total-without = by_test (map.contains_key groups a) refl
-      where
-        by_test : (b : Bool) → map.contains_key groups a ≡ b → sum_by w (map.entries (map.remove groups a)) + w (a, group_at groups a) ≡ sum_by w (map.entries groups)
-        by_test true held = let found = held-place groups a held in taken_out found.0 found.1
-        by_test false absent =
-            let found = absent-place groups a absent in
-            let here : w (a, group_at groups a) ≡ 0 = ap (λ e. w (a, e)) (at_absent absent) ∙ none in
-            let same : map.remove groups a ≡ groups = map.same_map nat_cmp_total map.nat_cmp-IsAntisymmetric (map.remove groups a) groups (λ q. map.get-remove nat_cmp_total groups a q ∙ unchanged q (goes-absent groups a found.0 found.1) (eq_by_cmp nat_cmp q a) refl) in
-            let sums = ap (λ (m : Groups). sum_by w (map.entries m)) same in
-            omega (arith, sums, here)
-          where
-            unchanged : (q : ℕ) → map.get groups a ≡ None → (b : Bool) → eq_by_cmp nat_cmp q a ≡ b → cond b None (map.get groups q) ≡ map.get groups q
-            unchanged q absent true same = sym (ap (map.get groups) (tied q a same) ∙ absent)
-            unchanged q absent false other = refl
-
-    pub total-with_group : (e : ScheduledGroup) → (is_vacant e.group ≡ true → w (a, e) ≡ 0) → sum_by w (map.entries (with_group groups a e)) + w (a, group_at groups a) ≡ sum_by w (map.entries groups) + w (a, e)
-    total-with_group e vacant = by_test (is_vacant e.group) refl
-      where
-        by_test : (b : Bool) → is_vacant e.group ≡ b → sum_by w (map.entries (cond b (map.remove groups a) (map.insert groups a e))) + w (a, group_at groups a) ≡ sum_by w (map.entries groups) + w (a, e)
-        by_test true is = omega (arith, total-without, vacant is)
-        by_test false is = total-with e
 
 -- What is left falls by what is met.
 module _ (before after : ℕ × ScheduledGroup → ℕ) (no_more : (e : ℕ × ScheduledGroup) → after e ≤ before e) (a falls : ℕ) where

@@ -1,8 +1,8 @@
 -- What a record takes, with what is left for the records behind it, is no more than what was left before it and what it
 -- brings.
-use Rattle.std.proofs.Common.{◌≡◌, ℕ, ◌+◌, ◌-◌, ◌*◌, ◌<◌, ◌≤◌, ◌^◌, Bool, true, false, cond, ◌&&◌, refl, List, [], ◌∷◌, length, Option, None, Some, IfSome, ap, ◌∙◌, subst, arith, leb}
+use Rattle.std.proofs.Common.{◌≡◌, ℕ, ◌+◌, ◌-◌, ◌*◌, ◌≤◌, Bool, true, false, cond, ◌&&◌, refl, List, [], ◌∷◌, length, Option, None, Some, IfSome, sym, ap, ◌∙◌, subst, arith, leb, add_assoc, add-zero, zero-add}
 use Rattle.std.proofs.Math.Nat.{mul-le-mul_right}
-use Rattle.std.proofs.lemmas.Bool.{true≢false, leb-false}
+use Rattle.std.proofs.lemmas.Bool.{leb-false}
 use Rattle.std.proofs.lemmas.List.Sums.{sum_by-cons}
 use Rattle.std.specs.FinMap as map
 use Rattle.std.specs.FinSet as set
@@ -21,7 +21,7 @@ use Rattle.mq_table.specs.Table.{GroupChange}
 use Rattle.mq_table.specs.OlderHosts.{hosts_of}
 use Rattle.mq_sched.specs.Schedule.{ScheduledGroup}
 use Rattle.mq_sched.specs.Election.{is_querier}
-use Rattle.mq_held.proofs.Amounts.{no_sources}
+use Rattle.mq_held.proofs.Amounts.{no_sources, own_sources}
 use Rattle.mq_held.proofs.Places.{absent-place, goes-absent}
 use Rattle.mq_held.proofs.Sorted.{tied, ties}
 use Rattle.mq_link.specs.declared.answers.Refusal.{Refusal}
@@ -29,10 +29,10 @@ use Rattle.mq_link.specs.declared.answers.Refusal.TheVariants.{Repeated}
 use Rattle.mq_link.specs.Cost.{search_cost, work_cost, cost_by, record_cost, own_cost}
 use Rattle.mq_link.specs.Counters.{Refused}
 use Rattle.mq_link.specs.Family.{v1_mutes_leave}
-use Rattle.mq_link.specs.Record.{Setting, RecordOf, Outcome, leaving, unless_passed, changed_by, after_sending, sent_at_once, changed_or_refused, change_in, is_muted, limit_passed, stated, Seen, met, Entrance, Stops, GoesOn, entrance, seen_by, seen_after, judged_from, judged}
+use Rattle.mq_link.specs.LeastCost.{least_judged, least_all}
+use Rattle.mq_link.specs.Record.{Setting, RecordOf, leaving, unless_passed, changed_by, after_sending, sent_at_once, changed_or_refused, change_in, is_muted, limit_passed, stated, Seen, met, Entrance, Stops, GoesOn, entrance, seen_by, seen_after, judged_from, judged}
 use Rattle.mq_link.specs.State.{Groups, unheld, group_at, with_group, sources_of, sources_in}
 use Rattle.mq_link.proofs.ChangedSizes.{translated_few}
-use Rattle.mq_link.proofs.HeardGroups.{own_sources}
 use Rattle.mq_link.proofs.MadeEntries.{round_keeps_size}
 use Rattle.mq_link.proofs.Potential.{left_for, potential, potential-empty, potential-le, potential-falls, changed_left}
 use Rattle.mq_link.proofs.StatedSteps.{asked_few}
@@ -123,32 +123,40 @@ record_pays at seen r groups few_groups few_seen = by_entrance (entrance at.conf
     by_entrance (Stops verdict) = omega arith
     by_entrance (GoesOn kind) = by_tests kind (map.contains_key groups r.group) (leb 4 (met seen r.group)) refl refl
 
--- What the records so far have spent leaves enough for those that are left.
-pub record IsPaidSoFar (all : List (RecordView ℕ)) (held : Groups) (from : ℕ) (left : List (RecordView ℕ)) (seen : Seen) (groups : Groups) (m : ℕ) : Type 0 where
-  pub spent : ℕ
-  pub counted : Spends 0 spent from m
-  pub enough : spent + potential seen groups + sum_by own_cost left ≤ 24 * sources_in held + sum_by own_cost all
+-- What the records so far have spent, at least and at most, leaves enough for those that are left.
+pub record IsPaidSoFar (at : Setting) (all : List (RecordView ℕ)) (held : Groups) (from : ℕ) (left : List (RecordView ℕ)) (seen : Seen) (groups : Groups) (m : ℕ) : Type 0 where
+  pub least : ℕ
+  pub most : ℕ
+  pub counted : Spends least most from m
+  pub fewest : least_all at map.empty all held ≡ least + least_all at seen left groups
+  pub enough : most + potential seen groups + sum_by own_cost left ≤ 24 * sources_in held + sum_by own_cost all
 
-pub none_paid : (all : List (RecordView ℕ)) (groups : Groups) (m : ℕ) → IsPaidSoFar all groups m all map.empty groups m
-none_paid all groups m = record { spent = 0; counted = Spends-none m; enough = omega (arith, potential-empty groups) }
+pub none_paid : (at : Setting) (all : List (RecordView ℕ)) (groups : Groups) (m : ℕ) → IsPaidSoFar at all groups m all map.empty groups m
+none_paid at all groups m = record { least = 0; most = 0; counted = Spends-none m; fewest = sym (zero-add _); enough = omega (arith, potential-empty groups) }
 
 pub one_paid : (at : Setting) (all : List (RecordView ℕ)) (held : Groups) (from : ℕ) (before rest : List (RecordView ℕ)) (r : RecordView ℕ) (seen : Seen) (groups : Groups) (m next : ℕ)
     → map.len groups ≤ 65535 → map.len seen ≤ 65535
-    → IsPaidSoFar all held from before seen groups m
+    → IsPaidSoFar at all held from before seen groups m
     → before ≡ r ∷ rest
-    → Spends 0 (record_cost at.config seen r groups) m next
-    → IsPaidSoFar all held from rest (seen_after at.config r groups seen) (judged at seen r groups).groups next
+    → Spends (least_judged at seen r groups) (record_cost at.config seen r groups) m next
+    → IsPaidSoFar at all held from rest (seen_after at.config r groups seen) (judged at seen r groups).groups next
 one_paid at all held from before rest r seen groups m next few_groups few_seen so_far first spent =
-    let h = subst (λ left. IsPaidSoFar all held from left seen groups m) first so_far in
+    let h = subst (λ left. IsPaidSoFar at all held from left seen groups m) first so_far in
     let enough = h.enough in
     record {
-      spent = h.spent + record_cost at.config seen r groups;
+      least = h.least + least_judged at seen r groups;
+      most = h.most + record_cost at.config seen r groups;
       counted = Spends-join h.counted spent;
+      fewest = h.fewest ∙ sym (add_assoc h.least (least_judged at seen r groups) _);
       enough = omega (arith, enough, record_pays at seen r groups few_groups few_seen, sum_by-cons own_cost r rest);
     }
 
-pub all_paid : (all : List (RecordView ℕ)) (held : Groups) (from : ℕ) (left : List (RecordView ℕ)) (seen : Seen) (groups : Groups) (m : ℕ) → IsPaidSoFar all held from left seen groups m → Spends 0 (24 * sources_in held + sum_by own_cost all) from m
-all_paid all held from left seen groups m h = let enough = h.enough in Spends-within 0 _ h.counted (omega arith) (omega (arith, enough))
+pub all_paid : (at : Setting) (all : List (RecordView ℕ)) (held : Groups) (from : ℕ) (left : List (RecordView ℕ)) (seen : Seen) (groups : Groups) (m : ℕ) → IsPaidSoFar at all held from left seen groups m → left ≡ [] → Spends (least_all at map.empty all held) (24 * sources_in held + sum_by own_cost all) from m
+all_paid at all held from left seen groups m so_far none =
+    let h = subst (λ left. IsPaidSoFar at all held from left seen groups m) none so_far in
+    let enough = h.enough in
+    let whole : least_all at map.empty all held ≡ h.least = h.fewest ∙ add-zero h.least in
+    Spends-within _ _ h.counted (omega (arith, whole)) (omega (arith, enough))
 
 -- What the records of a Report bring is within 64 for each byte that they take, and so is what one statement takes.
 pub report_within : (rs : List (RecordView ℕ)) → sum_by own_cost rs ≤ 64 * sum_by (λ r. 8 + 4 * length r.sources) rs
@@ -157,8 +165,8 @@ report_within (r ∷ rs) =
     let rest = report_within rs in
     omega (arith, rest, sum_by-cons own_cost r rs, sum_by-cons (λ (r : RecordView ℕ). 8 + 4 * length r.sources) r rs)
 
-pub statement_within : (groups : Groups) (group from m : ℕ) → map.len groups ≤ 65535
-    → Spends 0 (6 * sources_of (group_at groups group) + 12 + 2 * bitlen (map.len groups)) from m
-    → Spends 0 (24 * sources_in groups + 20 * map.len groups + 64 * 8) from m
-statement_within groups group from m few spent =
-    Spends-within 0 _ spent (omega arith) (omega (arith, few_digits (map.len groups) few, own_sources groups group))
+pub statement_within : (groups : Groups) (group least from m : ℕ) → map.len groups ≤ 65535
+    → Spends least (6 * sources_of (group_at groups group) + 12 + 2 * bitlen (map.len groups)) from m
+    → Spends least (24 * sources_in groups + 20 * map.len groups + 64 * 8) from m
+statement_within groups group least from m few spent =
+    Spends-within least _ spent (omega arith) (omega (arith, few_digits (map.len groups) few, own_sources groups group))

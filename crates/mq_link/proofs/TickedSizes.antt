@@ -1,5 +1,6 @@
--- A tick leaves no more groups and sources than were held, and so a datagram is bounded by what was held before both.
-use Rattle.std.proofs.Common.{◌≡◌, ℕ, ◌+◌, ◌*◌, ◌≤◌, Option, None, Some, IfSome, sym, subst, arith}
+-- A tick leaves no more groups and sources than were held, and so a datagram spends within what was held before both; and
+-- at least what it takes on what the tick leaves.
+use Rattle.std.proofs.Common.{◌≡◌, ℕ, ◌+◌, ◌*◌, ◌≤◌, List, Option, None, Some, IfSome, sym, ap, ◌∙◌, subst, arith}
 use Rattle.std.specs.FinMap as map
 use Rattle.mq_count.specs.Spending.{Spends}
 use Rattle.mq_count.proofs.Spent.{Spends-join, Spends-join_within}
@@ -7,11 +8,16 @@ use Rattle.mq_table.specs.declared.timing.Timing.{Timing}
 use Rattle.mq_table.specs.Maps.{kept}
 use Rattle.mq_sched.specs.Schedule.{ScheduledGroup}
 use Rattle.mq_sched.specs.Sending.{after_round}
+use Rattle.mq_wire.specs.Family.{Family}
+use Rattle.mq_link.specs.Configuration.{Configuration}
 use Rattle.mq_link.specs.Cost.{cost_of}
-use Rattle.mq_link.specs.State.{Groups, sources_of, sources_in}
-use Rattle.mq_link.specs.Tick.{group_expired, if_held, groups_expired, groups_after_round}
+use Rattle.mq_link.specs.LeastCost.{least_after, least_received}
+use Rattle.mq_link.specs.Receive.{Envelope, setting_of}
+use Rattle.mq_link.specs.State.{Groups, LinkState, sources_of, sources_in}
+use Rattle.mq_link.specs.Tick.{group_expired, if_held, groups_expired, groups_after_round, moment_of, tick_at}
 use Rattle.mq_link.proofs.Bounds.{NoMore, expired_no_more, round_no_more}
 use Rattle.mq_link.proofs.Entries.{total-kept, len-kept}
+use Rattle.mq_link.proofs.LinkReceived.{read_in}
 
 sources_kept : (f : ℕ → ScheduledGroup → Option ScheduledGroup) (groups : Groups) → ((k : ℕ) (e : ScheduledGroup) → IfSome (f k e) (NoMore e)) → sources_in (kept f groups) ≤ sources_in groups
 sources_kept f groups no_more = total-kept sources_of f groups (λ k e. of_one (f k e) e (no_more k e))
@@ -38,12 +44,20 @@ module _ (timing : Timing) (now : ℕ) (groups : Groups) where
       let sent = len-kept (λ group e. Some (after_round timing now e)) (groups_expired now groups) in
       omega (arith, expired, sent)
 
-  pub received_within : (after : Groups) (length old at_now ticked new : ℕ) → after ≡ left
+  pub received_within : (after : Groups) (length least old at_now ticked new : ℕ) → after ≡ left
       → Spends 1 1 old at_now
       → Spends 1 (4 * sources_in groups + 27 * map.len groups + 2) at_now ticked
-      → Spends 0 (24 * sources_in after + 20 * map.len after + 64 * length) ticked new
-      → Spends 2 (cost_of length (map.len groups + sources_in groups)) old new
-  received_within after length old at_now ticked new is later due taken =
+      → Spends least (24 * sources_in after + 20 * map.len after + 64 * length) ticked new
+      → Spends (2 + least) (cost_of length (map.len groups + sources_in groups)) old new
+  received_within after length least old at_now ticked new is later due taken =
       let fewer : sources_in after ≤ sources_in groups = subst (λ g. sources_in g ≤ sources_in groups) (sym is) sources_left in
       let fewer_groups : map.len after ≤ map.len groups = subst (λ (g : Groups). map.len g ≤ map.len groups) (sym is) groups_left in
-      Spends-join_within 2 _ (Spends-join later due) taken (omega arith) (omega (arith, fewer, fewer_groups))
+      Spends-join_within (2 + least) _ (Spends-join later due) taken (omega arith) (omega (arith, fewer, fewer_groups))
+
+-- what a datagram spends at least on what the tick leaves
+pub least_after_tick : (family : Family) (config : Configuration) (envelope : Envelope) (bytes : List ℕ) (now moment : ℕ) (before after : LinkState)
+    → config.family ≡ family → moment ≡ moment_of before now → after ≡ (tick_at config moment before).state
+    → least_after (setting_of config after) envelope (read_in family envelope bytes) after.groups ≡ least_received config envelope bytes now before
+least_after_tick family config envelope bytes now moment before after is_family is_moment ticked =
+    ap (λ (s : LinkState). least_after (setting_of config s) envelope (read_in family envelope bytes) s.groups) ticked
+    ∙ (λ i. least_after (setting_of config (tick_at config (is_moment i) before).state) envelope (read_in (sym is_family i) envelope bytes) (tick_at config (is_moment i) before).state.groups)

@@ -10,6 +10,7 @@ pub mod Receive
 pub mod Sent
 pub mod Run
 pub mod Cost
+pub mod LeastCost
 pub mod Changing
 pub mod Judging
 pub mod Entering

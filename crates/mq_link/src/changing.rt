@@ -8,6 +8,7 @@ ghost use Rattle.mq_table.specs.OlderHosts.{hosts_of, with_sources};
 ghost use Rattle.mq_table.specs.Stored.{named_in, size_of};
 ghost use Rattle.mq_table.specs.Table.{NamedSources};
 ghost use Rattle.mq_link.specs.Changing.{statement_of, acts_as, change_written};
+ghost use Rattle.mq_link.specs.LeastCost.{least_merge};
 ghost use Rattle.mq_link.specs.Record.{change_stated};
 
 use crate::statements::{Muting, Said};
@@ -81,9 +82,10 @@ pub(crate) fn change<K: Key>(
     ensures asked_room { vec_capacity asked.old ≤ vec_capacity asked.new }
 
     // At most two comparisons, and one for each source of the group and of the statement; at least one for each of
-    // the shorter side, of those that count.
-    ensures spent { Spends 0 (size_of before.now.state + length named.old.members + 2) m.old m.new }
-    ensures compares { OnSome result (Spends (min (size_of before.now.state) (length named.new.members)) (size_of before.now.state + length named.old.members + 2) m.old m.new) }
+    // those that are fewer, the sources of the group or those that count.
+    ensures spent { let acts = acts_as muting.v1_mutes_leave muting.is_muted (hosts_of before.now.state now) (statement_of said (named_in K.number named.old.members)) in
+        let sizes = size_of before.now.state + length named.old.members in
+        Spends (least_merge (size_of before.now.state) acts) (sizes + 2) m.old m.new }
 {
     let (kind, is_emptied) = acted_as(before, said, muting, now, m)?;
     if is_emptied {

@@ -10,6 +10,7 @@ ghost use Rattle.mq_sched.specs.StoredElection.{IsOtherOf};
 ghost use Rattle.mq_held.specs.Groups.{group_at, sources_of, sources_in};
 ghost use Rattle.mq_held.specs.Places.{HasPlace};
 ghost use Rattle.mq_link.specs.Cost.{cost_of};
+ghost use Rattle.mq_link.specs.LeastCost.{least_received};
 ghost use Rattle.mq_link.specs.Link.{HasTicked, HasReceived};
 ghost use Rattle.mq_link.specs.State as state;
 ghost use Rattle.mq_link.specs.State.{held_of, link_at};
@@ -141,7 +142,8 @@ impl<F: Family> Link<F> {
         ensures config { self.new.config ≡ self.old.config }
         ensures receives { HasReceived O.takes (F.envelope_of envelope.now) body.now now result self.old self.new
             sender.old.outlet sender.new.outlet }
-        ensures bounded { Spends 2 (cost_of (length body.now) (held_of self.old.state)) self.old.spent self.new.spent }
+        ensures spent { let least = least_received self.old.config (F.envelope_of envelope.now) body.now now self.old.state in
+            Spends (2 + least) (cost_of (length body.now) (held_of self.old.state)) self.old.spent self.new.spent }
     {
         self.config.is_faultless();
         let now = later(self.last, now, &mut self.meter);

@@ -7,9 +7,11 @@ ghost use Rattle.mq_sched.specs.Sink.{Sends};
 ghost use Rattle.mq_held.specs.Groups.{sources_in};
 ghost use Rattle.mq_wire.specs.Numbered.{numbered_message};
 ghost use Rattle.mq_link.specs.Cost.{least_length};
+ghost use Rattle.mq_link.specs.LeastCost.{least_after, least_of};
 ghost use Rattle.mq_link.specs.Link.{IsReceived, silent_step, state_in};
 ghost use Rattle.mq_link.specs.Reading.{numbered_read, most_records, records_in, IsCarriedIn};
 ghost use Rattle.mq_link.specs.Receive as spec;
+ghost use Rattle.mq_link.specs.Record.{Setting};
 ghost use Rattle.mq_link.specs.Scratch.{HasRoom};
 ghost use Rattle.mq_link.specs.Sender.{TakesQuery};
 ghost use Rattle.mq_link.specs.State.{IsWellFormed};
@@ -94,9 +96,10 @@ fn take_message<F: Family, O: Outlet<F::Address>>(
     ensures seen_room { seen.new.room ≡ seen.old.room }
     ensures group_room { held.new.group_room ≡ held.old.group_room }
     ensures source_room { held.new.source_room ≡ held.old.source_room }
-    ensures spent { let groups = held.old.groups in
-        let long = least_length (numbered_message F.Address.number message.now) in
-        Spends 0 (24 * sources_in groups + 20 * map.len groups + 64 * long) m.old m.new }
+    ensures spent { let at : Setting = record { config = config.now; election = election.old.state; now = now } in
+        let said = numbered_message F.Address.number message.now in
+        let groups = held.old.groups in
+        Spends (least_of at said groups) (24 * sources_in groups + 20 * map.len groups + 64 * least_length said) m.old m.new }
 {
     config.is_faultless();
     match message {
@@ -166,8 +169,11 @@ pub(crate) fn take_in<F: Family, O: Outlet<F::Address>>(
     ensures seen_room { seen.new.room ≡ seen.old.room }
     ensures group_room { held.new.group_room ≡ held.old.group_room }
     ensures source_room { held.new.source_room ≡ held.old.source_room }
-    ensures spent { let groups = held.old.groups in
-        Spends 0 (24 * sources_in groups + 20 * map.len groups + 64 * length body.now) m.old m.new }
+    ensures spent { let at : Setting = record { config = config.now; election = election.old.state; now = now } in
+        let around = F.envelope_of envelope.now in
+        let read = spec.read_of F.FAMILY (spec.pseudo_of F.FAMILY around body.now) body.now in
+        let groups = held.old.groups in
+        Spends (least_after at around read groups) (24 * sources_in groups + 20 * map.len groups + 64 * length body.now) m.old m.new }
 {
     let read = F::read(envelope, body);
     count_read(counts, &read);

@@ -12,6 +12,7 @@ ghost use Rattle.std.specs.FinMap as map;
 ghost use Rattle.mq_link.specs.Changing.{statement_of};
 ghost use Rattle.mq_link.specs.Family.{is_admitted};
 ghost use Rattle.mq_link.specs.Judging.{verdict_of};
+ghost use Rattle.mq_link.specs.LeastCost.{least_work};
 ghost use Rattle.mq_link.specs.Record as record_spec;
 ghost use Rattle.mq_link.specs.Record.{Setting, Outcome, stated};
 ghost use Rattle.mq_link.specs.Scratch.{HasRoom};
@@ -57,7 +58,7 @@ fn is_muted<F: Family>(config: &Config<F>, group: F::Address, said: Said) -> boo
 /// source-specific range mute it; refused where what it would leave passes a limit, and then nothing is changed or sent;
 /// else applied, and what it asks for is sent at once. The sources that it names stand in the scratch. At most six
 /// comparisons for each source of the group and each that it names, twelve more, and one for each binary digit of how many
-/// groups there are.
+/// groups there are; at least one for each of those that are fewer, the sources of the group or those that count.
 pub(crate) fn apply<F: Family, S: Sink<F::Address>>(
     config: &Config<F>,
     election: &Election<F::Address>,
@@ -93,8 +94,10 @@ pub(crate) fn apply<F: Family, S: Sink<F::Address>>(
     ensures group_room { held.new.group_room ≡ held.old.group_room }
     ensures source_room { held.new.source_room ≡ held.old.source_room }
     ensures room { HasRoom config.now.limits.group_sources scratch.new }
-    ensures spent { let sizes = sources_of (group_at held.old.groups (F.Address.number group)) + length scratch.old.named.members in
-        Spends 0 (6 * sizes + 12 + bitlen (map.len held.old.groups)) m.old m.new }
+    ensures spent { let at : Setting = record { config = config.now; election = election.now.state; now = now } in
+        let said_so = statement_of said (named_in F.Address.number scratch.old.named.members) in
+        let sizes = sources_of (group_at held.old.groups (F.Address.number group)) + length scratch.old.named.members in
+        Spends (least_work at (F.Address.number group) said_so held.old.groups) (6 * sizes + 12 + bitlen (map.len held.old.groups)) m.old m.new }
 {
     config.is_faultless();
     let limits = config.limits();

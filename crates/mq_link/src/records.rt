@@ -15,6 +15,7 @@ ghost use Rattle.mq_link.specs.Counters.{count_verdict, count_verdicts, is_appli
 ghost use Rattle.mq_link.specs.Entering.{entered_as};
 ghost use Rattle.mq_link.specs.Family as family;
 ghost use Rattle.mq_link.specs.Judging.{verdict_of};
+ghost use Rattle.mq_link.specs.LeastCost.{least_all, least_judged, least_stated};
 ghost use Rattle.mq_link.specs.Receive.{taken};
 ghost use Rattle.mq_link.specs.Record as record_spec;
 ghost use Rattle.mq_link.specs.Record.{Setting, alone, stated, met, judged, seen_after, all_judged, entrance};
@@ -144,8 +145,10 @@ pub(crate) fn take_statement<F: Family, S: Sink<F::Address>>(
     ensures scratch_room { HasRoom config.now.limits.group_sources scratch.new }
     ensures group_room { held.new.group_room ≡ held.old.group_room }
     ensures source_room { held.new.source_room ≡ held.old.source_room }
-    ensures spent { let sizes = sources_of (group_at held.old.groups (F.Address.number group)) in
-        Spends 0 (6 * sizes + 12 + 2 * bitlen (map.len held.old.groups)) m.old m.new }
+    ensures spent { let at : Setting = record { config = config.now; election = election.now.state; now = now } in
+        let least = least_stated at (F.Address.number group) (statement_of said set.empty) held.old.groups in
+        let sizes = sources_of (group_at held.old.groups (F.Address.number group)) in
+        Spends least (6 * sizes + 12 + 2 * bitlen (map.len held.old.groups)) m.old m.new }
 {
     scratch.named.clear();
     let found = held.find(group, m);
@@ -206,8 +209,10 @@ fn take_record<F: Family, S: Sink<F::Address>>(
     ensures scratch_room { HasRoom config.now.limits.group_sources scratch.new }
     ensures group_room { held.new.group_room ≡ held.old.group_room }
     ensures source_room { held.new.source_room ≡ held.old.source_room }
-    ensures spent { let r = numbered_record F.Address.number view.now in
-        Spends 0 (record_cost config.now seen.old.counts r held.old.groups) m.old m.new }
+    ensures spent { let at : Setting = record { config = config.now; election = election.now.state; now = now } in
+        let r = numbered_record F.Address.number view.now in
+        let least = least_judged at seen.old.counts r held.old.groups in
+        Spends least (record_cost config.now seen.old.counts r held.old.groups) m.old m.new }
 {
     config.is_faultless();
     let kind = match enter(config, view) {
@@ -266,7 +271,9 @@ pub(crate) fn take_records<F: Family, S: Sink<F::Address>>(
     ensures scratch_room { HasRoom config.now.limits.group_sources scratch.new }
     ensures group_room { held.new.group_room ≡ held.old.group_room }
     ensures source_room { held.new.source_room ≡ held.old.source_room }
-    ensures spent { Spends 0 (24 * sources_in held.old.groups + sum_by own_cost records.now) m.old m.new }
+    ensures spent { let at : Setting = record { config = config.now; election = election.now.state; now = now } in
+        let least = least_all at map.empty records.now held.old.groups in
+        Spends least (24 * sources_in held.old.groups + sum_by own_cost records.now) m.old m.new }
 {
     config.is_faultless();
     seen.clear();

@@ -4,7 +4,8 @@ use Rattle.mq_count.specs.Spending.{Spends}
 use Rattle.mq_count.proofs.Spent.{Spends-none, Spends-within, Spends-join, Spends-join_within}
 use Rattle.mq_held.specs.Groups.{sources_in}
 use Rattle.mq_held.specs.Held.{HeldState}
-use Rattle.mq_link.proofs.HeardGroups.{cleared_served, cleared_len, cleared_sources, cleared_small, own_sources}
+use Rattle.mq_held.proofs.Amounts.{own_sources}
+use Rattle.mq_link.proofs.HeardGroups.{cleared_served, cleared_len, cleared_sources, cleared_small}
 use Rattle.mq_link.proofs.hearing.hear.Goals as goal
 use Rattle.mq_link.proofs.hearing.hear.Goals.{then-hear, else-hear}
 

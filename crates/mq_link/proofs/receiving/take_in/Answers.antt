@@ -1,8 +1,10 @@
-use Rattle.std.proofs.Common.{◌≡◌, Ok, sym, ap, ◌∙◌, subst, arith}
+use Rattle.std.proofs.Common.{◌≡◌, None, Ok, sym, ap, ◌∙◌, subst, arith}
 use Rattle.mq_count.proofs.Spent.{Spends-within}
 use Rattle.mq_wire.specs.Numbered.{numbered_message}
+use Rattle.mq_link.specs.LeastCost.{least_of, least_unless, least_after}
 use Rattle.mq_link.specs.Reading.{numbered_read}
-use Rattle.mq_link.specs.Receive.{pseudo_of, read_of}
+use Rattle.mq_link.specs.Receive.{pseudo_of, read_of, drop_reason}
+use Rattle.mq_link.specs.Record.{Setting}
 use Rattle.mq_link.proofs.LeastLengths.{long_where_read}
 use Rattle.mq_link.proofs.Receipts.{IsCarriedWhere, carried_where_read}
 use Rattle.mq_link.proofs.RecordsRead.{few_where_read}
@@ -31,4 +33,8 @@ returns-clause-spent g c =
     let pseudo = pseudo_of family (g.F.Family.envelope_of c.args.envelope.now) c.args.body.now in
     let read : read_of family pseudo c.args.body.now ≡ Ok (numbered_message number c.in-Ok.message) = sym c.read-read.ensures ∙ ap (numbered_read number) c.in-Ok.is in
     let long = long_where_read family pseudo c.args.body.now (numbered_message number c.in-Ok.message) read in
-    Spends-within 0 _ c.take_message.ensures.spent (omega arith) (omega (arith, long))
+    let at : Setting = record { config = c.args.config.now; election = c.args.election.now.state; now = c.args.now } in
+    let around = g.F.Family.envelope_of c.args.envelope.now in
+    let none : None ≡ drop_reason c.args.config.now around (read_of family pseudo c.args.body.now) = sym c.in_default.is ∙ c.drop_reason.ensures ∙ ap (drop_reason c.args.config.now around) c.read-read.ensures in
+    let least : least_of at (numbered_message number c.in-Ok.message) c.args.held.now.groups ≡ least_after at around (read_of family pseudo c.args.body.now) c.args.held.now.groups = λ i. least_unless at (sym read i) (none i) c.args.held.now.groups in
+    Spends-within _ _ c.take_message.ensures.spent (omega (arith, least)) (omega (arith, long))

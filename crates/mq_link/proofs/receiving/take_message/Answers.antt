@@ -70,13 +70,13 @@ returns-in-Report-clause-sent g c = rw c.in-Report.is c.take_records.ensures.sen
 pub returns-in-OldReport-clause-spent : goal.returns-in-OldReport-clause-spent
 returns-in-OldReport-clause-spent g c =
     let few : map.len c.args.held.now.groups ≤ 65535 = omega (arith, c.requires.well_formed.within.group_count, few_groups c.args.config.now c.is_faultless.ensures.faultless) in
-    rw c.in-OldReport.is (statement_within c.args.held.now.groups (g.F.Address.Key.number c.in-OldReport.group) _ _ few c.take_statement.ensures.spent)
+    rw c.in-OldReport.is (statement_within c.args.held.now.groups (g.F.Address.Key.number c.in-OldReport.group) _ _ _ few c.take_statement.ensures.spent)
 
 pub returns-in-Leave-clause-spent : goal.returns-in-Leave-clause-spent
 returns-in-Leave-clause-spent g c =
     let few : map.len c.args.held.now.groups ≤ 65535 = omega (arith, c.requires.well_formed.within.group_count, few_groups c.args.config.now c.is_faultless.ensures.faultless) in
-    rw c.in-Leave.is (statement_within c.args.held.now.groups (g.F.Address.Key.number c.in-Leave.group) _ _ few c.take_statement-in-Leave.ensures.spent)
+    rw c.in-Leave.is (statement_within c.args.held.now.groups (g.F.Address.Key.number c.in-Leave.group) _ _ _ few c.take_statement-in-Leave.ensures.spent)
 
 pub returns-in-Report-clause-spent : goal.returns-in-Report-clause-spent
 returns-in-Report-clause-spent g c =
-    rw c.in-Report.is (Spends-within 0 _ c.take_records.ensures.spent (omega arith) (omega (arith, report_within c.in-Report.records)))
+    rw c.in-Report.is (Spends-within _ _ c.take_records.ensures.spent (omega arith) (omega (arith, report_within c.in-Report.records)))

@@ -10,8 +10,10 @@ use Rattle.mq_sched.specs.Sink.{Sends}
 use Rattle.mq_held.specs.Groups.{with_group}
 use Rattle.mq_link.specs.Changing.{statement_of, change_written}
 use Rattle.mq_link.specs.Family.{v1_mutes_leave, per_query}
+use Rattle.mq_link.specs.LeastCost.{least_work}
 use Rattle.mq_link.specs.Record.{Setting, Outcome, change_stated, limit_passed, unless_passed, after_sending, sent_at_once}
 use Rattle.mq_link.proofs.Faultless.{few_sources}
+use Rattle.mq_link.proofs.LeastCosts.{worked}
 use Rattle.mq_link.proofs.MadeEntries.{round_keeps_size}
 use Rattle.mq_link.proofs.StatedSteps.{is_changed, held_by_place, stated_ignored, stated_judged, kept_is_held, left_has_place, left_has_room, made_few}
 use Rattle.mq_link.proofs.recording.apply.Goals as goal
@@ -168,9 +170,11 @@ returns-in-Some-refusal-clause-spent g c =
     let size_before = ap (λ (e : ScheduledGroup). size_of e.group) c.load-before.ensures.group in
     let a = few.changed in
     let b = few.asked in
-    let changed = Spends-join_within 0 (3 * (size_of before.group + length c.args.scratch.now.named.members) + 3) written.ensures.spent c.ask.ensures.spent (omega arith) (omega (arith, a)) in
-    let judged = Spends-join_within 0 (3 * (size_of before.group + length c.args.scratch.now.named.members) + 5) changed c.refusal.ensures.spent (omega arith) (omega arith) in
-    Spends-within 0 _ judged (omega arith) (omega (arith, size_before))
+    let work = least_work at address st groups in
+    let spent = worked at address st groups before c.V1_MUTES_LEAVE.result c.is_muted.result _ _ _ mutes muted c.load-before.ensures.group written.ensures.spent in
+    let changed = Spends-join_within work (3 * (size_of before.group + length c.args.scratch.now.named.members) + 3) spent c.ask.ensures.spent (omega arith) (omega (arith, a)) in
+    let judged = Spends-join_within work (3 * (size_of before.group + length c.args.scratch.now.named.members) + 5) changed c.refusal.ensures.spent (omega arith) (omega arith) in
+    Spends-within work _ judged (omega arith) (omega (arith, size_before))
 
 pub keep-requires-clause-held : goal.keep-requires-clause-held
 keep-requires-clause-held g c =
@@ -325,8 +329,25 @@ returns-clause-spent g c =
     let left_is : left ≡ after_round at.election.timing c.args.now asked = c.round.ensures.after ∙ ap (λ t. after_round t c.args.now asked) c.timing-timing.ensures in
     let a = few.changed in
     let b = few.asked in
-    let changed = Spends-join_within 0 (3 * (size_of before.group + length c.args.scratch.now.named.members) + 3) written.ensures.spent c.ask.ensures.spent (omega arith) (omega (arith, a)) in
-    let judged = Spends-join_within 0 (3 * (size_of before.group + length c.args.scratch.now.named.members) + 5) changed c.refusal.ensures.spent (omega arith) (omega arith) in
-    let round = Spends-join_within 0 (5 * (size_of before.group + length c.args.scratch.now.named.members) + 8) judged c.round.ensures.spent (omega arith) (omega (arith, a, b)) in
+    let work = least_work at address st groups in
+    let spent = worked at address st groups before c.V1_MUTES_LEAVE.result c.is_muted.result _ _ _ mutes muted c.load-before.ensures.group written.ensures.spent in
+    let changed = Spends-join_within work (3 * (size_of before.group + length c.args.scratch.now.named.members) + 3) spent c.ask.ensures.spent (omega arith) (omega (arith, a)) in
+    let judged = Spends-join_within work (3 * (size_of before.group + length c.args.scratch.now.named.members) + 5) changed c.refusal.ensures.spent (omega arith) (omega arith) in
+    let round = Spends-join_within work (5 * (size_of before.group + length c.args.scratch.now.named.members) + 8) judged c.round.ensures.spent (omega arith) (omega (arith, a, b)) in
     let size_left = ap (λ (e : ScheduledGroup). size_of e.group) left_is ∙ round_keeps_size at.election.timing c.args.now asked in
-    Spends-join_within 0 _ round c.keep.ensures.spent (omega arith) (omega (arith, a, b, size_before, size_left))
+    Spends-join_within work _ round c.keep.ensures.spent (omega arith) (omega (arith, a, b, size_before, size_left))
+
+pub returns-in_default-clause-spent : goal.returns-in_default-clause-spent
+returns-in_default-clause-spent g c =
+    let at : Setting = record { config = c.args.config.now; election = c.args.election.now.state; now = c.args.now } in
+    let address = g.F.Address.Key.number c.args.group in
+    let groups = c.args.held.now.groups in
+    let names = named_in g.F.Address.Key.number c.args.scratch.now.named.members in
+    let st = statement_of c.args.said names in
+    let before : ScheduledGroup = record { group = c.load-before.new.into.state; schedule = c.load-before.result } in
+    let mutes = c.V1_MUTES_LEAVE.ensures ∙ g.met.F.Family.v1_mutes_leave ∙ ap v1_mutes_leave (sym c.is_faultless.ensures.family) in
+    let muted = c.is_muted.ensures names in
+    let work = least_work at address st groups in
+    let spent = worked at address st groups before c.V1_MUTES_LEAVE.result c.is_muted.result _ _ _ mutes muted c.load-before.ensures.group c.change-asks_group.ensures.spent in
+    let size_before = ap (λ (e : ScheduledGroup). size_of e.group) c.load-before.ensures.group in
+    Spends-within work _ spent (omega arith) (omega (arith, size_before))

@@ -19,7 +19,7 @@ loop-record-init g c =
       refl,
       refl,
       rw (c.into_iter-record-iterator.ensures.into_iter_gives ∙ c.iter-record-items.ensures, ap (λ (s : SeenState). s.counts) c.clear.ensures)
-          (none_paid c.args.records.now c.args.held.now.groups c.args.m.now),
+          (none_paid at c.args.records.now c.args.held.now.groups c.args.m.now),
     )
 
 pub take_record-fate-requires-clause-sound : goal.take_record-fate-requires-clause-sound
@@ -92,4 +92,4 @@ returns-clause-answer g c =
     λ i. Taken (all.3 i) (all.4 i) (all.5 i)
 
 pub returns-clause-spent : goal.returns-clause-spent
-returns-clause-spent g c = all_paid _ _ _ _ _ _ _ c.loop-record.invariant.5
+returns-clause-spent g c = all_paid _ _ _ _ _ _ _ _ c.loop-record.invariant.5 c.in-None.ensures.steps.0

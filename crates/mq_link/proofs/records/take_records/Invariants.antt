@@ -16,4 +16,4 @@ invariant-loop-record g l =
     × HasRoom l.fn.config.limits.group_sources l.scratch
     × (l.held.group_room ≡ l.fn.held.group_room)
     × (l.held.source_room ≡ l.fn.held.source_room)
-    × IsPaidSoFar l.fn.records l.fn.held.groups l.fn.m l.record-iterator l.seen.counts l.held.groups l.m
+    × IsPaidSoFar at l.fn.records l.fn.held.groups l.fn.m l.record-iterator l.seen.counts l.held.groups l.m

@@ -1,9 +1,10 @@
-use Rattle.std.proofs.Common.{◌≡◌, length, ap, sym, ◌∙◌, subst, arith}
+use Rattle.std.proofs.Common.{◌≡◌, ◌+◌, length, ap, sym, ◌∙◌, subst, arith}
 use Rattle.mq_count.specs.Spending.{Spends}
 use Rattle.mq_sched.specs.Election.{ElectionState, ticked}
 use Rattle.mq_sched.specs.StoredElection.{RouterElection}
 use Rattle.mq_link.specs.Cost.{cost_of}
 use Rattle.mq_link.specs.Handing.{KeepsIntervals}
+use Rattle.mq_link.specs.LeastCost.{least_received}
 use Rattle.mq_link.specs.Link.{LinkValue, HasReceived, state_in, silent_step}
 use Rattle.mq_link.specs.Receive.{receipt_after, pseudo_of}
 use Rattle.mq_link.specs.State.{LinkState, held_of, IsWellFormed}
@@ -16,7 +17,7 @@ use Rattle.mq_link.proofs.LinkStored.{served_in, stored_after, places_back}
 use Rattle.mq_link.proofs.LinkTicked.{HasDone}
 use Rattle.mq_link.proofs.Receipts.{IsWellFormed-receipt_after, carried_where_read}
 use Rattle.mq_link.proofs.Ticked.{IsWellFormed-tick_at}
-use Rattle.mq_link.proofs.TickedSizes.{received_within}
+use Rattle.mq_link.proofs.TickedSizes.{received_within, least_after_tick}
 use Rattle.mq_link.proofs.link.Link.receive.Goals as goal
 
 pub do_due-requires-clause-served : goal.do_due-requires-clause-served
@@ -88,8 +89,21 @@ returns-clause-receives g c =
     let there = has_received g.O.Outlet.takes family config envelope c.args.body.now c.self.inside.held c.self.inside.election c.self.inside.last c.args.now c.self.inside.counts c.self.inside.meter c.do_due.new.held c.do_due.new.election moment c.take_in-received.new.held c.take_in-received.new.election c.take_in-received.new.counts c.count_answers.new.self c.take_in-received.result c.take_in-received.new.m c.args.sender.now c.do_due.new.sender c.take_in-received.new.sender c.is_faultless.ensures.family c.later-now.ensures.later done took.received took.sent counted in
     subst (λ (before : LinkValue). HasReceived g.O.Outlet.takes envelope c.args.body.now c.args.now c.take_in-received.result before after c.args.sender.now.outlet c.take_in-received.new.sender.outlet) c.self.view_is there
 
-pub returns-clause-bounded : goal.returns-clause-bounded
-returns-clause-bounded g c =
-    let in_force = (ticked c.self.inside.config.timing c.later-now.result c.self.inside.election.state).timing in
-    let spent = received_within in_force c.later-now.result c.self.inside.held.groups c.do_due.new.held.groups (length c.args.body.now) _ _ _ _ c.do_due.ensures.groups c.later-now.ensures.spent c.do_due.ensures.spent c.take_in-received.ensures.spent in
-    subst (λ (v : LinkValue). Spends 2 (cost_of (length c.args.body.now) (held_of v.state)) v.spent c.take_in-received.new.m) c.self.view_is spent
+pub returns-clause-spent : goal.returns-clause-spent
+returns-clause-spent g c =
+    let config = c.self.inside.config in
+    let family = g.F.Family.FAMILY in
+    let due = c.do_due.ensures in
+    let moment = c.later-now.result in
+    let envelope = g.F.Family.envelope_of c.args.envelope.now in
+    let before : LinkState = state_in c.self.inside.held c.self.inside.election c.self.inside.last c.self.inside.counts in
+    let after : LinkState = state_in c.do_due.new.held c.do_due.new.election moment c.self.inside.counts in
+    let done : HasDone g.O.Outlet.takes family config moment c.self.inside.held c.self.inside.election c.do_due.new.held c.do_due.new.election c.args.sender.now c.do_due.new.sender =
+    record { election_is = due.election; groups = due.groups; sent = due.sent }
+    in
+    let met = after_tick_is g.O.Outlet.takes family config moment c.self.inside.held c.self.inside.election c.self.inside.last c.self.inside.counts c.do_due.new.held c.do_due.new.election c.args.sender.now c.do_due.new.sender done in
+    let in_force = (ticked config.timing moment c.self.inside.election.state).timing in
+    let spent = received_within in_force moment c.self.inside.held.groups c.do_due.new.held.groups (length c.args.body.now) _ _ _ _ _ due.groups c.later-now.ensures.spent due.spent c.take_in-received.ensures.spent in
+    let least = least_after_tick family config envelope c.args.body.now c.args.now moment before after c.is_faultless.ensures.family c.later-now.ensures.later met in
+    let so = subst (λ n. Spends (2 + n) (cost_of (length c.args.body.now) (held_of before)) c.self.inside.meter c.take_in-received.new.m) least spent in
+    subst (λ (v : LinkValue). Spends (2 + least_received v.config envelope c.args.body.now c.args.now v.state) (cost_of (length c.args.body.now) (held_of v.state)) v.spent c.take_in-received.new.m) c.self.view_is so
