@@ -105,7 +105,8 @@ impl<F: Family> Link<F> {
     pub fn tick<O: Outlet<F::Address>>(&mut self, now: Moment, sender: &mut Sender<F, O>)
         requires in_range { now ≤ 2 ^ 53 }
         ensures config { self.new.config ≡ self.old.config }
-        ensures ticks { HasTicked O.takes now self.old self.new sender.old.outlet sender.new.outlet }
+        ensures ticks { HasTicked O.takes now self.old self.new sender.old.outlet.now sender.new.outlet.now }
+        ensures same_outlet { sender.new.outlet.ghost_name ≡ sender.old.outlet.ghost_name }
         ensures spent { let groups = self.old.state.groups in
             Spends 2 (4 * sources_in groups + 27 * map.len groups + 3) self.old.spent self.new.spent }
         ensures bounded { Spends 0 (cost_of 0 (held_of self.old.state)) self.old.spent self.new.spent }
@@ -141,7 +142,8 @@ impl<F: Family> Link<F> {
         requires in_range { now ≤ 2 ^ 53 }
         ensures config { self.new.config ≡ self.old.config }
         ensures receives { HasReceived O.takes (F.envelope_of envelope.now) body.now now result self.old self.new
-            sender.old.outlet sender.new.outlet }
+            sender.old.outlet.now sender.new.outlet.now }
+        ensures same_outlet { sender.new.outlet.ghost_name ≡ sender.old.outlet.ghost_name }
         ensures spent { let least = least_received self.old.config (F.envelope_of envelope.now) body.now now self.old.state in
             Spends (2 + least) (cost_of (length body.now) (held_of self.old.state)) self.old.spent self.new.spent }
     {

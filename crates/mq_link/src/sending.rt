@@ -137,21 +137,22 @@ fn fits_one<F: Family>(query: &QueryParts<'_, F::Address>) -> bool
     }
 }
 
-/// An outlet with what its sending needs: the terms of a router, and how many messages it answered by true and by false
-/// since they were set. It hands over each query that one message holds.
+/// An outlet that is lent, with what its sending needs: the terms of a router, and how many messages it answered by true
+/// and by false since they were set. It hands over each query that one message holds.
 #[derive(Drop)]
-pub struct Sender<F: Family, O> {
+pub struct Sender<'a, F: Family, O> {
     terms: QueryTerms<F>,
-    outlet: O,
+    outlet: &'a mut O,
     sent: u64,
     unsent: u64,
 }
 
-impl<F: Family, O: Outlet<F::Address>> Sender<F, O> {
+impl<'a, F: Family, O: Outlet<F::Address>> Sender<'a, F, O> {
     /// A sender to this outlet for a router so configured.
-    pub fn new(config: &Config<F>, outlet: O) -> Sender<F, O>
+    pub fn new(config: &Config<F>, outlet: &'a mut O) -> Sender<'a, F, O>
         ensures terms { result.terms ≡ record { own = config.now.own; timing = config.now.timing } }
-        ensures outlet { result.outlet ≡ outlet }
+        ensures same_outlet { result.outlet.ghost_name ≡ outlet.entry.ghost_name }
+        ensures outlet { result.outlet.now ≡ outlet.old }
         ensures sent { result.sent ≡ 0 }
         ensures unsent { result.unsent ≡ 0 }
     {
@@ -165,9 +166,9 @@ impl<F: Family, O: Outlet<F::Address>> Sender<F, O> {
 
     /// The outlet.
     pub fn outlet(&self) -> &O
-        ensures { result.now ≡ self.now.outlet }
+        ensures { result.now ≡ self.now.outlet.now }
     {
-        &self.outlet
+        self.outlet
     }
 
     /// From now on queries go on the terms of this router where this timing is in force, and are counted from 0.
@@ -209,7 +210,8 @@ impl<F: Family, O: Outlet<F::Address>> Sender<F, O> {
     /// Hands over one datagram, and counts the answer.
     fn hand_over(&mut self, to: F::Address, bytes: &[u8]) -> bool
         ensures terms { self.new.terms ≡ self.old.terms }
-        ensures takes { O.takes self.old.outlet (F.Address.number to) bytes.now result self.new.outlet }
+        ensures same_outlet { self.new.outlet.ghost_name ≡ self.old.outlet.ghost_name }
+        ensures takes { O.takes self.old.outlet.now (F.Address.number to) bytes.now result self.new.outlet.now }
         ensures sent { self.new.sent ≡ counted_on self.old.sent (one_if result) }
         ensures unsent { self.new.unsent ≡ counted_on self.old.unsent (one_if (not result)) }
     {
@@ -223,7 +225,7 @@ impl<F: Family, O: Outlet<F::Address>> Sender<F, O> {
     }
 }
 
-impl<F: Family, O: Outlet<F::Address>> Sink<F::Address> for Sender<F, O> {
+impl<'a, F: Family, O: Outlet<F::Address>> Sink<F::Address> for Sender<'a, F, O> {
     ghost takes = { TakesQuery O.takes F.FAMILY };
 
     fn send(&mut self, query: QueryParts<'_, F::Address>) -> bool

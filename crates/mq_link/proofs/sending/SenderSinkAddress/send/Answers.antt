@@ -11,6 +11,7 @@ pub returns-then-not-fits_one : goal.returns-then-not-fits_one
 returns-then-not-fits_one g c =
     record {
       same_terms = refl;
+      same_outlet = refl;
       hands = record {
         handed = λ fits. absurd (not_both c.fits_one.result c.if-not-fits_one.true (c.fits_one.ensures.1 fits));
         kept = λ more. refl;
@@ -27,11 +28,12 @@ returns g c =
     let fits = c.fits_one.ensures.0 c.if-not-fits_one.false in
     record {
       same_terms = handed.terms;
+      same_outlet = handed.same_outlet;
       hands = record {
         handed = λ small. (
           c.hand_over.result,
-          subst (λ bytes. takes before.outlet message.to bytes c.hand_over.result c.hand_over.new.self.outlet) written.bytes
-              (subst (λ to. takes before.outlet to (take c.write-to.result.1 c.write-to.new.out) c.hand_over.result c.hand_over.new.self.outlet) written.to handed.takes),
+          subst (λ bytes. takes before.outlet.now message.to bytes c.hand_over.result c.hand_over.new.self.outlet.now) written.bytes
+              (subst (λ to. takes before.outlet.now to (take c.write-to.result.1 c.write-to.new.out) c.hand_over.result c.hand_over.new.self.outlet.now) written.to handed.takes),
           handed.sent,
           handed.unsent,
         );
