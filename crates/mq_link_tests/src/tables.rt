@@ -1,0 +1,12 @@
+//! The rows.
+
+mod common;
+mod configurations;
+mod dropping;
+mod elections;
+mod igmp;
+mod limits;
+mod many_groups;
+mod mld;
+mod range;
+mod sendings;
