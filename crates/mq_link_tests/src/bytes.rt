@@ -8,7 +8,7 @@ use mq_wire::WireKey;
 /// How many bytes have room.
 const ROOM: usize = 8192;
 
-/// Some bytes. Where more are put than have room, or none that can be, they are spoiled, and equal to no others.
+/// Some bytes. Where more are put than have room, or digits that spell none, they are spoiled.
 #[derive(Drop)]
 pub struct Bytes {
     room: [u8; ROOM],
@@ -30,14 +30,17 @@ impl Bytes {
         &self.room[..self.length.min(ROOM)]
     }
 
-    /// Whether both are the same bytes.
-    pub fn is(&self, other: &Bytes) -> bool {
-        !self.is_spoiled && !other.is_spoiled && self.as_slice() == other.as_slice()
+    /// Whether each was put whole.
+    pub fn is_whole(&self) -> bool {
+        !self.is_spoiled
     }
 
-    /// Whether there are none.
-    pub fn is_empty(&self) -> bool {
-        !self.is_spoiled && self.length == 0
+    /// Whether these bytes stand at a place.
+    pub fn has_at(&self, place: usize, bytes: &[u8]) -> bool {
+        match self.as_slice().get(place..) {
+            Some(rest) => !self.is_spoiled && rest.starts_with(bytes),
+            None => false,
+        }
     }
 
     /// Puts bytes at the end.

@@ -5,7 +5,7 @@ ghost use Rattle.std.specs.Prelude.{◌≤◌, ◌^◌};
 use crate::bytes::Bytes;
 use crate::facts::{at, is_at, unless};
 use crate::kept::Kept;
-use crate::row::{Answer, Given, Message, Packet, Row, Sent, Step};
+use crate::row::{Answer, Fact, Given, Happening, fact_of, given_of, happening_of};
 use crate::tally::Tally;
 use crate::written::Written;
 use mq_count::{Meter, Moment};
@@ -16,7 +16,7 @@ use std::alloc::Global;
 use std::process::Abort;
 
 /// The configuration of a row, its fault, or None where its own address is none.
-pub fn configured<F: Written>(given: &Given) -> Option<Result<Config<F>, ConfigFault>> {
+pub fn configured<F: Written>(given: &Given<'_>) -> Option<Result<Config<F>, ConfigFault>> {
     let (robustness, query_seconds, response_interval, last_member_interval) = given.variables;
     Some(Config::new(
         robustness,
@@ -30,7 +30,7 @@ pub fn configured<F: Written>(given: &Given) -> Option<Result<Config<F>, ConfigF
 }
 
 /// A link that starts at 0, or what is wrong.
-fn started<F: Written>(alloc: Global, given: &Given) -> Result<Link<F>, &'static str> {
+fn started<F: Written>(alloc: Global, given: &Given<'_>) -> Result<Link<F>, &'static str> {
     let Some(Ok(config)) = configured::<F>(given) else {
         return Err("another configuration");
     };
@@ -41,37 +41,33 @@ fn started<F: Written>(alloc: Global, given: &Given) -> Result<Link<F>, &'static
 }
 
 /// Also where one request for memory is refused. All memory is taken here.
-fn reserved<F: Written>(alloc: Global, given: &Given) -> Result<Link<F>, &'static str> {
+fn reserved<F: Written>(alloc: Global, given: &Given<'_>) -> Result<Link<F>, &'static str> {
     match started(alloc, given) {
         Ok(link) => Ok(link),
         Err(_) => started(alloc, given),
     }
 }
 
-/// The bytes of a message.
-fn bytes_of<F: Written>(message: Message) -> Bytes {
-    let mut bytes = Bytes::none();
-    match message {
-        Message::Hex(digits) => bytes.put_hex(digits),
-        Message::Naming(digits, first, count) => {
-            bytes.put_hex(digits);
-            for turn in 0..count {
-                bytes.put_octets(F::numbered(first.wrapping_add(turn)));
-            }
-        }
-    }
-    bytes
+/// The number that a text is.
+fn number(text: Option<&str>) -> Option<u32> {
+    text?.parse::<u32>().ok()
 }
 
-/// Puts a query that is to be sent. Whether its destination is an address.
-fn put_sent<F: Written>(bytes: &mut Bytes, sent: &Sent) -> bool {
-    let (ms, to, message) = *sent;
-    let Some(to) = F::address(to) else {
-        return false;
-    };
-    let body = bytes_of::<F>(message);
-    bytes.put_datagram(at(ms), to, body.as_slice());
-    true
+/// The bytes that a word says, or None where it says none.
+fn bytes_of<F: Written>(word: &str) -> Option<Bytes> {
+    let mut bytes = Bytes::none();
+    let mut parts = word.split('+');
+    let digits = parts.next()?;
+    if digits != "-" {
+        bytes.put_hex(digits);
+    }
+    if let Some(first) = parts.next() {
+        let first = first.parse::<u32>().ok()?;
+        for turn in 0..number(parts.next())? {
+            bytes.put_octets(F::numbered(first.wrapping_add(turn)));
+        }
+    }
+    if bytes.is_whole() { Some(bytes) } else { None }
 }
 
 fn put_timer(line: &mut Bytes, before: &[u8], deadline: Option<Moment>) {
@@ -107,16 +103,15 @@ fn put_group<F: Written>(line: &mut Bytes, group: &HeldGroup<'_, F::Address>) {
     }
     put_timer(line, b" v1 ", group.v1);
     put_timer(line, b" v2 ", group.v2);
-    line.put(b"\n");
 }
 
 /// The one's complement sum of 0x1600 and 0xef00 (RFC 1071).
 const SUM: u16 = 0x0501;
 
 /// A Report of IGMPv2 for the group 239.0.x.y of a number, at most 0xfa00, with its checksum.
-fn report(number: u16) -> [u8; 8] {
-    let [x, y] = number.to_be_bytes();
-    let [high, low] = (!SUM.wrapping_add(number)).to_be_bytes();
+fn report(number: u32) -> [u8; 8] {
+    let [_, _, x, y] = number.to_be_bytes();
+    let [high, low] = (!SUM.wrapping_add(u16::from_be_bytes([x, y]))).to_be_bytes();
     [0x16, 0, high, low, 239, 0, x, y]
 }
 
@@ -124,13 +119,26 @@ fn report(number: u16) -> [u8; 8] {
 #[derive(Drop)]
 struct Play<F: Written> {
     link: Link<F>,
+    /// What is known of the next datagrams.
+    envelope: F::Envelope,
+    /// What the outlet answers.
     answer: bool,
+    /// What was sent, and how many bytes of it are told.
     sent: Bytes,
+    told: usize,
     tally: Tally,
     spent_before: u64,
+    /// How many calls were made.
+    calls: u32,
 }
 
 impl<F: Written> Play<F> {
+    /// Before a call.
+    fn begin(&mut self) {
+        self.spent_before = self.link.spent();
+        self.calls = self.calls.saturating_add(1);
+    }
+
     /// Keeps what an outlet was handed.
     fn keep(&mut self, kept: &Kept) {
         self.sent.put_all(&kept.datagrams);
@@ -141,7 +149,7 @@ impl<F: Written> Play<F> {
     fn tick(&mut self, now: Moment) -> Option<&'static str>
         requires { now ≤ 2 ^ 53 }
     {
-        self.spent_before = self.link.spent();
+        self.begin();
         let mut sender = Sender::new(self.link.config(), Kept::new(now, self.answer));
         self.link.tick(now, &mut sender);
         self.keep(sender.outlet());
@@ -165,48 +173,26 @@ impl<F: Written> Play<F> {
     }
 
     /// A datagram that has to be answered so.
-    fn receive(
-        &mut self,
-        ms: u32,
-        envelope: &F::Envelope,
-        body: &[u8],
-        answer: Answer,
-    ) -> Option<&'static str> {
-        self.spent_before = self.link.spent();
+    fn receive(&mut self, ms: u32, body: &[u8], answer: Answer) -> Option<&'static str> {
+        self.begin();
         let mut sender = Sender::new(self.link.config(), Kept::new(at(ms), self.answer));
-        let received = self.link.receive(envelope, body, at(ms), &mut sender);
+        let received = self.link.receive(&self.envelope, body, at(ms), &mut sender);
         self.keep(sender.outlet());
         let wanted = self.tally.count_answer(answer);
         unless(received == wanted, "another answer")
     }
 
-    fn comes(
-        &mut self,
-        ms: u32,
-        packet: &Packet,
-        message: Message,
-        answer: Answer,
-    ) -> Option<&'static str> {
-        let Some(envelope) = F::envelope(packet) else {
-            return Some("a packet's address is none");
-        };
-        let body = bytes_of::<F>(message);
-        self.receive(ms, &envelope, body.as_slice(), answer)
+    fn comes(&mut self, ms: u32, body: &str, answer: Answer) -> Option<&'static str> {
+        match bytes_of::<F>(body) {
+            Some(body) => self.receive(ms, body.as_slice(), answer),
+            None => Some("no bytes"),
+        }
     }
 
-    fn reports(
-        &mut self,
-        packet: &Packet,
-        ms: u32,
-        first: u16,
-        count: u16,
-    ) -> Option<&'static str> {
-        let Some(envelope) = F::envelope(packet) else {
-            return Some("a packet's address is none");
-        };
+    fn reports(&mut self, ms: u32, first: u32, count: u32) -> Option<&'static str> {
         for turn in 0..count {
             let body = report(first.wrapping_add(turn));
-            let failed = self.receive(ms, &envelope, &body, Answer::Taken(1, 0, &[]));
+            let failed = self.receive(ms, &body, Answer::Taken(1, 0, None));
             if failed.is_some() {
                 return failed;
             }
@@ -214,31 +200,59 @@ impl<F: Written> Play<F> {
         None
     }
 
-    /// These queries were sent since this was last asked.
-    fn sends(&mut self, wanted: &[Sent]) -> Option<&'static str> {
-        let mut queries = Bytes::none();
-        for sent in wanted {
-            if !put_sent::<F>(&mut queries, sent) {
-                return Some("a destination is no address");
+    /// What is wrong where this happens.
+    fn happens(&mut self, happening: Happening<'_>) -> Option<&'static str> {
+        match happening {
+            Happening::Tick(ms) => self.tick(at(ms)),
+            Happening::Until(ms) => self.tick_until(ms),
+            Happening::Comes(ms, body, answer) => self.comes(ms, body, answer),
+            Happening::Reports(ms, first, count) => self.reports(ms, first, count),
+            Happening::Packet(packet) => {
+                let Some(envelope) = F::envelope(&packet) else {
+                    return Some("no packet");
+                };
+                self.envelope = envelope;
+                None
             }
         }
-        let is_so = self.sent.is(&queries);
+    }
+
+    /// This is the next query that was sent.
+    fn sends(&mut self, ms: u32, to: F::Address, body: &str) -> Option<&'static str> {
+        let Some(body) = bytes_of::<F>(body) else {
+            return Some("no bytes");
+        };
+        let mut wanted = Bytes::none();
+        wanted.put_datagram(at(ms), to, body.as_slice());
+        let wanted = wanted.as_slice();
+        if !self.sent.has_at(self.told, wanted) {
+            return Some("another query, or none");
+        }
+        self.told = self.told.saturating_add(wanted.len());
+        None
+    }
+
+    /// No other query was sent.
+    fn is_quiet(&mut self) -> Option<&'static str> {
+        let is_told = self.sent.is_whole() && self.told == self.sent.as_slice().len();
         self.sent = Bytes::none();
-        unless(is_so, "other queries")
+        self.told = 0;
+        unless(is_told, "another query was sent")
     }
 
     /// These groups are held.
-    fn holds(&self, lines: &[&str]) -> Option<&'static str> {
+    fn holds(&self, groups: &str) -> Option<&'static str> {
         let mut held = Bytes::none();
         for place in 0..self.link.len() {
+            if place > 0 {
+                held.put(b"; ");
+            }
             put_group::<F>(&mut held, &self.link.entry(place));
         }
-        let mut wanted = Bytes::none();
-        for line in lines {
-            wanted.put(line.as_bytes());
-            wanted.put(b"\n");
-        }
-        unless(held.is(&wanted), "other groups")
+        unless(
+            held.is_whole() && held.as_slice() == groups.as_bytes(),
+            "other groups",
+        )
     }
 
     fn forwards(&self, group: &str, source: &str, is_forwarded: bool) -> Option<&'static str> {
@@ -248,13 +262,6 @@ impl<F: Written> Play<F> {
         unless(
             self.link.forwards(group, source) == is_forwarded,
             "whether it is forwarded",
-        )
-    }
-
-    fn are_spelled(&self, kind: MessageKind, count: u64) -> Option<&'static str> {
-        unless(
-            self.link.counts().spelled(kind) == count,
-            "another number of messages of this kind",
         )
     }
 
@@ -286,70 +293,116 @@ impl<F: Written> Play<F> {
         ))
     }
 
-    fn has_spent(&self, low: u64, high: u64) -> Option<&'static str> {
+    fn has_spent(&self, low: u32, high: u32) -> Option<&'static str> {
         let spent = self.link.spent().saturating_sub(self.spent_before);
-        unless(low <= spent && spent <= high, "other comparisons")
+        unless(
+            u64::from(low) <= spent && spent <= u64::from(high),
+            "other comparisons",
+        )
     }
 
-    /// What is wrong where a step says what is so.
-    fn is_so(&self, step: &Step) -> Option<&'static str> {
-        match *step {
-            Step::Holds(lines) => self.holds(lines),
-            Step::HoldsSome(count) => unless(self.link.len() == count, "another number of groups"),
-            Step::Forwards(group, source, is) => self.forwards(group, source, is),
-            Step::Spelled(kind, count) => self.are_spelled(kind, count),
-            Step::Querier => self.is_querier(),
-            Step::Other(address, ms) => self.is_other_querier(address, ms),
-            Step::InForce(robustness, seconds) => self.are_in_force(robustness, seconds),
-            Step::Next(ms) => unless(is_at(self.link.next_deadline(), ms), "another moment"),
-            Step::Spends(low, high) => self.has_spent(low, high),
-            _ => Some("a step that is none"),
+    fn are_spelled(&self, kind: MessageKind, count: u32) -> Option<&'static str> {
+        unless(
+            self.link.counts().spelled(kind) == u64::from(count),
+            "another number of messages of this kind",
+        )
+    }
+
+    /// What is wrong where this has to be so.
+    fn is_so(&mut self, fact: Fact<'_>) -> Option<&'static str> {
+        match fact {
+            Fact::SendsGeneral(ms) => self.sends(ms, F::general_destination(), F::general()),
+            Fact::Sends(ms, to, body) => match F::address(to) {
+                Some(to) => self.sends(ms, to, body),
+                None => Some("no address"),
+            },
+            Fact::Quiet => self.is_quiet(),
+            Fact::Number(count) => {
+                unless(
+                    self.link.len() == count as usize,
+                    "another number of groups",
+                )
+            }
+            Fact::Forwards(group, source, is) => self.forwards(group, source, is),
+            Fact::Querier => self.is_querier(),
+            Fact::Other(address, ms) => self.is_other_querier(address, ms),
+            Fact::Force(robustness, seconds) => self.are_in_force(robustness, seconds),
+            Fact::Next(ms) => unless(is_at(self.link.next_deadline(), ms), "another moment"),
+            Fact::Spends(low, high) => self.has_spent(low, high),
+            Fact::Spelled(kind, count) => self.are_spelled(kind, count),
         }
     }
 
-    /// Takes a step. What is wrong then.
-    fn step(&mut self, step: &Step) -> Option<&'static str> {
-        match *step {
-            Step::Tick(ms) => self.tick(at(ms)),
-            Step::Until(ms) => self.tick_until(ms),
-            Step::Comes(ms, packet, message, answer) => self.comes(ms, &packet, message, answer),
-            Step::Reports(ms, packet, first, count) => self.reports(&packet, ms, first, count),
-            Step::Sends(queries) => self.sends(queries),
-            _ => self.is_so(step),
+    /// What is wrong with a line, or behind it with the counters.
+    fn line(&mut self, line: &str) -> Option<&'static str> {
+        if let Some(groups) = line.strip_prefix("holds") {
+            return self.holds(groups.trim());
         }
+        if let Some(happening) = happening_of(line) {
+            return self
+                .happens(happening)
+                .or(self.tally.differs(self.link.counts(), self.answer));
+        }
+        match fact_of(line) {
+            Some(fact) => self.is_so(fact),
+            None => Some("a line that says nothing"),
+        }
+    }
+
+    /// The row is told: something was done, and each query was said.
+    fn end(&mut self) -> Option<&'static str> {
+        unless(self.calls > 0, "nothing happens").or(self.is_quiet())
     }
 }
 
-/// What is wrong with a row, and the number of the step.
-fn wrong_in<F: Written>(alloc: Global, row: &Row, answer: bool) -> Option<(usize, &'static str)> {
-    let link = match reserved::<F>(alloc, &row.given) {
-        Ok(link) => link,
-        Err(what) => return Some((0, what)),
+/// A row that begins, by the line of its configuration.
+fn begun<F: Written>(alloc: Global, line: &str, answer: bool) -> Result<Play<F>, &'static str> {
+    let (Some(given), Some(envelope)) = (given_of(F::given(), line), F::envelope(&F::packet()))
+    else {
+        return Err("no configuration");
     };
-    let mut play = Play {
-        link,
+    Ok(Play {
+        link: reserved(alloc, &given)?,
+        envelope,
         answer,
         sent: Bytes::none(),
+        told: 0,
         tally: Tally::none(),
         spent_before: 0,
+        calls: 0,
+    })
+}
+
+/// The line of a row in which something is wrong, and what.
+fn wrong_in<'a, F: Written>(
+    alloc: Global,
+    row: &'a str,
+    answer: bool,
+) -> Option<(&'a str, &'static str)> {
+    let mut lines = row.trim().lines();
+    let (Some(title), Some(given)) = (lines.next(), lines.next()) else {
+        return Some((row, "no row"));
     };
-    for place in 0..row.steps.len() {
-        let failed = play.step(&row.steps[place]);
-        if let Some(what) = failed.or(play.tally.differs(play.link.counts(), answer)) {
-            return Some((place, what));
+    let mut play = match begun::<F>(alloc, given, answer) {
+        Ok(play) => play,
+        Err(what) => return Some((title, what)),
+    };
+    for line in lines {
+        let line = line.trim();
+        if let Some(what) = play.line(line) {
+            return Some((line, what));
         }
     }
-    let is_whole = !row.steps.is_empty() && play.sent.is_empty();
-    unless(is_whole, "no step, or another query at the end").map(|what| (row.steps.len(), what))
+    play.end().map(|what| (title, what))
 }
 
 /// Plays the rows, each with an outlet that sends all and with one that sends nothing.
-pub fn expect_rows<F: Written>(rt: &impl Abort, alloc: Global, rows: &[Row]) {
+pub fn expect_rows<F: Written>(rt: &impl Abort, alloc: Global, rows: &[&str]) {
     for row in rows {
         for answer in [true, false] {
-            if let Some((place, what)) = wrong_in::<F>(alloc, row, answer) {
-                let shows = row.shows;
-                panic!(rt; "{shows}: step {place}: {what}");
+            if let Some((line, what)) = wrong_in::<F>(alloc, row, answer) {
+                let shows = row.lines().next().unwrap_or("");
+                panic!(rt; "{shows}: {line}: {what}");
             }
         }
     }

@@ -1,6 +1,5 @@
 //! The rows.
 
-mod common;
 mod configurations;
 mod dropping;
 mod elections;

@@ -73,10 +73,14 @@ impl Tally {
             Answer::Taken(applied, ignored, refusals) => {
                 self.applied = self.applied.saturating_add(u64::from(applied));
                 self.ignored = self.ignored.saturating_add(u64::from(ignored));
+                let refused = match refusals {
+                    None => 0,
+                    Some((count, name)) => self.count_refused(count, name),
+                };
                 Received::Taken {
                     applied,
                     ignored,
-                    refused: self.count_refusals(refusals),
+                    refused,
                 }
             }
             Answer::Dropped(reason) => {
@@ -88,15 +92,11 @@ impl Tally {
         }
     }
 
-    /// Counts these refusals, and returns how many they are.
-    fn count_refusals(&mut self, refusals: &[Refusal]) -> u32 {
-        let mut count = 0u32;
-        for refusal in refusals {
-            let place = (*refusal as usize).min(6);
-            self.refused_by[place] = self.refused_by[place].saturating_add(1);
-            self.refused = self.refused.saturating_add(1);
-            count = count.saturating_add(1);
-        }
+    /// Counts so many refusals by a name, and returns how many they are.
+    fn count_refused(&mut self, count: u32, name: Refusal) -> u32 {
+        let place = (name as usize).min(6);
+        self.refused_by[place] = self.refused_by[place].saturating_add(u64::from(count));
+        self.refused = self.refused.saturating_add(u64::from(count));
         count
     }
 

@@ -1,187 +1,118 @@
 //! Configurations: the bounds of each of their ranges, and the first fault.
 
-use super::common::{IGMP, MLD};
 use crate::facts::unless;
 use crate::playing::configured;
-use crate::row::Given;
+use crate::row::{Given, given_of};
 use crate::written::Written;
 use mq_link::{Config, ConfigFault, Defaults, Igmp, LimitName, Mld};
 use std::process::Abort;
 
-/// What is another than by default.
-#[derive(Clone, Copy)]
-enum With {
-    Robustness(u32),
-    QuerySeconds(u32),
-    ResponseInterval(u32),
-    LastMemberInterval(u32),
-    Groups(u32),
-    GroupSources(u32),
-    Sources(u32),
-    Scheduled(u32),
-    Own(&'static str),
-    SourceSpecific,
+/// A line each: the fault, or `none`, and what is another than by default. These are so for both families; of several
+/// faults the first is told.
+static OF_BOTH: &str = "
+    none
+    none source_specific=1
+    Robustness robustness=0
+    none robustness=1
+    none robustness=7
+    Robustness robustness=8
+    Robustness robustness=4294967295
+    QueryInterval query_seconds=0
+    none query_seconds=1 response_interval=999
+    ResponseInterval query_seconds=1 response_interval=1000
+    none query_seconds=31744
+    QueryInterval query_seconds=31745
+    QueryInterval query_seconds=4294967295
+    ResponseInterval response_interval=0
+    none response_interval=124999
+    ResponseInterval response_interval=125000
+    ResponseInterval response_interval=4294967295
+    LastMember last_member_interval=0
+    LastMember last_member_interval=4294967295
+    Groups groups=0
+    none groups=1
+    none groups=65535
+    Groups groups=65536
+    GroupSources group_sources=0
+    none group_sources=1
+    none group_sources=1024
+    GroupSources group_sources=1025
+    Sources sources=0
+    none sources=1
+    none sources=65535
+    Sources sources=65536
+    Scheduled scheduled=0
+    none scheduled=1
+    none scheduled=65535
+    Scheduled scheduled=65536
+    Robustness robustness=8 query_seconds=0
+    QueryInterval query_seconds=0 response_interval=0
+    ResponseInterval response_interval=0 last_member_interval=0
+    LastMember last_member_interval=0 groups=0
+    Groups groups=0 group_sources=0
+    Groups groups=0 sources=0
+    GroupSources group_sources=0 sources=0
+    Sources sources=0 scheduled=0
+";
+
+static OF_IGMP: &str = "
+    ResponseInterval response_interval=99
+    none response_interval=100
+    none query_seconds=31744 response_interval=3174400
+    ResponseInterval query_seconds=31744 response_interval=3174401
+    LastMember last_member_interval=50
+    LastMember last_member_interval=99
+    none last_member_interval=100
+    none last_member_interval=3174400
+    LastMember last_member_interval=3174401
+    OwnAddress own=0.0.0.0
+    none own=0.0.0.1
+    none own=223.255.255.255
+    OwnAddress own=224.0.0.0
+    OwnAddress own=224.0.0.1
+    Scheduled scheduled=0 own=0.0.0.0
+";
+
+static OF_MLD: &str = "
+    none response_interval=1
+    none query_seconds=31744 response_interval=8387584
+    ResponseInterval query_seconds=31744 response_interval=8387585
+    none last_member_interval=1
+    none last_member_interval=8387584
+    LastMember last_member_interval=8387585
+    OwnAddress own=::
+    OwnAddress own=fe7f:ffff:ffff:ffff:ffff:ffff:ffff:ffff
+    none own=fe80::
+    none own=febf:ffff:ffff:ffff:ffff:ffff:ffff:ffff
+    OwnAddress own=fec0::
+    OwnAddress own=ff02::1
+    OwnAddress own=2001:db8::1
+    Scheduled scheduled=0 own=::
+";
+
+fn limit(which: LimitName) -> Option<Option<ConfigFault>> {
+    Some(Some(ConfigFault::Limit { which }))
 }
 
-/// Some of these, and the fault that they are.
-type Row = (&'static [With], Option<ConfigFault>);
-
-const ROBUSTNESS: Option<ConfigFault> = Some(ConfigFault::Robustness);
-
-const QUERY_INTERVAL: Option<ConfigFault> = Some(ConfigFault::QueryInterval);
-
-const RESPONSE_INTERVAL: Option<ConfigFault> = Some(ConfigFault::ResponseInterval);
-
-const LAST_MEMBER: Option<ConfigFault> = Some(ConfigFault::LastMember);
-
-const GROUPS: Option<ConfigFault> = Some(ConfigFault::Limit {
-    which: LimitName::Groups,
-});
-
-const GROUP_SOURCES: Option<ConfigFault> = Some(ConfigFault::Limit {
-    which: LimitName::GroupSources,
-});
-
-const SOURCES: Option<ConfigFault> = Some(ConfigFault::Limit {
-    which: LimitName::Sources,
-});
-
-const SCHEDULED: Option<ConfigFault> = Some(ConfigFault::Limit {
-    which: LimitName::Scheduled,
-});
-
-const OWN_ADDRESS: Option<ConfigFault> = Some(ConfigFault::OwnAddress);
-
-/// What is so for both families.
-static OF_BOTH: [Row; 43] = [
-    (&[], None),
-    (&[With::SourceSpecific], None),
-    (&[With::Robustness(0)], ROBUSTNESS),
-    (&[With::Robustness(1)], None),
-    (&[With::Robustness(7)], None),
-    (&[With::Robustness(8)], ROBUSTNESS),
-    (&[With::Robustness(u32::MAX)], ROBUSTNESS),
-    (&[With::QuerySeconds(0)], QUERY_INTERVAL),
-    (&[With::QuerySeconds(1), With::ResponseInterval(999)], None),
-    (
-        &[With::QuerySeconds(1), With::ResponseInterval(1000)],
-        RESPONSE_INTERVAL,
-    ),
-    (&[With::QuerySeconds(31744)], None),
-    (&[With::QuerySeconds(31745)], QUERY_INTERVAL),
-    (&[With::QuerySeconds(u32::MAX)], QUERY_INTERVAL),
-    (&[With::ResponseInterval(0)], RESPONSE_INTERVAL),
-    (&[With::ResponseInterval(124999)], None),
-    (&[With::ResponseInterval(125000)], RESPONSE_INTERVAL),
-    (&[With::ResponseInterval(u32::MAX)], RESPONSE_INTERVAL),
-    (&[With::LastMemberInterval(0)], LAST_MEMBER),
-    (&[With::LastMemberInterval(u32::MAX)], LAST_MEMBER),
-    (&[With::Groups(0)], GROUPS),
-    (&[With::Groups(1)], None),
-    (&[With::Groups(65535)], None),
-    (&[With::Groups(65536)], GROUPS),
-    (&[With::GroupSources(0)], GROUP_SOURCES),
-    (&[With::GroupSources(1)], None),
-    (&[With::GroupSources(1024)], None),
-    (&[With::GroupSources(1025)], GROUP_SOURCES),
-    (&[With::Sources(0)], SOURCES),
-    (&[With::Sources(1)], None),
-    (&[With::Sources(65535)], None),
-    (&[With::Sources(65536)], SOURCES),
-    (&[With::Scheduled(0)], SCHEDULED),
-    (&[With::Scheduled(1)], None),
-    (&[With::Scheduled(65535)], None),
-    (&[With::Scheduled(65536)], SCHEDULED),
-    // Of several faults the first is told.
-    (&[With::Robustness(8), With::QuerySeconds(0)], ROBUSTNESS),
-    (
-        &[With::QuerySeconds(0), With::ResponseInterval(0)],
-        QUERY_INTERVAL,
-    ),
-    (
-        &[With::ResponseInterval(0), With::LastMemberInterval(0)],
-        RESPONSE_INTERVAL,
-    ),
-    (&[With::LastMemberInterval(0), With::Groups(0)], LAST_MEMBER),
-    (&[With::Groups(0), With::GroupSources(0)], GROUPS),
-    (&[With::Groups(0), With::Sources(0)], GROUPS),
-    (&[With::GroupSources(0), With::Sources(0)], GROUP_SOURCES),
-    (&[With::Sources(0), With::Scheduled(0)], SOURCES),
-];
-
-static OF_IGMP: [Row; 15] = [
-    (&[With::ResponseInterval(99)], RESPONSE_INTERVAL),
-    (&[With::ResponseInterval(100)], None),
-    (
-        &[With::QuerySeconds(31744), With::ResponseInterval(3174400)],
-        None,
-    ),
-    (
-        &[With::QuerySeconds(31744), With::ResponseInterval(3174401)],
-        RESPONSE_INTERVAL,
-    ),
-    (&[With::LastMemberInterval(50)], LAST_MEMBER),
-    (&[With::LastMemberInterval(99)], LAST_MEMBER),
-    (&[With::LastMemberInterval(100)], None),
-    (&[With::LastMemberInterval(3174400)], None),
-    (&[With::LastMemberInterval(3174401)], LAST_MEMBER),
-    (&[With::Own("0.0.0.0")], OWN_ADDRESS),
-    (&[With::Own("0.0.0.1")], None),
-    (&[With::Own("223.255.255.255")], None),
-    (&[With::Own("224.0.0.0")], OWN_ADDRESS),
-    (&[With::Own("224.0.0.1")], OWN_ADDRESS),
-    (&[With::Scheduled(0), With::Own("0.0.0.0")], SCHEDULED),
-];
-
-static OF_MLD: [Row; 14] = [
-    (&[With::ResponseInterval(1)], None),
-    (
-        &[With::QuerySeconds(31744), With::ResponseInterval(8387584)],
-        None,
-    ),
-    (
-        &[With::QuerySeconds(31744), With::ResponseInterval(8387585)],
-        RESPONSE_INTERVAL,
-    ),
-    (&[With::LastMemberInterval(1)], None),
-    (&[With::LastMemberInterval(8387584)], None),
-    (&[With::LastMemberInterval(8387585)], LAST_MEMBER),
-    (&[With::Own("::")], OWN_ADDRESS),
-    (
-        &[With::Own("fe7f:ffff:ffff:ffff:ffff:ffff:ffff:ffff")],
-        OWN_ADDRESS,
-    ),
-    (&[With::Own("fe80::")], None),
-    (
-        &[With::Own("febf:ffff:ffff:ffff:ffff:ffff:ffff:ffff")],
-        None,
-    ),
-    (&[With::Own("fec0::")], OWN_ADDRESS),
-    (&[With::Own("ff02::1")], OWN_ADDRESS),
-    (&[With::Own("2001:db8::1")], OWN_ADDRESS),
-    (&[With::Scheduled(0), With::Own("::")], SCHEDULED),
-];
-
-/// A configuration with one value changed.
-fn changed(given: Given, change: With) -> Given {
-    let mut given = given;
-    match change {
-        With::Robustness(number) => given.variables.0 = number,
-        With::QuerySeconds(number) => given.variables.1 = number,
-        With::ResponseInterval(number) => given.variables.2 = number,
-        With::LastMemberInterval(number) => given.variables.3 = number,
-        With::Groups(number) => given.limits.groups = number,
-        With::GroupSources(number) => given.limits.group_sources = number,
-        With::Sources(number) => given.limits.sources = number,
-        With::Scheduled(number) => given.limits.scheduled = number,
-        With::Own(address) => given.own = address,
-        With::SourceSpecific => given.source_specific = true,
+/// The fault that a line names, if it does.
+fn fault_of(line: &str) -> Option<Option<ConfigFault>> {
+    match line.split_whitespace().next()? {
+        "none" => Some(None),
+        "Robustness" => Some(Some(ConfigFault::Robustness)),
+        "QueryInterval" => Some(Some(ConfigFault::QueryInterval)),
+        "ResponseInterval" => Some(Some(ConfigFault::ResponseInterval)),
+        "LastMember" => Some(Some(ConfigFault::LastMember)),
+        "Groups" => limit(LimitName::Groups),
+        "GroupSources" => limit(LimitName::GroupSources),
+        "Sources" => limit(LimitName::Sources),
+        "Scheduled" => limit(LimitName::Scheduled),
+        "OwnAddress" => Some(Some(ConfigFault::OwnAddress)),
+        _ => None,
     }
-    given
 }
 
 /// A configuration isn't as it was given.
-fn differs<F: Written>(config: &Config<F>, given: &Given) -> Option<&'static str> {
+fn differs<F: Written>(config: &Config<F>, given: &Given<'_>) -> Option<&'static str> {
     let timing = config.timing();
     let variables = (
         timing.robustness(),
@@ -202,12 +133,10 @@ fn differs<F: Written>(config: &Config<F>, given: &Given) -> Option<&'static str
         ))
 }
 
-fn row_fails<F: Written>(given: Given, row: &Row) -> Option<&'static str> {
-    let (changes, fault) = *row;
-    let mut given = given;
-    for change in changes {
-        given = changed(given, *change);
-    }
+fn line_fails<F: Written>(line: &str) -> Option<&'static str> {
+    let (Some(fault), Some(given)) = (fault_of(line), given_of(F::given(), line)) else {
+        return Some("no configuration");
+    };
     match configured::<F>(&given) {
         None => Some("its own address is none"),
         Some(Ok(config)) => unless(fault.is_none(), "no fault").or(differs(&config, &given)),
@@ -215,8 +144,9 @@ fn row_fails<F: Written>(given: Given, row: &Row) -> Option<&'static str> {
     }
 }
 
-/// The defaults of a family are these.
-fn defaults_fail<F: Written>(given: &Given) -> Option<&'static str> {
+/// The defaults of a family are those of its rows.
+fn defaults_fail<F: Written>() -> Option<&'static str> {
+    let given = F::given();
     let (robustness, query_seconds, response_interval, last_member_interval) = given.variables;
     let wanted = Defaults {
         robustness,
@@ -228,25 +158,25 @@ fn defaults_fail<F: Written>(given: &Given) -> Option<&'static str> {
     unless(F::defaults() == wanted, "other defaults")
 }
 
-fn expect_rows<F: Written>(rt: &impl Abort, given: Given, rows: &[Row]) {
-    if let Some(what) = defaults_fail::<F>(&given) {
+fn expect_lines<F: Written>(rt: &impl Abort, lines: &str) {
+    if let Some(what) = defaults_fail::<F>() {
         panic!(rt; "{what}");
     }
-    for place in 0..rows.len() {
-        if let Some(what) = row_fails::<F>(given, &rows[place]) {
-            panic!(rt; "row {place}: {what}");
+    for line in lines.trim().lines() {
+        if let Some(what) = line_fails::<F>(line) {
+            panic!(rt; "{line}: {what}");
         }
     }
 }
 
 #[test]
 fn of_igmp(rt: HostRuntime) {
-    expect_rows::<Igmp>(&rt, IGMP, &OF_BOTH);
-    expect_rows::<Igmp>(&rt, IGMP, &OF_IGMP);
+    expect_lines::<Igmp>(&rt, OF_BOTH);
+    expect_lines::<Igmp>(&rt, OF_IGMP);
 }
 
 #[test]
 fn of_mld(rt: HostRuntime) {
-    expect_rows::<Mld>(&rt, MLD, &OF_BOTH);
-    expect_rows::<Mld>(&rt, MLD, &OF_MLD);
+    expect_lines::<Mld>(&rt, OF_BOTH);
+    expect_lines::<Mld>(&rt, OF_MLD);
 }

@@ -1,42 +1,36 @@
 //! A link that is full of groups.
 
-use super::common::{GENERAL4 as GENERAL, HOST4 as HOST, IGMP};
 use crate::playing::expect_rows;
-use crate::row::Row;
-use crate::row::Step::{Forwards, Holds, HoldsSome, Next, Reports, Sends, Spends, Tick, Until};
 use mq_link::Igmp;
 
-static ROWS: [Row; 1] = [Row {
-    shows: "a tick makes no comparison for a group that isn't due",
-    given: IGMP,
-    steps: &[
-        Until(500),
-        Reports(500, HOST, 1, 1),
-        Reports(1000, HOST, 2, 1023),
-        HoldsSome(1024),
-        Until(260498),
-        Sends(&[
-            (0, "224.0.0.1", GENERAL),
-            (31250, "224.0.0.1", GENERAL),
-            (156250, "224.0.0.1", GENERAL),
-        ]),
-        Next(260500),
-        Tick(260499),
-        Spends(0, 4),
-        HoldsSome(1024),
-        Forwards("239.0.0.1", "10.0.0.1", true),
-        Tick(260500),
-        Spends(0, 256),
-        HoldsSome(1023),
-        Forwards("239.0.0.1", "10.0.0.1", false),
-        Forwards("239.0.0.2", "10.0.0.1", true),
-        Forwards("239.0.4.0", "10.0.0.1", true),
-        Forwards("239.0.4.1", "10.0.0.1", false),
-        Next(261000),
-        Tick(261000),
-        Holds(&[]),
-    ],
-}];
+static ROWS: [&str; 1] = [
+    "a tick makes no comparison for a group that isn't due
+    link
+    until 500
+    reports 500 1 1
+    reports 1000 2 1023
+    number 1024
+    until 260498
+    sends 0 general
+    sends 31250 general
+    sends 156250 general
+    quiet
+    next 260500
+    tick 260499
+    spends 0 4
+    number 1024
+    forwards 239.0.0.1 10.0.0.1
+    tick 260500
+    spends 0 256
+    number 1023
+    blocks 239.0.0.1 10.0.0.1
+    forwards 239.0.0.2 10.0.0.1
+    forwards 239.0.4.0 10.0.0.1
+    blocks 239.0.4.1 10.0.0.1
+    next 261000
+    tick 261000
+    holds",
+];
 
 #[test]
 fn quiet_ticks(rt: HostRuntime) {
