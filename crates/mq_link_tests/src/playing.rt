@@ -393,7 +393,10 @@ fn wrong_in<'a, F: Written>(
             return Some((line, what));
         }
     }
-    play.end().map(|what| (title, what))
+    match play.end() {
+        Some(what) => Some((title, what)),
+        None => None,
+    }
 }
 
 /// Plays the rows, each with an outlet that sends all and with one that sends nothing.
@@ -403,6 +406,18 @@ pub fn expect_rows<F: Written>(rt: &impl Abort, alloc: Global, rows: &[&str]) {
             if let Some((line, what)) = wrong_in::<F>(alloc, row, answer) {
                 let shows = row.lines().next().unwrap_or("");
                 panic!(rt; "{shows}: {line}: {what}");
+            }
+        }
+    }
+}
+
+/// Plays rows in each of which something is wrong, and these are the words for it.
+pub fn expect_wrong<F: Written>(rt: &impl Abort, alloc: Global, rows: &[(&str, &str)]) {
+    for (row, wanted) in rows {
+        for answer in [true, false] {
+            match wrong_in::<F>(alloc, row, answer) {
+                Some((_, what)) => assert!(rt; what == *wanted, "{wanted}: {what}"),
+                None => panic!(rt; "{wanted}: nothing is wrong"),
             }
         }
     }

@@ -146,7 +146,7 @@ static RECORDS: [&str; 9] = [
     next 31250",
 ];
 
-static OLDER_HOSTS: [&str; 3] = [
+static OLDER_HOSTS: [&str; 4] = [
     "a group of IGMPv2 that is left
     link
     until 1000
@@ -194,6 +194,27 @@ static OLDER_HOSTS: [&str; 3] = [
     sends 0 general
     quiet
     holds 239.1.2.3 exclude 261000 v1 261000",
+    "while older hosts are there, BLOCK is ignored and TO_EX names no source
+    link
+    tick 0
+    sends 0 general
+    comes 1000 1600f8faef010203 taken 1 0
+    holds 239.1.2.3 exclude 261000 v2 261000
+    comes 2000 2200dcf70000000106000001ef0102030a000001 taken 0 1
+    comes 3000 2200def70000000104000001ef0102030a000001 taken 1 0
+    holds 239.1.2.3 exclude 263000 v2 261000
+    comes 4000 2200e0f70000000102000001ef0102030a000001 taken 1 0
+    holds 239.1.2.3 exclude 264000 10.0.0.1=264000 v2 261000
+    until 260999
+    sends 31250 general
+    sends 156250 general
+    quiet
+    holds 239.1.2.3 exclude 264000 10.0.0.1=264000 v2 261000
+    until 261000
+    holds 239.1.2.3 exclude 264000 10.0.0.1=264000
+    comes 261000 2200dcf70000000106000001ef0102030a000001 taken 1 0
+    sends 261000 239.1.2.3 110af171ef010203027d00010a000001
+    holds 239.1.2.3 exclude 264000 10.0.0.1=263000",
 ];
 
 static OTHER_QUERIERS: [&str; 3] = [

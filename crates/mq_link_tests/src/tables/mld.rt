@@ -91,7 +91,7 @@ static RECORDS: [&str; 5] = [
     holds ff0e::1234 include 2001:db8::1=261000",
 ];
 
-static OLDER_HOSTS: [&str; 2] = [
+static OLDER_HOSTS: [&str; 3] = [
     "a group of MLDv1 that is left: hosts of MLDv1 mute no Done
     link
     until 1000
@@ -131,6 +131,29 @@ static OLDER_HOSTS: [&str; 2] = [
     quiet
     until 262500
     holds",
+    "while older hosts are there, BLOCK is ignored and TO_EX names no source
+    link
+    tick 0
+    sends 0 general
+    packet fe80::2 ff0e::1234 1 alert
+    comes 1000 83005ba400000000ff0e0000000000000000000000001234 taken 1 0
+    packet fe80::2 ff02::16 1 alert
+    holds ff0e::1234 exclude 261000 v1 261000
+    comes 2000 8f002dfe0000000106000001ff0e000000000000000000000000123420010db8000000000000000000000001 taken 0 1
+    comes 3000 8f002ffe0000000104000001ff0e000000000000000000000000123420010db8000000000000000000000001 taken 1 0
+    holds ff0e::1234 exclude 263000 v1 261000
+    comes 4000 8f0031fe0000000102000001ff0e000000000000000000000000123420010db8000000000000000000000001 taken 1 0
+    holds ff0e::1234 exclude 264000 2001:db8::1=264000 v1 261000
+    until 260999
+    sends 31250 general
+    sends 156250 general
+    quiet
+    holds ff0e::1234 exclude 264000 2001:db8::1=264000 v1 261000
+    until 261000
+    holds ff0e::1234 exclude 264000 2001:db8::1=264000
+    comes 261000 8f002dfe0000000106000001ff0e000000000000000000000000123420010db8000000000000000000000001 taken 1 0
+    sends 261000 ff0e::1234 8200286903e80000ff0e0000000000000000000000001234027d000120010db8000000000000000000000001
+    holds ff0e::1234 exclude 264000 2001:db8::1=263000",
 ];
 
 static OTHER_QUERIERS: [&str; 3] = [
