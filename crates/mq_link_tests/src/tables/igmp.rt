@@ -3,7 +3,7 @@
 use crate::playing::expect_rows;
 use mq_link::Igmp;
 
-static RECORDS: [&str; 9] = [
+static RECORDS: [&str; 11] = [
     "general queries at startup and behind it
     link
     querier
@@ -144,6 +144,35 @@ static RECORDS: [&str; 9] = [
     until 4000
     holds 232.1.1.1 include 10.0.0.1=262500
     next 31250",
+    "in EXCLUDE a source whose timer ends stays, stopped
+    link
+    tick 0
+    sends 0 general
+    comes 1000 2200dcf60000000104000002e80101010a0000010a000002 taken 1 0
+    comes 1001 2200e4f70000000106000001e80101010a000003 taken 1 0
+    holds 232.1.1.1 exclude 261000 !10.0.0.1 !10.0.0.2 10.0.0.3=3001
+    until 3000
+    sends 1001 232.1.1.1 110af971e8010101027d00010a000003
+    sends 2001 232.1.1.1 110af971e8010101027d00010a000003
+    quiet
+    until 3001
+    holds 232.1.1.1 exclude 261000 !10.0.0.1 !10.0.0.2 !10.0.0.3
+    blocks 232.1.1.1 10.0.0.3
+    next 31250",
+    "in INCLUDE the sources whose timers end are removed
+    link
+    tick 0
+    sends 0 general
+    comes 0 2200d1f20000000105000003e80101010a0000010a0000020a000003 taken 1 0
+    comes 1 2200dbf30000000105000002e80101010a0000020a000004 taken 1 0
+    until 259999
+    holds 232.1.1.1 include 10.0.0.1=260000 10.0.0.2=260001 10.0.0.3=260000 10.0.0.4=260001
+    sends 31250 general
+    sends 156250 general
+    until 260000
+    holds 232.1.1.1 include 10.0.0.2=260001 10.0.0.4=260001
+    until 260001
+    holds",
 ];
 
 static OLDER_HOSTS: [&str; 4] = [
