@@ -199,12 +199,12 @@ impl<'a, F: Family, O: Outlet<F::Address>> Sender<'a, F, O> {
         self.unsent
     }
 
-    /// Sends a general query. Answers whether the outlet sent it.
-    pub(crate) fn send_general<'q>(&'q mut self) -> bool
+    /// Sends a general query.
+    pub(crate) fn send_general<'q>(&'q mut self)
         ensures { TakesQuery O.takes F.FAMILY self.old GeneralQuery self.new }
     {
         let query: QueryParts<'q, F::Address> = QueryParts::General;
-        self.send(query)
+        self.send(query);
     }
 
     /// Hands over one datagram, and counts the answer.
@@ -229,7 +229,8 @@ impl<'a, F: Family, O: Outlet<F::Address>> Sink<F::Address> for Sender<'a, F, O>
     ghost takes = { TakesQuery O.takes F.FAMILY };
 
     fn send(&mut self, query: QueryParts<'_, F::Address>) -> bool
-        ensures { TakesQuery O.takes F.FAMILY self.old (query_of F.Address.number query.entry) self.new }
+        ensures takes { TakesQuery O.takes F.FAMILY self.old (query_of F.Address.number query.entry) self.new }
+        ensures sent { self.new.sent ≡ counted_on self.old.sent (one_if result) }
     {
         if !fits_one::<F>(&query) {
             return false;

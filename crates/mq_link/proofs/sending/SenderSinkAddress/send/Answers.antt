@@ -7,8 +7,8 @@ use Rattle.mq_link.proofs.sending.SenderSinkAddress.send.Goals as goal
 not_both : (b : Bool) → b ≡ false → IsTrue b → ⊥
 not_both b is_false is_true = cc
 
-pub returns-then-not-fits_one : goal.returns-then-not-fits_one
-returns-then-not-fits_one g c =
+pub returns-then-not-fits_one-clause-takes : goal.returns-then-not-fits_one-clause-takes
+returns-then-not-fits_one-clause-takes g c =
     record {
       same_terms = refl;
       same_outlet = refl;
@@ -18,8 +18,8 @@ returns-then-not-fits_one g c =
       };
     }
 
-pub returns : goal.returns
-returns g c =
+pub returns-clause-takes : goal.returns-clause-takes
+returns-clause-takes g c =
     let takes = g.O.Outlet.takes in
     let before = c.args.self.now in
     let handed = c.hand_over.ensures in
