@@ -54,7 +54,7 @@ counted_more old test answer answers one new first later =
 -- the queries that a sender takes are handed over
 pub handed_all : {F O K E : Type 0} (takes : O → ℕ → List ℕ → Bool → O → Type 0) (family : Family) (old : Sender F O K E) (queries : List SentQuery) (new : Sender F O K E)
     → AllFit (per_query family) queries → Sends (TakesQuery takes family) old queries new
-    → HandsAll takes family old.terms queries (tally_of old) (tally_of new)
+    → HandsAll takes family old.terms.now queries (tally_of old) (tally_of new)
 handed_all takes family old [] new fit same =
     record { answers = []; handed = ap (λ s. s.outlet.now) same; sent = ap (λ s. s.sent) (sym same) ∙ none_on old.sent; unsent = ap (λ s. s.unsent) (sym same) ∙ none_on old.unsent }
 handed_all takes family old (query ∷ queries) new fit sends =
@@ -63,7 +63,7 @@ handed_all takes family old (query ∷ queries) new fit sends =
     let rest = handed_all takes family between queries new (others_fit (per_query family) query queries fit) sends.2 in
     record {
       answers = one.0 ∷ rest.answers;
-      handed = (between.outlet.now, one.1, subst (λ terms. HandsOver takes between.outlet.now (list_map (outgoing_on family terms) queries) rest.answers new.outlet.now) sends.1.same_terms rest.handed);
+      handed = (between.outlet.now, one.1, subst (λ terms. HandsOver takes between.outlet.now (list_map (outgoing_on family terms) queries) rest.answers new.outlet.now) (ap (λ terms. terms.now) sends.1.same_terms) rest.handed);
       sent = counted_more old.sent (λ b. b) one.0 rest.answers between.sent new.sent one.2 rest.sent;
       unsent = counted_more old.unsent not one.0 rest.answers between.unsent new.unsent one.3 rest.unsent;
     }

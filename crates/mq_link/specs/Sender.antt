@@ -15,8 +15,8 @@ tally_of s = record { outlet = s.outlet.now; sent = s.sent; unsent = s.unsent }
 pub record TakesQuery {F O K E : Type 0} (takes : O → ℕ → List ℕ → Bool → O → Type 0) (family : Family) (old : Sender F O K E) (query : SentQuery) (new : Sender F O K E) : Type 0 where
   pub same_terms : new.terms ≡ old.terms
   pub same_outlet : new.outlet.ghost_name ≡ old.outlet.ghost_name
-  pub hands : HandsOne takes family old.terms query (tally_of old) (tally_of new)
+  pub hands : HandsOne takes family old.terms.now query (tally_of old) (tally_of new)
 
 -- with its outlet, on the terms of a router so configured where a timing is in force, and with nothing counted
 abbrev pub begun : {F O K E : Type 0} → Configuration → Timing → Sender F O K E → Sender F O K E
-begun config timing s = record s { terms = record { own = config.own; timing = timing }; sent = 0; unsent = 0 }
+begun config timing s = record s { terms = record s.terms { now = record { own = config.own; timing = timing } }; sent = 0; unsent = 0 }

@@ -22,9 +22,9 @@ use std::marker::Model;
 /// How many bytes the longest query has, one of IGMP with 366 sources. The longest of MLD, with 89, has 1452.
 const LONGEST: usize = 1476;
 
-/// What all queries of a router have in common.
+/// What all queries of a router have in common: its own address and the timing in force.
 #[derive(Drop)]
-pub(crate) struct QueryTerms<F: Family> {
+pub struct QueryTerms<F: Family> {
     own: F::Address,
     timing: Timing,
     response: u32,
@@ -44,9 +44,16 @@ impl<F: Family> Model for QueryTerms<F> {
 }
 
 impl<F: Family> QueryTerms<F> {
+    /// The terms of a router so configured.
+    pub fn of(config: &Config<F>) -> QueryTerms<F>
+        ensures { result ≡ record { own = config.now.own; timing = config.now.timing } }
+    {
+        QueryTerms::new(config, config.timing())
+    }
+
     /// The terms of a router so configured where this timing is in force. Its response interval and its last member
     /// interval are always the configured ones.
-    pub(crate) fn new(config: &Config<F>, timing: Timing) -> QueryTerms<F>
+    fn new(config: &Config<F>, timing: Timing) -> QueryTerms<F>
         requires { KeepsIntervals config.now.timing timing }
         ensures { result ≡ record { own = config.now.own; timing = timing } }
     {
@@ -137,27 +144,29 @@ fn fits_one<F: Family>(query: &QueryParts<'_, F::Address>) -> bool
     }
 }
 
-/// An outlet that is lent, with what its sending needs: the terms of a router, and how many messages it answered by true
-/// and by false since they were set. It hands over each query that one message holds.
+/// An outlet with what its sending needs: the terms of a router, and how many messages it answered by true and by false
+/// since they were set. It hands over each query that one message holds. Both are lent, so that it is known what they
+/// are once it ends.
 #[derive(Drop)]
 pub struct Sender<'a, F: Family, O> {
-    terms: QueryTerms<F>,
+    terms: &'a mut QueryTerms<F>,
     outlet: &'a mut O,
     sent: u64,
     unsent: u64,
 }
 
 impl<'a, F: Family, O: Outlet<F::Address>> Sender<'a, F, O> {
-    /// A sender to this outlet for a router so configured.
-    pub fn new(config: &Config<F>, outlet: &'a mut O) -> Sender<'a, F, O>
-        ensures terms { result.terms ≡ record { own = config.now.own; timing = config.now.timing } }
+    /// A sender to this outlet on these terms. Each call of a link sets them anew.
+    pub fn new(terms: &'a mut QueryTerms<F>, outlet: &'a mut O) -> Sender<'a, F, O>
+        ensures same_terms { result.terms.ghost_name ≡ terms.entry.ghost_name }
+        ensures terms { result.terms.now ≡ terms.old }
         ensures same_outlet { result.outlet.ghost_name ≡ outlet.entry.ghost_name }
         ensures outlet { result.outlet.now ≡ outlet.old }
         ensures sent { result.sent ≡ 0 }
         ensures unsent { result.unsent ≡ 0 }
     {
         Sender {
-            terms: QueryTerms::new(config, config.timing()),
+            terms,
             outlet,
             sent: 0,
             unsent: 0,
@@ -175,12 +184,12 @@ impl<'a, F: Family, O: Outlet<F::Address>> Sender<'a, F, O> {
     pub(crate) fn begin(&mut self, config: &Config<F>, timing: Timing)
         requires { KeepsIntervals config.now.timing timing }
         ensures { self.new ≡ record self.old {
-          terms = record { own = config.now.own; timing = timing };
+          terms = record self.old.terms { now = record { own = config.now.own; timing = timing } };
           sent = 0;
           unsent = 0;
         } }
     {
-        self.terms = QueryTerms::new(config, timing);
+        *self.terms = QueryTerms::new(config, timing);
         self.sent = 0;
         self.unsent = 0;
     }

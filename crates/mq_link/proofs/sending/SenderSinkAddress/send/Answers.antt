@@ -24,7 +24,7 @@ returns-clause-takes g c =
     let before = c.args.self.now in
     let handed = c.hand_over.ensures in
     let written = c.write-to.ensures in
-    let message = outgoing_on g.F.Family.FAMILY before.terms (query_of g.F.Address.Key.number c.args.query) in
+    let message = outgoing_on g.F.Family.FAMILY before.terms.now (query_of g.F.Address.Key.number c.args.query) in
     let fits = c.fits_one.ensures.0 c.if-not-fits_one.false in
     record {
       same_terms = handed.terms;
