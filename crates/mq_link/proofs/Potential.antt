@@ -50,7 +50,7 @@ one_less (suc (suc zero)) sources few = omega arith
 one_less (suc (suc (suc zero))) sources few = omega arith
 one_less (suc (suc (suc (suc n)))) sources few = absurd (omega arith)
 
-pub no_more_left : (before after : Seen) → ((k : ℕ) → met before k ≤ met after k) → (e : ℕ × ScheduledGroup) → left_of after e ≤ left_of before e
+no_more_left : (before after : Seen) → ((k : ℕ) → met before k ≤ met after k) → (e : ℕ × ScheduledGroup) → left_of after e ≤ left_of before e
 no_more_left before after met_more e =
     let more = met_more e.0 in
     let fewer : 4 - met after e.0 ≤ 4 - met before e.0 = omega arith in

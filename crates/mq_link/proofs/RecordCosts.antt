@@ -8,8 +8,6 @@ use Rattle.std.specs.FinMap as map
 use Rattle.std.specs.FinSet as set
 use Rattle.std.specs.List.{sum_by}
 use Rattle.std.specs.Option.{unwrap_or}
-use Rattle.std.specs.Ordering.{nat_cmp, eq_by_cmp}
-use Rattle.std.specs.Cmp.{nat_cmp_total}
 use Rattle.mq_count.specs.Spending.{Spends}
 use Rattle.mq_count.proofs.Spent.{Spends-none, Spends-join, Spends-within}
 use Rattle.mq_sets.specs.Search.{bitlen}
@@ -23,7 +21,6 @@ use Rattle.mq_sched.specs.Schedule.{ScheduledGroup}
 use Rattle.mq_sched.specs.Election.{is_querier}
 use Rattle.mq_held.proofs.Amounts.{no_sources, own_sources}
 use Rattle.mq_held.proofs.Places.{absent-place, goes-absent}
-use Rattle.mq_held.proofs.Sorted.{tied, ties}
 use Rattle.mq_link.specs.declared.answers.Refusal.{Refusal}
 use Rattle.mq_link.specs.declared.answers.Refusal.TheVariants.{Repeated}
 use Rattle.mq_link.specs.Cost.{search_cost, work_cost, cost_by, record_cost, own_cost}
@@ -36,6 +33,7 @@ use Rattle.mq_link.proofs.ChangedSizes.{translated_few}
 use Rattle.mq_link.proofs.MadeEntries.{round_keeps_size}
 use Rattle.mq_link.proofs.Potential.{left_for, potential, potential-empty, potential-le, potential-falls, changed_left}
 use Rattle.mq_link.proofs.StatedSteps.{asked_few}
+use Rattle.mq_link.proofs.TakenRecords.{again, met_once, met_more}
 
 -- a group gets no more sources than a record names
 module _ (at : Setting) (seen : Seen) (group : ℕ) (kind : Kind) (xs : List ℕ) (groups : Groups) where
@@ -65,27 +63,6 @@ module _ (at : Setting) (seen : Seen) (group : ℕ) (kind : Kind) (xs : List ℕ
       let e = group_at groups group in
       by_change (change_in at group (RecordOf kind (set.from_list xs)) groups) (translated_few (v1_mutes_leave at.config.family) (is_muted at.config group (RecordOf kind (set.from_list xs))) at.election.timing at.now e.group kind xs (hosts_of e.group at.now))
 
--- one meeting more
-module _ (seen : Seen) (group : ℕ) where
-  abbrev again : Seen
-  again = map.insert seen group (met seen group + 1)
-
-  abbrev met_where : Bool → ℕ → ℕ
-  met_where b other = unwrap_or (cond b (Some (met seen group + 1)) (map.get seen other)) 0
-
-  met_again : (other : ℕ) → met again other ≡ met_where (eq_by_cmp nat_cmp other group) other
-  met_again other = ap (λ x. unwrap_or x 0) (map.get-insert nat_cmp_total seen group (met seen group + 1) other)
-
-  met_more : (other : ℕ) → met seen other ≤ met again other
-  met_more other = let is = met_again other in let more = by_test (eq_by_cmp nat_cmp other group) refl in omega (arith, is, more)
-    where
-      by_test : (b : Bool) → eq_by_cmp nat_cmp other group ≡ b → met seen other ≤ met_where b other
-      by_test true same = let alike = ap (met seen) (tied other group same) in omega (arith, alike)
-      by_test false differs = omega arith
-
-  met_once : met again group ≡ met seen group + 1
-  met_once = met_again group ∙ ap (λ b. met_where b group) (ties group group refl)
-
 few_digits : (n : ℕ) → n ≤ 65535 → bitlen n ≤ 16
 few_digits n few = bitlen-le 16 n (omega (arith, few))
 
@@ -105,10 +82,10 @@ record_pays at seen r groups few_groups few_seen = by_entrance (entrance at.conf
         + potential (cond held (again seen r.group) seen) (cond (held && four) (leaving groups (Refused Repeated)) (stated at r.group (RecordOf kind (set.from_list r.sources)) groups)).groups
         ≤ potential seen groups + own_cost r
     by_tests kind true true held four =
-        let same = potential-le seen (again seen r.group) groups (met_more seen r.group) in
+        let same = potential-le seen (again seen r.group) groups (λ k. (met_more seen r.group k).0) in
         omega (arith, search, same)
     by_tests kind true false held four =
-        let falls = potential-falls seen (again seen r.group) groups (met_more seen r.group) r.group (met_once seen r.group) (leb-false 4 (met seen r.group) four) held in
+        let falls = potential-falls seen (again seen r.group) groups (λ k. (met_more seen r.group k).0) r.group (met_once seen r.group) (leb-false 4 (met seen r.group) four) held in
         let left = stated_left at (again seen r.group) r.group kind r.sources groups in
         let own = four_times (met (again seen r.group) r.group) (length r.sources) in
         omega (arith, search, falls, left, own)

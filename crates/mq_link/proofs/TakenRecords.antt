@@ -6,6 +6,7 @@ use Rattle.std.specs.Option.{unwrap_or}
 use Rattle.std.specs.Ordering.{nat_cmp, eq_by_cmp}
 use Rattle.std.specs.Cmp.{nat_cmp_total}
 use Rattle.std.specs.FinMap as map
+use Rattle.mq_held.proofs.Sorted.{tied, ties}
 use Rattle.mq_wire.specs.declared.records.RecordView.{RecordView}
 use Rattle.mq_sched.specs.Sending.{SentQuery}
 use Rattle.mq_sched.specs.Sink.{Sends, SendsOn}
@@ -65,12 +66,24 @@ module _ (seen : Seen) (group : ℕ) where
       by_test true is = omega arith
       by_test false is = omega arith
 
-  met_again : (other : ℕ) → met (map.insert seen group (met seen group + 1)) other ≤ met seen other + 1
-  met_again other = rw (map.get-insert nat_cmp_total seen group (met seen group + 1) other) (by_test (eq_by_cmp nat_cmp other group) refl)
+  abbrev pub again : Seen
+  again = map.insert seen group (met seen group + 1)
+
+  abbrev met_where : Bool → ℕ → ℕ
+  met_where b other = unwrap_or (cond b (Some (met seen group + 1)) (map.get seen other)) 0
+
+  met_again : (other : ℕ) → met again other ≡ met_where (eq_by_cmp nat_cmp other group) other
+  met_again other = ap (λ x. unwrap_or x 0) (map.get-insert nat_cmp_total seen group (met seen group + 1) other)
+
+  pub met_once : met again group ≡ met seen group + 1
+  met_once = met_again group ∙ ap (λ b. met_where b group) (ties group group refl)
+
+  pub met_more : (other : ℕ) → (met seen other ≤ met again other) × (met again other ≤ met seen other + 1)
+  met_more other = rw (met_again other) (by_test (eq_by_cmp nat_cmp other group) refl)
     where
-      by_test : (b : Bool) → eq_by_cmp nat_cmp other group ≡ b → unwrap_or (cond b (Some (met seen group + 1)) (map.get seen other)) 0 ≤ met seen other + 1
-      by_test true is = let same : other ≡ group = grind (arith, is) in let alike = ap (met seen) same in omega (arith, alike)
-      by_test false is = omega arith
+      by_test : (b : Bool) → eq_by_cmp nat_cmp other group ≡ b → (met seen other ≤ met_where b other) × (met_where b other ≤ met seen other + 1)
+      by_test true same = let alike = ap (met seen) (tied other group same) in (omega (arith, alike), omega (arith, alike))
+      by_test false differs = (omega arith, omega arith)
 
 len_after : (config : Configuration) (r : RecordView ℕ) (groups : Groups) (seen : Seen) → map.len (seen_after config r groups seen) ≤ map.len seen + 1
 len_after config r groups seen = by_entrance (entrance config r)
@@ -87,7 +100,7 @@ met_after : (config : Configuration) (r : RecordView ℕ) (groups : Groups) (see
 met_after config r groups seen other = by_entrance (entrance config r)
   where
     by_test : (b : Bool) → met (cond b (map.insert seen r.group (met seen r.group + 1)) seen) other ≤ met seen other + 1
-    by_test true = met_again seen r.group other
+    by_test true = (met_more seen r.group other).1
     by_test false = omega arith
 
     by_entrance : (entered : Entrance) → met (seen_by entered r.group groups seen) other ≤ met seen other + 1

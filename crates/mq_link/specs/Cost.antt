@@ -19,13 +19,12 @@ cost_of length held = 64 * (length + held) + 64
 abbrev pub search_cost : Groups → Seen → ℕ
 search_cost groups seen = 2 * bitlen (map.len groups) + bitlen (map.len seen)
 
--- What a record that is worked on takes at most: six for each source of its group, 17 for each that it names, and
--- twelve.
+-- What the work on a record takes at most: six for each source of its group, 17 for each that it names, and twelve.
 abbrev pub work_cost : Groups → RecordView ℕ → ℕ
 work_cost groups r = 6 * sources_of (group_at groups r.group) + 17 * length r.sources + 12
 
--- What a record takes at most: nothing, where it ends before its group is looked for; and no work, where four others of
--- the datagram have met its group.
+-- What a record takes at most: nothing, where it ends before its group is looked for; the search alone, where four
+-- others of the datagram have met its group; else the work and the search.
 abbrev pub cost_by : Entrance → Seen → RecordView ℕ → Groups → ℕ
 cost_by (Stops verdict) seen r groups = 0
 cost_by (GoesOn kind) seen r groups =
@@ -40,7 +39,7 @@ record_cost config seen r groups = cost_by (entrance config r) seen r groups
 abbrev pub own_cost : RecordView ℕ → ℕ
 own_cost r = 60 + 41 * length r.sources
 
--- As few bytes as spell a message, of either family.
+-- No message like this is spelled by fewer bytes, in either family.
 abbrev pub least_length : Message ℕ → ℕ
 least_length (QueryMessage query) = 8 + 4 * source_count query.version
 least_length (OldReport version group) = 8

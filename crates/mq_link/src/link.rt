@@ -131,7 +131,8 @@ impl<F: Family> Link<F> {
     /// Takes a datagram that came at `now`: first it does what a tick does then; then the datagram is read, and dropped, or
     /// taken. Answers what became of it. The envelope is what its packet says of it, the body its bytes without the IP
     /// header (RFC 3376 sections 4, 6.4 and 7.3.2, RFC 3810 sections 5, 7.4 and 8.3.2). At most 64 comparisons for each
-    /// byte of the body and for each group and source that is held as it comes, and 64 more, whatever its records are.
+    /// byte of the body and for each group and source that is held as it comes, and 64 more, whatever its records are; at
+    /// least two, and what its records take.
     pub fn receive<O: Outlet<F::Address>>(
         &mut self,
         envelope: &F::Envelope,

@@ -59,7 +59,7 @@ fn count_read<K: WireKey>(counts: &mut Counts, read: &Result<Message<'_, K>, Wir
 }
 
 /// Takes a message that isn't dropped: hears a query, and takes the records of any other. At most 24 comparisons for each
-/// source that is held, 20 for each group, and 64 for each byte that a message like it has at least.
+/// source that is held, 20 for each group, and 64 for each byte that it has at least (`least_length`).
 fn take_message<F: Family, O: Outlet<F::Address>>(
     config: &Config<F>,
     held: &mut HeldGroups<F::Address>,

@@ -109,7 +109,7 @@ fn count_fate(fate: Fate, tally: &mut Tally, counts: &mut Counts)
 
 /// Takes the statement of an older message for a group that is admitted; it counts as one record, and names no source.
 /// At most six comparisons for each source of the group, twelve more, and two for each binary digit of how many groups
-/// there are.
+/// there are; at least one, where a group is held.
 pub(crate) fn take_statement<F: Family, S: Sink<F::Address>>(
     config: &Config<F>,
     election: &Election<F::Address>,
@@ -170,10 +170,11 @@ pub(crate) fn take_statement<F: Family, S: Sink<F::Address>>(
 
 /// Takes one record of a Report, by all six steps: what is of an unknown type or for a group that isn't admitted is
 /// ignored; what names too many sources is refused, and so is the fifth record that meets a group that is held; else it
-/// is applied, ignored or refused as a statement of the sources that it names. None that ends before its group is looked
-/// for takes a comparison; the search takes at most two for each binary digit of how many groups there are, and one for
-/// each of how many were met; and unless it is the fifth record, it takes at most six for each source of the group, 17
-/// for each that it names, and twelve more.
+/// is applied, ignored or refused as a statement of the sources that it names. One that ends before its group is looked
+/// for spends no comparison; the search takes at most two for each binary digit of how many groups there are, and one for
+/// each of how many were met, and at least one where a group is held. But for the fifth record, the work takes at most
+/// six for each source of the group, 17 for each that it names, and twelve more; and at least one for each that it names
+/// but the first, and one for each of those that are fewer, the sources of the group or those that count.
 fn take_record<F: Family, S: Sink<F::Address>>(
     config: &Config<F>,
     election: &Election<F::Address>,
@@ -232,8 +233,8 @@ fn take_record<F: Family, S: Sink<F::Address>>(
 
 /// Takes the records of a Report, one after the other, each on what those before it leave. There is memory to count
 /// each group that they meet, of which there are no more than records. At most 24 comparisons for each source that is
-/// held, 60 for each record, and 41 for each source that it names: since no more than four records do work on a group,
-/// however many there are, no source is gone over more often for the length of the Report.
+/// held, 60 for each record, and 41 for each source that it names: no more than four records do work on a group, however
+/// many there are. At least what each of them takes.
 pub(crate) fn take_records<F: Family, S: Sink<F::Address>>(
     config: &Config<F>,
     election: &Election<F::Address>,
