@@ -1,12 +1,11 @@
 //! What a link is handed, one event after the other.
 
-ghost use Rattle.std.specs.Prelude.{◌≡◌, ◌≤◌, ◌^◌, map, All};
+ghost use Rattle.std.specs.Prelude.{◌≤◌, ◌^◌, map, All};
 ghost use Rattle.mq_link.specs.Events.{event_of, moment_at, HasRun};
 
 use crate::family::Family;
 use crate::link::Link;
 use crate::outlet::Outlet;
-use crate::sending::Sender;
 use mq_count::Moment;
 
 /// What a link is handed.
@@ -30,22 +29,21 @@ pub enum Event<'a, F: Family> {
 pub fn run<F: Family, O: Outlet<F::Address>>(
     link: &mut Link<F>,
     events: &[Event<'_, F>],
-    sender: &mut Sender<F, O>,
+    outlet: &mut O,
 )
     requires in_range { All (λ event. moment_at event ≤ 2 ^ 53) events.now }
     ensures runs { HasRun O.takes (map (event_of F.envelope_of) events.now) link.old link.new
-        sender.old.outlet.now sender.new.outlet.now }
-    ensures same_outlet { sender.new.outlet.ghost_name ≡ sender.old.outlet.ghost_name }
+        outlet.old outlet.new }
 {
     for event in events {
         match event {
-            Event::Tick(now) => link.tick(*now, sender),
+            Event::Tick(now) => link.tick(*now, outlet),
             Event::Datagram {
                 envelope,
                 body,
                 now,
             } => {
-                link.receive(envelope, body, *now, sender);
+                link.receive(envelope, body, *now, outlet);
             }
         }
     }

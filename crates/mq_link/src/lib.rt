@@ -10,7 +10,7 @@
 //! - the family: `Family`, which `Igmp` and `Mld` implement, each with its envelope;
 //! - the configuration: `Config`, made where it has no fault;
 //! - why a datagram is dropped: `dropping`;
-//! - what goes out: the `Outlet` that takes datagrams, and before it the `Sender`, with the `QueryTerms` of its router;
+//! - what goes out: the `Outlet` that takes datagrams;
 //! - what is counted: `Counts`;
 //! - the whole, over all of these: `Link`;
 //! - and a run of it over any events: `run`.
@@ -40,7 +40,7 @@ mod records;
 mod refusing;
 mod scratch;
 mod seen;
-pub mod sending;
+mod sending;
 mod serving;
 mod statements;
 mod storing;
@@ -56,4 +56,3 @@ pub use igmp::{Igmp, IgmpEnvelope};
 pub use link::Link;
 pub use mld::{Mld, MldEnvelope};
 pub use outlet::Outlet;
-pub use sending::{QueryTerms, Sender};

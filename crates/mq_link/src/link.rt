@@ -25,7 +25,7 @@ use crate::outlet::Outlet;
 use crate::receiving::take_in;
 use crate::scratch::Scratch;
 use crate::seen::SeenGroups;
-use crate::sending::Sender;
+use crate::sending::{QueryTerms, Sender};
 use mq_count::{Meter, Moment};
 use mq_held::{HeldGroup, HeldGroups};
 use mq_sched::{Election, OtherQuerier};
@@ -102,14 +102,52 @@ impl<F: Family> Link<F> {
     /// the other querier's deadline ends; the general query is sent, if it is due; then what is due for the groups (RFC 3376
     /// sections 6.5, 6.6.2 and 6.6.3, RFC 3810 sections 7.5, 7.6.2 and 7.6.3). However late it is called, each goes once. At
     /// most four comparisons for each source, 27 for each group and three more; before the next moment, three at most.
-    pub fn tick<O: Outlet<F::Address>>(&mut self, now: Moment, sender: &mut Sender<F, O>)
+    pub fn tick<O: Outlet<F::Address>>(&mut self, now: Moment, outlet: &mut O)
+        requires in_range { now ≤ 2 ^ 53 }
+        ensures config { self.new.config ≡ self.old.config }
+        ensures ticks { HasTicked O.takes now self.old self.new outlet.old outlet.new }
+        ensures spent { let groups = self.old.state.groups in
+            Spends 2 (4 * sources_in groups + 27 * map.len groups + 3) self.old.spent self.new.spent }
+        ensures bounded { Spends 0 (cost_of 0 (held_of self.old.state)) self.old.spent self.new.spent }
+        ensures quiet { moment_of self.old.state now < next_of self.old.state → Spends 2 3 self.old.spent self.new.spent }
+    {
+        let mut terms = QueryTerms::of(&self.config);
+        let mut sender = Sender::new(&mut terms, outlet);
+        self.tick_by(now, &mut sender);
+    }
+
+    /// Takes a datagram that came at `now`: first it does what a tick does then; then the datagram is read, and dropped, or
+    /// taken. Answers what became of it. The envelope is what its packet says of it, the body its bytes without the IP
+    /// header (RFC 3376 sections 4, 6.4 and 7.3.2, RFC 3810 sections 5, 7.4 and 8.3.2). At most 64 comparisons for each
+    /// byte of the body and for each group and source that is held as it comes, and 64 more, whatever its records are; at
+    /// least two, and what its records take.
+    pub fn receive<O: Outlet<F::Address>>(
+        &mut self,
+        envelope: &F::Envelope,
+        body: &[u8],
+        now: Moment,
+        outlet: &mut O,
+    ) -> Received
+        requires in_range { now ≤ 2 ^ 53 }
+        ensures config { self.new.config ≡ self.old.config }
+        ensures receives { HasReceived O.takes (F.envelope_of envelope.now) body.now now result self.old self.new
+            outlet.old outlet.new }
+        ensures spent { let least = least_received self.old.config (F.envelope_of envelope.now) body.now now self.old.state in
+            Spends (2 + least) (cost_of (length body.now) (held_of self.old.state)) self.old.spent self.new.spent }
+    {
+        let mut terms = QueryTerms::of(&self.config);
+        let mut sender = Sender::new(&mut terms, outlet);
+        self.receive_by(envelope, body, now, &mut sender)
+    }
+
+    /// A tick, with the sender that hands its queries to an outlet.
+    fn tick_by<O: Outlet<F::Address>>(&mut self, now: Moment, sender: &mut Sender<F, O>)
         requires in_range { now ≤ 2 ^ 53 }
         ensures config { self.new.config ≡ self.old.config }
         ensures ticks { HasTicked O.takes now self.old self.new sender.old.outlet.now sender.new.outlet.now }
         ensures same_outlet { sender.new.outlet.ghost_name ≡ sender.old.outlet.ghost_name }
         ensures spent { let groups = self.old.state.groups in
             Spends 2 (4 * sources_in groups + 27 * map.len groups + 3) self.old.spent self.new.spent }
-        ensures bounded { Spends 0 (cost_of 0 (held_of self.old.state)) self.old.spent self.new.spent }
         ensures quiet { moment_of self.old.state now < next_of self.old.state → Spends 2 3 self.old.spent self.new.spent }
     {
         self.config.is_faultless();
@@ -128,12 +166,8 @@ impl<F: Family> Link<F> {
         self.last = now;
     }
 
-    /// Takes a datagram that came at `now`: first it does what a tick does then; then the datagram is read, and dropped, or
-    /// taken. Answers what became of it. The envelope is what its packet says of it, the body its bytes without the IP
-    /// header (RFC 3376 sections 4, 6.4 and 7.3.2, RFC 3810 sections 5, 7.4 and 8.3.2). At most 64 comparisons for each
-    /// byte of the body and for each group and source that is held as it comes, and 64 more, whatever its records are; at
-    /// least two, and what its records take.
-    pub fn receive<O: Outlet<F::Address>>(
+    /// A datagram, with that sender.
+    fn receive_by<O: Outlet<F::Address>>(
         &mut self,
         envelope: &F::Envelope,
         body: &[u8],

@@ -24,7 +24,7 @@ const LONGEST: usize = 1476;
 
 /// What all queries of a router have in common: its own address and the timing in force.
 #[derive(Drop)]
-pub struct QueryTerms<F: Family> {
+pub(crate) struct QueryTerms<F: Family> {
     own: F::Address,
     timing: Timing,
     response: u32,
@@ -45,7 +45,7 @@ impl<F: Family> Model for QueryTerms<F> {
 
 impl<F: Family> QueryTerms<F> {
     /// The terms of a router so configured.
-    pub fn of(config: &Config<F>) -> QueryTerms<F>
+    pub(crate) fn of(config: &Config<F>) -> QueryTerms<F>
         ensures { result ≡ record { own = config.now.own; timing = config.now.timing } }
     {
         QueryTerms::new(config, config.timing())
@@ -148,7 +148,7 @@ fn fits_one<F: Family>(query: &QueryParts<'_, F::Address>) -> bool
 /// since they were set. It hands over each query that one message holds. Both are lent, so that it is known what they
 /// are once it ends.
 #[derive(Drop)]
-pub struct Sender<'a, F: Family, O> {
+pub(crate) struct Sender<'a, F: Family, O> {
     terms: &'a mut QueryTerms<F>,
     outlet: &'a mut O,
     sent: u64,
@@ -157,7 +157,7 @@ pub struct Sender<'a, F: Family, O> {
 
 impl<'a, F: Family, O: Outlet<F::Address>> Sender<'a, F, O> {
     /// A sender to this outlet on these terms. Each call of a link sets them anew.
-    pub fn new(terms: &'a mut QueryTerms<F>, outlet: &'a mut O) -> Sender<'a, F, O>
+    pub(crate) fn new(terms: &'a mut QueryTerms<F>, outlet: &'a mut O) -> Sender<'a, F, O>
         ensures same_terms { result.terms.ghost_name ≡ terms.entry.ghost_name }
         ensures terms { result.terms.now ≡ terms.old }
         ensures same_outlet { result.outlet.ghost_name ≡ outlet.entry.ghost_name }
@@ -171,13 +171,6 @@ impl<'a, F: Family, O: Outlet<F::Address>> Sender<'a, F, O> {
             sent: 0,
             unsent: 0,
         }
-    }
-
-    /// The outlet.
-    pub fn outlet(&self) -> &O
-        ensures { result.now ≡ self.now.outlet.now }
-    {
-        self.outlet
     }
 
     /// From now on queries go on the terms of this router where this timing is in force, and are counted from 0.

@@ -13,7 +13,7 @@ use Rattle.mq_link.proofs.Intervals.{kept-ticked}
 use Rattle.mq_link.proofs.LinkStored.{served_in, stored_after, none_due, places_back}
 use Rattle.mq_link.proofs.LinkTicked.{HasDone, has_ticked}
 use Rattle.mq_link.proofs.Ticked.{IsWellFormed-tick_at}
-use Rattle.mq_link.proofs.link.Link.tick.Goals as goal
+use Rattle.mq_link.proofs.link.Link.tick_by.Goals as goal
 
 pub do_due-requires-clause-served : goal.do_due-requires-clause-served
 do_due-requires-clause-served g c = served_in c.self.inside.config _ c.self.inside.scratch c.self.invariant.state c.self.invariant.scratch_room

@@ -19,7 +19,7 @@ use Rattle.mq_link.proofs.LinkTicked.{HasDone}
 use Rattle.mq_link.proofs.Receipts.{IsWellFormed-receipt_after, carried_where_read}
 use Rattle.mq_link.proofs.Ticked.{IsWellFormed-tick_at}
 use Rattle.mq_link.proofs.TickedSizes.{received_within, least_after_tick}
-use Rattle.mq_link.proofs.link.Link.receive.Goals as goal
+use Rattle.mq_link.proofs.link.Link.receive_by.Goals as goal
 
 pub do_due-requires-clause-served : goal.do_due-requires-clause-served
 do_due-requires-clause-served g c = served_in c.self.inside.config _ c.self.inside.scratch c.self.invariant.state c.self.invariant.scratch_room
