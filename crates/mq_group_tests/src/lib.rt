@@ -1,5 +1,5 @@
-//! The tests of the libraries of one group, its schedule, the election, deadlines and the storage of groups, through
-//! their public calls alone. They stand in a crate above these, since a crate that has tests is proved twice.
+//! The tests of the libraries of one group, of deadlines and of the storage of groups, through their public calls alone:
+//! what no row of a link reaches. They stand in a crate above these, since a crate that has tests is proved twice.
 #![tactic(auto)]
 
 #[cfg(test)]

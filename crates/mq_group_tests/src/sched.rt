@@ -1,5 +1,4 @@
-//! The election, queries for groups, and the index of deadlines.
+//! What queries announce, and the index of deadlines.
 
+mod announcements;
 mod deadlines;
-mod election;
-mod sendings;

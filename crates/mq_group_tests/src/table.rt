@@ -1,5 +1,5 @@
 //! The state of one group.
 
 mod older_hosts;
-mod records;
+mod steps;
 mod storage;

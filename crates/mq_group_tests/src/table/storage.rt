@@ -1,6 +1,6 @@
 //! Groups of many sources, heads and rows, and refused growths.
 
-use super::records::{Lettered, Step, line_fails, take_steps};
+use super::steps::{Step, lettered, line_fails, take_steps};
 use crate::facts::{at, defaults, expect, unless};
 use mq_count::{Addr4, Meter, OlderVersion};
 use mq_sets::SourceSet;
@@ -95,7 +95,7 @@ static EXCLUDED: [(u32, Step); 2] = [
 /// Whether a source is forwarded by one group and by another one as it has to be, with at most four comparisons.
 fn are_forwarded(groups: [&Group<Addr4>; 2], letter: u8, want: [bool; 2]) -> bool {
     let mut m = Meter::new();
-    let source = Addr4::lettered(letter);
+    let source = lettered(letter);
     (groups[0].forwards(source, &mut m) == want[0])
         & (groups[1].forwards(source, &mut m) == want[1])
         & (m.spent() <= 4)
@@ -157,7 +157,7 @@ fn a_refused_growth_leaves_the_group_as_it_was(rt: HostRuntime) {
     let mut set = SourceSet::empty(rt.alloc());
     // Each is inserted twice, so it is a member also where the first time is refused.
     for letter in b"aabbccdd" {
-        let _ = set.insert(Addr4::lettered(*letter), 4, &mut Meter::new());
+        let _ = set.insert(lettered(*letter), 4, &mut Meter::new());
     }
     let mut group = Group::vacant(rt.alloc());
     for kind in [Kind::Allow, Kind::ToIn, Kind::Block, Kind::ToEx] {
