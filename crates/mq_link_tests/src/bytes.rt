@@ -1,7 +1,5 @@
 //! Bytes in room of a fixed size, for what is sent, what is wanted, and lines of text.
 
-ghost use Rattle.std.specs.Prelude.{◌≤◌, ◌^◌};
-
 use mq_count::Moment;
 use mq_wire::WireKey;
 

@@ -3,7 +3,6 @@
 ghost use Rattle.std.specs.Prelude.{◌≤◌, ◌^◌};
 
 use mq_count::{Meter, Moment};
-use std::process::Abort;
 
 pub fn at(ms: u32) -> Moment
     ensures { result ≤ 2 ^ 53 }

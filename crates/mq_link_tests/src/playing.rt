@@ -14,6 +14,7 @@ use mq_link::{Config, ConfigFault, Link, MessageKind, Sender};
 use mq_table::{FilterMode, Source, SourceTimer};
 use std::alloc::Global;
 use std::process::Abort;
+use std::str::Lines;
 
 /// The configuration of a row, its fault, or None where its own address is none.
 pub fn configured<F: Written>(given: &Given<'_>) -> Option<Result<Config<F>, ConfigFault>> {
@@ -373,6 +374,20 @@ fn begun<F: Written>(alloc: Global, line: &str, answer: bool) -> Result<Play<F>,
     })
 }
 
+/// Plays lines. The one in which something is wrong, and what.
+fn wrong_line<'a, F: Written>(
+    play: &mut Play<F>,
+    lines: Lines<'a>,
+) -> Option<(&'a str, &'static str)> {
+    for line in lines {
+        let line = line.trim();
+        if let Some(what) = play.line(line) {
+            return Some((line, what));
+        }
+    }
+    None
+}
+
 /// The line of a row in which something is wrong, and what.
 fn wrong_in<'a, F: Written>(
     alloc: Global,
@@ -383,17 +398,15 @@ fn wrong_in<'a, F: Written>(
     let (Some(title), Some(given)) = (lines.next(), lines.next()) else {
         return Some((row, "no row"));
     };
-    let mut play = match begun::<F>(alloc, given, answer) {
-        Ok(play) => play,
-        Err(what) => return Some((title, what)),
-    };
-    for line in lines {
-        let line = line.trim();
-        if let Some(what) = play.line(line) {
-            return Some((line, what));
-        }
+    match begun::<F>(alloc, given, answer) {
+        Ok(mut play) => wrong_line(&mut play, lines).or(of_title(title, play.end())),
+        Err(what) => Some((title, what)),
     }
-    match play.end() {
+}
+
+/// What is wrong with a whole row, beside its first line.
+fn of_title<'a>(title: &'a str, failed: Option<&'static str>) -> Option<(&'a str, &'static str)> {
+    match failed {
         Some(what) => Some((title, what)),
         None => None,
     }
