@@ -10,7 +10,7 @@ use crate::tally::Tally;
 use crate::written::Written;
 use mq_count::{Meter, Moment};
 use mq_held::HeldGroup;
-use mq_link::{Config, ConfigFault, Link, MessageKind, Sender};
+use mq_link::{Config, ConfigFault, Link, MessageKind};
 use mq_table::{FilterMode, Source, SourceTimer};
 use std::alloc::Global;
 use std::process::Abort;
@@ -151,9 +151,9 @@ impl<F: Written> Play<F> {
         requires { now ≤ 2 ^ 53 }
     {
         self.begin();
-        let mut sender = Sender::new(self.link.config(), Kept::new(now, self.answer));
-        self.link.tick(now, &mut sender);
-        self.keep(sender.outlet());
+        let mut kept = Kept::new(now, self.answer);
+        self.link.tick(now, &mut kept);
+        self.keep(&kept);
         let is_past = Meter::new().reached(self.link.next_deadline(), now);
         unless(!is_past, "there is still something to do")
     }
@@ -176,9 +176,9 @@ impl<F: Written> Play<F> {
     /// A datagram that has to be answered so.
     fn receive(&mut self, ms: u32, body: &[u8], answer: Answer) -> Option<&'static str> {
         self.begin();
-        let mut sender = Sender::new(self.link.config(), Kept::new(at(ms), self.answer));
-        let received = self.link.receive(&self.envelope, body, at(ms), &mut sender);
-        self.keep(sender.outlet());
+        let mut kept = Kept::new(at(ms), self.answer);
+        let received = self.link.receive(&self.envelope, body, at(ms), &mut kept);
+        self.keep(&kept);
         let wanted = self.tally.count_answer(answer);
         unless(received == wanted, "another answer")
     }
