@@ -3,7 +3,7 @@
 use crate::playing::expect_rows;
 use mq_link::{Igmp, Mld};
 
-static OF_IGMP: [&str; 8] = [
+static OF_IGMP: [&str; 10] = [
     "what would make a group of the range EXCLUDE is ignored
     link source_specific=1
     until 1000
@@ -78,9 +78,26 @@ static OF_IGMP: [&str; 8] = [
     sends 0 general
     sends 2000 239.1.2.3 110afb73ef010203027d0000
     sends 3000 239.1.2.3 110afb73ef010203027d0000",
+    "what is too long or repeated is refused before it is ignored
+    link source_specific=1 group_sources=1
+    tick 0
+    sends 0 general
+    comes 1000 2200dcf60000000104000002e80101010a0000010a000002 taken 0 0 1 Long
+    comes 1000 2200e5f90000000105000001e80101010a000001 taken 1 0
+    comes 1000 22004fe80000000604000000e801010104000000e801010104000000e801010104000000e801010104000000e801010104000000e8010101 taken 0 4 2 Repeated
+    holds 232.1.1.1 include 10.0.0.1=261000",
+    "the bounds of the range
+    link source_specific=1
+    tick 0
+    sends 0 general
+    comes 1000 2200f1fe0000000104000000e7ffffff taken 1 0
+    comes 1000 2200f1fd0000000104000000e8000000 taken 0 1
+    comes 1000 2200f0fe0000000104000000e8ffffff taken 0 1
+    comes 1000 2200f0fd0000000104000000e9000000 taken 1 0
+    holds 231.255.255.255 exclude 261000; 233.0.0.0 exclude 261000",
 ];
 
-static OF_MLD: [&str; 2] = [
+static OF_MLD: [&str; 3] = [
     "records in the range and outside of it
     link source_specific=1
     until 1000
@@ -105,6 +122,20 @@ static OF_MLD: [&str; 2] = [
     comes 1000 83007faa00000000ff3e0000000000000000000000000001 taken 1 0
     holds ff3e::1 exclude 261000 v1 261000
     sends 0 general",
+    "the bounds of the range
+    link source_specific=1
+    tick 0
+    sends 0 general
+    comes 1000 8f006fdc0000000104000000ff2e0000000000000000000000000001 taken 1 0
+    comes 1000 8f006fcb0000000104000000ff3e0001000000000000000000000001 taken 1 0
+    comes 1000 8f00efcb0000000104000000ff3e8000000000000000000000000001 taken 1 0
+    comes 1000 8f006fbc0000000104000000ff4e0000000000000000000000000001 taken 1 0
+    comes 1000 8f006f4c0000000104000000ffbe0000000000000000000000000001 taken 1 0
+    comes 1000 8f006fd80000000104000000ff320000000000000000000000000001 taken 0 1
+    comes 1000 8f006fcd0000000104000000ff3e0000000000000000000000000000 taken 0 1
+    comes 1000 8f006fcc0000000104000000ff3e0000ffff00000000000000000001 taken 0 1
+    comes 1000 8f006fcb0000000104000000ff3f0000000000000000000000000001 taken 0 1
+    holds ff2e::1 exclude 261000; ff3e:1::1 exclude 261000; ff3e:8000::1 exclude 261000; ff4e::1 exclude 261000; ffbe::1 exclude 261000",
 ];
 
 #[test]
