@@ -4,4 +4,5 @@ pub mod Numbered
 pub mod Printing
 pub mod Putting
 pub mod ReplayLines
+pub mod Report
 pub mod Text
