@@ -12,7 +12,7 @@ ghost use Rattle.mq_held.specs.Places.{HasPlace};
 ghost use Rattle.mq_link.specs.Link.{HasTicked, HasReceived};
 ghost use Rattle.mq_link.specs.State as state;
 ghost use Rattle.mq_link.specs.State.{link_at, IsWellFormed};
-ghost use Rattle.mq_link.specs.Tick.{moment_of, next_of};
+ghost use Rattle.mq_link.specs.Tick.{moment_of, tick_of, next_of};
 
 use crate::answers::Received;
 use crate::config::Config;
@@ -176,11 +176,13 @@ impl<F: Family> Link<F> {
         &self.config
     }
 
-    /// Its state is one that a link may be in: the laws of the definitions hold of it. It does nothing: its contract is the
-    /// fact.
+    /// Its state is one that a link may be in, and after a tick its next moment will be later than that of the tick. It does
+    /// nothing: its contract is the fact.
     pub fn is_well_formed(&self)
-        ensures { IsWellFormed self.now.config self.now.state }
+        ensures formed { IsWellFormed self.now.config self.now.state }
+        ensures later { (now : ℕ) → now < next_of (tick_of self.now.config now self.now.state).state }
     {
+        self.config.is_faultless();
         let _last = self.last;
     }
 
