@@ -103,7 +103,8 @@ impl<F: Family> Link<F> {
     pub fn tick<O: Outlet<F::Address>>(&mut self, now: Moment, sender: &mut Sender<F, O>)
         requires in_range { now ≤ 2 ^ 53 }
         ensures config { self.new.config ≡ self.old.config }
-        ensures ticks { HasTicked O.takes now self.old self.new sender.old.outlet sender.new.outlet }
+        ensures ticks { HasTicked O.takes now self.old self.new sender.old.outlet.now sender.new.outlet.now }
+        ensures same_outlet { sender.new.outlet.ghost_name ≡ sender.old.outlet.ghost_name }
         ensures spent { let groups = self.old.state.groups in
             Spends 2 (4 * sources_in groups + 27 * map.len groups + 3) self.old.spent self.new.spent }
         ensures quiet { moment_of self.old.state now < next_of self.old.state → Spends 2 3 self.old.spent self.new.spent }
@@ -137,7 +138,8 @@ impl<F: Family> Link<F> {
         requires in_range { now ≤ 2 ^ 53 }
         ensures config { self.new.config ≡ self.old.config }
         ensures receives { HasReceived O.takes (F.envelope_of envelope.now) body.now now result self.old self.new
-            sender.old.outlet sender.new.outlet }
+            sender.old.outlet.now sender.new.outlet.now }
+        ensures same_outlet { sender.new.outlet.ghost_name ≡ sender.old.outlet.ghost_name }
     {
         self.config.is_faultless();
         let now = later(self.last, now, &mut self.meter);
