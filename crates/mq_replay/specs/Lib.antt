@@ -1,3 +1,4 @@
+pub mod Datagrams
 pub mod Line
 pub mod Listing
 pub mod Numbered
@@ -7,4 +8,5 @@ pub mod QueryLines
 pub mod ReplayLines
 pub mod Replaying
 pub mod Report
+pub mod Steps
 pub mod Text

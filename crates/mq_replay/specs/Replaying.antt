@@ -1,17 +1,17 @@
 -- What the contract of a replay says, and those of its parts.
-use Rattle.std.specs.Prelude.{◌≡◌, ◌⊎◌, ℕ, ◌≤◌, true, List, [], ◌++◌, length, Option, None, Result, Ok, Err}
+use Rattle.std.specs.Prelude.{◌≡◌, ◌⊎◌, ℕ, ◌≤◌, true, List, [], length, Option, None, Result, Ok, Err}
 use Rattle.std.specs.Io.KnownBytes.{Appends, IsAtEnd}
 use Rattle.mq_pcap.specs.declared.fault.PcapFault.{PcapFault}
 use Rattle.mq_pcap.specs.declared.fault.PcapFault.TheVariants as fault
 use Rattle.mq_pcap.specs.declared.form.Form.{Form}
-use Rattle.mq_pcap.specs.Capture.{Captured, Captures, AreRecords}
+use Rattle.mq_pcap.specs.Capture.{Captured, Captures}
 use Rattle.mq_pcap.specs.Filling.{InputState, Takes}
 use Rattle.mq_link.specs.Configuration.{Configuration}
 use Rattle.mq_link.specs.Counters.{Counters}
 use Rattle.mq_replay.specs.declared.replay_fault.ReplayFault.{ReplayFault}
 use Rattle.mq_replay.specs.declared.replay_fault.ReplayFault.TheVariants as answer
 use Rattle.mq_replay.specs.Listing.{IsOfTheFile}
-use Rattle.mq_replay.specs.Printing.{GrowsByBeginning, Passes}
+use Rattle.mq_replay.specs.Printing.{GrowsByBeginning}
 use Rattle.mq_replay.specs.Report.{report_of, so_far}
 
 -- What was read of a capture: its bytes, taken as a whole file.
