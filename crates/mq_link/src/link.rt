@@ -13,8 +13,8 @@ ghost use Rattle.mq_link.specs.Cost.{cost_of};
 ghost use Rattle.mq_link.specs.LeastCost.{least_received};
 ghost use Rattle.mq_link.specs.Link.{HasTicked, HasReceived};
 ghost use Rattle.mq_link.specs.State as state;
-ghost use Rattle.mq_link.specs.State.{held_of, link_at};
-ghost use Rattle.mq_link.specs.Tick.{moment_of, next_of};
+ghost use Rattle.mq_link.specs.State.{held_of, link_at, IsWellFormed};
+ghost use Rattle.mq_link.specs.Tick.{moment_of, tick_of, next_of};
 
 use crate::answers::Received;
 use crate::config::Config;
@@ -217,6 +217,23 @@ impl<F: Family> Link<F> {
         ensures { result.now ≡ self.now.config }
     {
         &self.config
+    }
+
+    /// Its state is one that a link may be in, and after a tick its next moment will be later than that of the tick. It does
+    /// nothing: its contract is the fact.
+    pub fn is_well_formed(&self)
+        ensures formed { IsWellFormed self.now.config self.now.state }
+        ensures later { (now : ℕ) → now < next_of (tick_of self.now.config now self.now.state).state }
+    {
+        self.config.is_faultless();
+        let _last = self.last;
+    }
+
+    /// What it has counted, where it is no longer needed.
+    pub fn into_counts(self) -> Counts
+        ensures { result ≡ self.state.counters }
+    {
+        self.counts
     }
 
     /// What it has counted.

@@ -1,7 +1,12 @@
 pub mod Answered
+pub mod EndLines
+pub mod Growing
+pub mod OnePacket
 pub mod Packets
 pub mod Passing
 pub mod PrintedQueries
 pub mod ReadSoFar
 pub mod ReplayTexts
 pub mod Shown
+pub mod Ticking
+pub mod TicksDone

@@ -69,6 +69,7 @@ ended_behind : (form : Form) (packets : List Captured) (end : Option PcapFault) 
     → IsEndedBy (Ok form) packets end bytes mid new r → IsEndedBy (Ok form) packets end (header ++ bytes) old new r
 ended_behind form packets end header bytes old mid new (Ok count) same unlike ended = (ended.0, ended.1, ended.2, ended.3 ∙ same)
 ended_behind form packets end header bytes old mid new (Err answer.Write) same unlike ended = tt
+ended_behind form packets end header bytes old mid new (Err (answer.Gap number)) same unlike ended = ended
 ended_behind form packets end header bytes old mid new (Err answer.Memory) same unlike ended = absurd (unlike refl)
 ended_behind form packets end header bytes old mid new (Err (answer.Pcap fault.Read)) same unlike ended = ended
 ended_behind form packets end header bytes old mid new (Err (answer.Pcap fault.Magic)) same unlike ended = (ended.0, ended.1, ended.2 ∙ same)
@@ -105,6 +106,7 @@ put_passed : (before after : Option (List ℕ)) (held left text : List ℕ) (r :
 put_passed before after held left text (Ok count) unlike put = put
 put_passed before after held left text (Err (answer.Pcap f)) unlike put = put
 put_passed before after held left text (Err answer.Write) unlike put = absurd (cc)
+put_passed before after held left text (Err (answer.Gap number)) unlike put = put
 put_passed before after held left text (Err answer.Memory) unlike put = put
 
 pub not_flushed : (old new : InputState) (before mid after : Option (List ℕ)) (held left : List ℕ) (r : Result ℕ ReplayFault) → held ≡ [] → is_write r ≡ false

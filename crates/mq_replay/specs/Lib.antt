@@ -1,3 +1,4 @@
+pub mod Datagrams
 pub mod Line
 pub mod Listing
 pub mod Numbered
@@ -5,4 +6,7 @@ pub mod Printing
 pub mod Putting
 pub mod QueryLines
 pub mod ReplayLines
+pub mod Replaying
+pub mod Report
+pub mod Steps
 pub mod Text

@@ -72,6 +72,7 @@ IsEndedBy header packets end bytes old new (Err (answer.Pcap fault.Read)) = new.
 IsEndedBy header packets end bytes old new (Err (answer.Pcap f)) =
     (end ≡ Some f) × IsOfTheFile header f bytes new × (new.failed ≡ old.failed)
 IsEndedBy header packets end bytes old new (Err answer.Write) = Unit {0}
+IsEndedBy header packets end bytes old new (Err (answer.Gap number)) = ⊥
 IsEndedBy header packets end bytes old new (Err answer.Memory) = bytes ≡ []
 
 -- what was written of the listing: all of it, or where a write failed a beginning
@@ -99,4 +100,5 @@ abbrev pub is_write : Result ℕ ReplayFault → Bool
 is_write (Ok count) = false
 is_write (Err (answer.Pcap f)) = false
 is_write (Err answer.Write) = true
+is_write (Err (answer.Gap number)) = false
 is_write (Err answer.Memory) = false

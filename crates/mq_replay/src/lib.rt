@@ -12,11 +12,15 @@
 #![tactic(auto)]
 
 mod buffer;
+mod captured_family;
+mod ending;
 mod group_line;
 mod hexadecimal;
+pub mod laws;
 mod line_key;
 mod lines;
 mod listing;
+mod one_packet;
 mod pieces;
 mod printing;
 mod query_outlet;
@@ -25,7 +29,10 @@ mod replay_lines;
 mod replay_pieces;
 mod sent_queries;
 mod stamps;
+mod ticks;
 
+pub use captured_family::{CapturedDatagram, CapturedFamily};
+pub use line_key::LineKey;
 pub use lines::{igmp_line, mld_line};
 pub use listing::show;
 pub use printing::{LineFault, print};

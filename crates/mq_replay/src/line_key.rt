@@ -11,7 +11,7 @@ use mq_text::{Text, put_v4, put_v6};
 use mq_wire::{OlderVersion, WireKey};
 
 /// An address as a line has it, and what the lines of its family have besides.
-pub(crate) trait LineKey: WireKey {
+pub trait LineKey: WireKey {
     ghost family: { Family };
 
     /// Puts the address at the end of a text.

@@ -1,4 +1,4 @@
-//! Why a capture was not shown to its end.
+//! Why a capture was not shown or replayed to its end.
 
 ghost use Rattle.std.specs.Prelude.{◌≡◌};
 ghost use Rattle.mq_replay.specs.declared.replay_fault.ReplayFault.TheVariants.{Pcap, Write};
@@ -7,7 +7,7 @@ use crate::printing::LineFault;
 use mq_pcap::PcapFault;
 use thiserror::Error;
 
-/// Why a capture was not shown to its end.
+/// Why a capture was not shown or replayed to its end.
 #[derive(Clone, Copy, Debug, PartialEq, Eq, Error)]
 pub enum ReplayFault {
     /// The capture has a fault, or a read of it failed.
@@ -16,6 +16,13 @@ pub enum ReplayFault {
     /// A write failed, or took none of the bytes that it was given.
     #[error("write failed")]
     Write,
+    /// A moment lies more than a day behind the one before it.
+    #[error("gap before record {number}")]
+    Gap {
+        /// The number of the packet behind the gap; or of the one that would follow the last, where the gap
+        /// is before the end of the replay.
+        number: u64,
+    },
     /// A growth was refused.
     #[error("out of memory")]
     Memory,
