@@ -9,4 +9,3 @@ pub mod ReadSoFar
 pub mod ReplayTexts
 pub mod Shown
 pub mod Ticking
-pub mod TicksDone

@@ -16,7 +16,6 @@ mod captured_family;
 mod ending;
 mod group_line;
 mod hexadecimal;
-pub mod laws;
 mod line_key;
 mod lines;
 mod listing;

@@ -17,13 +17,13 @@ use Rattle.mq_sched.specs.Election.{next_moment, is_querier, election_at}
 use Rattle.mq_held.specs.Moments.{those_of, moments_of, moments_in, least}
 use Rattle.mq_link.specs.Configuration.{Configuration}
 use Rattle.mq_link.specs.Counters.{count_answers, no_counts}
-use Rattle.mq_link.specs.Examples.{ListedGroup, ListedGroups, ListedLink, as_groups, as_held, as_link}
+use Rattle.mq_link_examples.specs.Examples.{ListedGroup, ListedGroups, ListedLink, as_groups, as_held, as_link}
 use Rattle.mq_link.specs.Receive.{read_of, pseudo_of}
 use Rattle.mq_link.specs.Sent.{outgoing}
 use Rattle.mq_link.specs.Tick.{next_of}
 use Rattle.mq_link.proofs.Known.{Entries, ordered, entries-known, with_values, ordered-with_values}
-use Rattle.mq_link.proofs.KnownLinks.{KnownStep, tick_in, tick-known}
-use Rattle.mq_link.proofs.KnownReceipts.{receipt_known, receipt-known}
+use Rattle.mq_link_examples.proofs.KnownLinks.{KnownStep, tick_in, tick-known}
+use Rattle.mq_link_examples.proofs.KnownReceipts.{receipt_known, receipt-known}
 use Rattle.mq_replay.specs.declared.replay_fault.ReplayFault.{ReplayFault}
 use Rattle.mq_replay.specs.declared.replay_fault.ReplayFault.TheVariants.{Pcap, Gap}
 use Rattle.mq_replay.specs.Listing.{moment_of}

@@ -5,7 +5,7 @@ use Rattle.mq_pcap.specs.declared.form.Form.{Form}
 use Rattle.mq_pcap.specs.Capture.{Captured, Captures}
 use Rattle.mq_link.specs.Configuration.{Configuration}
 use Rattle.mq_link.specs.Counters.{Counters}
-use Rattle.mq_link.specs.Examples.{octets}
+use Rattle.mq_link_examples.specs.Examples.{octets}
 use Rattle.mq_replay.specs.declared.replay_fault.ReplayFault.{ReplayFault}
 use Rattle.mq_replay.specs.Report.{report_of}
 

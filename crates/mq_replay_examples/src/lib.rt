@@ -7,8 +7,10 @@
 ghost use Rattle.std.specs.Prelude.{[], ◌∷◌, ◌++◌, None, Some, Ok, Err, codes, take};
 ghost use Rattle.mq_pcap.specs.declared.fault.PcapFault.TheVariants.{CutHeader};
 ghost use Rattle.mq_replay.specs.declared.replay_fault.ReplayFault.TheVariants.{Pcap, Gap};
-ghost use Rattle.mq_link.specs.Examples.{igmp};
+ghost use Rattle.mq_link_examples.specs.Examples.{igmp};
 ghost use Rattle.mq_replay_examples.specs.Examples.{one_report, two_packets, Reports, Totals};
+
+pub mod laws;
 
 /// A capture of one packet, in which the host 10.0.0.1 of version 2 reports 239.1.2.3.
 pub fn a_report()

@@ -5,7 +5,7 @@ use Rattle.mq_pcap.specs.Frame.{in_ethernet, in_ipv4, in_type}
 use Rattle.std.specs.Fmt.{digits}
 use Rattle.hex.specs.Hex.{encode_with}
 use Rattle.mq_wire.specs.Codes.{code_of}
-use Rattle.mq_link.specs.Examples.{igmp}
+use Rattle.mq_link_examples.specs.Examples.{igmp}
 use Rattle.mq_link.specs.Receive.{read_of}
 use Rattle.mq_replay_examples.specs.Examples.{one_report, totals_of}
 use Rattle.mq_replay_examples.proofs.KnownReplays.{within_known, packets_known, report-known}

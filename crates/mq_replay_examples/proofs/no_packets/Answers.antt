@@ -4,7 +4,7 @@ use Rattle.mq_pcap.specs.Capture.{header_in, header_of}
 use Rattle.std.specs.Fmt.{digits}
 use Rattle.hex.specs.Hex.{encode_with}
 use Rattle.mq_wire.specs.Codes.{code_of}
-use Rattle.mq_link.specs.Examples.{igmp}
+use Rattle.mq_link_examples.specs.Examples.{igmp}
 use Rattle.mq_replay_examples.specs.Examples.{totals_of}
 use Rattle.mq_replay_examples.proofs.Captures.{the_form}
 use Rattle.mq_replay_examples.proofs.KnownReplays.{within_known, packets_known, report-known}

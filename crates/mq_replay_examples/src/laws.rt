@@ -7,7 +7,7 @@ ghost use Rattle.mq_link.specs.State.{IsWellFormed};
 ghost use Rattle.mq_link.specs.Tick.{next_of};
 ghost use Rattle.mq_replay.specs.Report.{Replayed, ticked_before};
 
-use mq_link::laws::{links_keep_form_and_limits, ticks_are_quiet_until_the_next_moment};
+use mq_link_laws::{links_keep_form_and_limits, ticks_are_quiet_until_the_next_moment};
 
 /// The ticks before a moment are all that there are: after them the link's next moment isn't before it.
 pub fn no_tick_is_left()
