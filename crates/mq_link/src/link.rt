@@ -11,7 +11,7 @@ ghost use Rattle.mq_held.specs.Groups.{group_at, sources_of, sources_in};
 ghost use Rattle.mq_held.specs.Places.{HasPlace};
 ghost use Rattle.mq_link.specs.Link.{HasTicked, HasReceived};
 ghost use Rattle.mq_link.specs.State as state;
-ghost use Rattle.mq_link.specs.State.{link_at};
+ghost use Rattle.mq_link.specs.State.{link_at, IsWellFormed};
 ghost use Rattle.mq_link.specs.Tick.{moment_of, next_of};
 
 use crate::answers::Received;
@@ -174,6 +174,21 @@ impl<F: Family> Link<F> {
         ensures { result.now ≡ self.now.config }
     {
         &self.config
+    }
+
+    /// Its state is one that a link may be in: the laws of the definitions hold of it. It does nothing: its contract is the
+    /// fact.
+    pub fn is_well_formed(&self)
+        ensures { IsWellFormed self.now.config self.now.state }
+    {
+        let _last = self.last;
+    }
+
+    /// What it has counted, where it is no longer needed.
+    pub fn into_counts(self) -> Counts
+        ensures { result ≡ self.state.counters }
+    {
+        self.counts
     }
 
     /// What it has counted.

@@ -1,5 +1,5 @@
 -- A record whose header and body were taken one after the other.
-use Rattle.std.proofs.Common.{◌≡◌, ◌≤◌, ◌<◌, ◌+◌, ◌||◌, ℕ, List, ◌++◌, length, take, drop, Some, Result, Ok, Err, refl, arith, ◌∙◌, ap, inr, subst, length-append, length-drop}
+use Rattle.std.proofs.Common.{◌≡◌, ◌≤◌, ◌<◌, ◌+◌, ◌^◌, ◌||◌, ℕ, List, ◌++◌, length, take, drop, Some, Result, Ok, Err, refl, arith, ◌∙◌, ap, inr, subst, length-append, length-drop}
 use Rattle.std.proofs.lemmas.Bool.{le-ltb, lt-ltb}
 use Rattle.std.proofs.lemmas.List.{take_all, take_at, length-take-le}
 use Rattle.std.specs.Prelude.{is_err}
@@ -38,10 +38,10 @@ none_failed : {E : Type 0} (old mid new : InputState) (header body : List ℕ) (
 none_failed old mid new header body count answer first second = rw (← or-false old.failed, ← first.failed) second.failed
 
 pub record_read : {E : Type 0} (form : Form) (number : ℕ) (old mid new : InputState) (header body rest : List ℕ) (count n m stamp : ℕ) →
-    number < endless → length header ≡ 16 → 16 ≤ count → n ≡ captured_length form header → (within : n ≤ most_bytes) → length body ≡ n → n ≤ m → stamp ≡ stamp_of form header →
+    number < endless → length header ≡ 16 → 16 ≤ count → n ≡ captured_length form header → (within : n ≤ most_bytes) → length body ≡ n → n ≤ m → (in_range : stamp ≤ 2 ^ 53) → stamp ≡ stamp_of form header →
     Fills {E = E} old mid header (Ok count) → Fills {E = E} mid new body (Ok m) →
-    Reads form number old new (body ++ rest) (Ok (Some (record { stamp_ms = stamp; length = n; within = within })))
-record_read form number old mid new header body rest count n m stamp few size whole announced within length_is filled at first second =
+    Reads form number old new (body ++ rest) (Ok (Some (record { stamp_ms = stamp; length = n; within = within; in_range = in_range })))
+record_read form number old mid new header body rest count n m stamp few size whole announced within length_is filled in_range at first second =
     let lent = take_at body rest n length_is in
     record {
       bytes = header ++ body;

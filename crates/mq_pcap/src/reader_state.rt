@@ -1,6 +1,6 @@
 //! What a reader of captures keeps from call to call.
 
-ghost use Rattle.std.specs.Prelude.{◌≤◌};
+ghost use Rattle.std.specs.Prelude.{◌≤◌, ◌^◌};
 ghost use Rattle.mq_pcap.specs.Capture.{most_bytes};
 
 use crate::fault::PcapFault;
@@ -14,6 +14,7 @@ pub struct Packet {
     /// How many bytes were captured, at most `GREATEST_PACKET`.
     pub length: usize,
     ghost within: { length ≤ most_bytes },
+    ghost in_range: { stamp_ms ≤ 2 ^ 53 },
 }
 
 /// How far a reader is.

@@ -2,4 +2,5 @@ pub mod Answered
 pub mod Packets
 pub mod Passing
 pub mod ReadSoFar
+pub mod ReplayTexts
 pub mod Shown

@@ -1,6 +1,8 @@
 -- Texts that go to a writer by way of a buffer, one after the other.
-use Rattle.std.proofs.Common.{◌≡◌, ℕ, List, [], ◌∷◌, ◌++◌, Option, Result, Ok, Err, append_assoc, append-nil, length-append, ap, sym, subst, ◌∙◌, arith}
+use Rattle.std.proofs.Common.{◌≡◌, ℕ, ◌+◌, ◌<◌, List, [], ◌∷◌, ◌++◌, length, take, drop, get_or, Option, Result, Ok, Err, append_assoc, append-nil, length-append, ap, sym, subst, ◌∙◌, arith}
 use Rattle.std.specs.List.{flat_map}
+use Rattle.std.proofs.lemmas.Grind.{flat_map-append}
+use Rattle.std.proofs.lemmas.List.{take_more, take-append-drop}
 use Rattle.std.proofs.KnownBytes.{Appends-trans, Appends-nil}
 use Rattle.mq_replay.specs.Printing.{GrowsByBeginning, Passes, Puts}
 
@@ -64,3 +66,21 @@ put_as a b held left text other r same put = subst (λ (t : List ℕ). Puts a b 
 pub next_item : {A : Type 0} (text_of : A → List ℕ) (total done : List ℕ) (items left : List A) (item : A) → total ≡ done ++ flat_map text_of items → items ≡ item ∷ left → total ≡ (done ++ text_of item) ++ flat_map text_of left
 next_item text_of total done items left item parts first =
     parts ∙ ap (λ (xs : List _). done ++ flat_map text_of xs) first ∙ sym (append_assoc done (text_of item) (flat_map text_of left))
+
+-- the texts of the first items of a list passed, and then that of the next
+pub item_passed : {X : Type 0} (text_of : X → List ℕ) (a b c : Option (List ℕ)) (held mid left : List ℕ) (items : List X) (i : ℕ) (item default : X) → i < length items → item ≡ get_or items i default
+    → Passes a b held mid (flat_map text_of (take i items)) → Passes b c mid left (text_of item) → Passes a c held left (flat_map text_of (take (i + 1) items))
+item_passed {X} text_of a b c held mid left items i item default within is before passed =
+    let more : flat_map text_of (take (i + 1) items) ≡ flat_map text_of (take i items) ++ text_of item =
+    ap (flat_map text_of) (take_more items i default within) ∙ flat_map-append text_of (take i items) (get_or items i default ∷ [])
+    ∙ ap (λ (x : X). flat_map text_of (take i items) ++ flat_map text_of (x ∷ [])) (sym is) ∙ ap (λ (t : List ℕ). flat_map text_of (take i items) ++ t) (append-nil (text_of item)) in
+    subst (λ (t : List ℕ). Passes a c held left t) (sym more) (both_passed a b c held mid left (flat_map text_of (take i items)) (text_of item) before passed)
+
+-- it broke off behind the texts of the first items
+pub broken_among : {X : Type 0} (text_of : X → List ℕ) (a b c : Option (List ℕ)) (held mid : List ℕ) (items : List X) (i : ℕ)
+    → Passes a b held mid (flat_map text_of (take i items)) → GrowsByBeginning b c (mid ++ []) → GrowsByBeginning a c (held ++ flat_map text_of items)
+broken_among {X} text_of a b c held mid items i before begun =
+    let rest = flat_map text_of (drop i items) in
+    let parts : flat_map text_of (take i items) ++ rest ≡ flat_map text_of items =
+    sym (flat_map-append text_of (take i items) (drop i items)) ∙ ap (flat_map text_of) (take-append-drop i items) in
+    subst (λ (t : List ℕ). GrowsByBeginning a c (held ++ t)) parts (broken_behind a b c held mid (flat_map text_of (take i items)) rest before (broken_within b c mid [] rest begun))

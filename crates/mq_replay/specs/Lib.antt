@@ -3,6 +3,7 @@ pub mod Listing
 pub mod Numbered
 pub mod Printing
 pub mod Putting
+pub mod QueryLines
 pub mod ReplayLines
 pub mod Report
 pub mod Text

@@ -21,9 +21,11 @@ use Rattle.mq_link.specs.Sent.{Outgoing}
 use Rattle.mq_replay.specs.Text.{address_text, line_of}
 
 -- a query as it is sent at a moment: where it goes, and its bytes in lower-case hexadecimal
+abbrev pub query_start : Family → (moment to : ℕ) → List ℕ
+query_start family moment to = decimal moment ++ codes " send " ++ address_text family to ++ codes " "
+
 abbrev pub query_line : Family → (moment : ℕ) → Outgoing → List ℕ
-query_line family moment query =
-    line_of (decimal moment ++ codes " send " ++ address_text family query.to ++ codes " " ++ encode_lower query.bytes)
+query_line family moment query = line_of (query_start family moment query.to ++ encode_lower query.bytes)
 
 -- queries as they are sent at one moment, in their order
 abbrev pub query_lines : Family → (moment : ℕ) → List Outgoing → List ℕ
@@ -83,24 +85,36 @@ abbrev pub deadline_text : (name : List ℕ) → Option ℕ → List ℕ
 deadline_text name None = []
 deadline_text name (Some deadline) = name ++ decimal deadline
 
--- a group: its filter mode, its sources, and the timers of older hosts that run
+-- a group: its address and filter mode, its sources, and the timers of older hosts that run
+abbrev pub group_start : Family → (group : ℕ) → FilterMode → List ℕ
+group_start family group mode = codes "group " ++ address_text family group ++ codes " " ++ mode_text mode
+
+abbrev pub older_hosts_text : (v1 v2 : Option ℕ) → List ℕ
+older_hosts_text v1 v2 = deadline_text (codes " v1 ") v1 ++ deadline_text (codes " v2 ") v2
+
 abbrev pub group_line : Family → (group : ℕ) → GroupState → List ℕ
 group_line family group g =
-    line_of (codes "group " ++ address_text family group ++ codes " " ++ mode_text g.mode ++ timers_text family g
-    ++ deadline_text (codes " v1 ") g.v1 ++ deadline_text (codes " v2 ") g.v2)
+    group_start family group g.mode ++ (timers_text family g ++ line_of (older_hosts_text g.v1 g.v2))
 
 -- groups, in the order of their addresses
 abbrev pub group_lines : Family → Groups → List ℕ
 group_lines family groups = flat_map (λ (e : ℕ × ScheduledGroup). group_line family e.0 e.1.group) (map.entries groups)
 
--- what was counted in all
+-- what was counted in all: of datagrams, of records, and of queries
+abbrev pub datagram_counts_text : Counters → List ℕ
+datagram_counts_text c = codes "received " ++ decimal c.received ++ codes " dropped " ++ decimal c.dropped
+
+abbrev pub record_counts_text : Counters → List ℕ
+record_counts_text c =
+    codes " applied " ++ decimal c.applied ++ codes " ignored " ++ decimal c.ignored ++ codes " refused " ++ decimal c.refused
+
+abbrev pub query_counts_text : Counters → List ℕ
+query_counts_text c = codes " sent " ++ decimal c.sent ++ codes " unsent " ++ decimal c.unsent
+
 abbrev pub counts_line : Counters → List ℕ
-counts_line c =
-    line_of (codes "counts received " ++ decimal c.received ++ codes " dropped " ++ decimal c.dropped
-    ++ codes " applied " ++ decimal c.applied ++ codes " ignored " ++ decimal c.ignored ++ codes " refused " ++ decimal c.refused
-    ++ codes " sent " ++ decimal c.sent ++ codes " unsent " ++ decimal c.unsent)
+counts_line c = line_of (codes "counts " ++ datagram_counts_text c ++ record_counts_text c ++ query_counts_text c)
 
 -- a link at the end of a replay: its role, its groups and its counters
 abbrev pub end_lines : Family → (moment : ℕ) (is_querier : Bool) → Groups → Counters → List ℕ
 end_lines family moment is_querier groups counters =
-    end_line moment is_querier ++ group_lines family groups ++ counts_line counters
+    end_line moment is_querier ++ (group_lines family groups ++ counts_line counters)

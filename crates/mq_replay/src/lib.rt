@@ -12,12 +12,17 @@
 #![tactic(auto)]
 
 mod buffer;
+mod group_line;
+mod hexadecimal;
 mod line_key;
 mod lines;
 mod listing;
 mod pieces;
 mod printing;
+mod query_outlet;
 mod replay_fault;
+mod replay_lines;
+mod replay_pieces;
 mod stamps;
 
 pub use lines::{igmp_line, mld_line};

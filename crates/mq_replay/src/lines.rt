@@ -114,7 +114,10 @@ fn put_answer<K: LineKey, W: Write>(
 }
 
 /// Puts the end of a line.
-fn put_end<W: Write>(buffer: &mut Buffer, writer: &mut Watched<W>) -> Result<(), LineFault>
+pub(crate) fn put_end<W: Write>(
+    buffer: &mut Buffer,
+    writer: &mut Watched<W>,
+) -> Result<(), LineFault>
     ensures text { Puts
         (W.contents (inner_of writer.old)) (W.contents (inner_of writer.new))
         buffer.old.items buffer.new.items (codes "\n") result }

@@ -167,6 +167,8 @@ fn listing<R: Read, W: Write>(
             Err(Failure::Capture(fault))
         }
         Err(ReplayFault::Write) => Err(Failure::Write),
+        // Only a replay looks for gaps.
+        Err(ReplayFault::Gap { .. }) => unreachable!(),
         Err(ReplayFault::Memory) => Err(Failure::Memory),
     }
 }

@@ -21,4 +21,4 @@ pub returns : goal.returns
 returns g c =
     let n = c.double_word-length.result in
     let size = c.fill-3.auto.buffer ∙ length-take-le n c.args.buffer.now (omega arith) in
-    record_read c.args.form c.args.number _ _ _ c.fill-2.new.buffer c.fill-3.new.buffer _ c.in_ok-count.count n _ _ (omega arith) c.fill-2.auto.buffer (omega arith) c.double_word-length.ensures _ size (omega arith) (grind (arith, c.from.ensures, c.from-2.ensures, c.whole_ms.ensures, c.double_word-seconds.ensures, c.double_word-fraction.ensures)) c.in_ok-count.ensures.fills c.in_ok-fill-2.ensures.fills
+    record_read c.args.form c.args.number _ _ _ c.fill-2.new.buffer c.fill-3.new.buffer _ c.in_ok-count.count n _ _ (omega arith) c.fill-2.auto.buffer (omega arith) c.double_word-length.ensures _ size (omega arith) _ (grind (arith, c.from.ensures, c.from-2.ensures, c.whole_ms.ensures, c.double_word-seconds.ensures, c.double_word-fraction.ensures)) c.in_ok-count.ensures.fills c.in_ok-fill-2.ensures.fills
