@@ -3,8 +3,9 @@
 ghost use Rattle.std.specs.Prelude.{◌≡◌, ◌≤◌, ◌++◌, codes, length};
 ghost use Rattle.std.specs.Fmt.{decimal};
 ghost use Rattle.arrayvec.specs.ArrayVec.{array_vec_len};
-ghost use Rattle.mquerier.specs.Failures.{status_of, failure_line, failure_text, capture_text};
+ghost use Rattle.mquerier.specs.Failures.{status_of, failure_line, failure_text, configuration_text, capture_text};
 
+use mq_link::ConfigFault;
 use mq_pcap::PcapFault;
 use mq_text::{Text, put, put_decimal};
 
@@ -20,12 +21,21 @@ pub const REFUSED: u8 = 2;
 pub enum Failure {
     /// A message of MLD is asked for without the addresses of its packet.
     NoAddresses,
-    /// A text isn't an address of the message's family.
+    /// A text isn't an address of the protocol's family.
     NotAnAddress,
     /// HEX isn't hexadecimal.
     NotHex,
+    /// The moment up to which a replay is to run is none: it is above 2^53.
+    UntilTooLarge,
+    /// The querier of a replay can't be configured so.
+    Configuration(ConfigFault),
     /// The capture has a fault, or a read of it failed.
     Capture(PcapFault),
+    /// A replay came to a packet, or to its end, that lies more than a day behind the packet before.
+    Gap {
+        /// The number of that packet, or of the one that would follow the last.
+        number: u64,
+    },
     /// A growth was refused.
     Memory,
     /// A write to the output failed, or took nothing.
@@ -48,8 +58,12 @@ pub fn status_of_failure(failure: Failure) -> u8
     ensures { result ≡ status_of failure }
 {
     match failure {
-        Failure::NoAddresses | Failure::NotAnAddress | Failure::NotHex => REFUSED,
-        Failure::Capture(_) | Failure::Memory | Failure::Write => FAULTY,
+        Failure::NoAddresses
+        | Failure::NotAnAddress
+        | Failure::NotHex
+        | Failure::UntilTooLarge
+        | Failure::Configuration(_) => REFUSED,
+        Failure::Capture(_) | Failure::Gap { .. } | Failure::Memory | Failure::Write => FAULTY,
     }
 }
 
@@ -62,9 +76,30 @@ fn put_failure(line: &mut Text, failure: Failure)
         Failure::NoAddresses => put(line, b"--from and --to are needed for mld"),
         Failure::NotAnAddress => put(line, b"not an address"),
         Failure::NotHex => put(line, b"not hex"),
+        Failure::UntilTooLarge => put(line, b"until is too large"),
+        Failure::Configuration(fault) => put_configuration(line, fault),
         Failure::Capture(fault) => put_capture(line, fault),
+        Failure::Gap { number } => {
+            put(line, b"gap before record ");
+            put_decimal(line, number);
+        }
         Failure::Memory => put(line, b"out of memory"),
         Failure::Write => put(line, b"write failed"),
+    }
+}
+
+fn put_configuration(line: &mut Text, fault: ConfigFault)
+    requires { array_vec_len line.old ≡ 10 }
+    ensures text { line.new.items ≡ line.old.items ++ configuration_text fault }
+    ensures room { array_vec_len line.new ≤ 60 }
+{
+    match fault {
+        ConfigFault::Robustness => put(line, b"configuration fault 1"),
+        ConfigFault::QueryInterval => put(line, b"configuration fault 2"),
+        ConfigFault::ResponseInterval => put(line, b"configuration fault 3"),
+        ConfigFault::LastMember => put(line, b"configuration fault 4"),
+        ConfigFault::Limit { .. } => put(line, b"configuration fault 5"),
+        ConfigFault::OwnAddress => put(line, b"configuration fault 6"),
     }
 }
 
