@@ -43,14 +43,14 @@ pub is_handed : {F O K E : Type 0} (takes : O → ℕ → List ℕ → Bool → 
     → config.family ≡ family → AllFit (per_query config.family) step.queries
     → Sends (TakesQuery takes family) (begun config step.timing old) step.queries new
     → after ≡ record step.state { counters = with_answers step.state.counters new.sent new.unsent }
-    → IsHanded takes config step after old.outlet new.outlet
+    → IsHanded takes config step after old.outlet.now new.outlet.now
 is_handed {F = F} {O = O} {K = K} {E = E} takes family config step after old new is_family fit sends leaves =
     let terms : Terms = record { own = config.own; timing = step.timing } in
     let all = handed_all takes family (begun config step.timing old) step.queries new (subst (λ f. AllFit (per_query f) step.queries) is_family fit) sends in
     let answers = all.answers in
     let c = step.state.counters in
-    let handed : HandsOver takes old.outlet (outgoing_of config step) answers new.outlet =
-    subst (λ f. HandsOver takes old.outlet (list_map (outgoing_on f terms) step.queries) answers new.outlet) (sym is_family) all.handed
+    let handed : HandsOver takes old.outlet.now (outgoing_of config step) answers new.outlet.now =
+    subst (λ f. HandsOver takes old.outlet.now (list_map (outgoing_on f terms) step.queries) answers new.outlet.now) (sym is_family) all.handed
     in
     let sent : counted_on c.sent new.sent ≡ counted_on c.sent (count_by (λ b. b) answers) = ap (counted_on c.sent) all.sent ∙ counted_alike c.sent (count_by (λ b. b) answers) in
     let unsent : counted_on c.unsent new.unsent ≡ counted_on c.unsent (count_by not answers) = ap (counted_on c.unsent) all.unsent ∙ counted_alike c.unsent (count_by not answers) in
@@ -58,6 +58,6 @@ is_handed {F = F} {O = O} {K = K} {E = E} takes family config step after old new
     record {
       messages = outgoing_of config step;
       answers = answers;
-      hands_out = record { handed = refl; answered_each = answered_each takes old.outlet (outgoing_of config step) answers new.outlet handed; leaves = leaves ∙ counted };
+      hands_out = record { handed = refl; answered_each = answered_each takes old.outlet.now (outgoing_of config step) answers new.outlet.now handed; leaves = leaves ∙ counted };
       handed = handed;
     }

@@ -54,16 +54,16 @@ counted_more old test answer answers one new first later =
 -- the queries that a sender takes are handed over
 pub handed_all : {F O K E : Type 0} (takes : O → ℕ → List ℕ → Bool → O → Type 0) (family : Family) (old : Sender F O K E) (queries : List SentQuery) (new : Sender F O K E)
     → AllFit (per_query family) queries → Sends (TakesQuery takes family) old queries new
-    → HandsAll takes family old.terms queries (tally_of old) (tally_of new)
+    → HandsAll takes family old.terms.now queries (tally_of old) (tally_of new)
 handed_all takes family old [] new fit same =
-    record { answers = []; handed = ap (λ s. s.outlet) same; sent = ap (λ s. s.sent) (sym same) ∙ none_on old.sent; unsent = ap (λ s. s.unsent) (sym same) ∙ none_on old.unsent }
+    record { answers = []; handed = ap (λ s. s.outlet.now) same; sent = ap (λ s. s.sent) (sym same) ∙ none_on old.sent; unsent = ap (λ s. s.unsent) (sym same) ∙ none_on old.unsent }
 handed_all takes family old (query ∷ queries) new fit sends =
     let between = sends.0 in
     let one = sends.1.hands.handed (first_fits family query queries fit) in
     let rest = handed_all takes family between queries new (others_fit (per_query family) query queries fit) sends.2 in
     record {
       answers = one.0 ∷ rest.answers;
-      handed = (between.outlet, one.1, subst (λ terms. HandsOver takes between.outlet (list_map (outgoing_on family terms) queries) rest.answers new.outlet) sends.1.same_terms rest.handed);
+      handed = (between.outlet.now, one.1, subst (λ terms. HandsOver takes between.outlet.now (list_map (outgoing_on family terms) queries) rest.answers new.outlet.now) (ap (λ terms. terms.now) sends.1.same_terms) rest.handed);
       sent = counted_more old.sent (λ b. b) one.0 rest.answers between.sent new.sent one.2 rest.sent;
       unsent = counted_more old.unsent not one.0 rest.answers between.unsent new.unsent one.3 rest.unsent;
     }
@@ -73,6 +73,12 @@ pub same_terms : {F O K E : Type 0} (takes : O → ℕ → List ℕ → Bool →
     → Sends (TakesQuery takes family) old queries new → new.terms ≡ old.terms
 same_terms takes family old [] new same = ap (λ s. s.terms) (sym same)
 same_terms takes family old (query ∷ queries) new sends = same_terms takes family sends.0 queries new sends.2 ∙ sends.1.same_terms
+
+-- to the same outlet
+pub same_outlet : {F O K E : Type 0} (takes : O → ℕ → List ℕ → Bool → O → Type 0) (family : Family) (old : Sender F O K E) (queries : List SentQuery) (new : Sender F O K E)
+    → Sends (TakesQuery takes family) old queries new → new.outlet.ghost_name ≡ old.outlet.ghost_name
+same_outlet takes family old [] new same = ap (λ s. s.outlet.ghost_name) (sym same)
+same_outlet takes family old (query ∷ queries) new sends = same_outlet takes family sends.0 queries new sends.2 ∙ sends.1.same_outlet
 
 -- each message is answered
 pub each_answered : {O : Type 0} (takes : O → ℕ → List ℕ → Bool → O → Type 0) (old new : O) (messages : List Outgoing) (answers : List Bool) → HandsOver takes old messages answers new → length answers ≡ length messages

@@ -111,7 +111,7 @@ pub has_received : {F O K E : Type 0} (takes : O → ℕ → List ℕ → Bool �
     → IsReceived (receipt_after config envelope (read_in family envelope bytes) (silent_step next next_election moment counters)) left left_election read_counters answer
     → Sends (TakesQuery takes family) between (receipt_after config envelope (read_in family envelope bytes) (silent_step next next_election moment counters)).step.queries new
     → left_counters ≡ with_answers read_counters new.sent new.unsent
-    → HasReceived takes envelope bytes now answer (record { config = config; state = state_in held election last counters; spent = spent }) (record { config = config; state = state_in left left_election moment left_counters; spent = left_spent }) old.outlet new.outlet
+    → HasReceived takes envelope bytes now answer (record { config = config; state = state_in held election last counters; spent = spent }) (record { config = config; state = state_in left left_election moment left_counters; spent = left_spent }) old.outlet.now new.outlet.now
 has_received takes family config envelope bytes held election last now counters spent next next_election moment left left_election read_counters left_counters answer left_spent old between new is_family is_moment done received sent counted =
     let read = read_in family envelope bytes in
     let before : LinkState = state_in held election last counters in
@@ -139,7 +139,7 @@ has_received takes family config envelope bytes held election last now counters 
     let fit_now : FitsReceipt config envelope (read_in config.family envelope bytes) (tick_of config now before) = fits-receipt_of config envelope bytes now before in
     let fit_at : FitsReceipt config envelope (read_in config.family envelope bytes) at = subst (λ m. FitsReceipt config envelope (read_in config.family envelope bytes) (tick_at config m before)) (sym is_moment) fit_now in
     let fit : FitsReceipt config envelope read at = subst (λ f. FitsReceipt config envelope (read_in f envelope bytes) at) is_family fit_at in
-    let handed : IsAnswered takes config after old.outlet new.outlet answer whole = (got.answer_is ∙ sym on.answer, is_handed takes family config whole.step after old new is_family fit all leaves) in
-    let at_family : IsAnswered takes config after old.outlet new.outlet answer (receipt_after config envelope (read_in config.family envelope bytes) at) = subst (λ f. IsAnswered takes config after old.outlet new.outlet answer (receipt_after config envelope (read_in f envelope bytes) at)) (sym is_family) handed in
-    let there : IsAnswered takes config after old.outlet new.outlet answer (receipt_of config envelope bytes now before) = subst (λ m. IsAnswered takes config after old.outlet new.outlet answer (receipt_after config envelope (read_in config.family envelope bytes) (tick_at config m before))) is_moment at_family in
+    let handed : IsAnswered takes config after old.outlet.now new.outlet.now answer whole = (got.answer_is ∙ sym on.answer, is_handed takes family config whole.step after old new is_family fit all leaves) in
+    let at_family : IsAnswered takes config after old.outlet.now new.outlet.now answer (receipt_after config envelope (read_in config.family envelope bytes) at) = subst (λ f. IsAnswered takes config after old.outlet.now new.outlet.now answer (receipt_after config envelope (read_in f envelope bytes) at)) (sym is_family) handed in
+    let there : IsAnswered takes config after old.outlet.now new.outlet.now answer (receipt_of config envelope bytes now before) = subst (λ m. IsAnswered takes config after old.outlet.now new.outlet.now answer (receipt_after config envelope (read_in config.family envelope bytes) (tick_at config m before))) is_moment at_family in
     record { messages = there.1.messages; answers = there.1.answers; receives = record { answer_is = there.0; hands_out = there.1.hands_out }; handed = there.1.handed }

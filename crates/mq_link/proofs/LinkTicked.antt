@@ -38,7 +38,7 @@ pub has_ticked : {F O K E : Type 0} (takes : O → ℕ → List ℕ → Bool →
     → config.family ≡ family → moment ≡ max last now
     → HasDone takes family config moment held election next next_election old new
     → next_counters ≡ with_answers counters new.sent new.unsent
-    → HasTicked takes now (record { config = config; state = state_in held election last counters; spent = spent }) (record { config = config; state = state_in next next_election moment next_counters; spent = next_spent }) old.outlet new.outlet
+    → HasTicked takes now (record { config = config; state = state_in held election last counters; spent = spent }) (record { config = config; state = state_in next next_election moment next_counters; spent = next_spent }) old.outlet.now new.outlet.now
 has_ticked takes family config held election last now counters spent next next_election moment next_counters next_spent old new is_family is_moment done counted =
     let before : LinkState = state_in held election last counters in
     let after : LinkState = state_in next next_election moment next_counters in
@@ -48,5 +48,5 @@ has_ticked takes family config held election last now counters spent next next_e
     in
     let fit = subst (λ m. AllFits config (tick_at config m before)) (sym is_moment) (fits-tick_of config now before) in
     let handed = is_handed takes family config at after old new is_family fit (sent_by_tick takes family config moment held election last counters next next_election old new is_family done) leaves in
-    let there : IsHanded takes config (tick_of config now before) after old.outlet new.outlet = subst (λ m. IsHanded takes config (tick_at config m before) after old.outlet new.outlet) is_moment handed in
+    let there : IsHanded takes config (tick_of config now before) after old.outlet.now new.outlet.now = subst (λ m. IsHanded takes config (tick_at config m before) after old.outlet.now new.outlet.now) is_moment handed in
     record { messages = there.messages; answers = there.answers; ticks = there.hands_out; handed = there.handed }

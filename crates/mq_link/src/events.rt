@@ -1,6 +1,6 @@
 //! What a link is handed, one event after the other.
 
-ghost use Rattle.std.specs.Prelude.{◌≤◌, ◌^◌, map, All};
+ghost use Rattle.std.specs.Prelude.{◌≡◌, ◌≤◌, ◌^◌, map, All};
 ghost use Rattle.mq_link.specs.Events.{event_of, moment_at, HasRun};
 
 use crate::family::Family;
@@ -34,7 +34,8 @@ pub fn run<F: Family, O: Outlet<F::Address>>(
 )
     requires in_range { All (λ event. moment_at event ≤ 2 ^ 53) events.now }
     ensures runs { HasRun O.takes (map (event_of F.envelope_of) events.now) link.old link.new
-        sender.old.outlet sender.new.outlet }
+        sender.old.outlet.now sender.new.outlet.now }
+    ensures same_outlet { sender.new.outlet.ghost_name ≡ sender.old.outlet.ghost_name }
 {
     for event in events {
         match event {

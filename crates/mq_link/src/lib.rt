@@ -10,7 +10,7 @@
 //! - the family: `Family`, which `Igmp` and `Mld` implement, each with its envelope;
 //! - the configuration: `Config`, made where it has no fault;
 //! - why a datagram is dropped: `dropping`;
-//! - what goes out: the `Outlet` that takes datagrams, and the `Sender` before it;
+//! - what goes out: the `Outlet` that takes datagrams, and before it the `Sender`, with the `QueryTerms` of its router;
 //! - what is counted: `Counts`;
 //! - the whole, over all of these: `Link`;
 //! - and a run of it over any events: `run`.
@@ -58,4 +58,4 @@ pub use igmp::{Igmp, IgmpEnvelope};
 pub use link::Link;
 pub use mld::{Mld, MldEnvelope};
 pub use outlet::Outlet;
-pub use sending::Sender;
+pub use sending::{QueryTerms, Sender};

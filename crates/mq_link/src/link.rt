@@ -12,7 +12,7 @@ ghost use Rattle.mq_held.specs.Places.{HasPlace};
 ghost use Rattle.mq_link.specs.Link.{HasTicked, HasReceived};
 ghost use Rattle.mq_link.specs.State as state;
 ghost use Rattle.mq_link.specs.State.{link_at, IsWellFormed};
-ghost use Rattle.mq_link.specs.Tick.{moment_of, next_of};
+ghost use Rattle.mq_link.specs.Tick.{moment_of, tick_of, next_of};
 
 use crate::answers::Received;
 use crate::config::Config;
@@ -103,7 +103,8 @@ impl<F: Family> Link<F> {
     pub fn tick<O: Outlet<F::Address>>(&mut self, now: Moment, sender: &mut Sender<F, O>)
         requires in_range { now ≤ 2 ^ 53 }
         ensures config { self.new.config ≡ self.old.config }
-        ensures ticks { HasTicked O.takes now self.old self.new sender.old.outlet sender.new.outlet }
+        ensures ticks { HasTicked O.takes now self.old self.new sender.old.outlet.now sender.new.outlet.now }
+        ensures same_outlet { sender.new.outlet.ghost_name ≡ sender.old.outlet.ghost_name }
         ensures spent { let groups = self.old.state.groups in
             Spends 2 (4 * sources_in groups + 27 * map.len groups + 3) self.old.spent self.new.spent }
         ensures quiet { moment_of self.old.state now < next_of self.old.state → Spends 2 3 self.old.spent self.new.spent }
@@ -137,7 +138,8 @@ impl<F: Family> Link<F> {
         requires in_range { now ≤ 2 ^ 53 }
         ensures config { self.new.config ≡ self.old.config }
         ensures receives { HasReceived O.takes (F.envelope_of envelope.now) body.now now result self.old self.new
-            sender.old.outlet sender.new.outlet }
+            sender.old.outlet.now sender.new.outlet.now }
+        ensures same_outlet { sender.new.outlet.ghost_name ≡ sender.old.outlet.ghost_name }
     {
         self.config.is_faultless();
         let now = later(self.last, now, &mut self.meter);
@@ -176,11 +178,13 @@ impl<F: Family> Link<F> {
         &self.config
     }
 
-    /// Its state is one that a link may be in: the laws of the definitions hold of it. It does nothing: its contract is the
-    /// fact.
+    /// Its state is one that a link may be in, and after a tick its next moment will be later than that of the tick. It does
+    /// nothing: its contract is the fact.
     pub fn is_well_formed(&self)
-        ensures { IsWellFormed self.now.config self.now.state }
+        ensures formed { IsWellFormed self.now.config self.now.state }
+        ensures later { (now : ℕ) → now < next_of (tick_of self.now.config now self.now.state).state }
     {
+        self.config.is_faultless();
         let _last = self.last;
     }
 

@@ -22,9 +22,9 @@ use std::marker::Model;
 /// How many bytes the longest query has, one of IGMP with 366 sources. The longest of MLD, with 89, has 1452.
 const LONGEST: usize = 1476;
 
-/// What all queries of a router have in common.
+/// What all queries of a router have in common: its own address and the timing in force.
 #[derive(Drop)]
-pub(crate) struct QueryTerms<F: Family> {
+pub struct QueryTerms<F: Family> {
     own: F::Address,
     timing: Timing,
     response: u32,
@@ -44,9 +44,16 @@ impl<F: Family> Model for QueryTerms<F> {
 }
 
 impl<F: Family> QueryTerms<F> {
+    /// The terms of a router so configured.
+    pub fn of(config: &Config<F>) -> QueryTerms<F>
+        ensures { result ≡ record { own = config.now.own; timing = config.now.timing } }
+    {
+        QueryTerms::new(config, config.timing())
+    }
+
     /// The terms of a router so configured where this timing is in force. Its response interval and its last member
     /// interval are always the configured ones.
-    pub(crate) fn new(config: &Config<F>, timing: Timing) -> QueryTerms<F>
+    fn new(config: &Config<F>, timing: Timing) -> QueryTerms<F>
         requires { KeepsIntervals config.now.timing timing }
         ensures { result ≡ record { own = config.now.own; timing = timing } }
     {
@@ -138,25 +145,28 @@ fn fits_one<F: Family>(query: &QueryParts<'_, F::Address>) -> bool
 }
 
 /// An outlet with what its sending needs: the terms of a router, and how many messages it answered by true and by false
-/// since they were set. It hands over each query that one message holds.
+/// since they were set. It hands over each query that one message holds. Both are lent, so that it is known what they
+/// are once it ends.
 #[derive(Drop)]
-pub struct Sender<F: Family, O> {
-    terms: QueryTerms<F>,
-    outlet: O,
+pub struct Sender<'a, F: Family, O> {
+    terms: &'a mut QueryTerms<F>,
+    outlet: &'a mut O,
     sent: u64,
     unsent: u64,
 }
 
-impl<F: Family, O: Outlet<F::Address>> Sender<F, O> {
-    /// A sender to this outlet for a router so configured.
-    pub fn new(config: &Config<F>, outlet: O) -> Sender<F, O>
-        ensures terms { result.terms ≡ record { own = config.now.own; timing = config.now.timing } }
-        ensures outlet { result.outlet ≡ outlet }
+impl<'a, F: Family, O: Outlet<F::Address>> Sender<'a, F, O> {
+    /// A sender to this outlet on these terms. Each call of a link sets them anew.
+    pub fn new(terms: &'a mut QueryTerms<F>, outlet: &'a mut O) -> Sender<'a, F, O>
+        ensures same_terms { result.terms.ghost_name ≡ terms.entry.ghost_name }
+        ensures terms { result.terms.now ≡ terms.old }
+        ensures same_outlet { result.outlet.ghost_name ≡ outlet.entry.ghost_name }
+        ensures outlet { result.outlet.now ≡ outlet.old }
         ensures sent { result.sent ≡ 0 }
         ensures unsent { result.unsent ≡ 0 }
     {
         Sender {
-            terms: QueryTerms::new(config, config.timing()),
+            terms,
             outlet,
             sent: 0,
             unsent: 0,
@@ -165,21 +175,21 @@ impl<F: Family, O: Outlet<F::Address>> Sender<F, O> {
 
     /// The outlet.
     pub fn outlet(&self) -> &O
-        ensures { result.now ≡ self.now.outlet }
+        ensures { result.now ≡ self.now.outlet.now }
     {
-        &self.outlet
+        self.outlet
     }
 
     /// From now on queries go on the terms of this router where this timing is in force, and are counted from 0.
     pub(crate) fn begin(&mut self, config: &Config<F>, timing: Timing)
         requires { KeepsIntervals config.now.timing timing }
         ensures { self.new ≡ record self.old {
-          terms = record { own = config.now.own; timing = timing };
+          terms = record self.old.terms { now = record { own = config.now.own; timing = timing } };
           sent = 0;
           unsent = 0;
         } }
     {
-        self.terms = QueryTerms::new(config, timing);
+        *self.terms = QueryTerms::new(config, timing);
         self.sent = 0;
         self.unsent = 0;
     }
@@ -209,7 +219,8 @@ impl<F: Family, O: Outlet<F::Address>> Sender<F, O> {
     /// Hands over one datagram, and counts the answer.
     fn hand_over(&mut self, to: F::Address, bytes: &[u8]) -> bool
         ensures terms { self.new.terms ≡ self.old.terms }
-        ensures takes { O.takes self.old.outlet (F.Address.number to) bytes.now result self.new.outlet }
+        ensures same_outlet { self.new.outlet.ghost_name ≡ self.old.outlet.ghost_name }
+        ensures takes { O.takes self.old.outlet.now (F.Address.number to) bytes.now result self.new.outlet.now }
         ensures sent { self.new.sent ≡ counted_on self.old.sent (one_if result) }
         ensures unsent { self.new.unsent ≡ counted_on self.old.unsent (one_if (not result)) }
     {
@@ -223,7 +234,7 @@ impl<F: Family, O: Outlet<F::Address>> Sender<F, O> {
     }
 }
 
-impl<F: Family, O: Outlet<F::Address>> Sink<F::Address> for Sender<F, O> {
+impl<'a, F: Family, O: Outlet<F::Address>> Sink<F::Address> for Sender<'a, F, O> {
     ghost takes = { TakesQuery O.takes F.FAMILY };
 
     fn send(&mut self, query: QueryParts<'_, F::Address>) -> bool

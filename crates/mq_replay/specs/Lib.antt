@@ -5,5 +5,6 @@ pub mod Printing
 pub mod Putting
 pub mod QueryLines
 pub mod ReplayLines
+pub mod Replaying
 pub mod Report
 pub mod Text

@@ -23,6 +23,7 @@ mod query_outlet;
 mod replay_fault;
 mod replay_lines;
 mod replay_pieces;
+mod sent_queries;
 mod stamps;
 
 pub use lines::{igmp_line, mld_line};

@@ -1,6 +1,6 @@
 -- What a replay comes to where the groups of its link are known one by one, for the worked examples.
 use Rattle.std.proofs.Common.{◌≡◌, ℕ, zero, suc, ◌+◌, true, false, refl, List, [], ◌∷◌, ◌++◌, length, Option, None, Some, Ok, Err, unwrap_or, ap, ◌∙◌}
-use Rattle.std.specs.Prelude.{max, nat_lt, codes, map as list_map}
+use Rattle.std.specs.Prelude.{max, nat_lt, map as list_map}
 use Rattle.std.specs.List.{flat_map}
 use Rattle.std.specs.Option.{option_to_list}
 use Rattle.mq_pcap.specs.declared.fault.PcapFault.{PcapFault}
@@ -27,8 +27,8 @@ use Rattle.mq_link.proofs.KnownReceipts.{receipt_known, receipt-known}
 use Rattle.mq_replay.specs.declared.replay_fault.ReplayFault.{ReplayFault}
 use Rattle.mq_replay.specs.declared.replay_fault.ReplayFault.TheVariants.{Pcap, Gap}
 use Rattle.mq_replay.specs.Listing.{moment_of}
-use Rattle.mq_replay.specs.Text.{address_text, line_of}
-use Rattle.mq_replay.specs.ReplayLines.{query_lines, receipt_line, skip_line, end_line, counts_line, mode_text, timer_text, deadline_text, group_line, group_lines, end_lines}
+use Rattle.mq_replay.specs.Text.{line_of}
+use Rattle.mq_replay.specs.ReplayLines.{query_lines, receipt_line, skip_line, end_line, counts_line, timer_text, group_start, older_hosts_text, group_line, group_lines, end_lines}
 use Rattle.mq_replay.specs.Report.{Replayed, all_sent, after_step, ticked_at, ticked_within, Datagram, datagram_of, received_at, taken_or_skipped, with_packet, is_gap, Course, with_packets, Report, ended_at, broken_off, reported, report_of}
 
 -- the next moment
@@ -176,15 +176,13 @@ packets-known config link first before number (packet ∷ packets) k =
 -- the end
 abbrev pub group_line_known : Family → (group : ℕ) → ListedGroup → List ℕ
 group_line_known family group k =
-    line_of (codes "group " ++ address_text family group ++ codes " " ++ mode_text k.mode
-    ++ flat_map (λ (e : ℕ × SourceTimer). timer_text family e.0 e.1) (ordered k.sources)
-    ++ deadline_text (codes " v1 ") k.v1 ++ deadline_text (codes " v2 ") k.v2)
+    group_start family group k.mode
+    ++ (flat_map (λ (e : ℕ × SourceTimer). timer_text family e.0 e.1) (ordered k.sources) ++ line_of (older_hosts_text k.v1 k.v2))
 
 group_line-known : (family : Family) (group : ℕ) (k : ListedGroup) → group_line family group (as_held k).group ≡ group_line_known family group k
 group_line-known family group k =
-    ap (λ (es : Entries SourceTimer). line_of (codes "group " ++ address_text family group ++ codes " " ++ mode_text k.mode
-    ++ flat_map (λ (e : ℕ × SourceTimer). timer_text family e.0 e.1) es
-    ++ deadline_text (codes " v1 ") k.v1 ++ deadline_text (codes " v2 ") k.v2)) (entries-known k.sources)
+    ap (λ (es : Entries SourceTimer). group_start family group k.mode ++ (flat_map (λ (e : ℕ × SourceTimer). timer_text family e.0 e.1) es ++ line_of (older_hosts_text k.v1 k.v2)))
+    (entries-known k.sources)
 
 abbrev pub group_lines_known : Family → ListedGroups → List ℕ
 group_lines_known family gs = flat_map (λ (e : ℕ × ListedGroup). group_line_known family e.0 e.1) (ordered gs)
@@ -204,7 +202,7 @@ ended_known config moment k =
     record {
       text =
           done.text
-          ++ (end_line moment (is_querier done.link.election.role) ++ group_lines_known config.family done.link.groups ++ counts_line done.link.counters);
+          ++ (end_line moment (is_querier done.link.election.role) ++ (group_lines_known config.family done.link.groups ++ counts_line done.link.counters));
       answer = Ok done.link.counters;
     }
 
@@ -217,7 +215,7 @@ ended-known config moment k =
     }) (within-known (moment + 1) config (moment + 1) k)
     ∙ (let done = within_known (moment + 1) config (moment + 1) k in
     ap (λ (lines : List ℕ). record {
-      text = done.text ++ (end_line moment (is_querier done.link.election.role) ++ lines ++ counts_line done.link.counters);
+      text = done.text ++ (end_line moment (is_querier done.link.election.role) ++ (lines ++ counts_line done.link.counters));
       answer = Ok done.link.counters;
     }) (group_lines-known config.family done.link.groups))
 

@@ -1,10 +1,13 @@
-use Rattle.std.proofs.Common.{map, drop}
+use Rattle.std.proofs.Common.{◌≡◌, map, drop}
 use Rattle.mq_link.specs.Events.{event_of}
 use Rattle.mq_link.proofs.EventsRun.{RunsOn}
 use Rattle.mq_link.proofs.events.run.Given as goal
 
--- it is enough to run the events that are left
+-- it is enough to run the events that are left, on the same outlet
 abbrev pub invariant-loop-event : goal.invariant-loop-event
 invariant-loop-event g l =
-    RunsOn g.O.Outlet.takes (map (event_of g.F.Family.envelope_of) l.events) l.fn.link l.fn.sender.outlet
-    (map (event_of g.F.Family.envelope_of) (drop l.event-index l.events)) l.link l.sender.outlet
+    record {
+      runs : RunsOn g.O.Outlet.takes (map (event_of g.F.Family.envelope_of) l.events) l.fn.link l.fn.sender.outlet.now
+          (map (event_of g.F.Family.envelope_of) (drop l.event-index l.events)) l.link l.sender.outlet.now;
+      same_outlet : l.sender.outlet.ghost_name ≡ l.fn.sender.outlet.ghost_name;
+    }

@@ -6,6 +6,7 @@ use Rattle.mq_link.specs.Link.{LinkValue, HasReceived, state_in, silent_step}
 use Rattle.mq_link.specs.Receive.{receipt_after, pseudo_of}
 use Rattle.mq_link.specs.State.{LinkState, IsWellFormed}
 use Rattle.mq_link.specs.Tick.{Step, tick_at}
+use Rattle.mq_link.proofs.HandedOver.{same_outlet}
 use Rattle.mq_link.proofs.Faultless.{timing_in_range}
 use Rattle.mq_link.proofs.HandedOut.{with_answers}
 use Rattle.mq_link.proofs.Intervals.{kept-ticked}
@@ -83,4 +84,7 @@ returns-clause-receives g c =
     in
     let after : LinkValue = record { config = config; state = state_in c.take_in-received.new.held c.take_in-received.new.election moment c.count_answers.new.self; spent = c.take_in-received.new.m } in
     let there = has_received g.O.Outlet.takes family config envelope c.args.body.now c.self.inside.held c.self.inside.election c.self.inside.last c.args.now c.self.inside.counts c.self.inside.meter c.do_due.new.held c.do_due.new.election moment c.take_in-received.new.held c.take_in-received.new.election c.take_in-received.new.counts c.count_answers.new.self c.take_in-received.result c.take_in-received.new.m c.args.sender.now c.do_due.new.sender c.take_in-received.new.sender c.is_faultless.ensures.family c.later-now.ensures.later done took.received took.sent counted in
-    subst (λ (before : LinkValue). HasReceived g.O.Outlet.takes envelope c.args.body.now c.args.now c.take_in-received.result before after c.args.sender.now.outlet c.take_in-received.new.sender.outlet) c.self.view_is there
+    subst (λ (before : LinkValue). HasReceived g.O.Outlet.takes envelope c.args.body.now c.args.now c.take_in-received.result before after c.args.sender.now.outlet.now c.take_in-received.new.sender.outlet.now) c.self.view_is there
+
+pub returns-clause-same_outlet : goal.returns-clause-same_outlet
+returns-clause-same_outlet g c = same_outlet _ _ _ _ _ c.take_in-received.ensures.sent ∙ same_outlet _ _ _ _ _ c.do_due.ensures.sent

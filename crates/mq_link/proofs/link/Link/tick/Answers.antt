@@ -8,6 +8,7 @@ use Rattle.mq_link.specs.State.{LinkState}
 use Rattle.mq_link.specs.Tick.{tick_at, next_of}
 use Rattle.mq_link.proofs.Faultless.{timing_in_range}
 use Rattle.mq_link.proofs.HandedOut.{with_answers}
+use Rattle.mq_link.proofs.HandedOver.{same_outlet}
 use Rattle.mq_link.proofs.Intervals.{kept-ticked}
 use Rattle.mq_link.proofs.LinkStored.{served_in, stored_after, none_due, places_back}
 use Rattle.mq_link.proofs.LinkTicked.{HasDone, has_ticked}
@@ -55,7 +56,10 @@ returns-clause-ticks g c =
     in
     let after : LinkValue = record { config = config; state = state_in c.do_due.new.held c.do_due.new.election moment c.count_answers.new.self; spent = c.do_due.new.m } in
     let there = has_ticked g.O.Outlet.takes g.F.Family.FAMILY config c.self.inside.held c.self.inside.election c.self.inside.last c.args.now c.self.inside.counts c.self.inside.meter c.do_due.new.held c.do_due.new.election moment c.count_answers.new.self c.do_due.new.m c.args.sender.now c.do_due.new.sender c.is_faultless.ensures.family c.later-now.ensures.later did counted in
-    subst (λ (before : LinkValue). HasTicked g.O.Outlet.takes c.args.now before after c.args.sender.now.outlet c.do_due.new.sender.outlet) c.self.view_is there
+    subst (λ (before : LinkValue). HasTicked g.O.Outlet.takes c.args.now before after c.args.sender.now.outlet.now c.do_due.new.sender.outlet.now) c.self.view_is there
+
+pub returns-clause-same_outlet : goal.returns-clause-same_outlet
+returns-clause-same_outlet g c = same_outlet _ _ _ _ _ c.do_due.ensures.sent
 
 pub returns-clause-quiet : goal.returns-clause-quiet
 returns-clause-quiet g c before =

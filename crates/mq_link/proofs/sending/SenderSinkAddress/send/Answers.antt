@@ -11,6 +11,7 @@ pub returns-then-not-fits_one : goal.returns-then-not-fits_one
 returns-then-not-fits_one g c =
     record {
       same_terms = refl;
+      same_outlet = refl;
       hands = record {
         handed = λ fits. absurd (not_both c.fits_one.result c.if-not-fits_one.true (c.fits_one.ensures.1 fits));
         kept = λ more. refl;
@@ -23,15 +24,16 @@ returns g c =
     let before = c.args.self.now in
     let handed = c.hand_over.ensures in
     let written = c.write-to.ensures in
-    let message = outgoing_on g.F.Family.FAMILY before.terms (query_of g.F.Address.Key.number c.args.query) in
+    let message = outgoing_on g.F.Family.FAMILY before.terms.now (query_of g.F.Address.Key.number c.args.query) in
     let fits = c.fits_one.ensures.0 c.if-not-fits_one.false in
     record {
       same_terms = handed.terms;
+      same_outlet = handed.same_outlet;
       hands = record {
         handed = λ small. (
           c.hand_over.result,
-          subst (λ bytes. takes before.outlet message.to bytes c.hand_over.result c.hand_over.new.self.outlet) written.bytes
-              (subst (λ to. takes before.outlet to (take c.write-to.result.1 c.write-to.new.room) c.hand_over.result c.hand_over.new.self.outlet) written.to handed.takes),
+          subst (λ bytes. takes before.outlet.now message.to bytes c.hand_over.result c.hand_over.new.self.outlet.now) written.bytes
+              (subst (λ to. takes before.outlet.now to (take c.write-to.result.1 c.write-to.new.room) c.hand_over.result c.hand_over.new.self.outlet.now) written.to handed.takes),
           handed.sent,
           handed.unsent,
         );
