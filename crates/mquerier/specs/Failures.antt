@@ -35,9 +35,9 @@ capture_text fault.Read = codes "capture fault 1"
 capture_text fault.Magic = codes "capture fault 2"
 capture_text fault.Version = codes "capture fault 3"
 capture_text fault.LinkType = codes "capture fault 4"
-capture_text (fault.CutHeader number) = codes "capture fault 5" ++ codes " at record " ++ decimal number
-capture_text (fault.CutData number) = codes "capture fault 6" ++ codes " at record " ++ decimal number
-capture_text (fault.TooLong number) = codes "capture fault 7" ++ codes " at record " ++ decimal number
+capture_text (fault.CutHeader number) = codes "capture fault 5 at record " ++ decimal number
+capture_text (fault.CutData number) = codes "capture fault 6 at record " ++ decimal number
+capture_text (fault.TooLong number) = codes "capture fault 7 at record " ++ decimal number
 capture_text fault.Endless = codes "capture fault 8"
 
 abbrev pub failure_text : Failure → List ℕ

@@ -79,10 +79,7 @@ fn put_failure(line: &mut Text, failure: Failure)
         Failure::UntilTooLarge => put(line, b"until is too large"),
         Failure::Configuration(fault) => put_configuration(line, fault),
         Failure::Capture(fault) => put_capture(line, fault),
-        Failure::Gap { number } => {
-            put(line, b"gap before record ");
-            put_decimal(line, number);
-        }
+        Failure::Gap { number } => put_record(line, b"gap before record ", number),
         Failure::Memory => put(line, b"out of memory"),
         Failure::Write => put(line, b"write failed"),
     }
@@ -113,20 +110,20 @@ fn put_capture(line: &mut Text, fault: PcapFault)
         PcapFault::Magic => put(line, b"capture fault 2"),
         PcapFault::Version => put(line, b"capture fault 3"),
         PcapFault::LinkType => put(line, b"capture fault 4"),
-        PcapFault::CutHeader { number } => put_at_record(line, b"capture fault 5", number),
-        PcapFault::CutData { number } => put_at_record(line, b"capture fault 6", number),
-        PcapFault::TooLong { number } => put_at_record(line, b"capture fault 7", number),
+        PcapFault::CutHeader { number } => put_record(line, b"capture fault 5 at record ", number),
+        PcapFault::CutData { number } => put_record(line, b"capture fault 6 at record ", number),
+        PcapFault::TooLong { number } => put_record(line, b"capture fault 7 at record ", number),
         PcapFault::Endless => put(line, b"capture fault 8"),
     }
 }
 
-fn put_at_record(line: &mut Text, fault: &[u8], number: u64)
+/// Puts what is said of a record, and its number.
+fn put_record(line: &mut Text, said: &[u8], number: u64)
     requires start { array_vec_len line.old ≡ 10 }
-    requires short { length fault.now ≤ 15 }
-    ensures text { line.new.items ≡ line.old.items ++ (fault.now ++ codes " at record " ++ decimal number) }
+    requires short { length said.now ≤ 30 }
+    ensures text { line.new.items ≡ line.old.items ++ (said.now ++ decimal number) }
     ensures room { array_vec_len line.new ≤ 60 }
 {
-    put(line, fault);
-    put(line, b" at record ");
+    put(line, said);
     put_decimal(line, number);
 }
