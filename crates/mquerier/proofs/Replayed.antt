@@ -36,23 +36,19 @@ written_kept config until c ahead before mid after (Err (answer.Pcap (fault.TooL
 written_kept config until c ahead before mid after (Err (answer.Pcap fault.Endless)) unlike written kept = Appends-kept before mid after (text_of config until c) written kept
 
 -- a replay of the configuration and up to the moment that are asked for
-pub replayed_at : (family : Family) (own : ℕ) (settings : Settings) (until end : Option ℕ) (config : Configuration) (input : Input) (old new : OutputState) (r : Result Counters ReplayFault)
-    → (end ≡ until) × (is_too_large until ≡ false) → IsConfigured (asked_configuration family own settings) (Ok config) → Replays config end input.old input.new old.held new.held r
-    → IsReplayedAt family own settings until input (record { old = old; new = new }) r
-replayed_at family own settings until end config input old new r asked made replays =
-    record {
-      in_range = asked.1;
-      faultless = made.0;
-      replays = subst (λ (c : Configuration). Replays c until input.old input.new old.held new.held r) made.1
-          (subst (λ (e : Option ℕ). Replays config e input.old input.new old.held new.held r) asked.0 replays);
-    }
+replayed_at : (family : Family) (own : ℕ) (settings : Settings) (until end : Option ℕ) (config : Configuration) (input : Input) (before after : Option (List ℕ)) (r : Result Counters ReplayFault)
+    → end ≡ until → config ≡ asked_configuration family own settings → Replays config end input.old input.new before after r
+    → Replays (asked_configuration family own settings) until input.old input.new before after r
+replayed_at family own settings until end config input before after r same_end same_config replays =
+    subst (λ (c : Configuration). Replays c until input.old input.new before after r) same_config
+    (subst (λ (e : Option ℕ). Replays config e input.old input.new before after r) same_end replays)
 
 -- the same behind a flush
 pub flushed_at : (family : Family) (own : ℕ) (settings : Settings) (until end : Option ℕ) (config : Configuration) (input : Input) (old : OutputState) (mid : Option (List ℕ)) (new : OutputState) (r : Result Counters ReplayFault)
     → (end ≡ until) × (is_too_large until ≡ false) → IsConfigured (asked_configuration family own settings) (Ok config) → Replays config end input.old input.new old.held mid r
     → (r ≡ Err answer.Write → ⊥) → Keeps mid new.held → IsReplayedAt family own settings until input (record { old = old; new = new }) r
 flushed_at family own settings until end config input old mid new r asked made replays unlike kept =
-    replayed_at family own settings until end config input old new r asked made
+    replayed_at family own settings until end config input old.held new.held r asked.0 made.1
     (record {
       read = replays.read;
       takes = replays.takes;

@@ -56,20 +56,24 @@ IsRefusedAt family own settings until (failure.Configuration f) =
     (is_too_large until ≡ false) × (configuration_fault (asked_configuration family own settings) ≡ Some f)
 IsRefusedAt family own settings until failure = ⊥
 
--- the capture was replayed as it is asked for, with this answer
-pub record IsReplayedAt (family : Family) (own : ℕ) (settings : Settings) (until : Option ℕ) (input : Input) (output : Output)
-    (answer : Result Counters ReplayFault) : Type 0 where
-  pub in_range : is_too_large until ≡ false
-  pub faultless : IsFaultless (asked_configuration family own settings)
-  pub replays : Replays (asked_configuration family own settings) until input.old input.new output.old.held output.new.held answer
+-- a request that isn't refused
+abbrev pub IsAcceptedAt : Family → (own : ℕ) → Settings → (until : Option ℕ) → Type 0
+IsAcceptedAt family own settings until =
+    (is_too_large until ≡ false) × IsFaultless (asked_configuration family own settings)
 
--- it was replayed to its end
+-- the capture was replayed as it is asked for, with this answer
+abbrev pub IsReplayedAt : Family → (own : ℕ) → Settings → (until : Option ℕ) → Input → Output → Result Counters ReplayFault → Type 0
+IsReplayedAt family own settings until input output answer =
+    Replays (asked_configuration family own settings) until input.old input.new output.old.held output.new.held answer
+
+-- it was accepted, and replayed to its end
 abbrev pub IsDoneAt : Family → (own : ℕ) → Settings → (until : Option ℕ) → Input → Output → (flag : Bool) → Type 0
 IsDoneAt family own settings until input output flag =
-    (flag ≡ true) × (output.new.failed ≡ output.old.failed)
+    IsAcceptedAt family own settings until × (flag ≡ true) × (output.new.failed ≡ output.old.failed)
     × (counters : Counters) × IsReplayedAt family own settings until input output (Ok counters)
 
--- or the replay broke off
+-- it was accepted, and broke off
 abbrev pub IsBrokenAt : Family → (own : ℕ) → Settings → (until : Option ℕ) → Input → Output → Failure → Type 0
 IsBrokenAt family own settings until input output failure =
-    IsBrokenOff (IsReplayedAt family own settings until input output) input output failure
+    IsAcceptedAt family own settings until
+    × IsBrokenOff (IsReplayedAt family own settings until input output) input output failure
