@@ -1,9 +1,12 @@
 //! The command line of `mquerier`, by `clap`: what it asks for, and its help.
 #![tactic(auto)]
 
+mod replay;
+
 use clap::builder::ValueParser;
 use clap::error::ErrorKind;
-use clap::{Arg, Command, Error};
+use clap::{Arg, ArgMatches, Command, Error};
+pub use replay::Settings;
 use std::alloc::{AllocError, Global};
 use std::convert::AsStr;
 
@@ -23,6 +26,17 @@ pub enum Request<'a> {
     },
     /// The listing of the capture on standard input.
     Show,
+    /// What a querier makes of the capture on standard input.
+    Replay {
+        /// The querier's protocol.
+        protocol: Protocol,
+        /// The querier's own address.
+        own: &'a str,
+        /// Its variables and limits.
+        settings: Settings,
+        /// The moment up to which it runs at least, in milliseconds from the first packet, where it is given.
+        until: Option<u64>,
+    },
 }
 
 /// A protocol of messages.
@@ -41,20 +55,28 @@ pub fn request_of<'a, S: AsStr>(alloc: Global, words: &'a [S]) -> Result<Request
 // (The command and what it matched are locals of two functions: a proof over both takes far longer.)
 fn asked<'a, S: AsStr>(command: &mut Command<'a>, words: &'a [S]) -> Result<Request<'a>, Error> {
     let matches = command.try_get_matches_from_mut(words)?;
-    if let Some(message) = matches.subcommand_matches("message") {
-        if let Some(hex) = message.get_str("HEX") {
-            return Ok(Request::Message {
-                protocol: protocol_named(message.get_str("FAMILY")),
-                hex,
-                from: message.get_str("FROM"),
-                to: message.get_str("TO"),
-            });
-        }
+    match request_in(&matches) {
+        Some(request) => Ok(request),
+        None => Err(command.error(ErrorKind::MissingSubcommand, "a command is needed")?),
     }
-    if matches.subcommand_matches("show").is_some() {
-        return Ok(Request::Show);
+}
+
+/// What the words that matched ask for. (`clap` lets pass none without a command and the words that it needs.)
+fn request_in<'a>(matches: &ArgMatches<'a>) -> Option<Request<'a>> {
+    match matches.subcommand()? {
+        ("message", words) => message_in(words),
+        ("show", _) => Some(Request::Show),
+        (_, words) => replay::request_in(words),
     }
-    Err(command.error(ErrorKind::MissingSubcommand, "a command is needed")?)
+}
+
+fn message_in<'a>(words: &ArgMatches<'a>) -> Option<Request<'a>> {
+    Some(Request::Message {
+        protocol: protocol_named(words.get_str("FAMILY")),
+        hex: words.get_str("HEX")?,
+        from: words.get_str("FROM"),
+        to: words.get_str("TO"),
+    })
 }
 
 /// The protocol of a name. (`clap` lets pass only those that are listed.)
@@ -73,6 +95,8 @@ Examples:
       prints: report v2 group 239.1.2.3
   mquerier show < capture.pcap
       prints a line for each packet of the capture
+  mquerier replay igmp --own 10.0.0.9 < capture.pcap
+      prints what a querier at 10.0.0.9 sends and learns, had it been there
 
 Status: 0 where all is done, 1 where the input is faulty, the output fails or memory runs out, 2
 where the command line is faulty or help is asked for.";
@@ -84,7 +108,8 @@ fn command<'a>(alloc: Global) -> Result<Command<'a>, AllocError> {
         .subcommand_required(true)
         .arg_required_else_help(true)
         .subcommand(message(alloc)?)?
-        .subcommand(show(alloc))
+        .subcommand(show(alloc))?
+        .subcommand(replay::command(alloc)?)
 }
 
 const MESSAGE_ABOUT: &str = "Prints what one message says, or its first fault";
@@ -113,7 +138,7 @@ fn message<'a>(alloc: Global) -> Result<Command<'a>, AllocError> {
     Command::new(alloc, "message")
         .about(MESSAGE_ABOUT)
         .after_help(MESSAGE_AFTER_HELP)
-        .arg(family(alloc))?
+        .arg(family(alloc).help("The protocol of the message"))?
         .arg(hex(alloc))?
         .arg(address(alloc, "FROM", "from").help("The source of the message's packet"))?
         .arg(address(alloc, "TO", "to").help("The destination of the message's packet"))
@@ -128,7 +153,6 @@ fn family<'a>(alloc: Global) -> Arg<'a> {
     Arg::new(alloc, "FAMILY")
         .required(true)
         .value_parser(ValueParser::Names(FAMILIES.as_slice()))
-        .help("The protocol of the message")
 }
 
 static FAMILIES: [&str; 2] = ["igmp", "mld"];

@@ -1,22 +1,24 @@
 -- What the program does of what is asked for, and its status.
-use Rattle.std.specs.Prelude.{◌≡◌, ◌≤◌, ◌⊎◌, ℕ, Bool, true, false, List, [], ◌++◌, codes, Option, None, Some, Result, Ok, Err, IsErr}
+use Rattle.std.specs.Prelude.{◌≡◌, ◌≤◌, ◌⊎◌, ℕ, Bool, true, false, List, [], ◌++◌, codes, Option, None, Some, Result, Ok, IsErr}
 use Rattle.std.specs.Option.{option_copied}
 use Rattle.hex.specs.Hex.{decode_of}
 use Rattle.mq_command.specs.declared.Protocol.{Protocol}
 use Rattle.mq_command.specs.declared.Protocol.TheVariants.{Igmp, Mld}
 use Rattle.mq_command.specs.declared.Request.{Request}
-use Rattle.mq_command.specs.declared.Request.TheVariants.{Message, Show}
+use Rattle.mq_command.specs.declared.Request.TheVariants.{Message, Show, Replay}
+use Rattle.mq_command.specs.declared.replay.Settings.{Settings}
 use Rattle.mq_replay.specs.declared.replay_fault.ReplayFault.{ReplayFault}
-use Rattle.mq_replay.specs.declared.replay_fault.ReplayFault.TheVariants as shown
 use Rattle.mq_replay.specs.Listing.{Shows}
-use Rattle.mq_text.specs.Reading.{SpellsV4, SpellsV6}
+use Rattle.mq_text.specs.Reading.{SpellsV6}
 use Rattle.mq_wire.specs.Family as family
 use Rattle.mq_wire.specs.PseudoHeader.{pseudo_header}
 use Rattle.mquerier.specs.declared.failure.Failure.{Failure}
-use Rattle.mquerier.specs.declared.failure.Failure.TheVariants.{NoAddresses, NotAnAddress, NotHex, Capture, Memory, Write}
+use Rattle.mquerier.specs.declared.failure.Failure.TheVariants.{NoAddresses, NotAnAddress, NotHex, Memory, Write}
+use Rattle.mquerier.specs.Breaking.{IsBrokenOff}
 use Rattle.mquerier.specs.Changes.{Input, Output, Writes, BreaksOff}
 use Rattle.mquerier.specs.Failures.{failure_line}
 use Rattle.mquerier.specs.HexLine.{IsHexLine}
+use Rattle.mquerier.specs.Replays.{SpellsAddress, IsRefusedAt, IsDoneAt, IsBrokenAt, family_of}
 
 -- standard error was told: the text was written, or a beginning of it and then a write failed
 abbrev pub IsTold : (errors : Output) → (text : List ℕ) → Type 0
@@ -34,8 +36,7 @@ AreMissing Mld from to = (from ≡ None) ⊎ (to ≡ None)
 -- a text that is given is no address of the protocol's family
 abbrev pub IsNoAddress : Protocol → Option (List ℕ) → Type 0
 IsNoAddress protocol None = ⊥
-IsNoAddress Igmp (Some text) = (address : ℕ) → SpellsV4 text address → ⊥
-IsNoAddress Mld (Some text) = (address : ℕ) → SpellsV6 text address → ⊥
+IsNoAddress protocol (Some text) = (address : ℕ) → SpellsAddress protocol text address → ⊥
 
 -- Why a request for a message is refused: the first of these that holds.
 abbrev pub IsRefusedMessage : Protocol → (from to : Option (List ℕ)) → (hex : List ℕ) → Failure → Type 0
@@ -47,10 +48,18 @@ IsRefusedMessage protocol from to hex NotHex =
     × IsErr (decode_of hex)
 IsRefusedMessage protocol from to hex failure = ⊥
 
+-- Why a request for a replay is refused: the first of these that holds.
+abbrev pub IsRefusedReplay : Protocol → (own : List ℕ) → Settings → (until : Option ℕ) → Failure → Type 0
+IsRefusedReplay protocol own settings until NotAnAddress = IsNoAddress protocol (Some own)
+IsRefusedReplay protocol own settings until failure =
+    (address : ℕ) × SpellsAddress protocol own address
+    × IsRefusedAt (family_of protocol) address settings until failure
+
 abbrev pub IsRefused : Request → Failure → Type 0
 IsRefused (Message protocol hex from to) failure =
     IsRefusedMessage protocol (option_copied from) (option_copied to) hex.now failure
 IsRefused Show failure = ⊥
+IsRefused (Replay protocol own settings until) failure = IsRefusedReplay protocol own.now settings until failure
 
 -- a text that is given spells this IPv6 address
 abbrev pub IsAddress : Option (List ℕ) → ℕ → Type 0
@@ -75,13 +84,21 @@ WritesMessage protocol from to hex output flag =
 abbrev pub WritesListing : Input → Output → Result ℕ ReplayFault → Type 0
 WritesListing input output answer = Shows input.old input.new output.old.held output.new.held answer
 
+-- a capture was replayed to its end
+abbrev pub WritesReport : Protocol → (own : List ℕ) → Settings → (until : Option ℕ) → Input → Output → (flag : Bool) → Type 0
+WritesReport protocol own settings until input output flag =
+    (address : ℕ) × SpellsAddress protocol own address
+    × IsDoneAt (family_of protocol) address settings until input output flag
+
 -- What is asked for was done: a line was written, of a message (true) or of its fault (false), or a capture was
--- shown to its end.
+-- shown or replayed to its end.
 abbrev pub IsDone : Request → Input → Output → (flag : Bool) → Type 0
 IsDone (Message protocol hex from to) input output flag =
     WritesMessage protocol (option_copied from) (option_copied to) hex.now output flag
 IsDone Show input output flag =
     (flag ≡ true) × (output.new.failed ≡ output.old.failed) × (count : ℕ) × WritesListing input output (Ok count)
+IsDone (Replay protocol own settings until) input output flag =
+    WritesReport protocol own.now settings until input output flag
 
 -- Why a message's line was not written: memory ran out, before any of it was, or the output failed behind a
 -- beginning of it.
@@ -91,23 +108,19 @@ IsBrokenMessage protocol from to hex output Write =
     (flag : Bool) × (line : List ℕ) × IsAskedLine protocol from to hex flag line × BreaksOff output line
 IsBrokenMessage protocol from to hex output failure = ⊥
 
--- Why a capture was not shown to its end: it has a fault, and all lines before that were written; memory ran out,
--- before anything was read or written; or the output failed, behind a beginning of the lines or, at the flush
--- behind them, all of those that were to be written.
-abbrev pub IsBrokenListing : Input → Output → Failure → Type 0
-IsBrokenListing input output (Capture f) =
-    (output.new.failed ≡ output.old.failed) × WritesListing input output (Err (shown.Pcap f))
-IsBrokenListing input output Memory = (input.new ≡ input.old) × (output.new ≡ output.old)
-IsBrokenListing input output Write =
-    (output.new.failed ≡ true)
-    × (answer : Result ℕ ReplayFault) × (answer ≡ Err shown.Memory → ⊥) × WritesListing input output answer
-IsBrokenListing input output failure = ⊥
+-- why a capture was not replayed to its end
+abbrev pub IsBrokenReplay : Protocol → (own : List ℕ) → Settings → (until : Option ℕ) → Input → Output → Failure → Type 0
+IsBrokenReplay protocol own settings until input output failure =
+    (address : ℕ) × SpellsAddress protocol own address
+    × IsBrokenAt (family_of protocol) address settings until input output failure
 
 -- why the status is 1, where no message's fault was written
 abbrev pub IsBroken : Request → Input → Output → Failure → Type 0
 IsBroken (Message protocol hex from to) input output failure =
     IsBrokenMessage protocol (option_copied from) (option_copied to) hex.now output failure
-IsBroken Show input output failure = IsBrokenListing input output failure
+IsBroken Show input output failure = IsBrokenOff (WritesListing input output) input output failure
+IsBroken (Replay protocol own settings until) input output failure =
+    IsBrokenReplay protocol own.now settings until input output failure
 
 -- a message's fault was written and standard error told nothing, or the work broke off and that was told
 abbrev pub IsFaulty : Request → Input → (output errors : Output) → Type 0
@@ -119,6 +132,7 @@ IsFaulty request input output errors =
 abbrev pub IsOfMessage : Request → Type 0
 IsOfMessage (Message protocol hex from to) = Unit {0}
 IsOfMessage Show = ⊥
+IsOfMessage (Replay protocol own settings until) = ⊥
 
 -- What is asked for was done, or not, and this is the status.
 pub record Performs (request : Request) (input : Input) (output errors : Output) (status : ℕ) : Type 0 where
@@ -126,7 +140,8 @@ pub record Performs (request : Request) (input : Input) (output errors : Output)
   pub done : status ≡ 0 → IsDone request input output true × (errors.new ≡ errors.old)
   pub faulty : status ≡ 1 → IsFaulty request input output errors
   -- only a faulty request is refused, and that is told
-  pub refused : status ≡ 2 → (output.new ≡ output.old) × (failure : Failure) × IsRefused request failure × Told errors failure
+  pub refused : status ≡ 2 → (input.new ≡ input.old) × (output.new ≡ output.old)
+      × (failure : Failure) × IsRefused request failure × Told errors failure
   pub unread : IsOfMessage request → input.new ≡ input.old
 
 -- standard error was told some text, which is a line at least

@@ -1,13 +1,18 @@
 -- What the work on a request comes to.
-use Rattle.std.specs.Prelude.{◌≡◌, Bool, List, ℕ, Option, Result, Ok, Err, IsErr}
+use Rattle.std.specs.Prelude.{◌≡◌, Bool, List, ℕ, Option, Some, Result, Ok, Err, IsErr}
 use Rattle.hex.specs.Hex.{decode_of}
 use Rattle.mq_command.specs.declared.Protocol.{Protocol}
 use Rattle.mq_command.specs.declared.Request.{Request}
+use Rattle.mq_command.specs.declared.replay.Settings.{Settings}
+use Rattle.mq_link.specs.Configuration.{Configuration, configuration_fault, IsFaultless}
+use Rattle.mq_wire.specs.Family.{Family}
 use Rattle.mquerier.specs.declared.failure.Failure.{Failure}
 use Rattle.mquerier.specs.declared.failure.Failure.TheVariants.{NotHex, Memory}
+use Rattle.mquerier.specs.declared.failure.Failure.TheVariants as failure
 use Rattle.mquerier.specs.Changes.{Input, Output}
 use Rattle.mquerier.specs.Failures.{status_of}
-use Rattle.mquerier.specs.Status.{IsDone, IsRefused, IsRefusedMessage, IsBroken, IsBrokenMessage, WritesMessage}
+use Rattle.mquerier.specs.Replays.{IsRefusedAt, IsDoneAt, IsBrokenAt}
+use Rattle.mquerier.specs.Status.{IsDone, IsRefused, IsRefusedMessage, IsRefusedReplay, IsBroken, IsBrokenMessage, IsBrokenReplay, WritesMessage, WritesReport}
 
 -- an answer with a failure of the request
 abbrev pub IsRefusal : {X : Type 0} → Result X Failure → Type 0
@@ -26,6 +31,20 @@ Works request input output (Ok flag) = IsDone request input output flag
 Works request input output (Err failure) =
     (status_of failure ≡ 2 → IsRefused request failure) × (status_of failure ≡ 1 → IsBroken request input output failure)
 
+-- the same of a replay
+abbrev pub WorksOnReplay : Protocol → (own : List ℕ) → Settings → (until : Option ℕ) → Input → Output → Result Bool Failure → Type 0
+WorksOnReplay protocol own settings until input output (Ok flag) = WritesReport protocol own settings until input output flag
+WorksOnReplay protocol own settings until input output (Err failure) =
+    (status_of failure ≡ 2 → IsRefusedReplay protocol own settings until failure)
+    × (status_of failure ≡ 1 → IsBrokenReplay protocol own settings until input output failure)
+
+-- the same of one at an address that was read
+abbrev pub WorksAt : Family → (own : ℕ) → Settings → (until : Option ℕ) → Input → Output → Result Bool Failure → Type 0
+WorksAt family own settings until input output (Ok flag) = IsDoneAt family own settings until input output flag
+WorksAt family own settings until input output (Err failure) =
+    (status_of failure ≡ 2 → IsRefusedAt family own settings until failure)
+    × (status_of failure ≡ 1 → IsBrokenAt family own settings until input output failure)
+
 -- the same of a message
 abbrev pub WorksOnMessage : Protocol → (from to : Option (List ℕ)) → (hex : List ℕ) → Output → Result Bool Failure → Type 0
 WorksOnMessage protocol from to hex output (Ok flag) = WritesMessage protocol from to hex output flag
@@ -38,3 +57,9 @@ abbrev pub IsUndecoded : List ℕ → Failure → Type 0
 IsUndecoded hex NotHex = IsErr (decode_of hex)
 IsUndecoded hex Memory = Unit {0}
 IsUndecoded hex failure = ⊥
+
+-- the configuration that is asked for was made, or its fault is the failure
+abbrev pub IsConfigured : (asked : Configuration) → Result Configuration Failure → Type 0
+IsConfigured asked (Ok config) = IsFaultless asked × (config ≡ asked)
+IsConfigured asked (Err (failure.Configuration f)) = configuration_fault asked ≡ Some f
+IsConfigured asked (Err failure) = ⊥

@@ -3,8 +3,9 @@
 ghost use Rattle.std.specs.Prelude.{◌≡◌, ◌≤◌, ◌++◌, codes, length};
 ghost use Rattle.std.specs.Fmt.{decimal};
 ghost use Rattle.arrayvec.specs.ArrayVec.{array_vec_len};
-ghost use Rattle.mquerier.specs.Failures.{status_of, failure_line, failure_text, capture_text};
+ghost use Rattle.mquerier.specs.Failures.{status_of, failure_line, failure_text, configuration_text, capture_text};
 
+use mq_link::ConfigFault;
 use mq_pcap::PcapFault;
 use mq_text::{Text, put, put_decimal};
 
@@ -20,12 +21,21 @@ pub const REFUSED: u8 = 2;
 pub enum Failure {
     /// A message of MLD is asked for without the addresses of its packet.
     NoAddresses,
-    /// A text isn't an address of the message's family.
+    /// A text isn't an address of the protocol's family.
     NotAnAddress,
     /// HEX isn't hexadecimal.
     NotHex,
+    /// The moment up to which a replay is to run is none: it is above 2^53.
+    UntilTooLarge,
+    /// The querier of a replay can't be configured so.
+    Configuration(ConfigFault),
     /// The capture has a fault, or a read of it failed.
     Capture(PcapFault),
+    /// A replay came to a packet, or to its end, that lies more than a day behind the packet before.
+    Gap {
+        /// The number of that packet, or of the one that would follow the last.
+        number: u64,
+    },
     /// A growth was refused.
     Memory,
     /// A write to the output failed, or took nothing.
@@ -48,8 +58,12 @@ pub fn status_of_failure(failure: Failure) -> u8
     ensures { result ≡ status_of failure }
 {
     match failure {
-        Failure::NoAddresses | Failure::NotAnAddress | Failure::NotHex => REFUSED,
-        Failure::Capture(_) | Failure::Memory | Failure::Write => FAULTY,
+        Failure::NoAddresses
+        | Failure::NotAnAddress
+        | Failure::NotHex
+        | Failure::UntilTooLarge
+        | Failure::Configuration(_) => REFUSED,
+        Failure::Capture(_) | Failure::Gap { .. } | Failure::Memory | Failure::Write => FAULTY,
     }
 }
 
@@ -62,9 +76,27 @@ fn put_failure(line: &mut Text, failure: Failure)
         Failure::NoAddresses => put(line, b"--from and --to are needed for mld"),
         Failure::NotAnAddress => put(line, b"not an address"),
         Failure::NotHex => put(line, b"not hex"),
+        Failure::UntilTooLarge => put(line, b"until is too large"),
+        Failure::Configuration(fault) => put_configuration(line, fault),
         Failure::Capture(fault) => put_capture(line, fault),
+        Failure::Gap { number } => put_record(line, b"gap before record ", number),
         Failure::Memory => put(line, b"out of memory"),
         Failure::Write => put(line, b"write failed"),
+    }
+}
+
+fn put_configuration(line: &mut Text, fault: ConfigFault)
+    requires { array_vec_len line.old ≡ 10 }
+    ensures text { line.new.items ≡ line.old.items ++ configuration_text fault }
+    ensures room { array_vec_len line.new ≤ 60 }
+{
+    match fault {
+        ConfigFault::Robustness => put(line, b"configuration fault 1"),
+        ConfigFault::QueryInterval => put(line, b"configuration fault 2"),
+        ConfigFault::ResponseInterval => put(line, b"configuration fault 3"),
+        ConfigFault::LastMember => put(line, b"configuration fault 4"),
+        ConfigFault::Limit { .. } => put(line, b"configuration fault 5"),
+        ConfigFault::OwnAddress => put(line, b"configuration fault 6"),
     }
 }
 
@@ -78,20 +110,20 @@ fn put_capture(line: &mut Text, fault: PcapFault)
         PcapFault::Magic => put(line, b"capture fault 2"),
         PcapFault::Version => put(line, b"capture fault 3"),
         PcapFault::LinkType => put(line, b"capture fault 4"),
-        PcapFault::CutHeader { number } => put_at_record(line, b"capture fault 5", number),
-        PcapFault::CutData { number } => put_at_record(line, b"capture fault 6", number),
-        PcapFault::TooLong { number } => put_at_record(line, b"capture fault 7", number),
+        PcapFault::CutHeader { number } => put_record(line, b"capture fault 5 at record ", number),
+        PcapFault::CutData { number } => put_record(line, b"capture fault 6 at record ", number),
+        PcapFault::TooLong { number } => put_record(line, b"capture fault 7 at record ", number),
         PcapFault::Endless => put(line, b"capture fault 8"),
     }
 }
 
-fn put_at_record(line: &mut Text, fault: &[u8], number: u64)
+/// Puts what is said of a record, and its number.
+fn put_record(line: &mut Text, said: &[u8], number: u64)
     requires start { array_vec_len line.old ≡ 10 }
-    requires short { length fault.now ≤ 15 }
-    ensures text { line.new.items ≡ line.old.items ++ (fault.now ++ codes " at record " ++ decimal number) }
+    requires short { length said.now ≤ 30 }
+    ensures text { line.new.items ≡ line.old.items ++ (said.now ++ decimal number) }
     ensures room { array_vec_len line.new ≤ 60 }
 {
-    put(line, fault);
-    put(line, b" at record ");
+    put(line, said);
     put_decimal(line, number);
 }

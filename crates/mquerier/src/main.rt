@@ -11,6 +11,7 @@
 
 mod failure;
 mod program;
+mod replaying;
 mod work;
 
 use mq_count::Watched;

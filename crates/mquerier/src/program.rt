@@ -69,8 +69,8 @@ fn print_line<W: Write>(text: &str, writer: &mut Watched<W>) -> Result<(), LineF
 }
 
 /// Does what is asked for, and answers the status: 0 where it is done; 1 where the input is faulty, the
-/// output fails or memory runs out; 2 where the request is faulty. Only `show` reads the input. A write to
-/// `errors` that fails changes no status.
+/// output fails or memory runs out; 2 where the request is faulty. Only `show` and `replay` read the input. A
+/// write to `errors` that fails changes no status.
 pub fn perform<R: Read, W: Write, E: Write>(
     alloc: Global,
     request: &Request<'_>,
@@ -83,8 +83,9 @@ pub fn perform<R: Read, W: Write, E: Write>(
         (output_by W.contents output.old output.new)
         (output_by E.contents errors.old errors.new)
         result }
-    // What is refused leaves the output as it was, and a message the input.
+    // What is refused leaves the output and the input as they were, and a message the input.
     ensures refused { result ≡ 2 → output.new ≡ output.old }
+    ensures unasked { result ≡ 2 → input.new ≡ input.old }
     ensures unread { IsOfMessage request.now → input.new ≡ input.old }
 {
     match work(alloc, request, input, output) {

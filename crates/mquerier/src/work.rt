@@ -12,6 +12,7 @@ ghost use Rattle.mquerier.specs.Status.{IsNoAddress, IsOfMessage};
 ghost use Rattle.mquerier.specs.Working.{IsRefusal, IsUndecoded, IsUnwritten, Works, WorksOnMessage};
 
 use crate::failure::Failure;
+use crate::replaying::replay_capture;
 use hex::FromHexError;
 use mq_command::{Protocol, Request};
 use mq_count::Watched;
@@ -33,6 +34,7 @@ pub fn work<R: Read, W: Write>(
         result }
     ensures unwritten { IsUnwritten result → output.new ≡ output.old }
     ensures unread { IsOfMessage request.now → input.new ≡ input.old }
+    ensures refused { IsRefusal result → input.new ≡ input.old }
 {
     match request {
         Request::Message {
@@ -42,6 +44,12 @@ pub fn work<R: Read, W: Write>(
             to,
         } => message(alloc, *protocol, hex, *from, *to, output),
         Request::Show => listing(alloc, input, output),
+        Request::Replay {
+            protocol,
+            own,
+            settings,
+            until,
+        } => replay_capture(alloc, *protocol, own, settings, *until, input, output),
     }
 }
 
@@ -174,7 +182,7 @@ fn listing<R: Read, W: Write>(
 }
 
 /// Passes on all that the output holds back.
-fn flush<W: Write>(output: &mut Watched<W>) -> Result<(), Failure>
+pub(crate) fn flush<W: Write>(output: &mut Watched<W>) -> Result<(), Failure>
     ensures bytes { Keeps (W.contents (inner_of output.old)) (W.contents (inner_of output.new)) }
     ensures failed { has_failed output.new ≡ has_failed output.old || is_err result }
     ensures write { IfErr result (λ failure. failure ≡ Failure.Write) }
