@@ -12,9 +12,9 @@ all: bin/mquerier
 bin/mquerier: $(SOURCES)
 	@tools/build $(FIRST_PATH)
 
-# The listing of a capture.
+# What a querier makes of a capture of hosts.
 run: bin/mquerier
-	@bin/mquerier show < samples/igmp.pcap
+	@bin/mquerier replay igmp --own 10.9.0.1 --qri 2000 --lmqi 500 < samples/igmp.pcap
 
 # Shows that it holds here: proofs, tests, and runs of the program with refused calls. The last line counts what passed.
 test:
