@@ -7,6 +7,7 @@ pub mod Passing
 pub mod PrintedQueries
 pub mod ReadSoFar
 pub mod ReplayTexts
+pub mod ReplayedSoFar
 pub mod Shown
 pub mod Ticking
 pub mod TicksDone
