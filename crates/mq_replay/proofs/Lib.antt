@@ -7,5 +7,6 @@ pub mod Passing
 pub mod PrintedQueries
 pub mod ReadSoFar
 pub mod ReplayTexts
+pub mod ReplayedSoFar
 pub mod Shown
 pub mod Ticking
