@@ -8,5 +8,6 @@ pub mod PrintedQueries
 pub mod ReadSoFar
 pub mod ReplayTexts
 pub mod ReplayedSoFar
+pub mod Replays
 pub mod Shown
 pub mod Ticking

@@ -1,8 +1,6 @@
 -- A capture of which some packets were read and replayed.
-use Rattle.std.proofs.Common.{◌≡◌, ◌⊎◌, ℕ, ◌+◌, ◌<◌, ◌≤◌, Bool, true, false, List, [], ◌∷◌, ◌++◌, length, take, Option, None, Some, Result, Ok, Err, unwrap_or, refl, ap, sym, subst, ◌∙◌, append_assoc, append-nil, length-append, inl, inr, max, arith}
-use Rattle.std.specs.Io.KnownBytes.{IsAtEnd}
+use Rattle.std.proofs.Common.{◌≡◌, ℕ, ◌+◌, true, false, List, [], ◌∷◌, ◌++◌, length, take, Option, None, Some, Ok, unwrap_or, refl, ap, ◌∙◌, append_assoc, length-append}
 use Rattle.mq_pcap.specs.declared.fault.PcapFault.{PcapFault}
-use Rattle.mq_pcap.specs.declared.fault.PcapFault.TheVariants as fault
 use Rattle.mq_pcap.specs.declared.form.Form.{Form}
 use Rattle.mq_pcap.specs.declared.reader_state.Packet.{Packet}
 use Rattle.mq_pcap.specs.Capture.{Captured, AreRecords}
@@ -11,9 +9,8 @@ use Rattle.mq_pcap.specs.Frame.{carried_in}
 use Rattle.mq_pcap.specs.Reading.{Reads}
 use Rattle.mq_pcap.proofs.Filled.{Takes-nil, Takes-trans}
 use Rattle.mq_link.specs.Configuration.{Configuration}
-use Rattle.mq_link.specs.Counters.{Counters}
 use Rattle.mq_replay.specs.Listing.{moment_of}
-use Rattle.mq_replay.specs.Report.{Replayed, Course, at_the_start, with_packet, with_packets, is_gap}
+use Rattle.mq_replay.specs.Report.{Replayed, at_the_start, with_packet, with_packets, is_gap}
 
 -- Some bytes behind the file's header were read as packets, which were replayed. Whatever follows, its records are
 -- those behind these packets, and it is replayed behind them.
@@ -40,13 +37,13 @@ one_more : (config : Configuration) (form : Form) (first : Option ℕ) (before n
     → is_gap before (moment_of first before captured.stamp) ≡ false
     → with_packets config form.link first before number (captured ∷ more) r
     ≡ with_packets config form.link (Some (unwrap_or first captured.stamp)) (moment_of first before captured.stamp) (number + 1) more
-      (with_packet config (moment_of first before captured.stamp) number (carried_in form.link captured.bytes) r)
+    (with_packet config (moment_of first before captured.stamp) number (carried_in form.link captured.bytes) r)
 unfolding with_packets
 one_more config form first before number captured more r none =
     let moment = moment_of first before captured.stamp in
     ap (λ b. elim b [
-      true ↦ record { replayed = r; moment = before; gap = Some number }
-    | false ↦ with_packets config form.link (Some (unwrap_or first captured.stamp)) moment (number + 1) more (with_packet config moment number (carried_in form.link captured.bytes) r)
+      | true ↦ record { replayed = r; moment = before; gap = Some number }
+      | false ↦ with_packets config form.link (Some (unwrap_or first captured.stamp)) moment (number + 1) more (with_packet config moment number (carried_in form.link captured.bytes) r)
     ]) none
 
 -- a gap before a packet
@@ -57,8 +54,8 @@ unfolding with_packets
 gap_before config form first before number captured more r gap =
     let moment = moment_of first before captured.stamp in
     ap (λ b. elim b [
-      true ↦ record { replayed = r; moment = before; gap = Some number }
-    | false ↦ with_packets config form.link (Some (unwrap_or first captured.stamp)) moment (number + 1) more (with_packet config moment number (carried_in form.link captured.bytes) r)
+      | true ↦ record { replayed = r; moment = before; gap = Some number }
+      | false ↦ with_packets config form.link (Some (unwrap_or first captured.stamp)) moment (number + 1) more (with_packet config moment number (carried_in form.link captured.bytes) r)
     ]) gap
 
 pub none_left : (config : Configuration) (form : Form) (first : Option ℕ) (before number : ℕ) (r : Replayed)
@@ -71,7 +68,7 @@ pub next_replayed : (config : Configuration) (form : Form) (old mid new : InputS
     → is_gap before (moment_of first before packet.stamp_ms) ≡ false
     → IsReplayedTo config form old mid first before number r → Reads form (number + 1) mid new buffer (Ok (Some packet))
     → IsReplayedTo config form old new (Some (unwrap_or first packet.stamp_ms)) (moment_of first before packet.stamp_ms) (number + 1)
-      (with_packet config (moment_of first before packet.stamp_ms) (number + 1) (carried_in form.link (take packet.length buffer)) r)
+    (with_packet config (moment_of first before packet.stamp_ms) (number + 1) (carried_in form.link (take packet.length buffer)) r)
 next_replayed config form old mid new first before number r buffer packet none to reads =
     let captured : Captured = record { stamp = packet.stamp_ms; bytes = take packet.length buffer } in
     record {

@@ -7,7 +7,7 @@
 //! ```
 //!
 //! - Lines: `igmp_line`, `mld_line`.
-//! - The listing of a capture: `show`, and `ReplayFault`, which says why it ended early.
+//! - The listing of a capture: `show`, and its replay on a link: `replay`; and `ReplayFault`, which says why one ended early.
 //! - Printing on a watched writer: `print`, and `LineFault`, which says that a write failed.
 #![tactic(auto)]
 

@@ -1,9 +1,14 @@
 //! The replay of a capture.
 
-ghost use Rattle.std.specs.Prelude.{◌≡◌, ◌≤◌, ◌+◌, ◌^◌, ◌||◌, is_err, length, IfSome};
-ghost use Rattle.mq_count.specs.Streams.{inner_of, has_failed};
-ghost use Rattle.mq_pcap.specs.Capture.{most_bytes};
+ghost use Rattle.std.specs.Prelude.{◌≡◌, ◌<◌, ◌≤◌, ◌+◌, ◌^◌, length, IfSome};
+ghost use Rattle.mq_count.specs.Streams.{inner_of};
+ghost use Rattle.mq_link.specs.State.{link_at};
+ghost use Rattle.mq_pcap.specs.declared.reader_state.Progress.TheVariants.{Reading};
+ghost use Rattle.mq_pcap.specs.Capture.{endless, most_bytes};
 ghost use Rattle.mq_pcap.specs.Filling.{input_of};
+ghost use Rattle.mq_pcap.specs.Reading.{form_of, number_of, progress_of};
+ghost use Rattle.mq_replay.specs.PuttingReports as spec;
+ghost use Rattle.mq_replay.specs.PuttingReports.{IsRestPut, PutsRecords, PutsReport, counted, rest_of};
 ghost use Rattle.mq_replay.specs.Replaying.{Replays};
 
 use crate::buffer::{Buffer, flush};
@@ -48,7 +53,14 @@ where
     let Ok(mut link) = Link::new(alloc, config, start) else {
         return Err(ReplayFault::Memory);
     };
-    replay_on(&mut link, until, start, packet.as_mut_slice(), reader, writer)?;
+    replay_on(
+        &mut link,
+        until,
+        start,
+        packet.as_mut_slice(),
+        reader,
+        writer,
+    )?;
     Ok(link.into_counts())
 }
 
@@ -65,6 +77,12 @@ where
     F::Address: LineKey,
     requires room { most_bytes ≤ length packet.old }
     requires in_range { IfSome until (λ moment. moment ≤ 2 ^ 53) }
+    requires at_0 { start ≡ 0 }
+    requires starts { link.old.state ≡ link_at link.old.config 0 }
+    ensures replays { Replays link.old.config until
+        (input_of R.remaining reader.old) (input_of R.remaining reader.new)
+        (W.contents (inner_of writer.old)) (W.contents (inner_of writer.new))
+        (counted link.new.state.counters result) }
 {
     let mut buffer = Buffer::new();
     let answer = put_replay(link, until, start, packet, &mut buffer, reader, writer);
@@ -76,7 +94,9 @@ where
 }
 
 /// Whether a replay broke off since a write failed.
-fn is_failed_write(answer: &Result<(), ReplayFault>) -> bool {
+fn is_failed_write(answer: &Result<(), ReplayFault>) -> bool
+    ensures { result ≡ spec.is_failed_write answer.now }
+{
     matches!(answer, Err(ReplayFault::Write))
 }
 
@@ -94,8 +114,50 @@ where
     F::Address: LineKey,
     requires room { most_bytes ≤ length packet.old }
     requires in_range { IfSome until (λ moment. moment ≤ 2 ^ 53) }
+    requires at_0 { start ≡ 0 }
+    requires starts { link.old.state ≡ link_at link.old.config 0 }
+    ensures puts { PutsReport link.old.config until
+        (input_of R.remaining reader.old) (input_of R.remaining reader.new)
+        (W.contents (inner_of writer.old)) (W.contents (inner_of writer.new))
+        buffer.old.items buffer.new.items (counted link.new.state.counters result) }
 {
     let mut capture = PcapReader::open(reader)?;
+    put_packets(
+        link,
+        until,
+        start,
+        &mut capture,
+        packet,
+        buffer,
+        reader,
+        writer,
+    )
+}
+
+/// Puts the lines of the packets of a capture of which none was read, and of the end.
+fn put_packets<F: CapturedFamily, R: Read, W: Write>(
+    link: &mut Link<F>,
+    until: Option<Moment>,
+    start: Moment,
+    capture: &mut PcapReader,
+    packet: &mut [u8],
+    buffer: &mut Buffer,
+    reader: &mut Watched<R>,
+    writer: &mut Watched<W>,
+) -> Result<(), ReplayFault>
+where
+    F::Address: LineKey,
+    requires room { most_bytes ≤ length packet.old }
+    requires first { number_of capture.old ≡ 1 }
+    requires reading { progress_of capture.old ≡ Reading }
+    requires in_range { IfSome until (λ moment. moment ≤ 2 ^ 53) }
+    requires at_0 { start ≡ 0 }
+    requires starts { link.old.state ≡ link_at link.old.config 0 }
+    ensures puts { PutsRecords link.old.config until (form_of capture.old)
+        (input_of R.remaining reader.old) (input_of R.remaining reader.new)
+        (W.contents (inner_of writer.old)) (W.contents (inner_of writer.new))
+        buffer.old.items buffer.new.items (counted link.new.state.counters result) }
+{
     let mut number = 0;
     let mut stamps = Stamps::new();
     let mut last = start;
@@ -111,6 +173,28 @@ where
         let inner = unwrap_frame(capture.link(), &packet[..read.length]);
         replay_packet(link, moment, number, &inner, buffer, writer)?;
     }
+    put_rest(link, until, last, number, buffer, writer)
+}
+
+/// Puts what stands behind the packets of a capture that has ended: what the link is and holds at the end of the replay,
+/// unless there is a gap before that.
+fn put_rest<F: CapturedFamily, W: Write>(
+    link: &mut Link<F>,
+    until: Option<Moment>,
+    last: Moment,
+    number: u64,
+    buffer: &mut Buffer,
+    writer: &mut Watched<W>,
+) -> Result<(), ReplayFault>
+where
+    F::Address: LineKey,
+    requires few { number < endless }
+    requires last_in_range { last ≤ 2 ^ 53 }
+    requires in_range { IfSome until (λ moment. moment ≤ 2 ^ 53) }
+    ensures rest { IsRestPut (rest_of link.old.config until last (number + 1) link.old.state)
+        (W.contents (inner_of writer.old)) (W.contents (inner_of writer.new))
+        buffer.old.items buffer.new.items (counted link.new.state.counters result) }
+{
     let end = last_moment(until, last);
     if is_gap(last, end) {
         return Err(ReplayFault::Gap { number: number + 1 });
