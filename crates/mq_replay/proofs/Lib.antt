@@ -7,5 +7,7 @@ pub mod Passing
 pub mod PrintedQueries
 pub mod ReadSoFar
 pub mod ReplayTexts
+pub mod ReplayedSoFar
+pub mod Replays
 pub mod Shown
 pub mod Ticking

@@ -4,6 +4,7 @@ pub mod Listing
 pub mod Numbered
 pub mod Printing
 pub mod Putting
+pub mod PuttingReports
 pub mod QueryLines
 pub mod ReplayLines
 pub mod Replaying

@@ -7,7 +7,7 @@
 //! ```
 //!
 //! - Lines: `igmp_line`, `mld_line`.
-//! - The listing of a capture: `show`, and `ReplayFault`, which says why it ended early.
+//! - The listing of a capture: `show`, and its replay on a link: `replay`; and `ReplayFault`, which says why one ended early.
 //! - Printing on a watched writer: `print`, and `LineFault`, which says that a write failed.
 #![tactic(auto)]
 
@@ -26,6 +26,7 @@ mod query_outlet;
 mod replay_fault;
 mod replay_lines;
 mod replay_pieces;
+mod replaying;
 mod sent_queries;
 mod stamps;
 mod ticks;
@@ -36,3 +37,4 @@ pub use lines::{igmp_line, mld_line};
 pub use listing::show;
 pub use printing::{LineFault, print};
 pub use replay_fault::ReplayFault;
+pub use replaying::replay;
