@@ -1,7 +1,7 @@
 //! The replay of a capture.
 
-ghost use Rattle.std.specs.Prelude.{◌≡◌, ◌<◌, ◌≤◌, ◌+◌, ◌^◌, length, IfSome};
-ghost use Rattle.mq_count.specs.Streams.{inner_of};
+ghost use Rattle.std.specs.Prelude.{◌≡◌, ◌<◌, ◌≤◌, ◌+◌, ◌^◌, ◌||◌, length, IfSome};
+ghost use Rattle.mq_count.specs.Streams.{inner_of, has_failed};
 ghost use Rattle.mq_link.specs.State.{link_at};
 ghost use Rattle.mq_pcap.specs.declared.reader_state.Progress.TheVariants.{Reading};
 ghost use Rattle.mq_pcap.specs.Capture.{endless, most_bytes};
@@ -43,6 +43,8 @@ where
         (input_of R.remaining reader.old) (input_of R.remaining reader.new)
         (W.contents (inner_of writer.old)) (W.contents (inner_of writer.new))
         result }
+    ensures failed { has_failed writer.new ≡ has_failed writer.old || spec.is_failed_write result }
+    ensures memory { result ≡ Err ReplayFault.Memory → (reader.new ≡ reader.old) × (writer.new ≡ writer.old) }
 {
     let Some(start) = Moment::from_ms(0) else {
         unreachable!()
@@ -83,6 +85,8 @@ where
         (input_of R.remaining reader.old) (input_of R.remaining reader.new)
         (W.contents (inner_of writer.old)) (W.contents (inner_of writer.new))
         (counted link.new.state.counters result) }
+    ensures failed { has_failed writer.new ≡ has_failed writer.old || spec.is_failed_write result }
+    ensures no_memory { result ≡ Err ReplayFault.Memory → ⊥ }
 {
     let mut buffer = Buffer::new();
     let answer = put_replay(link, until, start, packet, &mut buffer, reader, writer);
@@ -120,6 +124,8 @@ where
         (input_of R.remaining reader.old) (input_of R.remaining reader.new)
         (W.contents (inner_of writer.old)) (W.contents (inner_of writer.new))
         buffer.old.items buffer.new.items (counted link.new.state.counters result) }
+    ensures failed { has_failed writer.new ≡ has_failed writer.old || spec.is_failed_write result }
+    ensures no_memory { result ≡ Err ReplayFault.Memory → ⊥ }
 {
     let mut capture = PcapReader::open(reader)?;
     put_packets(
@@ -157,6 +163,8 @@ where
         (input_of R.remaining reader.old) (input_of R.remaining reader.new)
         (W.contents (inner_of writer.old)) (W.contents (inner_of writer.new))
         buffer.old.items buffer.new.items (counted link.new.state.counters result) }
+    ensures failed { has_failed writer.new ≡ has_failed writer.old || spec.is_failed_write result }
+    ensures no_memory { result ≡ Err ReplayFault.Memory → ⊥ }
 {
     let mut number = 0;
     let mut stamps = Stamps::new();
@@ -194,6 +202,8 @@ where
     ensures rest { IsRestPut (rest_of link.old.config until last (number + 1) link.old.state)
         (W.contents (inner_of writer.old)) (W.contents (inner_of writer.new))
         buffer.old.items buffer.new.items (counted link.new.state.counters result) }
+    ensures failed { has_failed writer.new ≡ has_failed writer.old || spec.is_failed_write result }
+    ensures no_memory { result ≡ Err ReplayFault.Memory → ⊥ }
 {
     let end = last_moment(until, last);
     if is_gap(last, end) {

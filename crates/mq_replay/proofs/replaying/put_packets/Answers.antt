@@ -25,6 +25,7 @@ loop-read-init g c =
       few = omega arith;
       room = c.requires.room;
       read = refl;
+      written = refl;
     }
 
 pub loop-read-preserved : goal.loop-read-preserved
@@ -46,39 +47,38 @@ loop-read-preserved g c =
       few = read.answers.0;
       room = let room = now.room in omega (arith, c.next.auto.buffer);
       read = read.failed ∙ or-false _ ∙ now.read;
+      written = c.in_ok-replay_packet.ensures.failed ∙ or-false _ ∙ now.written;
     }
 
-pub returns-in_err-read : goal.returns-in_err-read
-returns-in_err-read g c =
+pub returns-in_err-read-clause-puts : goal.returns-in_err-read-clause-puts
+returns-in_err-read-clause-puts g c =
     let p = err_from_is_err_and c.from_residual.result c.from_residual.ensures.1 in
     let now = c.loop-read.invariant in
     let read = read_as _ _ _ _ _ _ _ _ _ now.form now.next refl (c.in_err-read.ensures.reads now.reading) in
-    rw (p.1, p.2) (record { puts = ended_faulty _ _ _ _ _ _ _ _ _ _ _ _ _ _ _ _ now.put.1 now.put.3 now.read read })
+    rw (p.1, p.2) (ended_faulty _ _ _ _ _ _ _ _ _ _ _ _ _ _ _ _ now.put.1 now.put.3 now.read read)
 
-pub returns-then-is_gap : goal.returns-then-is_gap
-returns-then-is_gap g c =
+pub returns-then-is_gap-clause-puts : goal.returns-then-is_gap-clause-puts
+returns-then-is_gap-clause-puts g c =
     let now = c.loop-read.invariant in
     let answered = ap Ok c.in-Some.is in
     let read = read_as _ _ _ _ _ _ _ _ _ now.form now.next answered (c.in_ok-read.ensures.reads now.reading) in
     let is_moment = c.in-Some-from_ms.ensures.1 in
-    record { puts = ended_by_gap_as _ _ _ _ _ _ _ _ _ _ _ _ _ _ c.in-Some.read _ _ _ (is_moment ∙ c.moment_of_next.ensures.moment) now.last (sym c.is_gap.ensures ∙ c.if-is_gap.true) now.put.1 now.put.3 now.read read }
+    ended_by_gap_as _ _ _ _ _ _ _ _ _ _ _ _ _ _ c.in-Some.read _ _ _ (is_moment ∙ c.moment_of_next.ensures.moment) now.last (sym c.is_gap.ensures ∙ c.if-is_gap.true) now.put.1 now.put.3 now.read read
 
-pub returns-in_err-replay_packet : goal.returns-in_err-replay_packet
-returns-in_err-replay_packet g c =
+pub returns-in_err-replay_packet-clause-puts : goal.returns-in_err-replay_packet-clause-puts
+returns-in_err-replay_packet-clause-puts g c =
     let p = err_from_is_err_and c.from_residual-in_err-replay_packet.result c.from_residual-in_err-replay_packet.ensures.1 in
     let now = c.loop-read.invariant in
     let answered = ap Ok c.in-Some.is in
     let read = read_as _ _ _ _ _ _ _ _ _ now.form now.next answered (c.in_ok-read.ensures.reads now.reading) in
     let form = c.next.ensures.form ∙ now.form in
     let is_moment = c.in-Some-from_ms.ensures.1 in
-    rw (p.1, p.2) (record {
-      puts = ended_broken_as _ _ _ _ _ _ _ _ _ _ _ _ _ _ _ _ c.in-Some.read _ _ _ _ _ _ _ _ (is_moment ∙ c.moment_of_next.ensures.moment) now.last
-          (c.link.ensures ∙ ap (λ (f : Form). f.link) form) c.unwrap_frame-inner.ensures (sym c.is_gap.ensures ∙ c.if-is_gap.false) now.config now.put.2 now.put.1 now.put.3 read c.in_err-replay_packet.ensures.puts;
-    })
+    rw (p.1, p.2) (ended_broken_as _ _ _ _ _ _ _ _ _ _ _ _ _ _ _ _ c.in-Some.read _ _ _ _ _ _ _ _ (is_moment ∙ c.moment_of_next.ensures.moment) now.last
+          (c.link.ensures ∙ ap (λ (f : Form). f.link) form) c.unwrap_frame-inner.ensures (sym c.is_gap.ensures ∙ c.if-is_gap.false) now.config now.put.2 now.put.1 now.put.3 read c.in_err-replay_packet.ensures.puts)
 
-pub returns : goal.returns
-returns g c =
+pub returns-clause-puts : goal.returns-clause-puts
+returns-clause-puts g c =
     let now = c.loop-read.invariant in
     let answered = ap Ok (none_left _ c.in_default.not-Some) in
     let read = read_as _ _ _ _ _ _ _ _ _ now.form now.next answered (c.in_ok-read.ensures.reads now.reading) in
-    record { puts = ended_well_as _ _ _ _ _ _ _ _ _ _ _ _ _ _ _ _ c.loop-read.link _ _ _ now.last now.config now.put.2 now.put.1 now.put.3 now.read read c.put_rest.ensures.rest }
+    ended_well_as _ _ _ _ _ _ _ _ _ _ _ _ _ _ _ _ c.loop-read.link _ _ _ now.last now.config now.put.2 now.put.1 now.put.3 now.read read c.put_rest.ensures.rest

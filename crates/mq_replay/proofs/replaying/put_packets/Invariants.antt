@@ -27,6 +27,7 @@ invariant-loop-read g l =
       few : l.number < endless;
       room : most_bytes ≤ length l.packet;
       read : has_failed l.reader ≡ has_failed l.fn.reader;
+      written : has_failed l.writer ≡ has_failed l.fn.writer;
     }
 
 abbrev pub decreases-loop-read : goal.decreases-loop-read
