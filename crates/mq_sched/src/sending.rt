@@ -8,8 +8,8 @@ ghost use Rattle.mq_sched.specs.Schedule.{ScheduledGroup};
 ghost use Rattle.mq_sched.specs.Sending.{is_due, group_messages, source_messages, messages_due, group_counted, sources_due_next, after_round};
 ghost use Rattle.mq_sched.specs.Sink.{Sends};
 
-use crate::queries::QuerySchedule;
 use crate::portions::send_sources;
+use crate::queries::QuerySchedule;
 use crate::schedules::{Schedule, has_sendings};
 use crate::sinks::{QueryParts, Sink};
 use mq_count::{Key, Meter, Moment};

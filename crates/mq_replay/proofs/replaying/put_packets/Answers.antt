@@ -74,7 +74,7 @@ returns-in_err-replay_packet-clause-puts g c =
     let form = c.next.ensures.form ∙ now.form in
     let is_moment = c.in-Some-from_ms.ensures.1 in
     rw (p.1, p.2) (ended_broken_as _ _ _ _ _ _ _ _ _ _ _ _ _ _ _ _ c.in-Some.read _ _ _ _ _ _ _ _ (is_moment ∙ c.moment_of_next.ensures.moment) now.last
-          (c.link.ensures ∙ ap (λ (f : Form). f.link) form) c.unwrap_frame-inner.ensures (sym c.is_gap.ensures ∙ c.if-is_gap.false) now.config now.put.2 now.put.1 now.put.3 read c.in_err-replay_packet.ensures.puts)
+    (c.link.ensures ∙ ap (λ (f : Form). f.link) form) c.unwrap_frame-inner.ensures (sym c.is_gap.ensures ∙ c.if-is_gap.false) now.config now.put.2 now.put.1 now.put.3 read c.in_err-replay_packet.ensures.puts)
 
 pub returns-clause-puts : goal.returns-clause-puts
 returns-clause-puts g c =
