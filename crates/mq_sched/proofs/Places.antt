@@ -1,14 +1,18 @@
 -- Places, each of which stands once in an order: counts, and places that move.
-use Rattle.std.proofs.Common.{ℕ, ◌+◌, ◌-◌, ◌<◌, ◌≤◌, ◌≡◌, ◌==◌, Bool, true, false, cond, arith, refl, List, [], ◌∷◌, ◌++◌, length, get_or, set, map, take, drop, sym, ap, ⊎_elim}
+use Rattle.std.proofs.Common.{ℕ, ◌+◌, ◌-◌, ◌<◌, ◌≤◌, ◌≡◌, ◌==◌, Bool, true, false, cond, arith, refl, List, [], ◌∷◌, ◌++◌, length, get_or, set, map, take, drop, sym, ap, ◌∙◌, ◌||◌, ⊎_elim}
 use Rattle.std.specs.List.{All, count_by}
 use Rattle.std.specs.List.Sorted.{IsNonDecreasingBy}
-use Rattle.std.proofs.lemmas.Bool.{cases_lt, eq-eqb, lt-ltb, le-ltb}
+use Rattle.std.specs.Prelude.{nat_lt}
+use Rattle.std.proofs.Math.Bool.{or-true, or-false}
+use Rattle.std.proofs.lemmas.Bool.{cases_lt, eq-eqb, false≢true, lt-ltb, le-ltb}
 use Rattle.std.proofs.lemmas.Bool.Decides.{eqb_tells}
 use Rattle.std.proofs.lemmas.List.{get_or_default, get_or-map, get_or-set_other, length-map}
 use Rattle.std.proofs.lemmas.List.Edits.{map_over_more}
 use Rattle.std.proofs.lemmas.List.Elements.{All-head, All-tail}
 use Rattle.std.proofs.lemmas.List.Folds.{fold-map}
-use Rattle.std.proofs.lemmas.List.Sums.{sum_by-le, sum_by-cons, get_or-le-sum_by}
+use Rattle.std.proofs.lemmas.List.Sums.{sum_by-le, sum_by-cons, sum_by-append, get_or-le-sum_by, count_by_more_no, count_by_more_yes}
+use Rattle.std.proofs.Math.Seq.{take-add}
+use Rattle.std.proofs.lemmas.List.{take_all}
 use Rattle.mq_sets.proofs.Ascents.{below-eqb, above-eqb}
 use Rattle.mq_sched.specs.Deadlines.{moved_up, moved_down}
 
@@ -122,3 +126,45 @@ module _ (from p q : ℕ) where
       (λ (behind : from < q). let moved = moved_down-behind from q behind in eqb-agree (moved_down from q) p q (p + 1) (λ same. omega arith) (λ same. omega arith))
       (λ (upto : q ≤ from). let moved = moved_down-upto from q upto in eqb-agree (moved_down from q) p q (p + 1) (λ same. absurd (differs (omega arith))) (λ same. absurd (omega arith)))
       (cases_lt from q)
+
+-- a count that is not above 0 is 0
+none_counted : (n : ℕ) → false ≡ nat_lt 0 n → n ≡ 0
+none_counted n none =
+    ⊎_elim (λ (some : 0 < n). absurd (false≢true (none ∙ lt-ltb 0 n some))) (λ (upto : n ≤ 0). omega (arith, upto)) (cases_lt 0 n)
+
+-- one place more is looked at
+pub among_one_more : (places : List ℕ) (place k : ℕ) (seen : Bool) → k < length places → seen ≡ nat_lt 0 (count_by (λ other. other == place) (take k places)) → (seen || (get_or places k 0 == place)) ≡ nat_lt 0 (count_by (λ other. other == place) (take (k + 1) places))
+among_one_more places place k seen in_list so_far =
+    ⊎_elim
+    (λ here.
+    let more = count_by_more_yes (λ other. other == place) places k 0 in_list here.0 in
+    let some : 0 < count_by (λ other. other == place) (take (k + 1) places) = omega (arith, more) in
+    rw (here.0, lt-ltb 0 (count_by (λ other. other == place) (take (k + 1) places)) some) (or-true seen))
+    (λ other.
+    let same = count_by_more_no (λ other. other == place) places k 0 in_list other.0 in
+    rw (other.0, same) (or-false seen ∙ so_far))
+    (eqb_tells (get_or places k 0) place)
+
+-- none of the first places of an order is the one that is looked for
+pub record NoneBelow (order : List ℕ) (place k : ℕ) : Type 0 where
+  pub within : k ≤ length order
+  pub none : count_by (λ other. other == place) (take k order) ≡ 0
+
+pub none_below-start : (order : List ℕ) (place : ℕ) → NoneBelow order place 0
+none_below-start order place = record { within = omega arith; none = refl }
+
+pub none_below-block : (order : List ℕ) (place k n : ℕ) → k + n ≤ length order → false ≡ nat_lt 0 (count_by (λ other. other == place) (take n (drop k order))) → NoneBelow order place k → NoneBelow order place (k + n)
+none_below-block order place k n within none so_far =
+    let block = none_counted (count_by (λ other. other == place) (take n (drop k order))) none in
+    let both = sum_by-append (λ other. cond (other == place) 1 0) (take k order) (take n (drop k order)) in
+    record { within = within; none = rw (take-add k n order) (omega (arith, block, both, so_far.none)) }
+
+pub none_below-next : (order : List ℕ) (place k : ℕ) → k < length order → (get_or order k 0 ≡ place → ⊥) → NoneBelow order place k → NoneBelow order place (k + 1)
+none_below-next order place k in_list other so_far =
+    let differs = ⊎_elim (λ same. absurd (other same.1)) (λ told. told.0) (eqb_tells (get_or order k 0) place) in
+    let same = count_by_more_no (λ other. other == place) order k 0 in_list differs in
+    record { within = omega (arith, in_list); none = same ∙ so_far.none }
+
+pub none_at_all : (order : List ℕ) (place k : ℕ) → length order ≤ k → NoneBelow order place k → 0 < count_by (λ other. other == place) order → ⊥
+none_at_all order place k all so_far some =
+    let none = rw (take_all k order all) at so_far.none in omega (arith, none, some)

@@ -11,7 +11,7 @@ use Rattle.std.proofs.lemmas.List.Sums.{sum_by-insert, sum_by-remove}
 use Rattle.std.proofs.lemmas.List.Sorted.{IsNonDecreasingBy-insert}
 use Rattle.mq_sets.proofs.Ascents.{below-eqb, above-eqb}
 use Rattle.mq_sched.specs.Deadlines.{IsOrder, moved_down}
-use Rattle.mq_sched.proofs.Places.{count-some, count-map, count-agree, ascending-map, ascending-agree, moved_down-upto, moved_down-behind, moved_down-at_below, moved_down-at_behind}
+use Rattle.mq_sched.proofs.Places.{get_or_any, count-some, count-map, count-agree, ascending-map, ascending-agree, moved_down-upto, moved_down-behind, moved_down-at_below, moved_down-at_behind}
 
 -- each place but one stands in it once
 pub record IsWithout (deadlines order : List ℕ) (place : ℕ) : Type 0 where
@@ -113,3 +113,7 @@ module _ (deadlines order : List ℕ) (place : ℕ) (in_list : place < length de
               (λ k d here. rw at (before k d (omega arith) here))
               (λ k d from here. rw at (behind k d from here));
         }
+
+-- what is taken out of an order at the index of a place is this place
+pub place_taken : (order : List ℕ) (index place taken : ℕ) → index < length order → get_or order index 0 ≡ place → taken ≡ get_or order index taken → taken ≡ place
+place_taken order index place taken within found value = value ∙ get_or_any order index taken within ∙ found

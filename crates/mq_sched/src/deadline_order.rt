@@ -1,6 +1,6 @@
 //! The places of groups in the order of their deadlines.
 
-ghost use Rattle.std.specs.Prelude.{◌≡◌, ℕ, ◌+◌, ◌-◌, ◌*◌, ◌^◌, ◌<◌, ◌≤◌, ◌==◌, min, map, length, slice_index};
+ghost use Rattle.std.specs.Prelude.{◌≡◌, ℕ, ◌+◌, ◌-◌, ◌*◌, ◌^◌, ◌<◌, ◌≤◌, ◌==◌, min, map, length, slice_index, nat_lt};
 ghost use Rattle.std.specs.List.{All, AllWithin, count_by};
 ghost use Rattle.std.specs.List.Sorted.{IsNonDecreasingBy};
 ghost use Rattle.mq_count.specs.Spending.{Spends};
@@ -9,9 +9,27 @@ ghost use Rattle.mq_sched.specs.Deadlines as deadlines;
 
 use mq_count::{Meter, Moment};
 
+/// A place, as it stands in the order.
+pub(crate) fn as_place(place: usize) -> u16
+    requires { place < 2 ^ 16 }
+    ensures { result ≡ place }
+{
+    place as u16
+}
+
+/// Writes the places of a part of the order to `places`, which is as long.
+pub(crate) fn copy_places(order: &[u16], places: &mut [usize])
+    requires { length places.old ≡ length order.now }
+    ensures { places.new ≡ order.now }
+{
+    for (index, place) in order.iter().enumerate() {
+        places[index] = *place as usize;
+    }
+}
+
 /// Where in the order a place with the deadline `due` goes: behind all whose deadlines are at or
 /// before it.
-pub(crate) fn index_for(moments: &[Moment], order: &[usize], due: Moment, m: &mut Meter) -> usize
+pub(crate) fn index_for(moments: &[Moment], order: &[u16], due: Moment, m: &mut Meter) -> usize
     requires below { All (λ place. place < length moments.now) order.now }
     requires ascending { IsNonDecreasingBy (λ place. slice_index moments.now place) order.now }
     ensures within { result ≤ length order.now }
@@ -23,7 +41,7 @@ pub(crate) fn index_for(moments: &[Moment], order: &[usize], due: Moment, m: &mu
     let mut high = order.len();
     while low < high {
         let middle = low + (high - low) / 2;
-        let place = order[middle];
+        let place = order[middle] as usize;
         if m.reached(moments[place], due) {
             low = middle + 1;
         } else {
@@ -33,23 +51,42 @@ pub(crate) fn index_for(moments: &[Moment], order: &[usize], due: Moment, m: &mu
     low
 }
 
-/// Where in the order a place stands.
-pub(crate) fn index_of(order: &[usize], place: usize) -> usize
+/// How many places are looked through at once.
+const BLOCK: usize = 64;
+
+/// Whether a place is among these. Each is looked at, without a branch, so that a compiler looks at several in one step.
+fn is_among(places: &[u16], place: u16) -> bool
+    ensures { result ≡ nat_lt 0 (count_by (λ other. other == place) places.now) }
+{
+    let mut is_there = false;
+    for other in places {
+        is_there |= *other == place;
+    }
+    is_there
+}
+
+/// Where in the order a place stands that stands in it.
+pub(crate) fn index_of(order: &[u16], place: u16) -> usize
     requires { 0 < count_by (λ other. other == place) order.now }
     ensures within { result < length order.now }
     ensures found { slice_index order.now result ≡ place }
 {
-    for (index, other) in order.iter().enumerate() {
-        if *other == place {
-            return index;
+    let mut start = 0;
+    while BLOCK <= order.len() - start && !is_among(&order[start..start + BLOCK], place) {
+        start += BLOCK;
+    }
+    while start < order.len() {
+        if order[start] == place {
+            return start;
         }
+        start += 1;
     }
     unreachable!()
 }
 
 /// How many places, from the front on, have deadlines at or before `now`. One comparison for each,
 /// and one more for the first that does not.
-pub(crate) fn count_due(moments: &[Moment], order: &[usize], now: Moment, m: &mut Meter) -> usize
+pub(crate) fn count_due(moments: &[Moment], order: &[u16], now: Moment, m: &mut Meter) -> usize
     requires below { All (λ place. place < length moments.now) order.now }
     requires ascending { IsNonDecreasingBy (λ place. slice_index moments.now place) order.now }
     ensures within { result ≤ length order.now }
@@ -58,7 +95,7 @@ pub(crate) fn count_due(moments: &[Moment], order: &[usize], now: Moment, m: &mu
     ensures spent { let count = min (result + 1) (length order.now) in Spends count count m.old m.new }
 {
     for (index, place) in order.iter().enumerate() {
-        if !m.reached(moments[*place], now) {
+        if !m.reached(moments[*place as usize], now) {
             return index;
         }
     }
@@ -66,8 +103,8 @@ pub(crate) fn count_due(moments: &[Moment], order: &[usize], now: Moment, m: &mu
 }
 
 /// The places once a place is made at `from`: those from there on move up by one.
-pub(crate) fn move_up(order: &mut [usize], from: usize)
-    requires { All (λ place. place + 1 < 2 ^ 64) order.old }
+pub(crate) fn move_up(order: &mut [u16], from: u16)
+    requires { All (λ place. place + 1 < 2 ^ 16) order.old }
     ensures { order.new ≡ map (deadlines.moved_up from) order.old }
 {
     for place in order.iter_mut() {
@@ -76,7 +113,7 @@ pub(crate) fn move_up(order: &mut [usize], from: usize)
 }
 
 /// The places once the place at `from` is deleted: those behind it move down by one.
-pub(crate) fn move_down(order: &mut [usize], from: usize)
+pub(crate) fn move_down(order: &mut [u16], from: u16)
     ensures { order.new ≡ map (deadlines.moved_down from) order.old }
 {
     for place in order.iter_mut() {
@@ -84,14 +121,14 @@ pub(crate) fn move_down(order: &mut [usize], from: usize)
     }
 }
 
-fn moved_up(place: usize, from: usize) -> usize
-    requires { place + 1 < 2 ^ 64 }
+fn moved_up(place: u16, from: u16) -> u16
+    requires { place + 1 < 2 ^ 16 }
     ensures { result ≡ deadlines.moved_up from place }
 {
     if place < from { place } else { place + 1 }
 }
 
-fn moved_down(place: usize, from: usize) -> usize
+fn moved_down(place: u16, from: u16) -> u16
     ensures { result ≡ deadlines.moved_down from place }
 {
     if from < place { place - 1 } else { place }

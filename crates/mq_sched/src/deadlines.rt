@@ -7,27 +7,33 @@ ghost use Rattle.mq_sets.specs.Search.{bitlen};
 ghost use Rattle.mq_sets.specs.Ascending.{IsAscending, set_of};
 ghost use Rattle.mq_sched.specs.Deadlines.{DeadlinesState, IsEarliest, is_due};
 
-use crate::deadline_order::{count_due, index_for, index_of, move_down, move_up};
+use crate::deadline_order::{
+    as_place, copy_places, count_due, index_for, index_of, move_down, move_up,
+};
 use mq_count::{Meter, Moment};
 use mq_sets::Memory;
 use std::alloc::Global;
 use std::marker::Model;
+
+/// How many places there may be.
+const PLACES: usize = 65536;
 
 /// The earliest deadline of each held group, by the group's place in the ascending list of groups. A
 /// contract sees the list of these deadlines, and the room: for how many of them memory was reserved.
 /// `with_room` takes that memory, and no other call takes any.
 ///
 /// Beside the deadlines stands the order of the places by their deadlines, those of one moment in any
-/// order. So the earliest is at hand, and those that are due stand in front.
+/// order. So the earliest is at hand, and those that are due stand in front. A place is kept in 16 bits,
+/// so that few bytes are looked through and moved where a deadline changes.
 #[derive(Drop)]
 pub struct Deadlines {
     moments: Vec<Moment>,
-    order: Vec<usize>,
+    order: Vec<u16>,
     room: usize,
 }
 
 impl Model for Deadlines {
-    ghost use Rattle.std.specs.Prelude.{◌≤◌, vec_capacity};
+    ghost use Rattle.std.specs.Prelude.{◌≤◌, ◌^◌, length, vec_capacity};
     ghost use Rattle.mq_sched.specs.Deadlines.{DeadlinesState, IsOrder};
 
     ghost Value = { DeadlinesState };
@@ -35,15 +41,21 @@ impl Model for Deadlines {
     ghost view = { λ d. record { deadlines = d.moments.items; room = d.room } };
 
     ghost invariant = { λ d. IsOrder d.moments.items d.order.items
+        × (length d.moments.items ≤ d.room)
+        × (d.room ≤ 2 ^ 16)
         × (d.room ≤ vec_capacity d.moments)
         × (d.room ≤ vec_capacity d.order) };
 }
 
 impl Deadlines {
-    /// No deadlines, with room for so many, or `Memory` where that memory was refused.
+    /// No deadlines, with room for so many, or `Memory` where that memory was refused or they are more than
+    /// have a place.
     pub fn with_room(alloc: Global, room: usize) -> Result<Deadlines, Memory>
         ensures { IfOk result (λ d. d ≡ record { deadlines = []; room = room }) }
     {
+        if room > PLACES {
+            return Err(Memory);
+        }
         Ok(Deadlines {
             moments: Vec::with_capacity(alloc, room)?,
             order: Vec::with_capacity(alloc, room)?,
@@ -70,7 +82,7 @@ impl Deadlines {
         ensures { MatchOption result (self.now.deadlines ≡ []) (IsEarliest self.now.deadlines) }
     {
         let first = self.order.first()?;
-        Some(self.moments[*first])
+        Some(self.moments[*first as usize])
     }
 
     /// A group was made at a place, with its earliest deadline. The places from there on move up by
@@ -83,8 +95,9 @@ impl Deadlines {
             Spends (min 1 had) (bitlen had) m.old m.new }
     {
         let index = index_for(&self.moments, &self.order, due, m);
-        move_up(&mut self.order, place);
-        self.order.insert(index, place).unwrap();
+        let as_kept = as_place(place);
+        move_up(&mut self.order, as_kept);
+        self.order.insert(index, as_kept).unwrap();
         self.moments.insert(place, due).unwrap();
     }
 
@@ -93,9 +106,9 @@ impl Deadlines {
         requires place { place < length self.old.deadlines }
         ensures { self.new ≡ record self.old { deadlines = remove self.old.deadlines place } }
     {
-        let index = index_of(&self.order, place);
-        self.order.remove(index);
-        move_down(&mut self.order, place);
+        let index = index_of(&self.order, as_place(place));
+        let as_kept = self.order.remove(index);
+        move_down(&mut self.order, as_kept);
         self.moments.remove(place);
     }
 
@@ -107,11 +120,11 @@ impl Deadlines {
         ensures spent { let others = length self.old.deadlines - 1 in
             Spends (min 1 others) (bitlen others) m.old m.new }
     {
-        let index = index_of(&self.order, place);
-        self.order.remove(index);
+        let index = index_of(&self.order, as_place(place));
+        let as_kept = self.order.remove(index);
         self.moments[place] = due;
         let index = index_for(&self.moments, &self.order, due, m);
-        self.order.insert(index, place).unwrap();
+        self.order.insert(index, as_kept).unwrap();
     }
 
     /// Writes the places whose deadlines are at or before `now` at the front of `places`, ascending,
@@ -129,7 +142,7 @@ impl Deadlines {
     {
         let count = count_due(&self.moments, &self.order, now, m);
         let handed_out = &mut places[..count];
-        handed_out.copy_from_slice(&self.order[..count]);
+        copy_places(&self.order[..count], handed_out);
         handed_out.sort_unstable();
         count
     }

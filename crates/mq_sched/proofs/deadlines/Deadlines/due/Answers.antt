@@ -19,8 +19,8 @@ returns-clause-due c =
     let in_order = rw c.deref-2.ensures.value at c.count_due-count.ensures.within in
     let due = rw (c.deref-2.ensures.value, c.deref.ensures.value) at c.count_due-count.ensures.due in
     let later = rw (c.deref-2.ensures.value, c.deref.ensures.value) at c.count_due-count.ensures.later in
-    let moved = rw (c.copy_from_slice.ensures.after, c.deref-3.ensures.value) at c.sort_unstable.ensures.permutation in
-    let copied = rw c.deref-3.ensures.value at (ap length c.copy_from_slice.ensures.after) in
+    let moved = rw (c.copy_places.ensures, c.deref-3.ensures.value) at c.sort_unstable.ensures.permutation in
+    let copied = rw c.deref-3.ensures.value at (ap length c.copy_places.ensures) in
     let size : length places ≡ count = omega (arith, c.sort_unstable.ensures.len, copied, length-take-le count order in_order) in
     let deadlines = ap (λ (s : DeadlinesState). s.deadlines) c.self.view_is in
     rw (take_at places _ count size, ← deadlines) (places_are_due moments order c.args.now count c.self.invariant.0 in_order due later places moved)
@@ -34,7 +34,7 @@ returns-clause-ascending c =
     let in_order = rw c.deref-2.ensures.value at c.count_due-count.ensures.within in
     let due = rw (c.deref-2.ensures.value, c.deref.ensures.value) at c.count_due-count.ensures.due in
     let later = rw (c.deref-2.ensures.value, c.deref.ensures.value) at c.count_due-count.ensures.later in
-    let moved = rw (c.copy_from_slice.ensures.after, c.deref-3.ensures.value) at c.sort_unstable.ensures.permutation in
-    let copied = rw c.deref-3.ensures.value at (ap length c.copy_from_slice.ensures.after) in
+    let moved = rw (c.copy_places.ensures, c.deref-3.ensures.value) at c.sort_unstable.ensures.permutation in
+    let copied = rw c.deref-3.ensures.value at (ap length c.copy_places.ensures) in
     let size : length places ≡ count = omega (arith, c.sort_unstable.ensures.len, copied, length-take-le count order in_order) in
     rw (take_at places _ count size) (places_ascend moments order c.args.now count c.self.invariant.0 in_order due later places moved (IsNonDecreasingBy-from_sort (λ p. p) places c.sort_unstable.ensures.sorted))

@@ -1,5 +1,6 @@
-use Rattle.std.proofs.Common.{◌≡◌, ◌≤◌, arith, ap, length}
+use Rattle.std.proofs.Common.{◌≡◌, ◌+◌, ◌≤◌, arith, ap, length}
 use Rattle.std.proofs.lemmas.List.{take_at, length-map}
+use Rattle.std.proofs.lemmas.List.Edits.{length-insert}
 use Rattle.mq_sched.specs.Deadlines.{DeadlinesState, moved_up}
 use Rattle.mq_sched.proofs.Orders.{places_below, IsOrder-insert}
 use Rattle.mq_sched.proofs.deadlines.Deadlines.insert.Goals as goal
@@ -21,13 +22,15 @@ invariant_of-self c =
     let moments = c.self.inside.moments.items in
     let order = c.self.inside.order.items in
     let made = rw c.unwrap-2.ensures at c.insert-2.ensures.items in
-    let placed = rw c.unwrap.ensures at c.insert.ensures.items in
+    let placed = rw (c.unwrap.ensures, c.as_place-as_kept.ensures) at c.insert.ensures.items in
     let moved = ap length c.move_up.ensures in
     let same_length = length-map c.deref_mut.result.now (moved_up c.args.place) in
     let size : length c.move_up.new.order ≡ c.self.inside.order.len = omega (arith, c.deref_mut.ensures.len) in
     let count = ap (λ (s : DeadlinesState). length s.deadlines) c.self.view_is in
+    let room_here = ap (λ (s : DeadlinesState). s.room) c.self.view_is in
     let before = rw (c.deref-2.ensures.value, c.deref.ensures.value) at c.index_for-index.ensures.before in
     let behind = rw (c.deref-2.ensures.value, c.deref.ensures.value) at c.index_for-index.ensures.behind in
     let within = rw c.deref-2.ensures.value at c.index_for-index.ensures.within in
     let in_list : c.args.place ≤ length moments = omega (arith, count, c.requires.place) in
-    (rw (made, placed, take_at c.move_up.new.order _ c.self.inside.order.len size, c.move_up.ensures, c.deref_mut.ensures.value) (IsOrder-insert moments order c.self.invariant.0 c.args.place c.args.due c.index_for-index.result in_list within before behind), omega (arith, c.self.invariant.1, c.insert-2.ensures.capacity), omega (arith, c.self.invariant.2, c.insert.ensures.capacity))
+    let longer : length c.insert-2.new.self.items ≡ length moments + 1 = rw made (length-insert moments c.args.place c.args.due in_list) in
+    (rw (made, placed, take_at c.move_up.new.order _ c.self.inside.order.len size, c.move_up.ensures, c.as_place-as_kept.ensures, c.deref_mut.ensures.value) (IsOrder-insert moments order c.self.invariant.0 c.args.place c.args.due c.index_for-index.result in_list within before behind), omega (arith, count, room_here, c.requires.room, longer), c.self.invariant.2, omega (arith, c.self.invariant.3, c.insert-2.ensures.capacity), omega (arith, c.self.invariant.4, c.insert.ensures.capacity))
