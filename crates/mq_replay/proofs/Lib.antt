@@ -1,7 +1,9 @@
 pub mod Answered
 pub mod EndLines
 pub mod Growing
+pub mod Headers
 pub mod OnePacket
+pub mod OpenedReplays
 pub mod Packets
 pub mod Passing
 pub mod PrintedQueries
@@ -11,3 +13,4 @@ pub mod ReplayedSoFar
 pub mod Replays
 pub mod Shown
 pub mod Ticking
+pub mod WrittenReplays

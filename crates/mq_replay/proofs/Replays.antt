@@ -1,22 +1,16 @@
 -- A capture whose packets were replayed, and what the replay comes to where it ends.
-use Rattle.std.proofs.Common.{◌≡◌, ◌⊎◌, ℕ, ◌+◌, ◌<◌, ◌||◌, Bool, true, false, List, [], ◌∷◌, ◌++◌, length, take, drop, Option, None, Some, Result, Ok, Err, refl, ap, sym, subst, ◌∙◌, append_assoc, append-nil, length-append, inl, inr, max, unwrap_or, arith}
-use Rattle.std.proofs.KnownBytes.{Appends-nil}
+use Rattle.std.proofs.Common.{◌≡◌, ℕ, ◌+◌, Bool, true, false, List, [], ◌∷◌, ◌++◌, length, take, Option, None, Some, Result, Ok, Err, refl, ap, sym, subst, ◌∙◌, append_assoc, append-nil, length-append, inl, inr, max, unwrap_or, arith}
 use Rattle.std.proofs.Math.Bool.{or-false, or-true}
-use Rattle.std.proofs.lemmas.Bool.{lt-ltb}
 use Rattle.mq_pcap.specs.declared.link_type.LinkType.{LinkType}
 use Rattle.mq_replay.specs.declared.stamps.Stamps.{Stamps}
-use Rattle.std.proofs.Math.Seq.{drop-append_seam}
-use Rattle.std.specs.Io.KnownBytes.{Appends, IsAtEnd}
 use Rattle.mq_pcap.specs.declared.fault.PcapFault.{PcapFault}
 use Rattle.mq_pcap.specs.declared.fault.PcapFault.TheVariants as fault
 use Rattle.mq_pcap.specs.declared.form.Form.{Form}
 use Rattle.mq_pcap.specs.declared.reader_state.Packet.{Packet}
-use Rattle.mq_pcap.specs.declared.reader_state.PcapReader.{PcapReader}
-use Rattle.mq_pcap.specs.Capture.{Captured, AreRecords, header_of, is_read}
+use Rattle.mq_pcap.specs.Capture.{Captured, AreRecords}
 use Rattle.mq_pcap.specs.Filling.{InputState, Takes}
 use Rattle.mq_pcap.specs.Frame.{Carried, carried_in}
-use Rattle.mq_pcap.specs.Reading.{Opens, Reads, form_of}
-use Rattle.mq_pcap.proofs.FileHeader.{header_of-append}
+use Rattle.mq_pcap.specs.Reading.{Reads}
 use Rattle.mq_pcap.proofs.Filled.{Takes-nil, Takes-trans}
 use Rattle.mq_link.specs.Configuration.{Configuration}
 use Rattle.mq_link.specs.Counters.{Counters}
@@ -25,14 +19,14 @@ use Rattle.mq_replay.specs.declared.replay_fault.ReplayFault.{ReplayFault}
 use Rattle.mq_replay.specs.declared.replay_fault.ReplayFault.TheVariants as answer
 use Rattle.mq_replay.specs.Listing.{moment_of}
 use Rattle.mq_replay.specs.Printing.{GrowsByBeginning, Passes}
-use Rattle.mq_replay.specs.PuttingReports.{counted, IsReportPut, IsRestPut, PutsRecords, PutsReport, behind_header, rest_of, is_failed_write}
-use Rattle.mq_replay.specs.Replaying.{ReadCapture, IsEndedBy, IsWritten, Replays}
-use Rattle.mq_replay.specs.Report.{Replayed, Course, Report, at_the_start, with_packet, with_packets, with_all_packets, is_gap, ticked_before, ended_at, broken_off, last_moment, reported, report_of, so_far}
+use Rattle.mq_replay.specs.PuttingReports.{counted, IsReportPut, IsRestPut, PutsRecords, behind_header, rest_of}
+use Rattle.mq_replay.specs.Replaying.{IsEndedBy}
+use Rattle.mq_replay.specs.Report.{Replayed, Course, Report, at_the_start, with_packet, with_packets, with_all_packets, is_gap, ticked_before, ended_at, reported, report_of}
 use Rattle.mq_replay.specs.ReplayLines.{end_lines}
 use Rattle.mq_sched.specs.Election.{is_querier}
 use Rattle.mq_replay.specs.Steps.{PutsReplayed, begun_with}
 use Rattle.mq_replay.proofs.Growing.{behind, as_behind, before_behind, next_packet}
-use Rattle.mq_replay.proofs.Passing.{both_passed, broken_behind, nothing_passed}
+use Rattle.mq_replay.proofs.Passing.{both_passed, broken_behind}
 use Rattle.mq_replay.proofs.ReadSoFar.{begun_ends}
 use Rattle.mq_replay.proofs.ReplayedSoFar.{IsReplayedTo, gap_before, next_replayed, none_left}
 
@@ -295,225 +289,3 @@ pub ended_well_as : (config : Configuration) (until : Option ℕ) (form : Form) 
 ended_well_as config until form old mid new before now after held more left first last number buffer link r it earlier is_last is_config is_link to passed same reads put =
     ended_well config until form old mid new before now after held more left first last number buffer link r it is_config is_link to passed same reads
     (subst (λ (m : ℕ). IsRestPut (rest_of link.config until m (number + 1) link.state) now after more left it) is_last put)
-
--- fewer bytes than a header has are a file whose header is cut
-cut_header : (bytes : List ℕ) → length bytes < 24 → header_of bytes ≡ Err (fault.CutHeader 0)
-unfolding header_of
-cut_header bytes short = rw (lt-ltb (length bytes) 24 short) refl
-
--- a header has a fault
-header_fault : (config : Configuration) (until : Option ℕ) (old new : InputState) (before : Option (List ℕ)) (held bytes : List ℕ) (f g : PcapFault) → Takes old new bytes → header_of bytes ≡ Err g
-    → IsEndedBy config until (record { bytes = bytes; header = Err g; packets = []; end = Some g }) old new (Err (answer.Pcap f))
-    → IsReportPut config until (record { bytes = bytes; header = Err g; packets = []; end = Some g }) new before before held held (Err (answer.Pcap f))
-    → PutsReport config until old new before before held held (Err (answer.Pcap f))
-header_fault config until old new before held bytes f g takes header ended put =
-    record {
-      read = record { bytes = bytes; header = Err g; packets = []; end = Some g };
-      takes = takes;
-      capture = (header, refl, refl);
-      ended = ended;
-      put = put;
-    }
-
-pub opened_faulty : (config : Configuration) (until : Option ℕ) (old new : InputState) (before : Option (List ℕ)) (held : List ℕ) (f : PcapFault) → Opens old new (Err f)
-    → PutsReport config until old new before before held held (Err (answer.Pcap f))
-opened_faulty config until old new before held f opens = by_answer opens.answers
-  where
-    by_fault : (g : PcapFault) (bytes : List ℕ) → Takes old new bytes → header_of bytes ≡ Err g → (length bytes ≡ 24) ⊎ IsAtEnd new.ahead → new.failed ≡ (old.failed || is_read g)
-        → PutsReport config until old new before before held held (Err (answer.Pcap g))
-    by_fault fault.Read bytes takes header whole failed = header_fault config until old new before held bytes fault.Read fault.Read takes header (failed ∙ or-true old.failed) (nothing_passed before held)
-    by_fault fault.Magic bytes takes header whole failed = header_fault config until old new before held bytes fault.Magic fault.Magic takes header (refl, whole, failed ∙ or-false old.failed) (nothing_passed before held)
-    by_fault fault.Version bytes takes header whole failed = header_fault config until old new before held bytes fault.Version fault.Version takes header (refl, whole, failed ∙ or-false old.failed) (nothing_passed before held)
-    by_fault fault.LinkType bytes takes header whole failed = header_fault config until old new before held bytes fault.LinkType fault.LinkType takes header (refl, whole, failed ∙ or-false old.failed) (nothing_passed before held)
-    by_fault (fault.CutHeader at) bytes takes header whole failed = header_fault config until old new before held bytes (fault.CutHeader at) (fault.CutHeader at) takes header (refl, whole, failed ∙ or-false old.failed) (nothing_passed before held)
-    by_fault (fault.CutData at) bytes takes header whole failed = header_fault config until old new before held bytes (fault.CutData at) (fault.CutData at) takes header (refl, whole, failed ∙ or-false old.failed) (nothing_passed before held)
-    by_fault (fault.TooLong at) bytes takes header whole failed = header_fault config until old new before held bytes (fault.TooLong at) (fault.TooLong at) takes header (refl, whole, failed ∙ or-false old.failed) (nothing_passed before held)
-    by_fault fault.Endless bytes takes header whole failed = header_fault config until old new before held bytes fault.Endless fault.Endless takes header (refl, whole, failed ∙ or-false old.failed) (nothing_passed before held)
-
-    by_answer : ((f ≡ fault.Read) × (length opens.bytes < 24)) ⊎ ((header_of opens.bytes ≡ Err f) × ((length opens.bytes ≡ 24) ⊎ IsAtEnd new.ahead)) → PutsReport config until old new before before held held (Err (answer.Pcap f))
-    by_answer (inl (is_failed, short)) =
-        subst (λ (g : PcapFault). PutsReport config until old new before before held held (Err (answer.Pcap g))) (sym is_failed)
-        (header_fault config until old new before held opens.bytes fault.Read (fault.CutHeader 0) opens.takes (cut_header opens.bytes short) (opens.failed ∙ ap (λ (g : PcapFault). old.failed || is_read g) is_failed ∙ or-true old.failed) (nothing_passed before held))
-    by_answer (inr (header, whole)) = by_fault f opens.bytes opens.takes header whole opens.failed
-
--- the bytes of the header come before those of the packets
-ended_behind : (config : Configuration) (until : Option ℕ) (form : Form) (packets : List Captured) (end : Option PcapFault) (header bytes : List ℕ) (old mid new : InputState) (before after : Option (List ℕ)) (held left : List ℕ) (r : Result Counters ReplayFault) → mid.failed ≡ old.failed
-    → IsEndedBy config until (behind_header form bytes packets end) mid new r → IsReportPut config until (behind_header form bytes packets end) new before after held left r
-    → IsEndedBy config until (behind_header form (header ++ bytes) packets end) old new r × IsReportPut config until (behind_header form (header ++ bytes) packets end) new before after held left r
-ended_behind config until form packets end header bytes old mid new before after held left (Ok counters) same ended put = ((ended.0, ended.1, ended.2 ∙ same), put)
-ended_behind config until form packets end header bytes old mid new before after held left (Err answer.Write) same ended put = (tt, put)
-ended_behind config until form packets end header bytes old mid new before after held left (Err (answer.Gap number)) same ended put = ((ended.0, ended.1, ended.2 ∙ same), put)
-ended_behind config until form packets end header bytes old mid new before after held left (Err answer.Memory) same ended put = absurd put
-ended_behind config until form packets end header bytes old mid new before after held left (Err (answer.Pcap fault.Read)) same ended put = (ended, put)
-ended_behind config until form packets end header bytes old mid new before after held left (Err (answer.Pcap fault.Magic)) same ended put = ((ended.0, ended.1, ended.2 ∙ same), put)
-ended_behind config until form packets end header bytes old mid new before after held left (Err (answer.Pcap fault.Version)) same ended put = ((ended.0, ended.1, ended.2 ∙ same), put)
-ended_behind config until form packets end header bytes old mid new before after held left (Err (answer.Pcap fault.LinkType)) same ended put = ((ended.0, ended.1, ended.2 ∙ same), put)
-ended_behind config until form packets end header bytes old mid new before after held left (Err (answer.Pcap (fault.CutHeader at))) same ended put = ((ended.0, ended.1, ended.2 ∙ same), put)
-ended_behind config until form packets end header bytes old mid new before after held left (Err (answer.Pcap (fault.CutData at))) same ended put = ((ended.0, ended.1, ended.2 ∙ same), put)
-ended_behind config until form packets end header bytes old mid new before after held left (Err (answer.Pcap (fault.TooLong at))) same ended put = ((ended.0, ended.1, ended.2 ∙ same), put)
-ended_behind config until form packets end header bytes old mid new before after held left (Err (answer.Pcap fault.Endless)) same ended put = ((ended.0, ended.1, ended.2 ∙ same), put)
-
-pub opened_well : (config : Configuration) (until : Option ℕ) (old mid new : InputState) (before after : Option (List ℕ)) (held left : List ℕ) (capture : PcapReader) (r : Result Counters ReplayFault) → Opens old mid (Ok capture)
-    → PutsRecords config until (form_of capture) mid new before after held left r → PutsReport config until old new before after held left r
-opened_well config until old mid new before after held left capture r opens puts =
-    let size = opens.answers.0 in
-    let both = ended_behind config until (form_of capture) puts.packets puts.end opens.bytes puts.bytes old mid new before after held left r (opens.failed ∙ or-false old.failed) puts.ended puts.put in
-    record {
-      read = behind_header (form_of capture) (opens.bytes ++ puts.bytes) puts.packets puts.end;
-      takes = Takes-trans old mid new opens.bytes puts.bytes opens.takes puts.takes;
-      capture = (
-        header_of-append opens.bytes puts.bytes (omega (arith, size)) ∙ opens.answers.1,
-        subst (λ (bytes : List ℕ). AreRecords (form_of capture) 1 bytes puts.packets puts.end)
-            (sym (ap (λ (n : ℕ). drop n (opens.bytes ++ puts.bytes)) (sym size) ∙ drop-append_seam opens.bytes puts.bytes)) puts.records,
-      );
-      ended = both.0;
-      put = both.1;
-    }
-
-abbrev one_of : Bool → Report → Report → Report
-one_of b x y = elim b [ true ↦ x | false ↦ y ]
-
--- one of two reports, of which the second doesn't end with this fault
-either_text : (b : Bool) (x y : Report) (e : ReplayFault) (text : List ℕ) → (one_of b x y).answer ≡ Err e → x.text ≡ text → (y.answer ≡ Err e → ⊥) → (one_of b x y).text ≡ text
-either_text true x y e text is same unlike = same
-either_text false x y e text is same unlike = absurd (unlike is)
-
--- a report that ends with a fault has the text of its packets alone
-reported_err : (config : Configuration) (until : Option ℕ) (number : ℕ) (end : Option PcapFault) (gap : Option ℕ) (course : Course) (e : ReplayFault)
-    → (reported config until number end gap course).answer ≡ Err e → (reported config until number end gap course).text ≡ course.replayed.text
-unfolding ended_at
-reported_err config until number end (Some g) course e is = refl
-reported_err config until number (Some f) None course e is = refl
-reported_err config until number None None course e is =
-    either_text (is_gap course.moment (last_moment until course)) (broken_off (answer.Gap number) course) (ended_at config (last_moment until course) course.replayed) e course.replayed.text is refl (λ h. absurd (cc))
-
-err_text : (config : Configuration) (until : Option ℕ) (header : Result Form PcapFault) (packets : List Captured) (end : Option PcapFault) (e : ReplayFault)
-    → (report_of config until header packets end).answer ≡ Err e → (report_of config until header packets end).text ≡ so_far config header packets
-err_text config until (Err f) packets end e is = refl
-err_text config until (Ok form) packets end e is =
-    let course = with_all_packets config form packets in
-    reported_err config until (length packets + 1) end course.gap course e is
-
--- one that ends with counters is that of a file without a fault
-reported_ok : (config : Configuration) (until : Option ℕ) (number : ℕ) (end : Option PcapFault) (gap : Option ℕ) (course : Course) (counters : Counters)
-    → (reported config until number end gap course).answer ≡ Ok counters → end ≡ None
-reported_ok config until number end (Some g) course counters is = absurd (cc)
-reported_ok config until number (Some f) None course counters is = absurd (cc)
-reported_ok config until number None None course counters is = refl
-
-ok_end : (config : Configuration) (until : Option ℕ) (header : Result Form PcapFault) (packets : List Captured) (end : Option PcapFault) (counters : Counters)
-    → (report_of config until header packets end).answer ≡ Ok counters → end ≡ None
-ok_end config until (Err f) packets end counters is = absurd (cc)
-ok_end config until (Ok form) packets end counters is =
-    let course = with_all_packets config form packets in
-    reported_ok config until (length packets + 1) end course.gap course counters is
-
--- what a buffer that held nothing passed on whole was written
-all_written : (before mid after : Option (List ℕ)) (left text : List ℕ) → Passes before mid [] left text → Passes mid after left [] [] → Appends before after text
-all_written before mid after left text first second =
-    let both = both_passed before mid after [] left [] text [] first second in
-    subst (λ (t : List ℕ). Appends before after t) (sym (sym (append-nil text) ∙ both.parts ∙ append-nil both.written)) both.grows
-
-written : (config : Configuration) (until : Option ℕ) (c : ReadCapture) (new : InputState) (before mid after : Option (List ℕ)) (left : List ℕ) (r : Result Counters ReplayFault) → is_failed_write r ≡ false
-    → IsReportPut config until c new before mid [] left r → Passes mid after left [] [] → IsWritten config until c new before after r
-written config until c new before mid after left (Ok counters) unlike put passed = all_written before mid after left _ put passed
-written config until c new before mid after left (Err answer.Write) unlike put passed = absurd (cc)
-written config until c new before mid after left (Err (answer.Gap number)) unlike put passed = all_written before mid after left _ put passed
-written config until c new before mid after left (Err answer.Memory) unlike put passed = absurd put
-written config until c new before mid after left (Err (answer.Pcap fault.Read)) unlike put passed = all_written before mid after left _ put passed
-written config until c new before mid after left (Err (answer.Pcap fault.Magic)) unlike put passed = all_written before mid after left _ put passed
-written config until c new before mid after left (Err (answer.Pcap fault.Version)) unlike put passed = all_written before mid after left _ put passed
-written config until c new before mid after left (Err (answer.Pcap fault.LinkType)) unlike put passed = all_written before mid after left _ put passed
-written config until c new before mid after left (Err (answer.Pcap (fault.CutHeader at))) unlike put passed = all_written before mid after left _ put passed
-written config until c new before mid after left (Err (answer.Pcap (fault.CutData at))) unlike put passed = all_written before mid after left _ put passed
-written config until c new before mid after left (Err (answer.Pcap (fault.TooLong at))) unlike put passed = all_written before mid after left _ put passed
-written config until c new before mid after left (Err (answer.Pcap fault.Endless)) unlike put passed = all_written before mid after left _ put passed
-
-counted_write : {T : Type 0} (counters : Counters) (it : Result T ReplayFault) → is_failed_write (counted counters it) ≡ is_failed_write it
-counted_write counters (Ok x) = refl
-counted_write counters (Err (answer.Pcap f)) = refl
-counted_write counters (Err answer.Write) = refl
-counted_write counters (Err (answer.Gap number)) = refl
-counted_write counters (Err answer.Memory) = refl
-
--- the report was put and the rest of it written
-pub flushed : {T : Type 0} (config : Configuration) (until : Option ℕ) (old new : InputState) (before mid after : Option (List ℕ)) (held left rest : List ℕ) (counters : Counters) (it : Result T ReplayFault) → held ≡ [] → rest ≡ [] → is_failed_write it ≡ false
-    → PutsReport config until old new before mid held left (counted counters it) → Passes mid after left rest [] → Replays config until old new before after (counted counters it)
-flushed config until old new before mid after held left rest counters it none empty unlike puts passed =
-    record {
-      read = puts.read;
-      takes = puts.takes;
-      capture = puts.capture;
-      ended = puts.ended;
-      written = written config until puts.read new before mid after left (counted counters it) (counted_write counters it ∙ unlike)
-          (subst (λ (h : List ℕ). IsReportPut config until puts.read new before mid h left (counted counters it)) none puts.put)
-          (subst (λ (h : List ℕ). Passes mid after left h []) empty passed);
-    }
-
--- a write failed before the end of the report
-pub not_put : {T : Type 0} (config : Configuration) (until : Option ℕ) (old new : InputState) (before after : Option (List ℕ)) (held left : List ℕ) (counters : Counters) (it : Result T ReplayFault) → held ≡ [] → is_failed_write it ≡ true
-    → PutsReport config until old new before after held left (counted counters it) → Replays config until old new before after (counted counters it)
-not_put config until old new before after held left counters (Ok x) none is puts = absurd (cc)
-not_put config until old new before after held left counters (Err (answer.Pcap f)) none is puts = absurd (cc)
-not_put config until old new before after held left counters (Err (answer.Gap number)) none is puts = absurd (cc)
-not_put config until old new before after held left counters (Err answer.Memory) none is puts = absurd (cc)
-not_put config until old new before after held left counters (Err answer.Write) none is puts =
-    record {
-      read = puts.read;
-      takes = puts.takes;
-      capture = puts.capture;
-      ended = tt;
-      written = subst (λ (h : List ℕ). IsReportPut config until puts.read new before after h left (Err answer.Write)) none puts.put;
-    }
-
--- a beginning of what was left to be written, behind a text that passed
-begun_text : (before mid after : Option (List ℕ)) (left text : List ℕ) → Passes before mid [] left text → GrowsByBeginning mid after (left ++ []) → GrowsByBeginning before after text
-begun_text before mid after left text passed begun = subst (λ (t : List ℕ). GrowsByBeginning before after t) (append-nil text) (broken_behind before mid after [] left text [] passed begun)
-
--- the report was put, and the rest of it was not written whole
-begun_of : (config : Configuration) (until : Option ℕ) (c : ReadCapture) (old new : InputState) (before mid after : Option (List ℕ)) (left : List ℕ) (r : Result Counters ReplayFault) → is_failed_write r ≡ false
-    → IsEndedBy config until c old new r → IsReportPut config until c new before mid [] left r → GrowsByBeginning mid after (left ++ []) → IsWritten config until c new before after (Err answer.Write)
-begun_of config until c old new before mid after left (Ok counters) unlike ended put begun =
-    inr (ok_end config until c.header c.packets c.end counters ended.0, ended.1, begun_text before mid after left _ put begun)
-begun_of config until c old new before mid after left (Err answer.Write) unlike ended put begun = absurd (cc)
-begun_of config until c old new before mid after left (Err (answer.Gap number)) unlike ended put begun =
-    inl (subst (λ (t : List ℕ). GrowsByBeginning before after t) (err_text config until c.header c.packets c.end _ ended.0) (begun_text before mid after left _ put begun))
-begun_of config until c old new before mid after left (Err answer.Memory) unlike ended put begun = absurd put
-begun_of config until c old new before mid after left (Err (answer.Pcap fault.Read)) unlike ended put begun = inl (begun_text before mid after left _ put begun)
-begun_of config until c old new before mid after left (Err (answer.Pcap fault.Magic)) unlike ended put begun =
-    inl (subst (λ (t : List ℕ). GrowsByBeginning before after t) (err_text config until c.header c.packets c.end _ ended.0) (begun_text before mid after left _ put begun))
-begun_of config until c old new before mid after left (Err (answer.Pcap fault.Version)) unlike ended put begun =
-    inl (subst (λ (t : List ℕ). GrowsByBeginning before after t) (err_text config until c.header c.packets c.end _ ended.0) (begun_text before mid after left _ put begun))
-begun_of config until c old new before mid after left (Err (answer.Pcap fault.LinkType)) unlike ended put begun =
-    inl (subst (λ (t : List ℕ). GrowsByBeginning before after t) (err_text config until c.header c.packets c.end _ ended.0) (begun_text before mid after left _ put begun))
-begun_of config until c old new before mid after left (Err (answer.Pcap (fault.CutHeader at))) unlike ended put begun =
-    inl (subst (λ (t : List ℕ). GrowsByBeginning before after t) (err_text config until c.header c.packets c.end _ ended.0) (begun_text before mid after left _ put begun))
-begun_of config until c old new before mid after left (Err (answer.Pcap (fault.CutData at))) unlike ended put begun =
-    inl (subst (λ (t : List ℕ). GrowsByBeginning before after t) (err_text config until c.header c.packets c.end _ ended.0) (begun_text before mid after left _ put begun))
-begun_of config until c old new before mid after left (Err (answer.Pcap (fault.TooLong at))) unlike ended put begun =
-    inl (subst (λ (t : List ℕ). GrowsByBeginning before after t) (err_text config until c.header c.packets c.end _ ended.0) (begun_text before mid after left _ put begun))
-begun_of config until c old new before mid after left (Err (answer.Pcap fault.Endless)) unlike ended put begun =
-    inl (subst (λ (t : List ℕ). GrowsByBeginning before after t) (err_text config until c.header c.packets c.end _ ended.0) (begun_text before mid after left _ put begun))
-
-pub not_flushed : {T : Type 0} (config : Configuration) (until : Option ℕ) (old new : InputState) (before mid after : Option (List ℕ)) (held left : List ℕ) (counters : Counters) (it : Result T ReplayFault) → held ≡ [] → is_failed_write it ≡ false
-    → PutsReport config until old new before mid held left (counted counters it) → GrowsByBeginning mid after (left ++ []) → Replays config until old new before after (Err answer.Write)
-not_flushed config until old new before mid after held left counters it none unlike puts begun =
-    record {
-      read = puts.read;
-      takes = puts.takes;
-      capture = puts.capture;
-      ended = tt;
-      written = begun_of config until puts.read old new before mid after left (counted counters it) (counted_write counters it ∙ unlike) puts.ended
-          (subst (λ (h : List ℕ). IsReportPut config until puts.read new before mid h left (counted counters it)) none puts.put) begun;
-    }
-
--- nothing was taken and nothing written
-pub nothing_replayed : (config : Configuration) (until : Option ℕ) (s : InputState) (before : Option (List ℕ)) → Replays config until s s before before (Err answer.Memory)
-nothing_replayed config until s before =
-    record {
-      read = record { bytes = []; header = Err (fault.CutHeader 0); packets = []; end = Some (fault.CutHeader 0) };
-      takes = Takes-nil s;
-      capture = (cut_header [] (omega arith), refl, refl);
-      ended = refl;
-      written = Appends-nil before;
-    }

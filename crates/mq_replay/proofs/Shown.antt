@@ -1,6 +1,5 @@
 -- A capture whose header was read, and what `show` comes to.
 use Rattle.std.proofs.Common.{◌≡◌, ℕ, ◌<◌, ◌⊎◌, ◌||◌, false, List, [], ◌++◌, length, drop, Option, Some, Result, Ok, Err, refl, ap, sym, subst, ◌∙◌, append-nil, inl, inr, arith}
-use Rattle.std.proofs.lemmas.Bool.{lt-ltb}
 use Rattle.std.proofs.KnownBytes.{Appends-nil}
 use Rattle.std.proofs.Math.Bool.{or-false, or-true}
 use Rattle.std.proofs.Math.Seq.{drop-append_seam}
@@ -16,15 +15,11 @@ use Rattle.mq_pcap.proofs.FileHeader.{header_of-append}
 use Rattle.mq_pcap.proofs.Filled.{Takes-nil, Takes-trans}
 use Rattle.mq_replay.specs.declared.replay_fault.ReplayFault.{ReplayFault}
 use Rattle.mq_replay.specs.declared.replay_fault.ReplayFault.TheVariants as answer
-use Rattle.mq_replay.specs.Listing.{IsEndedBy, IsOfTheFile, Shows, is_write}
+use Rattle.mq_replay.specs.Listing.{IsEndedBy, IsOfTheFile, Shows, is_failed_write}
 use Rattle.mq_replay.specs.Printing.{GrowsByBeginning, Passes}
 use Rattle.mq_replay.specs.Putting.{IsPut, PutsListing, PutsPackets}
+use Rattle.mq_replay.proofs.Headers.{cut_header}
 use Rattle.mq_replay.proofs.Passing.{nothing_passed, broken_behind}
-
--- fewer bytes than a header has are a file whose header is cut
-cut_header : (bytes : List ℕ) → length bytes < 24 → header_of bytes ≡ Err (fault.CutHeader 0)
-unfolding header_of
-cut_header bytes short = rw (lt-ltb (length bytes) 24 short) refl
 
 -- a fault of the file
 by_fault : (header : Result Form PcapFault) (packets : List Captured) (bytes : List ℕ) (old new : InputState) (f : PcapFault) → IsOfTheFile header f bytes new → new.failed ≡ (old.failed || is_read f)
@@ -102,14 +97,14 @@ opened_well old mid new before after held left capture r opens unlike puts =
     }
 
 -- the listing was put, and the rest of it was not written whole
-put_passed : (before after : Option (List ℕ)) (held left text : List ℕ) (r : Result ℕ ReplayFault) → is_write r ≡ false → IsPut before after held left text r → Passes before after held left text
+put_passed : (before after : Option (List ℕ)) (held left text : List ℕ) (r : Result ℕ ReplayFault) → is_failed_write r ≡ false → IsPut before after held left text r → Passes before after held left text
 put_passed before after held left text (Ok count) unlike put = put
 put_passed before after held left text (Err (answer.Pcap f)) unlike put = put
 put_passed before after held left text (Err answer.Write) unlike put = absurd (cc)
 put_passed before after held left text (Err (answer.Gap number)) unlike put = put
 put_passed before after held left text (Err answer.Memory) unlike put = put
 
-pub not_flushed : (old new : InputState) (before mid after : Option (List ℕ)) (held left : List ℕ) (r : Result ℕ ReplayFault) → held ≡ [] → is_write r ≡ false
+pub not_flushed : (old new : InputState) (before mid after : Option (List ℕ)) (held left : List ℕ) (r : Result ℕ ReplayFault) → held ≡ [] → is_failed_write r ≡ false
     → PutsListing old new before mid held left r → GrowsByBeginning mid after (left ++ []) → Shows old new before after (Err answer.Write)
 not_flushed old new before mid after held left r none unlike puts begun =
     record {

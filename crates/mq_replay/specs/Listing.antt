@@ -95,10 +95,10 @@ pub record Shows (old new : InputState) (before after : Option (List ℕ)) (r : 
   pub ended : IsEndedBy header packets end bytes old new r
   pub written : IsWritten before after text r
 
--- whether an answer is a failed write
-abbrev pub is_write : Result ℕ ReplayFault → Bool
-is_write (Ok count) = false
-is_write (Err (answer.Pcap f)) = false
-is_write (Err answer.Write) = true
-is_write (Err (answer.Gap number)) = false
-is_write (Err answer.Memory) = false
+-- whether an answer, of a listing or of a replay, is a failed write
+abbrev pub is_failed_write : {T : Type 0} → Result T ReplayFault → Bool
+is_failed_write (Ok x) = false
+is_failed_write (Err (answer.Pcap f)) = false
+is_failed_write (Err answer.Write) = true
+is_failed_write (Err (answer.Gap number)) = false
+is_failed_write (Err answer.Memory) = false

@@ -21,14 +21,6 @@ abbrev pub counted : {T : Type 0} → Counters → Result T ReplayFault → Resu
 counted counters (Ok x) = Ok counters
 counted counters (Err f) = Err f
 
--- whether an answer is a failed write
-abbrev pub is_failed_write : {T : Type 0} → Result T ReplayFault → Bool
-is_failed_write (Ok x) = false
-is_failed_write (Err (answer.Pcap f)) = false
-is_failed_write (Err answer.Write) = true
-is_failed_write (Err (answer.Gap number)) = false
-is_failed_write (Err answer.Memory) = false
-
 -- What was put: the text of the report; where a read failed, that of the packets that were read; and where a write failed,
 -- a beginning of that one was written, or, if the file had ended, of the report.
 abbrev pub IsReportPut : Configuration → (until : Option ℕ) → ReadCapture → InputState → (before after : Option (List ℕ)) → (held left : List ℕ) → Result Counters ReplayFault → Type 0

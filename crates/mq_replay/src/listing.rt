@@ -8,7 +8,8 @@ ghost use Rattle.mq_pcap.specs.Filling.{input_of};
 ghost use Rattle.mq_pcap.specs.Frame.{carried_in, carried_of};
 ghost use Rattle.mq_pcap.specs.Reading.{form_of, number_of, progress_of};
 ghost use Rattle.mq_pcap.specs.declared.reader_state.Progress.TheVariants.{Reading};
-ghost use Rattle.mq_replay.specs.Listing.{Shows, is_write, place_text};
+ghost use Rattle.mq_replay.specs.Listing as spec;
+ghost use Rattle.mq_replay.specs.Listing.{Shows, place_text};
 ghost use Rattle.mq_replay.specs.Putting.{PutsListing, PutsPacket, PutsPackets, PutsSaid};
 ghost use Rattle.mq_replay.specs.Text.{address_text};
 
@@ -17,7 +18,7 @@ use crate::line_key::LineKey;
 use crate::lines::{put_igmp, put_mld};
 use crate::pieces::put_address;
 use crate::printing::LineFault;
-use crate::replay_fault::ReplayFault;
+use crate::replay_fault::{ReplayFault, is_failed_write};
 use crate::stamps::Stamps;
 use mq_count::Watched;
 use mq_pcap::{GREATEST_PACKET, Inner, LinkType, PcapReader, unwrap_frame};
@@ -36,7 +37,7 @@ pub fn show<R: Read, W: Write>(
         (input_of R.remaining reader.old) (input_of R.remaining reader.new)
         (W.contents (inner_of writer.old)) (W.contents (inner_of writer.new))
         result }
-    ensures failed { has_failed writer.new ≡ has_failed writer.old || is_write result }
+    ensures failed { has_failed writer.new ≡ has_failed writer.old || spec.is_failed_write result }
     ensures memory { result ≡ Err ReplayFault.Memory → (reader.new ≡ reader.old) × (writer.new ≡ writer.old) }
 {
     let mut packet = match vec![in alloc; 0; GREATEST_PACKET] {
@@ -57,7 +58,7 @@ fn show_by<R: Read, W: Write>(
         (input_of R.remaining reader.old) (input_of R.remaining reader.new)
         (W.contents (inner_of writer.old)) (W.contents (inner_of writer.new))
         result }
-    ensures failed { has_failed writer.new ≡ has_failed writer.old || is_write result }
+    ensures failed { has_failed writer.new ≡ has_failed writer.old || spec.is_failed_write result }
     ensures no_memory { result ≡ Err ReplayFault.Memory → ⊥ }
 {
     let mut buffer = Buffer::new();
@@ -67,13 +68,6 @@ fn show_by<R: Read, W: Write>(
     }
     flush(&mut buffer, writer)?;
     answer
-}
-
-/// Whether a listing broke off since a write failed.
-fn is_failed_write(answer: &Result<u64, ReplayFault>) -> bool
-    ensures { result ≡ is_write answer.now }
-{
-    matches!(answer, Err(ReplayFault::Write))
 }
 
 /// Puts the lines of a capture.
@@ -88,7 +82,7 @@ fn put_listing<R: Read, W: Write>(
         (input_of R.remaining reader.old) (input_of R.remaining reader.new)
         (W.contents (inner_of writer.old)) (W.contents (inner_of writer.new))
         buffer.old.items buffer.new.items result }
-    ensures failed { has_failed writer.new ≡ has_failed writer.old || is_write result }
+    ensures failed { has_failed writer.new ≡ has_failed writer.old || spec.is_failed_write result }
     ensures no_memory { result ≡ Err ReplayFault.Memory → ⊥ }
 {
     let mut capture = PcapReader::open(reader)?;
@@ -110,7 +104,7 @@ fn put_packets<R: Read, W: Write>(
         (input_of R.remaining reader.old) (input_of R.remaining reader.new)
         (W.contents (inner_of writer.old)) (W.contents (inner_of writer.new))
         buffer.old.items buffer.new.items result }
-    ensures failed { has_failed writer.new ≡ has_failed writer.old || is_write result }
+    ensures failed { has_failed writer.new ≡ has_failed writer.old || spec.is_failed_write result }
     ensures no_memory { result ≡ Err ReplayFault.Memory → ⊥ }
 {
     let mut number = 0;

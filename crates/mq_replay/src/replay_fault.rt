@@ -1,6 +1,7 @@
 //! Why a capture was not shown or replayed to its end.
 
 ghost use Rattle.std.specs.Prelude.{◌≡◌};
+ghost use Rattle.mq_replay.specs.Listing as spec;
 ghost use Rattle.mq_replay.specs.declared.replay_fault.ReplayFault.TheVariants.{Pcap, Write};
 
 use crate::printing::LineFault;
@@ -42,4 +43,11 @@ impl From<LineFault> for ReplayFault {
     fn from(_fault: LineFault) -> ReplayFault {
         ReplayFault::Write
     }
+}
+
+/// Whether a listing or a replay broke off since a write failed.
+pub(crate) fn is_failed_write<T>(answer: &Result<T, ReplayFault>) -> bool
+    ensures { result ≡ spec.is_failed_write answer.now }
+{
+    matches!(answer, Err(ReplayFault::Write))
 }

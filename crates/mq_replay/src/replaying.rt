@@ -7,7 +7,7 @@ ghost use Rattle.mq_pcap.specs.declared.reader_state.Progress.TheVariants.{Readi
 ghost use Rattle.mq_pcap.specs.Capture.{endless, most_bytes};
 ghost use Rattle.mq_pcap.specs.Filling.{input_of};
 ghost use Rattle.mq_pcap.specs.Reading.{form_of, number_of, progress_of};
-ghost use Rattle.mq_replay.specs.PuttingReports as spec;
+ghost use Rattle.mq_replay.specs.Listing as spec;
 ghost use Rattle.mq_replay.specs.PuttingReports.{IsRestPut, PutsRecords, PutsReport, counted, rest_of};
 ghost use Rattle.mq_replay.specs.Replaying.{Replays};
 
@@ -16,8 +16,8 @@ use crate::captured_family::CapturedFamily;
 use crate::ending::{is_gap, last_moment, put_ending};
 use crate::line_key::LineKey;
 use crate::one_packet::replay_packet;
-use crate::replay_fault::ReplayFault;
-use crate::stamps::Stamps;
+use crate::replay_fault::{ReplayFault, is_failed_write};
+use crate::stamps::{Stamps, first_moment};
 use mq_count::{Moment, Watched};
 use mq_link::{Config, Counts, Link};
 use mq_pcap::{GREATEST_PACKET, PcapReader, unwrap_frame};
@@ -46,23 +46,13 @@ where
     ensures failed { has_failed writer.new ≡ has_failed writer.old || spec.is_failed_write result }
     ensures memory { result ≡ Err ReplayFault.Memory → (reader.new ≡ reader.old) × (writer.new ≡ writer.old) }
 {
-    let Some(start) = Moment::from_ms(0) else {
-        unreachable!()
-    };
     let Ok(mut packet) = vec![in alloc; 0; GREATEST_PACKET] else {
         return Err(ReplayFault::Memory);
     };
-    let Ok(mut link) = Link::new(alloc, config, start) else {
+    let Ok(mut link) = Link::new(alloc, config, first_moment()) else {
         return Err(ReplayFault::Memory);
     };
-    replay_on(
-        &mut link,
-        until,
-        start,
-        packet.as_mut_slice(),
-        reader,
-        writer,
-    )?;
+    replay_on(&mut link, until, packet.as_mut_slice(), reader, writer)?;
     Ok(link.into_counts())
 }
 
@@ -70,7 +60,6 @@ where
 fn replay_on<F: CapturedFamily, R: Read, W: Write>(
     link: &mut Link<F>,
     until: Option<Moment>,
-    start: Moment,
     packet: &mut [u8],
     reader: &mut Watched<R>,
     writer: &mut Watched<W>,
@@ -79,7 +68,6 @@ where
     F::Address: LineKey,
     requires room { most_bytes ≤ length packet.old }
     requires in_range { IfSome until (λ moment. moment ≤ 2 ^ 53) }
-    requires at_0 { start ≡ 0 }
     requires starts { link.old.state ≡ link_at link.old.config 0 }
     ensures replays { Replays link.old.config until
         (input_of R.remaining reader.old) (input_of R.remaining reader.new)
@@ -89,7 +77,7 @@ where
     ensures no_memory { result ≡ Err ReplayFault.Memory → ⊥ }
 {
     let mut buffer = Buffer::new();
-    let answer = put_replay(link, until, start, packet, &mut buffer, reader, writer);
+    let answer = put_replay(link, until, packet, &mut buffer, reader, writer);
     if is_failed_write(&answer) {
         return answer;
     }
@@ -97,18 +85,10 @@ where
     answer
 }
 
-/// Whether a replay broke off since a write failed.
-fn is_failed_write(answer: &Result<(), ReplayFault>) -> bool
-    ensures { result ≡ spec.is_failed_write answer.now }
-{
-    matches!(answer, Err(ReplayFault::Write))
-}
-
 /// Puts the lines of a capture.
 fn put_replay<F: CapturedFamily, R: Read, W: Write>(
     link: &mut Link<F>,
     until: Option<Moment>,
-    start: Moment,
     packet: &mut [u8],
     buffer: &mut Buffer,
     reader: &mut Watched<R>,
@@ -118,7 +98,6 @@ where
     F::Address: LineKey,
     requires room { most_bytes ≤ length packet.old }
     requires in_range { IfSome until (λ moment. moment ≤ 2 ^ 53) }
-    requires at_0 { start ≡ 0 }
     requires starts { link.old.state ≡ link_at link.old.config 0 }
     ensures puts { PutsReport link.old.config until
         (input_of R.remaining reader.old) (input_of R.remaining reader.new)
@@ -128,23 +107,13 @@ where
     ensures no_memory { result ≡ Err ReplayFault.Memory → ⊥ }
 {
     let mut capture = PcapReader::open(reader)?;
-    put_packets(
-        link,
-        until,
-        start,
-        &mut capture,
-        packet,
-        buffer,
-        reader,
-        writer,
-    )
+    put_packets(link, until, &mut capture, packet, buffer, reader, writer)
 }
 
 /// Puts the lines of the packets of a capture of which none was read, and of the end.
 fn put_packets<F: CapturedFamily, R: Read, W: Write>(
     link: &mut Link<F>,
     until: Option<Moment>,
-    start: Moment,
     capture: &mut PcapReader,
     packet: &mut [u8],
     buffer: &mut Buffer,
@@ -157,7 +126,6 @@ where
     requires first { number_of capture.old ≡ 1 }
     requires reading { progress_of capture.old ≡ Reading }
     requires in_range { IfSome until (λ moment. moment ≤ 2 ^ 53) }
-    requires at_0 { start ≡ 0 }
     requires starts { link.old.state ≡ link_at link.old.config 0 }
     ensures puts { PutsRecords link.old.config until (form_of capture.old)
         (input_of R.remaining reader.old) (input_of R.remaining reader.new)
@@ -168,7 +136,7 @@ where
 {
     let mut number = 0;
     let mut stamps = Stamps::new();
-    let mut last = start;
+    let mut last = first_moment();
     while let Some(read) = capture.next(reader, packet)? {
         number += 1;
         let Some(moment) = Moment::from_ms(stamps.moment_of_next(read.stamp_ms)) else {

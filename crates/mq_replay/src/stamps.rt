@@ -3,6 +3,8 @@
 ghost use Rattle.std.specs.Prelude.{◌≡◌, unwrap_or, Some};
 ghost use Rattle.mq_replay.specs.Listing.{moment_of};
 
+use mq_count::Moment;
+
 /// What is kept of the stamps of the packets so far: what the moments of those to come are counted from.
 #[derive(Clone, Copy)]
 pub(crate) struct Stamps {
@@ -35,5 +37,15 @@ impl Stamps {
             before: moment,
         };
         moment
+    }
+}
+
+/// The moment of the first packet.
+pub(crate) fn first_moment() -> Moment
+    ensures { result ≡ 0 }
+{
+    match Moment::from_ms(0) {
+        Some(moment) => moment,
+        None => unreachable!(),
     }
 }

@@ -20,8 +20,8 @@ loop-read-init g c =
       form = refl;
       next = c.requires.first;
       reading = c.requires.reading;
-      last = rw c.new-stamps.ensures c.requires.at_0;
-      in_range = let at_0 = c.requires.at_0 in omega (arith, at_0);
+      last = rw c.new-stamps.ensures c.first_moment-last.ensures;
+      in_range = let at_0 = c.first_moment-last.ensures in omega (arith, at_0);
       few = omega arith;
       room = c.requires.room;
       read = refl;

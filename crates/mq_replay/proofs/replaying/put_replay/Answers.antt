@@ -1,5 +1,5 @@
 use Rattle.std.proofs.lemmas.Result.{err_from_is_err_and}
-use Rattle.mq_replay.proofs.Replays.{opened_faulty, opened_well}
+use Rattle.mq_replay.proofs.OpenedReplays.{opened_faulty, opened_well}
 use Rattle.mq_replay.proofs.replaying.put_replay.Goals as goal
 
 pub returns-in_err-capture-clause-puts : goal.returns-in_err-capture-clause-puts

@@ -1,6 +1,6 @@
 use Rattle.std.proofs.Common.{sym, ◌∙◌}
 use Rattle.std.proofs.lemmas.Result.{err_from_is_err_and}
-use Rattle.mq_replay.proofs.Replays.{flushed, not_put, not_flushed}
+use Rattle.mq_replay.proofs.WrittenReplays.{flushed, not_put, not_flushed}
 use Rattle.mq_replay.proofs.replaying.replay_on.Goals as goal
 
 pub returns-then-is_failed_write-clause-replays : goal.returns-then-is_failed_write-clause-replays
