@@ -1,0 +1,4 @@
+mod HandedInto
+mod IgmpValues
+mod LooseValues
+mod MldValues

@@ -1,0 +1,9 @@
+pub mod Calls
+pub mod Counted
+pub mod Freeing
+pub mod Igmp
+pub mod Making
+pub mod Milliseconds
+pub mod Mld
+pub mod Queries
+pub mod Statuses

@@ -1,0 +1,95 @@
+//! The calls of a link that hand out queries, for both families.
+
+ghost use Rattle.std.specs.Prelude.{◌≡◌, ◌≤◌, ◌^◌};
+ghost use Rattle.mq_c.specs.Calls as spec;
+ghost use Rattle.mq_c.specs.Calls.{TicksInto, ReceivesInto};
+ghost use Rattle.mq_c.specs.Queries.{outbox_of};
+
+use crate::forms::Answer;
+use crate::queries::Queries;
+use crate::statuses::{DONE, MOMENT, reason_number};
+use mq_count::Moment;
+use mq_link::{Family, Link, Received};
+
+/// The answer to a moment that is out of range.
+pub(crate) fn refused_moment() -> Answer
+    ensures { result ≡ spec.refused_moment }
+{
+    Answer {
+        status: MOMENT,
+        dropped: 0,
+        applied: 0,
+        ignored: 0,
+        refused: 0,
+        sent: 0,
+        unsent: 0,
+        written: 0,
+    }
+}
+
+/// The answer to a tick.
+fn answer_to_tick(queries: &Queries<'_>) -> Answer
+    ensures { result ≡ spec.answer_to_tick (outbox_of queries.now) }
+{
+    Answer {
+        status: DONE,
+        dropped: 0,
+        applied: 0,
+        ignored: 0,
+        refused: 0,
+        sent: queries.sent(),
+        unsent: queries.unsent(),
+        written: queries.written() as u64,
+    }
+}
+
+/// The answer to a datagram.
+fn answer_to(received: Received, queries: &Queries<'_>) -> Answer
+    ensures { result ≡ spec.answer_to received (outbox_of queries.now) }
+{
+    match received {
+        Received::Taken {
+            applied,
+            ignored,
+            refused,
+        } => Answer {
+            applied,
+            ignored,
+            refused,
+            ..answer_to_tick(queries)
+        },
+        Received::Dropped(reason) => Answer {
+            dropped: reason_number(reason),
+            ..answer_to_tick(queries)
+        },
+    }
+}
+
+/// A tick, with its queries.
+pub(crate) fn tick<F: Family>(link: &mut Link<F>, now: Moment, out: &mut [u8]) -> Answer
+    requires in_range { now ≤ 2 ^ 53 }
+    ensures config { link.new.config ≡ link.old.config }
+    ensures ticks { TicksInto F.Address.WIDTH now link.old link.new out.old out.new result }
+{
+    let mut queries = Queries::new(out);
+    link.tick(now, &mut queries);
+    answer_to_tick(&queries)
+}
+
+/// A datagram, with its queries.
+pub(crate) fn receive<F: Family>(
+    link: &mut Link<F>,
+    envelope: &F::Envelope,
+    body: &[u8],
+    now: Moment,
+    out: &mut [u8],
+) -> Answer
+    requires in_range { now ≤ 2 ^ 53 }
+    ensures config { link.new.config ≡ link.old.config }
+    ensures receives { ReceivesInto F.Address.WIDTH (F.envelope_of envelope.now) body.now now link.old link.new
+        out.old out.new result }
+{
+    let mut queries = Queries::new(out);
+    let received = link.receive(envelope, body, now, &mut queries);
+    answer_to(received, &queries)
+}

@@ -1,0 +1,281 @@
+//! Links of MLD, as C calls them.
+
+ghost use Rattle.std.specs.Prelude.{◌≡◌, ◌<◌, ◌≤◌, ◌^◌, ℕ, IsTrue, false};
+ghost use Rattle.std.specs.Int.{w128, from_be_bytes};
+ghost use Rattle.mq_wire.specs.Family as family;
+ghost use Rattle.mq_link.specs.Defaults.{configured_by_default};
+ghost use Rattle.mq_c.specs.Milliseconds.{no_deadline};
+ghost use Rattle.mq_sched.specs.Election.{is_querier, Other};
+ghost use Rattle.mq_link.specs.State as state;
+ghost use Rattle.mq_link.specs.Tick.{next_of};
+ghost use Rattle.std.specs.FinMap as map;
+ghost use Rattle.mq_c.specs.Calls.{CallsAt, ReceivesInto, TicksInto};
+ghost use Rattle.mq_c.specs.Counted.{counted};
+ghost use Rattle.mq_c.specs.Mld.{asked, envelope};
+ghost use Rattle.mq_c.specs.Making.{IsMade, IsRefused};
+ghost use Rattle.mq_link.specs.Configuration.{IsFaultless};
+ghost use Rattle.std.specs.Result.{MatchResult};
+
+use crate::forms::{Answer, Counted, MldConfig, MldGroup, MldSource, Page};
+use crate::kept::MldKept;
+use crate::line_room::{LineRoom, without_end};
+use crate::loose::Loose;
+use crate::making::{config_of, link_of};
+use crate::milliseconds::{NONE, milliseconds};
+use crate::mld_object::MldObject;
+use crate::mld_pages::put_groups;
+use crate::statuses::{DONE, MEMORY};
+use crate::{bounds, calls, counting};
+use mq_count::{Addr6, Moment, Watched};
+use mq_link::{Family, Limits, Mld, MldEnvelope};
+use mq_replay::mld_line;
+use mq_wire::WireKey;
+use std::alloc::Global;
+
+/// The defaults, with this own address.
+#[unsafe(no_mangle)]
+pub extern "C" fn mq_mld_defaults(own: &[u8; 16]) -> MldConfig
+    ensures { asked result ≡ configured_by_default family.Mld (from_be_bytes w128 own.now) false }
+{
+    let defaults = Mld::defaults();
+    MldConfig {
+        robustness: defaults.robustness,
+        query_interval: defaults.query_seconds,
+        response_interval: defaults.response_interval,
+        last_member_interval: defaults.last_member_interval,
+        groups: defaults.limits.groups,
+        group_sources: defaults.limits.group_sources,
+        sources: defaults.limits.sources,
+        scheduled: defaults.limits.scheduled,
+        own: *own,
+        source_specific: 0,
+    }
+}
+
+/// The object of a link so configured that starts at a moment, or the status that says why there is none.
+fn made(alloc: Global, config: MldConfig, start: u64) -> Result<MldObject, u32>
+    ensures { MatchResult result (λ object. IsMade (asked config) start object.kept.link) (λ status. IsRefused (asked config) start status) }
+{
+    let made = config_of::<Mld>(
+        config.robustness,
+        config.query_interval,
+        config.response_interval,
+        config.last_member_interval,
+        Limits {
+            groups: config.groups,
+            group_sources: config.group_sources,
+            sources: config.sources,
+            scheduled: config.scheduled,
+        },
+        Addr6::from_octets(config.own),
+        config.source_specific,
+    );
+    let made = match made {
+        Ok(config) => link_of(alloc, config, start),
+        Err(status) => return Err(status),
+    };
+    let link = match made {
+        Ok(link) => link,
+        Err(status) => return Err(status),
+    };
+    match Box::new(alloc, MldKept { link }) {
+        Ok(kept) => Ok(MldObject::of(Loose::of(kept))),
+        Err(_) => Err(MEMORY),
+    }
+}
+
+/// Makes a link and writes its pointer to the place.
+#[unsafe(no_mangle)]
+pub extern "C" fn mq_mld_new(
+    alloc: Global,
+    config: MldConfig,
+    start: u64,
+    place: &mut *mut u8,
+) -> u32
+    ensures made { result ≡ 0 → IsFaultless (asked config) × (start ≤ 2 ^ 53) }
+    ensures refused { 0 < result → IsRefused (asked config) start result }
+    ensures place { 0 < result → place.new ≡ place.old }
+{
+    match made(alloc, config, start) {
+        Ok(object) => {
+            *place = object.into_pointer();
+            DONE
+        }
+        Err(status) => status,
+    }
+}
+
+/// Gives back the memory of a link.
+#[unsafe(no_mangle)]
+pub extern "C" fn mq_mld_free(alloc: Global, link: MldObject) {
+    drop(link.into_loose(alloc).into_box());
+}
+
+/// Takes a datagram.
+#[unsafe(no_mangle)]
+pub extern "C" fn mq_mld_receive(
+    link: &mut MldObject,
+    source: &[u8; 16],
+    destination: &[u8; 16],
+    hop_limit: u8,
+    alert: bool,
+    body: &[u8],
+    now: u64,
+    queries: &mut [u8],
+) -> Answer
+    ensures at { link.new.at ≡ link.old.at }
+    ensures receives { CallsAt now (ReceivesInto 16 (envelope source.now destination.now hop_limit alert) body.now now link.old.kept.link link.new.kept.link queries.old queries.new result)
+        link.old.kept.link link.new.kept.link queries.old queries.new result }
+{
+    let Some(now) = Moment::from_ms(now) else {
+        return calls::refused_moment();
+    };
+    let envelope = MldEnvelope {
+        source: Addr6::from_octets(*source),
+        destination: Addr6::from_octets(*destination),
+        hop_limit,
+        alert,
+    };
+    calls::receive(&mut link.lend().link, &envelope, body, now, queries)
+}
+
+/// Does what is due.
+#[unsafe(no_mangle)]
+pub extern "C" fn mq_mld_tick(link: &mut MldObject, now: u64, queries: &mut [u8]) -> Answer
+    ensures at { link.new.at ≡ link.old.at }
+    ensures ticks { CallsAt now (TicksInto 16 now link.old.kept.link link.new.kept.link queries.old queries.new result)
+        link.old.kept.link link.new.kept.link queries.old queries.new result }
+{
+    let Some(now) = Moment::from_ms(now) else {
+        return calls::refused_moment();
+    };
+    calls::tick(&mut link.lend().link, now, queries)
+}
+
+/// When a tick has something to do next.
+#[unsafe(no_mangle)]
+pub extern "C" fn mq_mld_next_deadline(link: &mut MldObject) -> u64
+    ensures answer { result ≡ next_of link.old.kept.link.state }
+    ensures same { link.new.kept.link ≡ link.old.kept.link }
+    ensures at { link.new.at ≡ link.old.at }
+{
+    milliseconds(link.lend().link.next_deadline())
+}
+
+/// Whether a source of a group is forwarded.
+#[unsafe(no_mangle)]
+pub extern "C" fn mq_mld_forwards(link: &mut MldObject, group: &[u8; 16], source: &[u8; 16]) -> bool
+    ensures answer { result ≡ state.forwards link.old.kept.link.state (from_be_bytes w128 group.now) (from_be_bytes w128 source.now) }
+    ensures same { link.new.kept.link ≡ link.old.kept.link }
+    ensures at { link.new.at ≡ link.old.at }
+{
+    let group = Addr6::from_octets(*group);
+    let source = Addr6::from_octets(*source);
+    link.lend().link.forwards(group, source)
+}
+
+/// Whether the link is querier.
+#[unsafe(no_mangle)]
+pub extern "C" fn mq_mld_is_querier(link: &mut MldObject) -> bool
+    ensures answer { result ≡ is_querier link.old.kept.link.state.election.role }
+    ensures same { link.new.kept.link ≡ link.old.kept.link }
+    ensures at { link.new.at ≡ link.old.at }
+{
+    link.lend().link.is_querier()
+}
+
+/// How many comparisons the calls have made.
+#[unsafe(no_mangle)]
+pub extern "C" fn mq_mld_spent(link: &mut MldObject) -> u64
+    ensures answer { result ≡ link.old.kept.link.spent }
+    ensures same { link.new.kept.link ≡ link.old.kept.link }
+    ensures at { link.new.at ≡ link.old.at }
+{
+    link.lend().link.spent()
+}
+
+/// All counters.
+#[unsafe(no_mangle)]
+pub extern "C" fn mq_mld_counts(link: &mut MldObject) -> Counted
+    ensures answer { result ≡ counted link.old.kept.link.state.counters }
+    ensures same { link.new.kept.link ≡ link.old.kept.link }
+    ensures at { link.new.at ≡ link.old.at }
+{
+    counting::counted(link.lend().link.counts())
+}
+
+/// How many groups are held.
+#[unsafe(no_mangle)]
+pub extern "C" fn mq_mld_len(link: &mut MldObject) -> u32
+    ensures answer { map.len link.old.kept.link.state.groups < 2 ^ 32 → result ≡ map.len link.old.kept.link.state.groups }
+    ensures same { link.new.kept.link ≡ link.old.kept.link }
+    ensures at { link.new.at ≡ link.old.at }
+{
+    counting::few(link.lend().link.len())
+}
+
+/// How much memory suffices for the queries of one call.
+#[unsafe(no_mangle)]
+pub extern "C" fn mq_mld_outlet_bytes(config: MldConfig) -> usize {
+    bounds::outlet_bytes(
+        16,
+        28,
+        20,
+        89,
+        config.groups,
+        config.sources,
+        config.scheduled,
+    ) as usize
+}
+
+/// Up to when another router is querier, whose address is written where it fits.
+#[unsafe(no_mangle)]
+pub extern "C" fn mq_mld_other_querier(link: &mut MldObject, address: &mut [u8]) -> u64
+    ensures none { IsTrue (is_querier link.old.kept.link.state.election.role) → result ≡ no_deadline }
+    ensures deadline { (other deadline : ℕ) → link.old.kept.link.state.election.role ≡ Other other deadline → result ≡ deadline }
+    ensures same { link.new.kept.link ≡ link.old.kept.link }
+    ensures at { link.new.at ≡ link.old.at }
+{
+    match link.lend().link.other_querier() {
+        None => NONE,
+        Some(other) => {
+            if address.len() >= 16 {
+                other.address.write(address);
+            }
+            milliseconds(other.deadline)
+        }
+    }
+}
+
+/// A page of the groups.
+#[unsafe(no_mangle)]
+pub extern "C" fn mq_mld_groups(
+    link: &mut MldObject,
+    first: u32,
+    groups: &mut [MldGroup],
+    sources: &mut [MldSource],
+) -> Page
+    ensures same { link.new ≡ link.old }
+{
+    put_groups(&link.lend().link, first, groups, sources)
+}
+
+/// The line of a message, without its end.
+#[unsafe(no_mangle)]
+pub extern "C" fn mq_mld_line(
+    source: &[u8; 16],
+    destination: &[u8; 16],
+    body: &[u8],
+    line: &mut [u8],
+) -> usize {
+    let mut length = 0;
+    let mut writer = Watched::new(LineRoom::new(line, &mut length));
+    let _line = mld_line(
+        Addr6::from_octets(*source),
+        Addr6::from_octets(*destination),
+        body,
+        &mut writer,
+    );
+    drop(writer);
+    without_end(line, length)
+}

@@ -1,0 +1,291 @@
+/* mquerier: the router side of IGMPv3 (RFC 3376) and MLDv2 (RFC 3810) for C. `make lib` makes lib/libmquerier.a.
+
+   An object holds one link. Datagrams and moments go in; what is forwarded, and the queries to be sent, come out. The
+   library has no clock, no socket and no thread, and takes memory in `new` alone.
+
+   What the caller keeps to. Nothing checks these:
+   - a pointer points to as many elements as its prototype or its length says, and is not null. A null pointer with
+     length 0 is no bytes.
+   - `queries`, `address`, `groups`, `sources` and `line` overlap each other, the body and the object nowhere.
+   - an object comes from `new` that answered 0, is freed once, and is not copied to be used beside the copy. After a
+     `new` that answered anything else there is nothing to free.
+   - one thread at a time uses an object; no call is made from a signal handler.
+   - malloc, realloc and free are of one allocator, and align a block to each power of two up to 16 that divides its
+     size.
+   Everything else has an answer: no other argument makes a call stop, overflow, or read or write outside of what it
+   was given.
+
+   Moments are milliseconds of a clock of the caller's. A moment before the last one handed in counts as that one.
+   Addresses are in network order. */
+#ifndef MQUERIER_H
+#define MQUERIER_H
+
+#include <stdbool.h>
+#include <stddef.h>
+#include <stdint.h>
+
+#ifdef __cplusplus
+extern "C" {
+#endif
+
+/* A deadline that there isn't. */
+#define MQ_NONE UINT64_MAX
+
+/* The latest moment that a call takes: 2^53 milliseconds. */
+#define MQ_LATEST (UINT64_C(1) << 53)
+
+/* Statuses. */
+#define MQ_DONE 0
+#define MQ_ROBUSTNESS 1
+#define MQ_QUERY_INTERVAL 2
+#define MQ_RESPONSE_INTERVAL 3
+#define MQ_LAST_MEMBER_INTERVAL 4
+#define MQ_OWN_ADDRESS 6
+#define MQ_LIMIT_GROUPS 51
+#define MQ_LIMIT_GROUP_SOURCES 52
+#define MQ_LIMIT_SOURCES 53
+#define MQ_LIMIT_SCHEDULED 54
+#define MQ_MEMORY 100
+#define MQ_MOMENT 101
+
+/* One link of IGMP, and one of MLD. */
+typedef struct {
+  void *link;
+} mq_igmp;
+
+typedef struct {
+  void *link;
+} mq_mld;
+
+/* What a link is configured with. */
+typedef struct {
+  uint32_t robustness;           /* 1 to 7 */
+  uint32_t query_interval;       /* seconds, 1 to 31744 */
+  uint32_t response_interval;    /* milliseconds, 100 to 3174400, below the query interval */
+  uint32_t last_member_interval; /* milliseconds, 100 to 3174400 */
+  uint32_t groups;               /* how many groups may be held, 1 to 65535 */
+  uint32_t group_sources;        /* how many sources a group may have, 1 to 1024 */
+  uint32_t sources;              /* how many sources all groups may have, 1 to 65535 */
+  uint32_t scheduled;            /* how many schedules of specific queries there may be, 1 to 65535 */
+  uint8_t own[4];                /* the router's own address, from which queries are sent */
+  uint8_t source_specific;       /* 0, or 1: 232.0.0.0/8 is kept for source-specific multicast (RFC 4604) */
+} mq_igmp_config;
+
+/* The same for MLD, whose two intervals in milliseconds are 1 to 8387584. */
+typedef struct {
+  uint32_t robustness;
+  uint32_t query_interval;
+  uint32_t response_interval;
+  uint32_t last_member_interval;
+  uint32_t groups;
+  uint32_t group_sources;
+  uint32_t sources;
+  uint32_t scheduled;
+  uint8_t own[16];         /* link-local */
+  uint8_t source_specific; /* 0, or 1: ff3x::/32 is kept */
+} mq_mld_config;
+
+/* What a call did. */
+typedef struct {
+  uint32_t status;  /* MQ_DONE, or MQ_MOMENT: then nothing was done, and all else is 0 */
+  uint32_t dropped; /* 0: the datagram was taken, or it was a tick; 1 to 10: why it was dropped */
+  uint32_t applied; /* of its records, those that were applied, */
+  uint32_t ignored; /* those that say nothing for this link, */
+  uint32_t refused; /* and those that met a limit */
+  uint32_t sent;    /* queries that stand in `queries` */
+  uint32_t unsent;  /* queries that didn't fit there, and are lost as on a link that loses them */
+  uint64_t written; /* bytes of `queries` that were written */
+} mq_answer;
+
+/* A query to be sent. IGMP: to a destination of 4 bytes, with TTL 1 and the Router Alert option. MLD: of 16 bytes,
+   from the own address, with hop limit 1 and the Router Alert option. */
+typedef struct {
+  const uint8_t *destination;
+  const uint8_t *message; /* without the IP header */
+  size_t length;
+} mq_query;
+
+/* What a link has counted since it was made. A counter stays at its greatest value. */
+typedef struct {
+  uint64_t received;       /* datagrams */
+  uint64_t dropped;        /* datagrams that were dropped, */
+  uint64_t dropped_by[10]; /* and for which reason: [0] is reason 1 */
+  uint64_t spelled[5];     /* datagrams that spelled a query, an older query, an older Report, a Leave, a Report */
+  uint64_t applied;        /* records */
+  uint64_t ignored;
+  uint64_t refused;
+  uint64_t refused_by[7]; /* for: too many sources named, a group met too often, groups, sources of a group, sources,
+                             schedules, memory (which never comes) */
+  uint64_t sent;          /* queries */
+  uint64_t unsent;
+} mq_counts;
+
+/* A group that is held. Its sources stand in the page's sources, those of the groups before it first. */
+typedef struct {
+  uint8_t address[4];
+  uint32_t sources;  /* how many sources it has */
+  uint64_t deadline; /* in EXCLUDE up to when its timer runs; MQ_NONE: it is in INCLUDE */
+  uint64_t v1, v2;   /* up to when a host of that version is taken to be there, or MQ_NONE */
+} mq_igmp_group;
+
+typedef struct {
+  uint8_t address[4];
+  uint64_t deadline; /* up to when its timer runs; MQ_NONE: it is stopped, and the source is not forwarded */
+} mq_igmp_source;
+
+typedef struct {
+  uint8_t address[16];
+  uint32_t sources;
+  uint64_t deadline;
+  uint64_t v1; /* MLD has no v2 */
+} mq_mld_group;
+
+typedef struct {
+  uint8_t address[16];
+  uint64_t deadline;
+} mq_mld_source;
+
+/* How much of a page was written. */
+typedef struct {
+  uint32_t groups;
+  uint32_t sources;
+} mq_page;
+
+/* The defaults of RFC 3376 section 8 and RFC 3810 section 9, with this own address. */
+mq_igmp_config mq_igmp_defaults(const uint8_t own[4]);
+mq_mld_config mq_mld_defaults(const uint8_t own[16]);
+
+/* Makes a link that starts at a moment, as querier, with all the memory that it will ever take, and writes it to `link`.
+   Answers MQ_DONE; or the first fault of the configuration, MQ_MEMORY or MQ_MOMENT, and then `link` is as it was. */
+uint32_t mq_igmp_new(mq_igmp_config config, uint64_t start, mq_igmp *link);
+uint32_t mq_mld_new(mq_mld_config config, uint64_t start, mq_mld *link);
+
+/* Gives back the memory of a link. */
+void mq_igmp_free(mq_igmp link);
+void mq_mld_free(mq_mld link);
+
+/* Takes a datagram that came at `now`: its source, of MLD also its destination, its hop limit and whether it has the
+   Router Alert option, and its bytes without the IP header. Before that it does what a tick does then. The queries that
+   are sent by it stand in `queries`, one behind the other: the destination (4 or 16 bytes), the length of the message
+   (2 bytes, most significant first), the message. One that doesn't fit in `room` bytes is left out and counted. */
+mq_answer mq_igmp_receive(mq_igmp *link, const uint8_t source[4], const uint8_t *body, size_t length, uint64_t now,
+                          uint8_t *queries, size_t room);
+mq_answer mq_mld_receive(mq_mld *link, const uint8_t source[16], const uint8_t destination[16], uint8_t hop_limit,
+                         bool alert, const uint8_t *body, size_t length, uint64_t now, uint8_t *queries, size_t room);
+
+/* Does what is due at or before `now`, however late. */
+mq_answer mq_igmp_tick(mq_igmp *link, uint64_t now, uint8_t *queries, size_t room);
+mq_answer mq_mld_tick(mq_mld *link, uint64_t now, uint8_t *queries, size_t room);
+
+/* As many bytes of `queries` as always suffice for one call at a link so configured, whose body has at most 65535
+   bytes. */
+size_t mq_igmp_outlet_bytes(mq_igmp_config config);
+size_t mq_mld_outlet_bytes(mq_mld_config config);
+
+/* When a tick has something to do next. Right after a tick it is later than that. */
+uint64_t mq_igmp_next_deadline(mq_igmp *link);
+uint64_t mq_mld_next_deadline(mq_mld *link);
+
+/* Whether what a source sends to a group is forwarded, as of the last moment handed in. */
+bool mq_igmp_forwards(mq_igmp *link, const uint8_t group[4], const uint8_t source[4]);
+bool mq_mld_forwards(mq_mld *link, const uint8_t group[16], const uint8_t source[16]);
+
+/* Whether the link is querier. */
+bool mq_igmp_is_querier(mq_igmp *link);
+bool mq_mld_is_querier(mq_mld *link);
+
+/* Up to when another router is querier, whose address is written to `address` where it fits in `room` bytes; or MQ_NONE
+   where this link is querier, and then nothing is written. */
+uint64_t mq_igmp_other_querier(mq_igmp *link, uint8_t *address, size_t room);
+uint64_t mq_mld_other_querier(mq_mld *link, uint8_t *address, size_t room);
+
+/* How many comparisons of addresses and moments the calls have made. */
+uint64_t mq_igmp_spent(mq_igmp *link);
+uint64_t mq_mld_spent(mq_mld *link);
+
+mq_counts mq_igmp_counts(mq_igmp *link);
+mq_counts mq_mld_counts(mq_mld *link);
+
+/* How many groups are held. */
+uint32_t mq_igmp_len(mq_igmp *link);
+uint32_t mq_mld_len(mq_mld *link);
+
+/* Writes groups, ascending, from place `first` on (0 is the lowest group), as many as fit with all their sources, which
+   ascend too. Answers how many groups and sources were written. No group was written though `first` is below the number
+   of groups: there was no room for that group or its sources, of which it has at most `group_sources`. */
+mq_page mq_igmp_groups(mq_igmp *link, uint32_t first, mq_igmp_group *groups, size_t group_room, mq_igmp_source *sources,
+                       size_t source_room);
+mq_page mq_mld_groups(mq_mld *link, uint32_t first, mq_mld_group *groups, size_t group_room, mq_mld_source *sources,
+                      size_t source_room);
+
+/* The line of a message for logs, as `mquerier message` prints it, without its end; or of its fault. Writes at most
+   `room` bytes, and answers how many it wrote: where that is `room`, the line may be cut. No zero byte is added. */
+size_t mq_igmp_line(const uint8_t *body, size_t length, uint8_t *line, size_t room);
+size_t mq_mld_line(const uint8_t source[16], const uint8_t destination[16], const uint8_t *body, size_t length,
+                   uint8_t *line, size_t room);
+
+/* What a status says. */
+static inline const char *mq_status_text(uint32_t status) {
+  switch (status) {
+  case MQ_DONE: return "done";
+  case MQ_ROBUSTNESS: return "the robustness variable is out of range";
+  case MQ_QUERY_INTERVAL: return "the query interval is out of range";
+  case MQ_RESPONSE_INTERVAL: return "the response interval is out of range or not below the query interval";
+  case MQ_LAST_MEMBER_INTERVAL: return "the last member query interval is out of range";
+  case MQ_OWN_ADDRESS: return "the own address is none that a router may send queries from";
+  case MQ_LIMIT_GROUPS: return "the limit of groups is out of range";
+  case MQ_LIMIT_GROUP_SOURCES: return "the limit of sources of a group is out of range";
+  case MQ_LIMIT_SOURCES: return "the limit of sources is out of range";
+  case MQ_LIMIT_SCHEDULED: return "the limit of schedules is out of range";
+  case MQ_MEMORY: return "memory ran out";
+  case MQ_MOMENT: return "the moment is above 2^53 milliseconds";
+  default: return "no status";
+  }
+}
+
+/* Why a datagram was dropped, for `dropped` of an answer. */
+static inline const char *mq_dropped_text(uint32_t dropped) {
+  switch (dropped) {
+  case 0: return "taken";
+  case 1: return "a field isn't whole";
+  case 2: return "the checksum is wrong";
+  case 3: return "the type is none that is listed";
+  case 4: return "a query of a length that no version has";
+  case 5: return "the source isn't link-local";
+  case 6: return "the hop limit isn't 1";
+  case 7: return "no Router Alert option";
+  case 8: return "a query from the own address or from none";
+  case 9: return "a query of IGMPv1";
+  case 10: return "a group that isn't admitted";
+  default: return "no reason";
+  }
+}
+
+/* The query at `*at`, whose destination has `width` bytes, and steps behind it; false where none is whole before
+   `end`. */
+static inline bool mq_next_query(size_t width, const uint8_t **at, const uint8_t *end, mq_query *query) {
+  size_t left = (size_t)(end - *at), length;
+  if (left < width + 2) return false;
+  length = ((size_t)(*at)[width] << 8) | (*at)[width + 1];
+  if (left - width - 2 < length) return false;
+  query->destination = *at;
+  query->message = *at + width + 2;
+  query->length = length;
+  *at += width + 2 + length;
+  return true;
+}
+
+/* The next of the queries that a call wrote: `at` begins at `queries`, `end` is `queries + written`. */
+static inline bool mq_igmp_next_query(const uint8_t **at, const uint8_t *end, mq_query *query) {
+  return mq_next_query(4, at, end, query);
+}
+
+static inline bool mq_mld_next_query(const uint8_t **at, const uint8_t *end, mq_query *query) {
+  return mq_next_query(16, at, end, query);
+}
+
+#ifdef __cplusplus
+}
+#endif
+
+#endif
