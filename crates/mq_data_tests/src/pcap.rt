@@ -1,4 +1,3 @@
-//! Frames at each boundary of their lengths, and captures cut, handed out in pieces and failing.
+//! Captures cut, handed out in pieces and failing. Frames are vectors, and rows of `tools/refuse.cases`.
 
 mod captures;
-mod frames;

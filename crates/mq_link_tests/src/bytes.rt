@@ -4,7 +4,7 @@ use mq_count::Moment;
 use mq_wire::WireKey;
 
 /// How many bytes have room.
-const ROOM: usize = 8192;
+const ROOM: usize = 65536;
 
 /// Some bytes. Where more are put than have room, or digits that spell none, they are spoiled.
 #[derive(Drop)]

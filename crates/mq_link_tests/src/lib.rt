@@ -16,6 +16,8 @@ mod playing;
 #[cfg(test)]
 mod row;
 #[cfg(test)]
+mod spelling;
+#[cfg(test)]
 mod tables;
 #[cfg(test)]
 mod tally;

@@ -6,6 +6,7 @@ use crate::bytes::Bytes;
 use crate::facts::{at, is_at, unless};
 use crate::kept::Kept;
 use crate::row::{Answer, Fact, Given, Happening, fact_of, given_of, happening_of};
+use crate::spelling::bytes_of;
 use crate::tally::Tally;
 use crate::written::Written;
 use mq_count::{Meter, Moment};
@@ -47,28 +48,6 @@ fn reserved<F: Written>(alloc: Global, given: &Given<'_>) -> Result<Link<F>, &'s
         Ok(link) => Ok(link),
         Err(_) => started(alloc, given),
     }
-}
-
-/// The number that a text is.
-fn number(text: Option<&str>) -> Option<u32> {
-    text?.parse::<u32>().ok()
-}
-
-/// The bytes that a word says, or None where it says none.
-fn bytes_of<F: Written>(word: &str) -> Option<Bytes> {
-    let mut bytes = Bytes::none();
-    let mut parts = word.split('+');
-    let digits = parts.next()?;
-    if digits != "-" {
-        bytes.put_hex(digits);
-    }
-    if let Some(first) = parts.next() {
-        let first = first.parse::<u32>().ok()?;
-        for turn in 0..number(parts.next())? {
-            bytes.put_octets(F::numbered(first.wrapping_add(turn)));
-        }
-    }
-    if bytes.is_whole() { Some(bytes) } else { None }
 }
 
 fn put_timer(line: &mut Bytes, before: &[u8], deadline: Option<Moment>) {
@@ -131,6 +110,8 @@ struct Play<F: Written> {
     spent_before: u64,
     /// How many calls were made.
     calls: u32,
+    /// How many comparisons the last call of the link before made.
+    by_other: u64,
 }
 
 impl<F: Written> Play<F> {
@@ -294,11 +275,23 @@ impl<F: Written> Play<F> {
         ))
     }
 
+    /// How many comparisons the last call made.
+    fn spent_last(&self) -> u64 {
+        self.link.spent().saturating_sub(self.spent_before)
+    }
+
     fn has_spent(&self, low: u32, high: u32) -> Option<&'static str> {
-        let spent = self.link.spent().saturating_sub(self.spent_before);
+        let spent = self.spent_last();
         unless(
             u64::from(low) <= spent && spent <= u64::from(high),
             "other comparisons",
+        )
+    }
+
+    fn has_spent_fewer(&self, count: u32) -> Option<&'static str> {
+        unless(
+            self.spent_last().saturating_add(u64::from(count)) <= self.by_other,
+            "too many comparisons beside the other link",
         )
     }
 
@@ -330,6 +323,7 @@ impl<F: Written> Play<F> {
             Fact::Force(robustness, seconds) => self.are_in_force(robustness, seconds),
             Fact::Next(ms) => unless(is_at(self.link.next_deadline(), ms), "another moment"),
             Fact::Spends(low, high) => self.has_spent(low, high),
+            Fact::Fewer(count) => self.has_spent_fewer(count),
             Fact::Spelled(kind, count) => self.are_spelled(kind, count),
         }
     }
@@ -354,6 +348,21 @@ impl<F: Written> Play<F> {
     fn end(&mut self) -> Option<&'static str> {
         unless(self.calls > 0, "nothing happens").or(self.is_quiet())
     }
+
+    /// Goes on with another link, where this one is told.
+    fn go_on(&mut self, other: Result<Play<F>, &'static str>) -> Option<&'static str> {
+        let failed = self.end();
+        if failed.is_some() {
+            return failed;
+        }
+        let by_other = self.spent_last();
+        match other {
+            Ok(other) => *self = other,
+            Err(what) => return Some(what),
+        }
+        self.by_other = by_other;
+        None
+    }
 }
 
 /// A row that begins, by the line of its configuration.
@@ -371,17 +380,25 @@ fn begun<F: Written>(alloc: Global, line: &str, answer: bool) -> Result<Play<F>,
         tally: Tally::none(),
         spent_before: 0,
         calls: 0,
+        by_other: 0,
     })
 }
 
-/// Plays lines. The one in which something is wrong, and what.
+/// Plays lines, where a link begins as `given` says. The one in which something is wrong, and what.
 fn wrong_line<'a, F: Written>(
+    alloc: Global,
+    given: &str,
     play: &mut Play<F>,
     lines: Lines<'a>,
 ) -> Option<(&'a str, &'static str)> {
     for line in lines {
         let line = line.trim();
-        if let Some(what) = play.line(line) {
+        let failed = if line == "anew" {
+            play.go_on(begun::<F>(alloc, given, play.answer))
+        } else {
+            play.line(line)
+        };
+        if let Some(what) = failed {
             return Some((line, what));
         }
     }
@@ -399,7 +416,9 @@ fn wrong_in<'a, F: Written>(
         return Some((row, "no row"));
     };
     match begun::<F>(alloc, given, answer) {
-        Ok(mut play) => wrong_line(&mut play, lines).or(of_title(title, play.end())),
+        Ok(mut play) => {
+            wrong_line(alloc, given, &mut play, lines).or(of_title(title, play.end()))
+        }
         Err(what) => Some((title, what)),
     }
 }

@@ -11,6 +11,7 @@
 //! | `comes MS BYTES taken APPLIED IGNORED [REFUSED NAME]` | a datagram, of whose records so many are applied, ignored and refused |
 //! | `comes MS BYTES dropped NAME` | a datagram that is dropped |
 //! | `reports MS FIRST COUNT` | Reports of IGMPv2 for so many groups 239.0.x.y, from a number on |
+//! | `anew` | another link, so configured too, in place of the one before |
 //! | `sends MS TO BYTES` | the next query that was sent, and not told yet; `sends MS general` is the family's general query by default |
 //! | `quiet` | no other query was sent |
 //! | `holds [GROUP ..]` | all groups, each in the form of the program's text of a run, with `;` between two |
@@ -20,10 +21,21 @@
 //! | `force ROBUSTNESS SECONDS` | the robustness variable and the query interval that are in force |
 //! | `next MS` | when there is something to do next |
 //! | `spends LOW HIGH` | how many comparisons the last call made, at least and at most |
+//! | `fewer COUNT` | the last call made at least so many comparisons fewer than the last one of the link before |
 //! | `spelled NAME COUNT` | how many messages of a kind were spelled, dropped ones included |
 //!
-//! BYTES are hexadecimal digits; `DIGITS+FIRST+COUNT` are these, and behind them so many addresses of the family, from a
-//! number on. A name is that of the library's enum.
+//! BYTES are parts with `,` between two. A part is a piece, or pieces with `/` between two, or `TIMES*` and such pieces,
+//! which come so many times. A piece is
+//!
+//! | Piece | Bytes |
+//! |---|---|
+//! | `DIGITS` | what the hexadecimal digits spell; none for `-` |
+//! | `DIGITS@NUMBER` | behind them the group 239.0.x.y or ff0e::xxyy of a number, one more at each further time |
+//! | `..+FIRST+COUNT` | behind these so many addresses of the family, from a number on |
+//! | `..+FIRST+COUNT+STEP` | these with a step between two, which may be below 0 |
+//! | `..++COUNT` | these from where the last ones ended |
+//!
+//! A name is that of the library's enum.
 
 use mq_link::{DropReason, Limits, MessageKind, Refusal};
 use std::str::SplitWhitespace;
@@ -81,6 +93,7 @@ pub enum Fact<'a> {
     Force(u32, u32),
     Next(u32),
     Spends(u32, u32),
+    Fewer(u32),
     Spelled(MessageKind, u32),
 }
 
@@ -203,6 +216,7 @@ pub fn fact_of<'a>(line: &'a str) -> Option<Fact<'a>> {
         "force" => Some(Fact::Force(number(words)?, number(words)?)),
         "next" => Some(Fact::Next(number(words)?)),
         "spends" => Some(Fact::Spends(number(words)?, number(words)?)),
+        "fewer" => Some(Fact::Fewer(number(words)?)),
         "spelled" => Some(Fact::Spelled(kind_of(words.next()?)?, number(words)?)),
         _ => None,
     }

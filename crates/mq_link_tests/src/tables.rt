@@ -9,7 +9,7 @@ mod lowering;
 mod many_groups;
 mod mld;
 mod range;
-mod records;
 mod schedules;
 mod sendings;
+mod spending;
 mod wrong;

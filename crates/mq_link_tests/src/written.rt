@@ -28,6 +28,9 @@ pub trait Written: Family {
 
     /// Addresses that ascend with a number.
     fn numbered(number: u32) -> Self::Address;
+
+    /// Groups that ascend with a number.
+    fn numbered_group(number: u32) -> Self::Address;
 }
 
 impl Written for Igmp {
@@ -76,6 +79,11 @@ impl Written for Igmp {
     fn numbered(number: u32) -> Addr4 {
         let [_, _, high, low] = number.to_be_bytes();
         Addr4::from_octets([10, 0, high, low])
+    }
+
+    fn numbered_group(number: u32) -> Addr4 {
+        let [_, _, high, low] = number.to_be_bytes();
+        Addr4::from_octets([239, 0, high, low])
     }
 }
 
@@ -132,5 +140,10 @@ impl Written for Mld {
     fn numbered(number: u32) -> Addr6 {
         let [_, _, high, low] = number.to_be_bytes();
         Addr6::from_octets([0x20, 1, 0xd, 0xb8, 0, 0, 0, 0, 0, 0, 0, 0, 0, 0, high, low])
+    }
+
+    fn numbered_group(number: u32) -> Addr6 {
+        let [_, _, high, low] = number.to_be_bytes();
+        Addr6::from_octets([0xff, 0xe, 0, 0, 0, 0, 0, 0, 0, 0, 0, 0, 0, 0, high, low])
     }
 }

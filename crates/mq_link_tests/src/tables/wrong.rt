@@ -3,7 +3,7 @@
 use crate::playing::expect_wrong;
 use mq_link::Igmp;
 
-static ROWS: [(&str, &str); 37] = [
+static ROWS: [(&str, &str); 53] = [
     ("", "no row"),
     ("no configuration", "no row"),
     (
@@ -243,6 +243,120 @@ static ROWS: [(&str, &str); 37] = [
     sends 0 general
     spends 100 200",
         "other comparisons",
+    ),
+    (
+        "a greatest number of comparisons that is too small
+    link
+    comes 0 2200f0fb0000000104000000e8010101 taken 1 0
+    comes 0 22003e2700001ffe,8190*06000000e8010101 taken 4 0 8186 Repeated
+    spends 0 8189",
+        "other comparisons",
+    ),
+    (
+        "a least number of comparisons that is too great
+    link
+    comes 0 2200f0fb0000000104000000e8010101 taken 1 0
+    comes 0 22003e2700001ffe,8190*06000000e8010101 taken 4 0 8186 Repeated
+    spends 4193921 4294967295",
+        "other comparisons",
+    ),
+    (
+        "a long datagram with a record too few
+    link
+    comes 0 22003e2700001ffe,8189*06000000e8010101 taken 8190 0",
+        "another answer",
+    ),
+    (
+        "a long datagram whose last record is of another kind
+    link
+    comes 0 22003e2700001ffe,8189*06000000e8010101,05000000e8010101 taken 8190 0",
+        "another answer",
+    ),
+    (
+        "a time too many, which is read over and is not in the checksum
+    link
+    comes 0 22003e2700001ffe,8191*06000000e8010101 taken 8190 0",
+        "another answer",
+    ),
+    (
+        "times that are no number
+    link
+    comes 0 x*00 dropped Truncated",
+        "no bytes",
+    ),
+    (
+        "a group that is no number
+    link
+    comes 0 00@x dropped Truncated",
+        "no bytes",
+    ),
+    (
+        "a first number that is none
+    link
+    comes 0 00+x+1 dropped Truncated",
+        "no bytes",
+    ),
+    (
+        "no count
+    link
+    comes 0 00+1 dropped Truncated",
+        "no bytes",
+    ),
+    (
+        "a step that is no number
+    link
+    comes 0 00+1+2+x dropped Truncated",
+        "no bytes",
+    ),
+    (
+        "more bytes than have room
+    link
+    comes 0 65537*00 dropped Truncated",
+        "no bytes",
+    ),
+    (
+        "no other link before
+    link
+    tick 0
+    sends 0 general
+    fewer 0",
+        "too many comparisons beside the other link",
+    ),
+    (
+        "as many comparisons as the other link
+    link
+    tick 0
+    sends 0 general
+    anew
+    tick 0
+    sends 0 general
+    fewer 1",
+        "too many comparisons beside the other link",
+    ),
+    (
+        "a query that was not said before another link
+    link
+    tick 0
+    anew
+    tick 0
+    sends 0 general",
+        "another query was sent",
+    ),
+    (
+        "another link before anything happens
+    link
+    anew
+    tick 0
+    sends 0 general",
+        "nothing happens",
+    ),
+    (
+        "another link that does nothing
+    link
+    tick 0
+    sends 0 general
+    anew",
+        "nothing happens",
     ),
     (
         "another number of messages
