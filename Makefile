@@ -2,9 +2,10 @@
 
 PREFIX ?= /usr/local
 SOURCES := $(shell tools/build --sources)
+LIBRARY_SOURCES := $(shell tools/library --sources)
 FIRST_PATH := message igmp 1600f8faef010203
 
-.PHONY: all run test mutants bench install clean
+.PHONY: all run lib test live live-test mutants bench install clean
 
 all: bin/mquerier
 
@@ -16,6 +17,12 @@ bin/mquerier: $(SOURCES)
 run: bin/mquerier
 	@bin/mquerier replay igmp --own 10.9.0.1 --qri 2000 --lmqi 500 < samples/igmp.pcap
 
+# The links as a library for C: lib/libmquerier.a, whose header is include/mquerier.h.
+lib: lib/libmquerier.a
+
+lib/libmquerier.a: $(LIBRARY_SOURCES)
+	@tools/library
+
 # Shows that it holds here: proofs, tests, and runs of the program with refused calls. The last line counts what passed.
 test:
 	@tools/gate test
@@ -24,13 +31,38 @@ test:
 mutants:
 	@tools/gate mutants
 
-# How fast captures are listed beside tcpdump (bench/README.md). It proves nothing.
+# A querier on an interface of Linux, over the library: an example in C, outside of the proofs.
+LIVE := $(wildcard examples/live/*.c examples/live/*.h)
+live: bin/mquerier-live
+
+bin/mquerier-live: $(LIVE) include/mquerier.h lib/libmquerier.a
+	@mkdir -p bin
+	$(CC) -std=c99 -O2 -Wall -Wextra -Iinclude $(filter %.c,$^) lib/libmquerier.a -o $@
+
+# The examples in C do what docs/EMBEDDING.md says, and the querier on an interface serves hosts of the Linux kernel. The
+# second wants to be root.
+live-test: live
+	@examples/check
+	@examples/live/test
+
+# How fast captures are listed and replayed, what hostile hosts cost, and how near datagrams come to the sum bound
+# (bench/README.md). It proves nothing.
 bench: bin/mquerier
 	@bench/show
+	@bench/replay
+	@bench/hostile
+	@bench/spent
 
-install: bin/mquerier
-	install -d $(DESTDIR)$(PREFIX)/bin
+# The program, the library for C with its header and what pkg-config has to know of it, and the manual pages.
+install: bin/mquerier lib/libmquerier.a
+	install -d $(DESTDIR)$(PREFIX)/bin $(DESTDIR)$(PREFIX)/include $(DESTDIR)$(PREFIX)/lib/pkgconfig
+	install -d $(DESTDIR)$(PREFIX)/share/man/man1 $(DESTDIR)$(PREFIX)/share/man/man3
 	install -m 755 bin/mquerier $(DESTDIR)$(PREFIX)/bin/mquerier
+	install -m 644 lib/libmquerier.a $(DESTDIR)$(PREFIX)/lib/libmquerier.a
+	install -m 644 include/mquerier.h $(DESTDIR)$(PREFIX)/include/mquerier.h
+	sed 's|@PREFIX@|$(PREFIX)|' include/libmquerier.pc.in > $(DESTDIR)$(PREFIX)/lib/pkgconfig/libmquerier.pc
+	install -m 644 man/mquerier.1 $(DESTDIR)$(PREFIX)/share/man/man1/mquerier.1
+	install -m 644 man/libmquerier.3 $(DESTDIR)$(PREFIX)/share/man/man3/libmquerier.3
 
 clean:
-	rm -rf bin crates/*/out
+	rm -rf bin lib crates/*/out
