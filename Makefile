@@ -2,7 +2,7 @@
 
 PREFIX ?= /usr/local
 SOURCES := $(shell tools/build --sources)
-LIBRARY_SOURCES := $(shell tools/library --sources)
+LIBRARY_SOURCES := $(shell tools/build --library-sources)
 FIRST_PATH := message igmp 1600f8faef010203
 
 .PHONY: all run lib test live live-test mutants bench install clean

@@ -108,12 +108,13 @@ class Bench:
         group = self.G if group is None else group
         return self.step(wire.older(self.family, self.family.leave, group), self.all_routers, f"Leave {self.named(group)}")
 
-    def query(self, source, group=None, sources=(), s=False, qrv=2, qqic=125, told=None):
+    def query(self, source, group=None, sources=(), s=False, qrv=2, qqic=125, told=None, behind=b""):
         general = group is None
         code = (100 if general else 10) if self.family is IGMP else (10000 if general else 1000)
-        body = wire.query(self.family, self.zero if general else group, sources, s, code, qrv, qqic)
+        body = wire.query(self.family, self.zero if general else group, sources, s, code, qrv, qqic) + behind
         what = "general query" if general else f"Q({self.named(group)}{', ' + self.listed(sources) if sources else ''})"
         what += f" with S {'set' if s else 'clear'}, QRV {qrv}, QQIC {qqic} from {told or self.senders.get(source, text_of(source))}"
+        what += f", with {len(behind)} bytes behind its fields" if behind else ""
         return self.step(body, self.everyone if general else group, what, source)
 
     def older_query(self, source, group=None, version=None):

@@ -476,6 +476,20 @@ def elections(b):
         has=("end 5999 other", f"group {text_of(g)} include {text_of(a)}=6000"),
     )
     yield Case(
+        "query-with-bytes-behind",
+        "bytes behind the fields of a query, and of one with a source, count for the checksum and for nothing else",
+        ("4.1.10", "5.1.12"),
+        [allow, (1000, b.query(lower, behind=b"\1\2")), (4000, b.query(lower, g, [a], behind=bytes(b.a)))],
+        "--until 5999",
+        has=(
+            "0 send",
+            f"1000 receive 2 {text_of(lower)} taken",
+            f"4000 receive 3 {text_of(lower)} taken",
+            "end 5999 other",
+            f"group {text_of(g)} include {text_of(a)}=6000",
+        ),
+    )
+    yield Case(
         "query-lowers-to-the-end",
         "the same to the timer's end",
         ("6.6.1", "7.6.1"),

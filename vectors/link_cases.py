@@ -70,6 +70,27 @@ def limits(b):
             "counts",
         ),
     )
+    groups = [(int.from_bytes(g, "big") + at).to_bytes(len(g), "big") for at in range(257)]
+    those = f"for each of 257 groups from {b.named(g)} up"
+    yield Case(
+        "refused-scheduled-by-default",
+        "256 groups are asked for at once, and not one more",
+        sections,
+        [
+            (0, Step(b.report(*[(ALLOW, it, [a]) for it in groups]).frame, f"ALLOW {{a}} {those}")),
+            (1000, Step(b.report(*[(BLOCK, it, [a]) for it in groups]).frame, f"BLOCK {{a}} {those}")),
+        ],
+        "--until 3000",
+        own,
+        has=(
+            *[f"1000 send {text_of(it)} " for it in groups[:-1]],
+            f"1000 receive 2 {host} taken 256 0 1",
+            *[f"2000 send {text_of(it)} " for it in groups[:-1]],
+            "end",
+            f"group {text_of(groups[-1])} include {text_of(a)}=260000",
+            "counts",
+        ),
+    )
 
 
 def older_hosts(b):
