@@ -68,6 +68,13 @@ impl<T: Copy> SlotList<T> {
         self.order.len()
     }
 
+    /// How many more items there may be.
+    pub fn free_places(&self) -> usize
+        ensures { result + length self.now.items ≡ self.now.room }
+    {
+        self.room - self.order.len()
+    }
+
     /// The item at a place, counted from 0.
     pub fn item(&self, place: usize) -> &T
         requires place { place < length self.now.items }
