@@ -16,7 +16,7 @@ use Rattle.mq_table.specs.Stored.{timers_in, state_of}
 use Rattle.mq_table.proofs.SourceLists.{len-timers_in}
 use Rattle.mq_sched.specs.Deadlines.{IsEarliest}
 use Rattle.mq_sched.specs.Schedule.{ScheduledGroup, ScheduleState}
-use Rattle.mq_held.specs.declared.items.Item.{Item}
+use Rattle.mq_held.specs.Stored.{Item}
 use Rattle.mq_held.specs.Groups.{unheld, group_at, sources_of, sources_in, schedules_in}
 use Rattle.mq_held.specs.Moments.{moments_of, moments_in, least}
 use Rattle.mq_held.specs.Places.{HasPlace, GoesAt, group_in, has_due, is_place_due, min_or}

@@ -13,7 +13,7 @@ use Rattle.mq_sets.proofs.Placing.{IsAscending-insert}
 use Rattle.mq_table.specs.declared.sources.Source.{Source}
 use Rattle.mq_table.specs.Stored.{number_in}
 use Rattle.mq_sched.specs.Schedule.{ScheduledGroup}
-use Rattle.mq_held.specs.declared.items.Item.{Item}
+use Rattle.mq_held.specs.Stored.{Item}
 use Rattle.mq_held.specs.Groups.{one_if, schedules_of}
 use Rattle.mq_held.specs.Moments.{moments_of}
 use Rattle.mq_held.specs.Stored.{item_number, group_of, entry_of, entries_of, earliest_of, IsStored}

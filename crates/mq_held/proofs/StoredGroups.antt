@@ -21,7 +21,7 @@ use Rattle.mq_table.specs.declared.sources.Source.{Source}
 use Rattle.mq_table.specs.Stored.{number_in}
 use Rattle.mq_table.proofs.SourceLists.{len-timers_in}
 use Rattle.mq_sched.specs.Schedule.{ScheduledGroup}
-use Rattle.mq_held.specs.declared.items.Item.{Item}
+use Rattle.mq_held.specs.Stored.{Item}
 use Rattle.mq_held.specs.Groups.{Groups, unheld, group_at, sources_of, sources_in, schedules_of, schedules_in}
 use Rattle.mq_held.specs.Places.{HasPlace, GoesAt}
 use Rattle.mq_held.specs.Stored.{item_number, group_of, entry_of, entries_of, groups_of}
@@ -30,14 +30,14 @@ use Rattle.mq_held.proofs.Entries.{IsAscending-set, IsAscending-remove, get-plac
 
 -- edits of two lists side by side
 module _ {A B : Type 0} where
-  set-zip : (xs : List A) (ys : List B) (i : ℕ) (x : A) (y : B) → set (zip xs ys) i (x, y) ≡ zip (set xs i x) (set ys i y)
+  pub set-zip : (xs : List A) (ys : List B) (i : ℕ) (x : A) (y : B) → set (zip xs ys) i (x, y) ≡ zip (set xs i x) (set ys i y)
   set-zip [] ys i x y = refl
   set-zip (a ∷ xs) [] zero x y = refl
   set-zip (a ∷ xs) [] (suc i) x y = refl
   set-zip (a ∷ xs) (b ∷ ys) zero x y = refl
   set-zip (a ∷ xs) (b ∷ ys) (suc i) x y = ap (λ zs. (a, b) ∷ zs) (set-zip xs ys i x y)
 
-  insert-zip : (xs : List A) (ys : List B) (i : ℕ) (x : A) (y : B) → length ys ≡ length xs → insert (zip xs ys) i (x, y) ≡ zip (insert xs i x) (insert ys i y)
+  pub insert-zip : (xs : List A) (ys : List B) (i : ℕ) (x : A) (y : B) → length ys ≡ length xs → insert (zip xs ys) i (x, y) ≡ zip (insert xs i x) (insert ys i y)
   insert-zip [] [] zero x y same = refl
   insert-zip [] [] (suc i) x y same = refl
   insert-zip [] (b ∷ ys) i x y same = absurd (omega arith)
@@ -45,7 +45,7 @@ module _ {A B : Type 0} where
   insert-zip (a ∷ xs) (b ∷ ys) zero x y same = refl
   insert-zip (a ∷ xs) (b ∷ ys) (suc i) x y same = ap (λ zs. (a, b) ∷ zs) (insert-zip xs ys i x y (omega arith))
 
-  remove-zip : (xs : List A) (ys : List B) (i : ℕ) → length ys ≡ length xs → remove (zip xs ys) i ≡ zip (remove xs i) (remove ys i)
+  pub remove-zip : (xs : List A) (ys : List B) (i : ℕ) → length ys ≡ length xs → remove (zip xs ys) i ≡ zip (remove xs i) (remove ys i)
   remove-zip [] [] zero same = refl
   remove-zip [] [] (suc i) same = refl
   remove-zip [] (b ∷ ys) i same = absurd (omega arith)

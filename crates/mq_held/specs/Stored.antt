@@ -4,13 +4,26 @@ use Rattle.std.specs.List.{All, sum_by, zip}
 use Rattle.std.specs.Option.{option_to_list}
 use Rattle.std.specs.FinMap as map
 use Rattle.mq_sets.specs.Ascending.{IsAscending}
+use Rattle.mq_table.specs.declared.heads.Head.{Head}
 use Rattle.mq_table.specs.declared.sources.Source.{Source}
 use Rattle.mq_table.specs.Group.{deadline_of}
 use Rattle.mq_table.specs.Stored.{number_in, timers_in, state_of}
-use Rattle.mq_sched.specs.Schedule.{ScheduledGroup}
-use Rattle.mq_held.specs.declared.items.Item.{Item}
+use Rattle.mq_sched.specs.Schedule.{ScheduledGroup, ScheduleState}
+use Rattle.mq_held.specs.declared.scheduled_head.ScheduledHead.{ScheduledHead}
 use Rattle.mq_held.specs.Groups.{Groups, schedules_of}
 use Rattle.mq_held.specs.Moments.{moments_of, least}
+
+-- a group without its sources, and such groups from their addresses and what stands beside these
+pub record Item (K : Type 0) : Type 0 where
+  pub address : K
+  pub head : Head
+  pub schedule : ScheduleState
+
+abbrev pub item_of : {K : Type 0} → K × ScheduledHead → Item K
+item_of p = record { address = p.0; head = p.1.head; schedule = p.1.schedule }
+
+abbrev pub items_of : {K : Type 0} → List K → List ScheduledHead → List (Item K)
+items_of addresses heads = list_map item_of (zip addresses heads)
 
 -- the number of an item is that of its address
 abbrev pub item_number : {K : Type 0} → (K → ℕ) → Item K → ℕ

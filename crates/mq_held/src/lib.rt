@@ -16,7 +16,7 @@
 mod earliest;
 pub mod held_group;
 pub mod held_groups;
-mod items;
+mod scheduled_head;
 
 pub use held_group::HeldGroup;
 pub use held_groups::HeldGroups;

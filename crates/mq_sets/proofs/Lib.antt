@@ -1,5 +1,6 @@
 pub mod Ascents
 pub mod Bitlen
+pub mod Cells
 pub mod Examples
 pub mod Found
 pub mod KnownBySet

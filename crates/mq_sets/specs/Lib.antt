@@ -4,4 +4,5 @@ pub mod Pools
 pub mod Rules
 pub mod Search
 pub mod Sides
+pub mod Slots
 pub mod SourceSets

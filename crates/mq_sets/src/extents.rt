@@ -1,16 +1,17 @@
 //! Where the rows of a pool stand in its cells.
 
-ghost use Rattle.std.specs.Prelude.{◌≡◌, ◌+◌, ◌≤◌, [], length, map, min, vec_capacity};
+ghost use Rattle.std.specs.Prelude.{◌≡◌, ◌+◌, ◌^◌, ◌<◌, ◌≤◌, [], length, map, vec_capacity};
 ghost use Rattle.std.specs.List.{All};
 ghost use Rattle.mq_sets.specs.Pools.{rows_of, cells_said, IsWithin};
 
 use std::mem;
 
-/// Where a row stands in the cells: its first cell's place, and how many cells it has.
+/// Where a row stands in the cells: its first cell's place, and how many cells it has. Both are kept in
+/// 32 bits, so that few bytes are moved where a row is made or removed.
 #[derive(Clone, Copy)]
 pub(crate) struct Extent {
-    pub(crate) start: usize,
-    pub(crate) length: usize,
+    pub(crate) start: u32,
+    pub(crate) length: u32,
 }
 
 /// Copies the rows, one after another, into `packed`, which is empty and has space for them.
@@ -18,6 +19,7 @@ pub(crate) fn pack<T: Copy>(extents: &mut [Extent], cells: &[T], packed: &mut Ve
     requires within { All (IsWithin cells.now) extents.old }
     requires empty { packed.old.items ≡ [] }
     requires space { cells_said extents.old ≤ vec_capacity packed.old }
+    requires numbered { cells_said extents.old < 2 ^ 32 }
     ensures rows { rows_of packed.new.items extents.new ≡ rows_of cells.now extents.old }
     ensures within { All (IsWithin packed.new.items) extents.new }
     ensures lengths { map (λ e. e.length) extents.new ≡ map (λ e. e.length) extents.old }
@@ -25,34 +27,40 @@ pub(crate) fn pack<T: Copy>(extents: &mut [Extent], cells: &[T], packed: &mut Ve
     ensures capacity { vec_capacity packed.old ≤ vec_capacity packed.new }
 {
     for extent in extents.iter_mut() {
-        let start = packed.len();
-        let row = &cells[extent.start..extent.start + extent.length];
+        let first = extent.start as usize;
+        let row = &cells[first..first + extent.length as usize];
+        let start = packed.len() as u32;
         packed.extend_from_slice(row).unwrap();
         extent.start = start;
     }
 }
 
-/// Makes space for `count` cells behind the last one. Where there is none left, the rows are copied
-/// into `spare`, which is empty, and the two vectors change places.
+/// Makes space for `count` cells behind the last one, so that there are no more than `size`. Where there is
+/// none left, the rows are copied into `spare`, which is empty, and the two vectors change places.
 pub(crate) fn make_space<T: Copy>(
     extents: &mut Vec<Extent>,
     cells: &mut Vec<T>,
     spare: &mut Vec<T>,
     count: usize,
+    size: usize,
 )
     requires within { All (IsWithin cells.old.items) extents.old.items }
     requires empty { spare.old.items ≡ [] }
-    requires space { cells_said extents.old.items + count ≤ vec_capacity spare.old }
+    requires space { cells_said extents.old.items + count ≤ size }
+    requires filled { length cells.old.items ≤ size }
+    requires numbered { size < 2 ^ 32 }
+    requires capacity { size ≤ vec_capacity cells.old }
+    requires spare_capacity { size ≤ vec_capacity spare.old }
     ensures rows { rows_of cells.new.items extents.new.items ≡ rows_of cells.old.items extents.old.items }
     ensures within { All (IsWithin cells.new.items) extents.new.items }
     ensures lengths { map (λ e. e.length) extents.new.items ≡ map (λ e. e.length) extents.old.items }
     ensures empty { spare.new.items ≡ [] }
     ensures rows_capacity { vec_capacity extents.new ≡ vec_capacity extents.old }
-    ensures space { length cells.new.items + count ≤ vec_capacity cells.new }
-    ensures capacity { min (vec_capacity cells.old) (vec_capacity spare.old) ≤ vec_capacity cells.new }
-    ensures spare_capacity { min (vec_capacity cells.old) (vec_capacity spare.old) ≤ vec_capacity spare.new }
+    ensures space { length cells.new.items + count ≤ size }
+    ensures capacity { size ≤ vec_capacity cells.new }
+    ensures spare_capacity { size ≤ vec_capacity spare.new }
 {
-    if count <= cells.capacity() - cells.len() {
+    if count <= size - cells.len() {
         return;
     }
     pack(extents, cells, spare);

@@ -17,7 +17,7 @@
 //!
 //! - A set: `SourceSet`, with its `InsertFault`. One that is made by `with_room` takes all its memory then,
 //!   or answers `Memory`.
-//! - A list of lists in memory that is reserved once: `Pool`.
+//! - A list of lists in memory that is reserved once: `Pool`. A list whose items stay where they are: `SlotList`.
 //! - Ascending slices of whatever carries a key: `Keyed`, `find`, and `merge` with `Merge::next`,
 //!   which hands out `Merged`.
 //! - Laws for the crates above, functions that do nothing: `numbers_find_items`,
@@ -31,6 +31,7 @@ pub mod merge_state;
 pub mod merging;
 pub mod pools;
 pub mod searching;
+pub mod slots;
 pub mod source_sets;
 
 pub use items::{Keyed, numbers_find_items};
@@ -39,4 +40,5 @@ pub use merge_state::{Merge, Merged};
 pub use merging::{merge, rules_act_at_each_key};
 pub use pools::Pool;
 pub use searching::{binary_digits_bound_a_number, find};
+pub use slots::SlotList;
 pub use source_sets::{InsertFault, SourceSet, sets_are_known_by_their_members};

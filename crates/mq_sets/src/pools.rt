@@ -29,7 +29,7 @@ pub struct Pool<T: Copy> {
 }
 
 impl<T: Copy> Model for Pool<T> {
-    ghost use Rattle.std.specs.Prelude.{◌≡◌, ◌+◌, ◌*◌, ◌≤◌, [], vec_capacity};
+    ghost use Rattle.std.specs.Prelude.{◌≡◌, ◌+◌, ◌*◌, ◌^◌, ◌<◌, ◌≤◌, [], length, vec_capacity};
     ghost use Rattle.mq_sets.specs.Pools.{PoolState, rows_of, IsStored};
 
     ghost Value = { PoolState T };
@@ -40,12 +40,14 @@ impl<T: Copy> Model for Pool<T> {
         × (p.spare.items ≡ [])
         × (p.row_limit ≤ vec_capacity p.extents)
         × (2 * p.cell_limit + p.row_limit ≤ vec_capacity p.cells)
-        × (2 * p.cell_limit + p.row_limit ≤ vec_capacity p.spare) };
+        × (2 * p.cell_limit + p.row_limit ≤ vec_capacity p.spare)
+        × (length p.cells.items ≤ 2 * p.cell_limit + p.row_limit)
+        × (2 * p.cell_limit + p.row_limit < 2 ^ 32) };
 }
 
 impl<T: Copy> Pool<T> {
     /// No rows, with memory for `rows` of them that have `cells` cells together; or `Memory`, where
-    /// that was refused or is more than can be counted.
+    /// that was refused or the vector of cells is longer than 32 bits can count.
     pub fn new(alloc: Global, rows: usize, cells: usize) -> Result<Pool<T>, Memory>
         ensures { IfOk result (λ p. p ≡ record { rows = []; row_limit = rows; cell_limit = cells }) }
     {
@@ -55,6 +57,9 @@ impl<T: Copy> Pool<T> {
         let Some(size) = twice.checked_add(rows) else {
             return Err(Memory);
         };
+        if size > u32::MAX as usize {
+            return Err(Memory);
+        }
         Ok(Pool {
             extents: Vec::with_capacity(alloc, rows)?,
             cells: Vec::with_capacity(alloc, size)?,
@@ -79,7 +84,8 @@ impl<T: Copy> Pool<T> {
         ensures cells { result.now ≡ slice_index_or self.now.rows place [] }
     {
         let extent = self.extents[place];
-        &self.cells[extent.start..extent.start + extent.length]
+        let start = extent.start as usize;
+        &self.cells[start..start + extent.length as usize]
     }
 
     /// How many cells are free: what is left of the limit when all rows have theirs.
@@ -115,7 +121,7 @@ impl<T: Copy> Pool<T> {
         ensures { self.new ≡ record self.old { rows = remove self.old.rows place } }
     {
         let extent = self.extents.remove(place);
-        self.used -= extent.length;
+        self.used -= extent.length as usize;
     }
 
     /// Puts the cells of `row` in the place of those that the row at a place has.
@@ -125,7 +131,7 @@ impl<T: Copy> Pool<T> {
             cells_in self.old.rows + length row.now ≤ self.old.cell_limit + length old_row }
         ensures { self.new ≡ record self.old { rows = slice_set self.old.rows place row.now } }
     {
-        let forgotten = self.extents[place].length;
+        let forgotten = self.extents[place].length as usize;
         self.extents[place] = Extent {
             start: 0,
             length: 0,
@@ -135,10 +141,11 @@ impl<T: Copy> Pool<T> {
             &mut self.cells,
             &mut self.spare,
             row.len(),
+            2 * self.cell_limit + self.row_limit,
         );
         self.extents[place] = Extent {
-            start: self.cells.len(),
-            length: row.len(),
+            start: self.cells.len() as u32,
+            length: row.len() as u32,
         };
         self.cells.extend_from_slice(row).unwrap();
         self.used = self.used - forgotten + row.len();

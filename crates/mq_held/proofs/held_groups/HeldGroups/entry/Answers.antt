@@ -1,11 +1,17 @@
 use Rattle.std.proofs.Common.{◌<◌, ◌∙◌, [], length, arith, ap, sym}
-use Rattle.mq_held.specs.Stored.{item_number, group_of}
-use Rattle.mq_held.proofs.Inside.{len-held, rows-held, place-found, group-held, sources-at}
+use Rattle.mq_table.specs.Stored.{timers_in, state_of}
+use Rattle.mq_sched.specs.Schedule.{ScheduledGroup}
+use Rattle.mq_held.proofs.Inside.{rows-held}
+use Rattle.mq_held.proofs.ByHeads.{len-addresses, len-heads, address-found, head-held, sources-here}
 use Rattle.mq_held.proofs.held_groups.HeldGroups.entry.Goals as goal
 
-pub index-item-requires : goal.index-item-requires
-index-item-requires g c =
-    omega (arith, c.requires.place, c.self.inside.items.ok.0, len-held g.K.Key.number c.self.invariant.0 c.self.view_is)
+pub item-item-requires : goal.item-item-requires
+item-item-requires g c =
+    record { place = omega (arith, c.requires.place, len-heads g.K.Key.number _ _ c.self.invariant.7 c.self.invariant.0 c.self.view_is) }
+
+pub index-requires : goal.index-requires
+index-requires g c =
+    omega (arith, c.requires.place, c.self.inside.addresses.ok.0, len-addresses g.K.Key.number _ _ c.self.invariant.7 c.self.invariant.0 c.self.view_is)
 
 pub row-requires : goal.row-requires
 row-requires g c =
@@ -14,16 +20,20 @@ row-requires g c =
 pub returns-clause-place : goal.returns-clause-place
 returns-clause-place g c =
     let number = g.K.Key.number in
-    let x = c.index-item.result.now in
-    let within : c.args.place < length c.self.inside.items.items = omega (arith, c.requires.place, len-held number c.self.invariant.0 c.self.view_is) in
-    place-found number c.self.invariant.0 c.self.view_is c.args.place (number x.address) x within (ap (item_number number) (sym c.index-item.ensures))
+    let known = c.self.invariant.0 in
+    let each = c.self.invariant.7 in
+    let within : c.args.place < length c.self.inside.addresses.items = omega (arith, c.requires.place, len-addresses number _ _ each known c.self.view_is) in
+    address-found number _ _ each known c.self.view_is c.args.place c.index.result.now within c.index.ensures
 
 pub returns-clause-group : goal.returns-clause-group
 returns-clause-group g c address has =
     let number = g.K.Key.number in
-    let x = c.index-item.result.now in
-    ap (group_of number x) c.row.ensures.cells
-    ∙ group-held number c.self.invariant.0 c.self.view_is address c.args.place x has c.index-item.ensures
+    let known = c.self.invariant.0 in
+    let each = c.self.invariant.7 in
+    let h = c.item-item.result.now in
+    let within : c.args.place < length c.self.inside.addresses.items = omega (arith, c.requires.place, len-addresses number _ _ each known c.self.view_is) in
+    ap (λ row. let e : ScheduledGroup = record { group = state_of h.head (timers_in number row); schedule = h.schedule } in e) c.row.ensures.cells
+    ∙ head-held number _ _ each known c.self.view_is address c.args.place h has within c.item-item.ensures.item
 
 pub returns-clause-ascending : goal.returns-clause-ascending
 returns-clause-ascending g c =
@@ -32,4 +42,8 @@ returns-clause-ascending g c =
 
 pub returns-clause-len : goal.returns-clause-len
 returns-clause-len g c address has =
-    ap length c.row.ensures.cells ∙ sym (sources-at g.K.Key.number c.self.invariant.0 c.self.view_is address c.args.place c.index-item.result.now has c.index-item.ensures)
+    let number = g.K.Key.number in
+    let known = c.self.invariant.0 in
+    let each = c.self.invariant.7 in
+    let within : c.args.place < length c.self.inside.addresses.items = omega (arith, c.requires.place, len-addresses number _ _ each known c.self.view_is) in
+    ap length c.row.ensures.cells ∙ sym (sources-here number _ _ each known c.self.view_is address c.args.place has within)

@@ -11,7 +11,7 @@ invariant_of-self g c =
     let rows = ap (λ (s : PoolState _). length s.rows) c.self.view_is in
     let limit = ap (λ (s : PoolState _). s.row_limit) c.self.view_is in
     let count = length-map c.self.inside.extents.items (cells_of c.self.inside.cells.items) in
-    (rw items (IsStored-insert c.self.inside.cells.items c.self.inside.extents.items c.args.place _ (omega (arith, rows, count, c.requires.place)) (omega (arith, rows, limit, count, c.requires.free)) refl refl c.self.invariant.0), c.self.invariant.1, omega (arith, c.self.invariant.2, c.insert.ensures.capacity), c.self.invariant.3, c.self.invariant.4)
+    (rw items (IsStored-insert c.self.inside.cells.items c.self.inside.extents.items c.args.place _ (omega (arith, rows, count, c.requires.place)) (omega (arith, rows, limit, count, c.requires.free)) refl refl c.self.invariant.0), c.self.invariant.1, omega (arith, c.self.invariant.2, c.insert.ensures.capacity), c.self.invariant.3, c.self.invariant.4, c.self.invariant.5, c.self.invariant.6)
 
 pub returns : goal.returns
 returns g c =

@@ -1,4 +1,4 @@
-use Rattle.std.proofs.Common.{◌<◌, arith, ap, refl, ◌∙◌, length, get_or, set, []}
+use Rattle.std.proofs.Common.{◌<◌, arith, ap, refl, ◌∙◌, length, length-append, get_or, set, []}
 use Rattle.std.proofs.lemmas.List.{length-map}
 use Rattle.mq_sets.specs.Pools.{PoolState, cells_of, cells_in}
 use Rattle.mq_sets.proofs.Stored.{IsStored-replace, rows_of-replace, cells_in-rows_of, length-row, with_rows}
@@ -19,7 +19,7 @@ invariant_of-self g c =
     let row = ap (λ (s : PoolState _). length (get_or s.rows c.args.place [])) c.self.view_is in
     let said = cells_in-rows_of cells extents stored.within in
     let size = length-row cells extents c.args.place _ in_list c.index.ensures stored.within in
-    (rw items (IsStored-replace cells c.make_space.new.cells.items c.args.row.now extents _ c.make_space.new.extents.items c.args.place _ _ c.index.result.now in_list c.index.ensures refl space.rows space.lengths space.within (omega arith) refl (omega (arith, used, limit, row, said, size, stored.used_is, c.requires.fits)) stored), space.empty, omega (arith, space.rows_capacity, c.self.invariant.2), omega (arith, space.capacity, c.self.invariant.3, c.self.invariant.4, c.extend_from_slice.ensures.capacity), omega (arith, space.spare_capacity, c.self.invariant.3, c.self.invariant.4))
+    (rw items (IsStored-replace cells c.make_space.new.cells.items c.args.row.now extents _ c.make_space.new.extents.items c.args.place _ _ c.index.result.now in_list c.index.ensures refl space.rows space.lengths space.within (omega arith) refl (omega (arith, used, limit, row, said, size, stored.used_is, c.requires.fits)) stored), space.empty, omega (arith, space.rows_capacity, c.self.invariant.2), omega (arith, space.capacity, c.extend_from_slice.ensures.capacity), space.spare_capacity, rw items (omega (arith, space.space, length-append c.make_space.new.cells.items c.args.row.now)), c.self.invariant.6)
 
 pub returns : goal.returns
 returns g c =
