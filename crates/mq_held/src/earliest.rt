@@ -15,6 +15,7 @@ ghost use Rattle.mq_held.specs.Stored.{earliest_of, timer_moments};
 use mq_count::{Key, Meter, Moment};
 use mq_sched::{QuerySchedule, Schedule};
 use mq_table::{FilterMode, Group, Source, SourceTimer};
+use std::mem;
 
 /// The earlier of two moments, of those that there are. At most one comparison.
 fn earlier(first: Option<Moment>, second: Option<Moment>, m: &mut Meter) -> Option<Moment>
@@ -48,13 +49,15 @@ fn group_due(query: Option<QuerySchedule>) -> Option<Moment>
     }
 }
 
-/// Until when a source's timer runs, if it does.
-fn deadline_of(timer: SourceTimer) -> Option<Moment>
-    ensures { result ≡ group_of.deadline_of (Some timer) }
+/// The earlier of a moment, if there is one, and of the end of a source's timer, if it runs. At most one
+/// comparison.
+fn earlier_with_timer(first: Option<Moment>, timer: SourceTimer, m: &mut Meter) -> Option<Moment>
+    ensures earliest { result ≡ earliest_of (option_to_list first ++ option_to_list (group_of.deadline_of (Some timer))) }
+    ensures spent { Spends 0 1 m.old m.new }
 {
     match timer {
-        SourceTimer::Stopped => None,
-        SourceTimer::Running(deadline, _) => Some(deadline),
+        SourceTimer::Stopped => first,
+        SourceTimer::Running(deadline, _) => earlier(first, Some(deadline), m),
     }
 }
 
@@ -78,7 +81,8 @@ fn earliest_of_head(
 }
 
 /// The earliest of a moment, if there is one, and of the deadlines of some sources. At most one
-/// comparison for each source.
+/// comparison for each source. The loop counts on a meter in its own frame, since one behind a
+/// reference is read and written at each step.
 fn earliest_with_row<K: Key>(
     first: Option<Moment>,
     row: &[Source<K>],
@@ -87,10 +91,12 @@ fn earliest_with_row<K: Key>(
     ensures earliest { result ≡ earliest_of (option_to_list first ++ flat_map timer_moments row.now) }
     ensures spent { Spends 0 (length row.now) m.old m.new }
 {
+    let mut meter = mem::replace(m, Meter::new());
     let mut earliest = first;
     for x in row {
-        earliest = earlier(earliest, deadline_of(x.timer), m);
+        earliest = earlier_with_timer(earliest, x.timer, &mut meter);
     }
+    *m = meter;
     earliest
 }
 

@@ -100,7 +100,7 @@ impl Schedule {
         if let FilterMode::Include = group.mode() {
             self.group_query = None;
         }
-        if !has_sendings(group) {
+        if self.sources_due.is_some() && !has_sendings(group) {
             self.sources_due = None;
         }
     }

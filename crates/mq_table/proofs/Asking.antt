@@ -1,15 +1,16 @@
 -- One step of asking for the sources of a list.
-use Rattle.std.proofs.Common.{◌≡◌, ℕ, ◌+◌, ◌<◌, Bool, true, false, cond, ◌||◌, ◌&&◌, List, ◌∷◌, length, set, get_or, take, drop, Option, Some, refl, sym, ap, ◌∙◌, arith}
+use Rattle.std.proofs.Common.{◌≡◌, ℕ, ◌+◌, ◌<◌, Bool, true, false, cond, ◌||◌, ◌&&◌, List, [], ◌∷◌, ◌++◌, length, map, set, get_or, take, drop, Option, Some, refl, sym, ap, ◌∙◌, arith}
 use Rattle.std.specs.List.{filter_map, list_any}
-use Rattle.std.proofs.lemmas.List.{drop_more, drop-drop, set-get_or}
-use Rattle.std.proofs.lemmas.List.Folds.{list_any_more}
+use Rattle.std.proofs.Math.Bool.{or-false}
+use Rattle.std.proofs.lemmas.List.{drop_more, drop-drop, set-get_or, map-append, take-append-drop}
+use Rattle.std.proofs.lemmas.List.Folds.{list_any_more, list_any-append}
 use Rattle.mq_sets.specs.Ascending.{set_of}
 use Rattle.mq_table.specs.declared.sources.Source.{Source}
 use Rattle.mq_table.specs.Group.{SourceTimer, Stopped, Running, is_ahead, deadline_of}
 use Rattle.mq_table.specs.Sendings.{source_asked}
 use Rattle.mq_table.specs.AskedSources.{is_first, source_if_asked, is_asked_above}
 use Rattle.mq_table.proofs.InOrder.{found_in_order, are_asked, one_on}
-use Rattle.mq_table.proofs.MadeLists.{as_they_were, passed_some, rest_after_some}
+use Rattle.mq_table.proofs.MadeLists.{as_they_were, passed_some, rest_after_some, made_of_all}
 
 -- a timer that is asked for
 above_is_lowered : (limit count : ℕ) (t : SourceTimer) → source_asked limit count t ≡ cond (is_ahead limit (deadline_of (Some t))) (Running limit count) t
@@ -76,3 +77,28 @@ pub stays : {K : Type 0} (limit count : ℕ) (asks is_above : Bool) (xs : List (
 stays limit count asks is_above xs place held is_held not_lowered =
     ap (λ b. let x : Source _ = record { address = held.address; timer = cond b (Running limit count) held.timer } in set xs place x) not_lowered
     ∙ ap (set xs place) is_held ∙ set-get_or xs place held
+
+-- behind the last of those asked for, no source changes
+pub none_ahead : {K : Type 0} (number : K → ℕ) (limit count : ℕ) (asked : List K) (rest : List (Source K)) → found_in_order number [] rest ≡ are_asked number asked rest → (map (source_if_asked number limit count (set_of number asked)) rest ≡ rest) × (list_any (is_asked_above number limit (set_of number asked)) rest ≡ false)
+none_ahead number limit count asked [] is = (refl, refl)
+none_ahead number limit count asked (x ∷ rest) is =
+    let first : set_of number asked (number x.address) ≡ false = cc in
+    let later : found_in_order number [] rest ≡ are_asked number asked rest = cc in
+    let known = none_ahead number limit count asked rest later in
+    (rw first (ap (λ ys. x ∷ ys) known.0), rw first known.1)
+
+-- so a pass as far as that has made what all of it makes
+pub all_asked : {X : Type 0} (f : X → X) (initial xs : List X) (place : ℕ) → take place xs ≡ filter_map (λ x. Some (f x)) (take place initial) → drop place xs ≡ drop place initial → map f (drop place initial) ≡ drop place initial → xs ≡ map f initial
+all_asked f initial xs place made rest same =
+    sym (take-append-drop place xs)
+    ∙ ap (λ ys. ys ++ drop place xs) (made ∙ made_of_all f (take place initial))
+    ∙ ap (λ ys. map f (take place initial) ++ ys) (rest ∙ sym same)
+    ∙ sym (map-append f (take place initial) (drop place initial))
+    ∙ ap (map f) (take-append-drop place initial)
+
+pub some_asked : {X : Type 0} (p : X → Bool) (initial : List X) (place : ℕ) → list_any p (drop place initial) ≡ false → list_any p (take place initial) ≡ list_any p initial
+some_asked p initial place none =
+    sym (or-false (list_any p (take place initial)))
+    ∙ ap (λ b. list_any p (take place initial) || b) (sym none)
+    ∙ sym (list_any-append p (take place initial) (drop place initial))
+    ∙ ap (list_any p) (take-append-drop place initial)

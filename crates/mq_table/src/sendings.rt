@@ -33,7 +33,7 @@ fn is_next<K: Key>(asked: &[K], next: usize, address: K, m: &mut Meter) -> bool
 
 /// Asks for the sources of a list: those whose timers are above the limit are lowered to it, and so
 /// many sendings are to go for each. Answers whether there is one. One pass over both lists, which
-/// ascend; at most two comparisons for each source held.
+/// ascend, as far as the last that is asked for; at most two comparisons for each source held.
 fn ask_each<K: Key>(
     sources: &mut Vec<Source<K>>,
     asked: &[K],
@@ -55,6 +55,9 @@ fn ask_each<K: Key>(
     let mut next = 0;
     let mut some = false;
     for place in 0..sources.len() {
+        if next == asked.len() {
+            return some;
+        }
         let held = sources[place];
         if is_next(asked, next, held.address, m) {
             next += 1;

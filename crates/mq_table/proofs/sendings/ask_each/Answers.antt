@@ -1,14 +1,15 @@
-use Rattle.std.proofs.Common.{◌≡◌, true, false, ◌<◌, ◌≤◌, ◌∙◌, ap, sym, length, refl, arith}
+use Rattle.std.proofs.Common.{◌≡◌, true, false, ◌<◌, ◌≤◌, ◌∙◌, ap, sym, [], length, drop, refl, arith}
 use Rattle.std.proofs.Math.ListN.{length-set}
 use Rattle.std.proofs.Math.Bool.{or-true, or-false}
 use Rattle.std.proofs.lemmas.Bool.{false≢true}
+use Rattle.std.proofs.lemmas.List.{drop_all}
 use Rattle.mq_count.proofs.Spent.{Spends-join, Spends-within, Spends-join_within}
 use Rattle.mq_sets.specs.Ascending.{set_of}
 use Rattle.mq_table.specs.Group.{is_ahead}
-use Rattle.mq_table.specs.AskedSources.{source_if_asked}
+use Rattle.mq_table.specs.AskedSources.{source_if_asked, is_asked_above}
 use Rattle.mq_table.proofs.InOrder.{in_order, some_held}
 use Rattle.mq_table.proofs.MadeLists.{all_made}
-use Rattle.mq_table.proofs.Asking.{step, made_at, stays}
+use Rattle.mq_table.proofs.Asking.{step, made_at, stays, none_ahead, all_asked, some_asked}
 use Rattle.mq_table.proofs.sendings.ask_each.Goals as goal
 use Rattle.mq_table.proofs.sendings.ask_each.Goals.{then-is_next+then-runs_on, then-is_next+else-runs_on, else-is_next}
 
@@ -90,3 +91,21 @@ returns-clause-spent g c =
     let some = some_held g.K.Key.number c.args.asked.now c.args.sources.now.items c.requires.held in
     let over : length c.args.sources.now.items ≤ c.loop-place.place = omega (arith, so_far.len, c.loop-place-test.false, c.len-place-end.ensures, c.args.sources.now.ok.0) in
     Spends-within _ _ so_far.spent (omega (arith, some, over)) (omega arith)
+
+pub returns-then-next-asked-clause-items : goal.returns-then-next-asked-clause-items
+returns-then-next-asked-clause-items g c =
+    let so_far = c.loop-place.invariant in
+    let asked = c.args.asked.now in
+    let initial = c.args.sources.now.items in
+    let over : drop c.loop-place.next asked ≡ [] = drop_all c.loop-place.next asked (omega arith) in
+    let none = none_ahead g.K.Key.number c.args.limit c.args.count asked (drop c.loop-place.place initial) (rw over at so_far.ahead) in
+    all_asked (source_if_asked g.K.Key.number c.args.limit c.args.count (set_of g.K.Key.number asked)) initial c.loop-place.sources.items c.loop-place.place so_far.made so_far.rest none.0
+
+pub returns-then-next-asked-clause-some : goal.returns-then-next-asked-clause-some
+returns-then-next-asked-clause-some g c =
+    let so_far = c.loop-place.invariant in
+    let asked = c.args.asked.now in
+    let initial = c.args.sources.now.items in
+    let over : drop c.loop-place.next asked ≡ [] = drop_all c.loop-place.next asked (omega arith) in
+    let none = none_ahead g.K.Key.number c.args.limit c.args.count asked (drop c.loop-place.place initial) (rw over at so_far.ahead) in
+    so_far.some ∙ some_asked (is_asked_above g.K.Key.number c.args.limit (set_of g.K.Key.number asked)) initial c.loop-place.place none.1
