@@ -1,5 +1,5 @@
--- The machine value of an object. Assumes `Logic`.
-use Rattle.std.proofs.Common.{◌≡◌, ℕ, List, [], ◌∷◌, ◌++◌, refl, subst}
+-- The machine values of an object and of a place for one. Assumes `Logic`.
+use Rattle.std.proofs.Common.{◌≡◌, ℕ, List, [], ◌∷◌, ◌++◌, Some, refl, subst}
 use seplogic.Ra.Ura.{Ura}
 use mir.Raw.{raw as bare}
 use mir.Val.{Val, vptr, vstruct, vcons, vnil, of_list}
@@ -17,6 +17,7 @@ use Rattle.mq_c.specs.Freeing.{freeing}
 use Rattle.std_alloc.specs.Box.Ownership.{box_owns}
 use Rattle.mq_c.specs.contracts.kept.IgmpKept as kept
 use Rattle.mq_c.specs.contracts.igmp_object.IgmpObject as object
+use Rattle.mq_c.specs.contracts.igmp_place.IgmpPlace as place
 
 abbrev pub alone : Val → Val
 alone v = vstruct (vcons v vnil)
@@ -40,3 +41,9 @@ module _ {M : Type 1} {𝓤 : Ura M} {𝓛 : Logic 𝓤} {K : Type 0} {Γ : List
   object_in t b o x = step (λ s. let v : Val = alone (vptr b o) in
       nothing t $ feq_i t (List Val) (vptr b o ∷ []) (vptr b o ∷ []) refl $ fjoin t $ feq_i t (List Val) (v ∷ []) (v ∷ []) refl $ fjoin t $
       fpack t (Valss (RawPtr ∷ [])) (within (shape object.the_type) (block_ptr b o, tt) (v ∷ [])) (vptr b o ∷ [], tt) $ fjoin t $ s)
+
+  pub place_in : K → (b o : ℕ) (x : kept.the_row.Denot)
+      → Step K 𝓛 (‵ (place.the_row.own_val (record { at = block_ptr b o; kept = Some x }) (alone (vptr b o) ∷ [])) ∷ Γ) G (‵ (behind (block_ptr b o) x) ∷ Γ) G
+  place_in t b o x = step (λ s. let v : Val = alone (vptr b o) in
+      nothing t $ feq_i t (List Val) (vptr b o ∷ []) (vptr b o ∷ []) refl $ fjoin t $ feq_i t (List Val) (v ∷ []) (v ∷ []) refl $ fjoin t $
+      fpack t (Valss (RawPtr ∷ [])) (within (shape place.the_type) (block_ptr b o, tt) (v ∷ [])) (vptr b o ∷ [], tt) $ fjoin t $ s)

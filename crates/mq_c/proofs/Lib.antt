@@ -2,3 +2,4 @@ mod HandedInto
 mod IgmpValues
 mod LooseValues
 mod MldValues
+mod Pages

@@ -5,5 +5,8 @@ pub mod Igmp
 pub mod Making
 pub mod Milliseconds
 pub mod Mld
+pub mod OtherQuerier
+pub mod Pages
+pub mod Placing
 pub mod Queries
 pub mod Statuses

@@ -1,5 +1,7 @@
 //! What crosses beside the objects. The layouts are those of `include/mquerier.h`, which says what each field is.
 
+ghost use Rattle.std.specs.Prelude.{◌≡◌, ◌<◌, ◌^◌};
+
 /// What a link of IGMP is configured with.
 #[repr(C)]
 #[derive(Clone, Copy)]
@@ -105,4 +107,16 @@ pub struct MldSource {
 pub struct Page {
     pub groups: u32,
     pub sources: u32,
+}
+
+/// A page of so many groups and sources.
+pub(crate) fn page_of(groups: usize, sources: usize) -> Page
+    requires groups { groups < 2 ^ 32 }
+    requires sources { sources < 2 ^ 32 }
+    ensures { result ≡ record { groups = groups; sources = sources } }
+{
+    Page {
+        groups: groups as u32,
+        sources: sources as u32,
+    }
 }

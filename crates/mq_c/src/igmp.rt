@@ -1,6 +1,6 @@
 //! Links of IGMP, as C calls them.
 
-ghost use Rattle.std.specs.Prelude.{◌≡◌, ◌<◌, ◌≤◌, ◌^◌, ℕ, IsTrue, false};
+ghost use Rattle.std.specs.Prelude.{◌≡◌, ◌<◌, ◌≤◌, ◌^◌, ℕ, IsTrue, MatchOption, false};
 ghost use Rattle.std.specs.Int.{w32, from_be_bytes};
 ghost use Rattle.mq_wire.specs.Family as family;
 ghost use Rattle.mq_link.specs.Defaults.{configured_by_default};
@@ -11,14 +11,17 @@ ghost use Rattle.mq_link.specs.Tick.{next_of};
 ghost use Rattle.std.specs.FinMap as map;
 ghost use Rattle.mq_c.specs.Calls.{CallsAt, ReceivesInto, TicksInto};
 ghost use Rattle.mq_c.specs.Counted.{counted};
-ghost use Rattle.mq_c.specs.Igmp.{asked, envelope};
+ghost use Rattle.mq_c.specs.Igmp.{asked, envelope, group_form, source_form};
 ghost use Rattle.mq_c.specs.Making.{IsMade, IsRefused};
-ghost use Rattle.mq_link.specs.Configuration.{IsFaultless};
 ghost use Rattle.std.specs.Result.{MatchResult};
+ghost use Rattle.mq_c.specs.OtherQuerier.{with_other_querier};
+ghost use Rattle.mq_c.specs.Pages.{IsPage};
 
+use crate::address_room::put_address;
 use crate::forms::{Answer, Counted, IgmpConfig, IgmpGroup, IgmpSource, Page};
 use crate::igmp_object::IgmpObject;
 use crate::igmp_pages::put_groups;
+use crate::igmp_place::IgmpPlace;
 use crate::kept::IgmpKept;
 use crate::line_room::{LineRoom, without_end};
 use crate::loose::Loose;
@@ -29,7 +32,6 @@ use crate::{bounds, calls, counting};
 use mq_count::{Addr4, Moment, Watched};
 use mq_link::{Family, Igmp, IgmpEnvelope, Limits};
 use mq_replay::igmp_line;
-use mq_wire::WireKey;
 use std::alloc::Global;
 
 /// The defaults, with this own address.
@@ -90,15 +92,15 @@ pub extern "C" fn mq_igmp_new(
     alloc: Global,
     config: IgmpConfig,
     start: u64,
-    place: &mut *mut u8,
+    place: &mut IgmpPlace,
 ) -> u32
-    ensures made { result ≡ 0 → IsFaultless (asked config) × (start ≤ 2 ^ 53) }
+    ensures made { result ≡ 0 → MatchOption place.new.kept ⊥ (λ kept. IsMade (asked config) start kept.link) }
     ensures refused { 0 < result → IsRefused (asked config) start result }
     ensures place { 0 < result → place.new ≡ place.old }
 {
     match made(alloc, config, start) {
         Ok(object) => {
-            *place = object.into_pointer();
+            *place = IgmpPlace::of(object);
             DONE
         }
         Err(status) => status,
@@ -227,15 +229,14 @@ pub extern "C" fn mq_igmp_outlet_bytes(config: IgmpConfig) -> usize {
 pub extern "C" fn mq_igmp_other_querier(link: &mut IgmpObject, address: &mut [u8]) -> u64
     ensures none { IsTrue (is_querier link.old.kept.link.state.election.role) → result ≡ no_deadline }
     ensures deadline { (other deadline : ℕ) → link.old.kept.link.state.election.role ≡ Other other deadline → result ≡ deadline }
+    ensures address { address.new ≡ with_other_querier 4 link.old.kept.link.state.election.role address.old }
     ensures same { link.new.kept.link ≡ link.old.kept.link }
     ensures at { link.new.at ≡ link.old.at }
 {
     match link.lend().link.other_querier() {
         None => NONE,
         Some(other) => {
-            if address.len() >= 4 {
-                other.address.write(address);
-            }
+            put_address(other.address, address);
             milliseconds(other.deadline)
         }
     }
@@ -249,6 +250,7 @@ pub extern "C" fn mq_igmp_groups(
     groups: &mut [IgmpGroup],
     sources: &mut [IgmpSource],
 ) -> Page
+    ensures page { IsPage group_form source_form link.old.kept.link.state.groups first groups.old groups.new sources.old sources.new result }
     ensures same { link.new ≡ link.old }
 {
     put_groups(&link.lend().link, first, groups, sources)

@@ -1,6 +1,6 @@
 //! Links of MLD, as C calls them.
 
-ghost use Rattle.std.specs.Prelude.{◌≡◌, ◌<◌, ◌≤◌, ◌^◌, ℕ, IsTrue, false};
+ghost use Rattle.std.specs.Prelude.{◌≡◌, ◌<◌, ◌≤◌, ◌^◌, ℕ, IsTrue, MatchOption, false};
 ghost use Rattle.std.specs.Int.{w128, from_be_bytes};
 ghost use Rattle.mq_wire.specs.Family as family;
 ghost use Rattle.mq_link.specs.Defaults.{configured_by_default};
@@ -11,11 +11,13 @@ ghost use Rattle.mq_link.specs.Tick.{next_of};
 ghost use Rattle.std.specs.FinMap as map;
 ghost use Rattle.mq_c.specs.Calls.{CallsAt, ReceivesInto, TicksInto};
 ghost use Rattle.mq_c.specs.Counted.{counted};
-ghost use Rattle.mq_c.specs.Mld.{asked, envelope};
+ghost use Rattle.mq_c.specs.Mld.{asked, envelope, group_form, source_form};
 ghost use Rattle.mq_c.specs.Making.{IsMade, IsRefused};
-ghost use Rattle.mq_link.specs.Configuration.{IsFaultless};
 ghost use Rattle.std.specs.Result.{MatchResult};
+ghost use Rattle.mq_c.specs.OtherQuerier.{with_other_querier};
+ghost use Rattle.mq_c.specs.Pages.{IsPage};
 
+use crate::address_room::put_address;
 use crate::forms::{Answer, Counted, MldConfig, MldGroup, MldSource, Page};
 use crate::kept::MldKept;
 use crate::line_room::{LineRoom, without_end};
@@ -24,12 +26,12 @@ use crate::making::{config_of, link_of};
 use crate::milliseconds::{NONE, milliseconds};
 use crate::mld_object::MldObject;
 use crate::mld_pages::put_groups;
+use crate::mld_place::MldPlace;
 use crate::statuses::{DONE, MEMORY};
 use crate::{bounds, calls, counting};
 use mq_count::{Addr6, Moment, Watched};
 use mq_link::{Family, Limits, Mld, MldEnvelope};
 use mq_replay::mld_line;
-use mq_wire::WireKey;
 use std::alloc::Global;
 
 /// The defaults, with this own address.
@@ -90,15 +92,15 @@ pub extern "C" fn mq_mld_new(
     alloc: Global,
     config: MldConfig,
     start: u64,
-    place: &mut *mut u8,
+    place: &mut MldPlace,
 ) -> u32
-    ensures made { result ≡ 0 → IsFaultless (asked config) × (start ≤ 2 ^ 53) }
+    ensures made { result ≡ 0 → MatchOption place.new.kept ⊥ (λ kept. IsMade (asked config) start kept.link) }
     ensures refused { 0 < result → IsRefused (asked config) start result }
     ensures place { 0 < result → place.new ≡ place.old }
 {
     match made(alloc, config, start) {
         Ok(object) => {
-            *place = object.into_pointer();
+            *place = MldPlace::of(object);
             DONE
         }
         Err(status) => status,
@@ -233,15 +235,14 @@ pub extern "C" fn mq_mld_outlet_bytes(config: MldConfig) -> usize {
 pub extern "C" fn mq_mld_other_querier(link: &mut MldObject, address: &mut [u8]) -> u64
     ensures none { IsTrue (is_querier link.old.kept.link.state.election.role) → result ≡ no_deadline }
     ensures deadline { (other deadline : ℕ) → link.old.kept.link.state.election.role ≡ Other other deadline → result ≡ deadline }
+    ensures address { address.new ≡ with_other_querier 16 link.old.kept.link.state.election.role address.old }
     ensures same { link.new.kept.link ≡ link.old.kept.link }
     ensures at { link.new.at ≡ link.old.at }
 {
     match link.lend().link.other_querier() {
         None => NONE,
         Some(other) => {
-            if address.len() >= 16 {
-                other.address.write(address);
-            }
+            put_address(other.address, address);
             milliseconds(other.deadline)
         }
     }
@@ -255,6 +256,7 @@ pub extern "C" fn mq_mld_groups(
     groups: &mut [MldGroup],
     sources: &mut [MldSource],
 ) -> Page
+    ensures page { IsPage group_form source_form link.old.kept.link.state.groups first groups.old groups.new sources.old sources.new result }
     ensures same { link.new ≡ link.old }
 {
     put_groups(&link.lend().link, first, groups, sources)

@@ -43,12 +43,4 @@ impl MldObject {
             alloc,
         }
     }
-
-    /// The pointer of an object, with what it owns let go: it is C's from now on.
-    pub(crate) fn into_pointer(self) -> *mut u8
-        ensures { result ≡ self.at }
-    {
-        let MldObject { at } = self;
-        at
-    }
 }
