@@ -7,7 +7,7 @@ ghost use Rattle.mq_c.specs.Queries.{outbox_of};
 
 use crate::forms::Answer;
 use crate::queries::Queries;
-use crate::statuses::{DONE, MOMENT, reason_number};
+use crate::statuses::{DONE, MOMENT};
 use mq_count::Moment;
 use mq_link::{Family, Link, Received};
 
@@ -59,7 +59,7 @@ fn answer_to(received: Received, queries: &Queries<'_>) -> Answer
             ..answer_to_tick(queries)
         },
         Received::Dropped(reason) => Answer {
-            dropped: reason_number(reason),
+            dropped: u32::from(reason.number()),
             ..answer_to_tick(queries)
         },
     }

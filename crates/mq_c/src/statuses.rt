@@ -1,9 +1,9 @@
-//! Statuses and reasons as numbers.
+//! Statuses as numbers.
 
 ghost use Rattle.std.specs.Prelude.{◌≡◌, ◌<◌};
 ghost use Rattle.mq_c.specs.Statuses as spec;
 
-use mq_link::{ConfigFault, DropReason, LimitName};
+use mq_link::{ConfigFault, LimitName};
 
 /// All was done.
 pub(crate) const DONE: u32 = 0;
@@ -31,23 +31,5 @@ pub(crate) fn status_of(fault: ConfigFault) -> u32
             LimitName::Scheduled => 54,
         },
         ConfigFault::OwnAddress => 6,
-    }
-}
-
-/// The number of a reason why a datagram is dropped, from 1 to 10.
-pub(crate) fn reason_number(reason: DropReason) -> u32
-    ensures { result ≡ spec.reason_number reason }
-{
-    match reason {
-        DropReason::Truncated => 1,
-        DropReason::Checksum => 2,
-        DropReason::UnknownType => 3,
-        DropReason::QueryLength => 4,
-        DropReason::BadSource => 5,
-        DropReason::HopLimit => 6,
-        DropReason::NoAlert => 7,
-        DropReason::OwnOrZero => 8,
-        DropReason::OlderQuery => 9,
-        DropReason::BadGroup => 10,
     }
 }

@@ -1,5 +1,8 @@
 //! What becomes of datagrams and their records.
 
+ghost use Rattle.std.specs.Prelude.{◌≡◌, ◌<◌, ◌≤◌};
+ghost use Rattle.mq_link.specs.Counters.{reason_number};
+
 /// What became of a datagram.
 #[derive(Clone, Copy, Debug, PartialEq, Eq)]
 pub enum Received {
@@ -40,6 +43,28 @@ pub enum DropReason {
     OlderQuery,
     /// An older Report, a Leave or a Done for a group that isn't admitted.
     BadGroup,
+}
+
+impl DropReason {
+    /// Its number, from 1 to 10.
+    pub fn number(&self) -> u8
+        ensures number { result ≡ reason_number self.now }
+        ensures first { 0 < result }
+        ensures last { result ≤ 10 }
+    {
+        match self {
+            DropReason::Truncated => 1,
+            DropReason::Checksum => 2,
+            DropReason::UnknownType => 3,
+            DropReason::QueryLength => 4,
+            DropReason::BadSource => 5,
+            DropReason::HopLimit => 6,
+            DropReason::NoAlert => 7,
+            DropReason::OwnOrZero => 8,
+            DropReason::OlderQuery => 9,
+            DropReason::BadGroup => 10,
+        }
+    }
 }
 
 /// Why a record is refused, in the order of their numbers, 1 to 7.

@@ -60,18 +60,7 @@ fn reason_place(reason: DropReason) -> usize
     ensures number { result + 1 ≡ reason_number reason }
     ensures within { result < 10 }
 {
-    match reason {
-        DropReason::Truncated => 0,
-        DropReason::Checksum => 1,
-        DropReason::UnknownType => 2,
-        DropReason::QueryLength => 3,
-        DropReason::BadSource => 4,
-        DropReason::HopLimit => 5,
-        DropReason::NoAlert => 6,
-        DropReason::OwnOrZero => 7,
-        DropReason::OlderQuery => 8,
-        DropReason::BadGroup => 9,
-    }
+    usize::from(reason.number()) - 1
 }
 
 /// The place of a kind in the order of the numbers.

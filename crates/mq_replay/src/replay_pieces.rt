@@ -3,7 +3,6 @@
 ghost use Rattle.std.specs.Prelude.{◌≡◌, ◌≤◌, ◌+◌, ◌++◌, length};
 ghost use Rattle.std.specs.Fmt.{decimal};
 ghost use Rattle.arrayvec.specs.ArrayVec.{array_vec_len};
-ghost use Rattle.mq_link.specs.Counters.{reason_number};
 ghost use Rattle.mq_pcap.specs.Frame.{carried_of};
 ghost use Rattle.mq_replay.specs.ReplayLines as spec;
 ghost use Rattle.mq_replay.specs.Text.{line_of};
@@ -89,26 +88,8 @@ fn put_answer(buffer: &mut Buffer, answer: Received)
         }
         Received::Dropped(reason) => {
             put(buffer, b"dropped ");
-            put_decimal(buffer, number_of(reason));
+            put_decimal(buffer, u64::from(reason.number()));
         }
-    }
-}
-
-/// The number of a reason.
-fn number_of(reason: DropReason) -> u64
-    ensures { result ≡ reason_number reason }
-{
-    match reason {
-        DropReason::Truncated => 1,
-        DropReason::Checksum => 2,
-        DropReason::UnknownType => 3,
-        DropReason::QueryLength => 4,
-        DropReason::BadSource => 5,
-        DropReason::HopLimit => 6,
-        DropReason::NoAlert => 7,
-        DropReason::OwnOrZero => 8,
-        DropReason::OlderQuery => 9,
-        DropReason::BadGroup => 10,
     }
 }
 
