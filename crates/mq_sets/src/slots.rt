@@ -28,7 +28,7 @@ pub struct SlotList<T: Copy> {
 }
 
 impl<T: Copy> Model for SlotList<T> {
-    ghost use Rattle.std.specs.Prelude.{◌*◌, ◌^◌, ◌≤◌, length, vec_capacity};
+    ghost use Rattle.std.specs.Prelude.{◌^◌, ◌≤◌, length, vec_capacity};
     ghost use Rattle.mq_sets.specs.Slots.{SlotListState, AreSlots, items_in};
 
     ghost Value = { SlotListState T };
