@@ -9,6 +9,7 @@ pub mod SourceLists
 pub mod Rows
 pub mod InOrder
 pub mod Pushed
+pub mod Runs
 pub mod Changed
 pub mod MadeLists
 pub mod Asking

@@ -1,9 +1,10 @@
 -- What a record makes of each pair of a merge: of the group's source, if it holds it, and the record's
 -- source, if it names it.
-use Rattle.std.specs.Prelude.{true, if◌then◌else◌, is_some, Option, None, Some}
+use Rattle.std.specs.Prelude.{◌≡◌, Bool, true, if◌then◌else◌, is_some, List, Option, None, Some}
+use Rattle.std.specs.List.{All}
 use Rattle.mq_table.specs.declared.rules.Rule.{Rule}
 use Rattle.mq_table.specs.declared.sources.Source.{Source}
-use Rattle.mq_table.specs.Group.{SourceTimer}
+use Rattle.mq_table.specs.Group.{SourceTimer, is_stopped}
 use Rattle.mq_table.specs.AtSource.{timer_after, is_asked_after}
 
 -- a source with a timer, if there is one
@@ -25,3 +26,12 @@ source_asked rule (Some x, named) =
 source_asked rule (None, Some y) =
     if is_asked_after rule.interval_end rule.mode rule.kind None true then Some y else None
 source_asked rule (None, None) = None
+
+-- whether a source is stopped
+abbrev pub item_is_stopped : {K : Type 0} → Source K → Bool
+item_is_stopped x = is_stopped (Some x.timer)
+
+-- a record leaves each of these sources as it is where it doesn't name it, and asks for none of them then
+pub record LeavesAlone {K : Type 0} (rule : Rule) (xs : List (Source K)) : Type 0 where
+  pub made : All (λ x. source_made rule (Some x, None) ≡ Some x) xs
+  pub asked : All (λ x. source_asked rule (Some x, None) ≡ None) xs

@@ -9,6 +9,7 @@ pub mod heads;
 pub mod kind;
 mod lowering;
 mod merged_records;
+mod merged_runs;
 pub mod older_hosts;
 mod recording;
 mod rules;

@@ -24,7 +24,7 @@ fn source_with<K: Key>(address: K, timer: Option<SourceTimer>) -> Option<Source<
 }
 
 /// The source of a pair as the record leaves it.
-fn source_made<K: Key>(rule: &Rule, item: &Merged<'_, Source<K>, K>) -> Option<Source<K>>
+pub(crate) fn source_made<K: Key>(rule: &Rule, item: &Merged<'_, Source<K>, K>) -> Option<Source<K>>
     ensures { result ≡ source_made rule.now (pair_of item.now) }
 {
     match item {
@@ -35,7 +35,7 @@ fn source_made<K: Key>(rule: &Rule, item: &Merged<'_, Source<K>, K>) -> Option<S
 }
 
 /// The source of a pair, if the record's query asks for it.
-fn source_asked<K: Key>(rule: &Rule, item: &Merged<'_, Source<K>, K>) -> Option<K>
+pub(crate) fn source_asked<K: Key>(rule: &Rule, item: &Merged<'_, Source<K>, K>) -> Option<K>
     ensures { result ≡ source_asked rule.now (pair_of item.now) }
 {
     let (address, is_asked) = match item {
@@ -47,7 +47,7 @@ fn source_asked<K: Key>(rule: &Rule, item: &Merged<'_, Source<K>, K>) -> Option<
 }
 
 /// Pushes an item, if there is one. A list with room for one more takes no memory.
-fn push_if_some<T: Copy>(list: &mut Vec<T>, item: Option<T>) -> Result<(), AllocError>
+pub(crate) fn push_if_some<T: Copy>(list: &mut Vec<T>, item: Option<T>) -> Result<(), AllocError>
     ensures items { OnOk result (list.new.items ≡ list.old.items ++ option_to_list item) }
     ensures capacity { vec_capacity list.old ≤ vec_capacity list.new }
     ensures full { OnErr result (vec_capacity list.old ≤ length list.old.items) }

@@ -11,6 +11,7 @@ use crate::changes::Change;
 use crate::group::Group;
 use crate::kind::Kind;
 use crate::merged_records::push_changes;
+use crate::merged_runs::push_within;
 use crate::rules::Rule;
 use crate::timing::Timing;
 use mq_count::{Key, Meter, Moment};
@@ -58,7 +59,7 @@ impl<K: Key> Group<K> {
         into.sources.clear();
         asked.clear();
         let held = self.sources.as_slice();
-        push_changes(&rule, held, named.as_slice(), &mut into.sources, asked, m).unwrap();
+        push_within(&rule, held, named.as_slice(), &mut into.sources, asked, m);
         into.mode = rule.mode_after();
         into.v1 = self.v1;
         into.v2 = self.v2;

@@ -12,24 +12,27 @@ use Rattle.mq_table.proofs.Changed.{made_ascends, asked_ascends, recorded_group,
 use Rattle.mq_table.proofs.group.Group.apply_into.Given.{Over}
 use Rattle.mq_table.proofs.group.Group.apply_into.Goals as goal
 
-pub unwrap-requires : goal.unwrap-requires
-unwrap-requires g c =
+pub push_within-requires-clause-room : goal.push_within-requires-clause-room
+push_within-requires-clause-room g c =
     let size : size_of c.args.self.now.state ≡ length c.as_slice-held.result.now = rw (← c.self.view_is, c.as_slice-held.ensures.value) (len-timers_in g.K.Key.number c.self.inside.sources.items c.self.invariant) in
     let room : vec_capacity c.into.inside.sources ≡ c.args.into.now.room = ap (λ s. s.room) c.into.view_is in
-    c.push_changes.ensures.room
-    (omega (arith, size, room, c.requires.room, c.clear.ensures.capacity, ap length c.as_slice.ensures.members))
-    (omega (arith, size, c.requires.asked_room, c.clear-2.ensures.capacity, ap length c.as_slice.ensures.members))
+    omega (arith, size, room, c.requires.room, c.clear.ensures.capacity, ap length c.as_slice.ensures.members)
+
+pub push_within-requires-clause-asked_room : goal.push_within-requires-clause-asked_room
+push_within-requires-clause-asked_room g c =
+    let size : size_of c.args.self.now.state ≡ length c.as_slice-held.result.now = rw (← c.self.view_is, c.as_slice-held.ensures.value) (len-timers_in g.K.Key.number c.self.inside.sources.items c.self.invariant) in
+    omega (arith, size, c.requires.asked_room, c.clear-2.ensures.capacity, ap length c.as_slice.ensures.members)
 
 -- the timers run up to the group membership interval from now
 interval_end : (g : Over) (c : goal.After-asks_group g) → c.after.result ≡ c.args.now + membership_interval c.args.timing.now
 interval_end g c = c.after.ensures.later ∙ ap (λ n. c.args.now + n) c.membership_interval.ensures
 
 -- what was pushed
-made : (g : Over) (c : goal.After-asks_group g) → c.push_changes.new.sources.items ≡ filter_map (source_made (record { kind = c.args.kind; mode = c.self.inside.mode; interval_end = c.after.result })) (merged_lists (number_in g.K.Key.number) g.K.Key.number c.self.inside.sources.items c.args.named.now.members)
-made g c = rw (c.unwrap.ensures, c.as_slice-held.ensures.value, c.as_slice.ensures.members) at c.push_changes.ensures.sources
+made : (g : Over) (c : goal.After-asks_group g) → c.push_within.new.sources.items ≡ filter_map (source_made (record { kind = c.args.kind; mode = c.self.inside.mode; interval_end = c.after.result })) (merged_lists (number_in g.K.Key.number) g.K.Key.number c.self.inside.sources.items c.args.named.now.members)
+made g c = rw (c.as_slice-held.ensures.value, c.as_slice.ensures.members) at c.push_within.ensures.sources
 
-asked : (g : Over) (c : goal.After-asks_group g) → c.push_changes.new.asked.items ≡ filter_map (source_asked (record { kind = c.args.kind; mode = c.self.inside.mode; interval_end = c.after.result })) (merged_lists (number_in g.K.Key.number) g.K.Key.number c.self.inside.sources.items c.args.named.now.members)
-asked g c = rw (c.unwrap.ensures, c.as_slice-held.ensures.value, c.as_slice.ensures.members) at c.push_changes.ensures.asked
+asked : (g : Over) (c : goal.After-asks_group g) → c.push_within.new.asked.items ≡ filter_map (source_asked (record { kind = c.args.kind; mode = c.self.inside.mode; interval_end = c.after.result })) (merged_lists (number_in g.K.Key.number) g.K.Key.number c.self.inside.sources.items c.args.named.now.members)
+asked g c = rw (c.as_slice-held.ensures.value, c.as_slice.ensures.members) at c.push_within.ensures.asked
 
 named_ascends : (g : Over) (c : goal.After-asks_group g) → IsAscending g.K.Key.number c.args.named.now.members
 named_ascends g c = rw c.as_slice.ensures.members at c.as_slice.ensures.ascending
@@ -44,13 +47,13 @@ pub returns-clause-group : goal.returns-clause-group
 returns-clause-group g c =
     recorded_group g.K.Key.number c.args.timing.now c.args.now c.self.inside.mode c.args.kind c.self.inside.v1 c.self.inside.v2 c.self.inside.sources.items c.args.named.now.members c.self.invariant (named_ascends g c)
     c.args.self.now.state c.after.result (interval_end g c) (ap (λ s. s.state) c.self.view_is)
-    c.mode_after-into-inside.result c.push_changes.new.sources.items c.mode_after-into-inside.ensures (made g c)
+    c.mode_after-into-inside.result c.push_within.new.sources.items c.mode_after-into-inside.ensures (made g c)
 
 pub returns-clause-query : goal.returns-clause-query
 returns-clause-query g c =
     recorded_query g.K.Key.number c.args.timing.now c.args.now c.self.inside.mode c.args.kind c.self.inside.v1 c.self.inside.v2 c.self.inside.sources.items c.args.named.now.members c.self.invariant (named_ascends g c)
     c.args.self.now.state c.after.result (interval_end g c) (ap (λ s. s.state) c.self.view_is)
-    c.push_changes.new.asked.items (asked g c)
+    c.push_within.new.asked.items (asked g c)
 
 pub returns-clause-query_group : goal.returns-clause-query_group
 returns-clause-query_group g c =
@@ -61,7 +64,7 @@ returns-clause-query_group g c =
 pub returns-clause-spent : goal.returns-clause-spent
 returns-clause-spent g c =
     let size : size_of c.args.self.now.state ≡ length c.self.inside.sources.items = rw (← c.self.view_is) (len-timers_in g.K.Key.number c.self.inside.sources.items c.self.invariant) in
-    rw size (rw (c.unwrap.ensures, c.as_slice-held.ensures.value, c.as_slice.ensures.members) at c.push_changes.ensures.compares)
+    rw size (rw (c.as_slice-held.ensures.value, c.as_slice.ensures.members) at c.push_within.ensures.compares)
 
 pub returns-clause-held : goal.returns-clause-held
 returns-clause-held g c s is_asked =
