@@ -1,5 +1,7 @@
 //! A writer into memory that is lent, for one line.
 
+ghost use Rattle.std.specs.Prelude.{◌≡◌};
+
 use std::io;
 use std::io::Write;
 
@@ -12,15 +14,18 @@ pub(crate) struct LineRoom<'a> {
 
 impl<'a> LineRoom<'a> {
     /// A writer into this memory, which counts there.
-    pub(crate) fn new(out: &'a mut [u8], length: &'a mut usize) -> LineRoom<'a> {
+    pub(crate) fn new(out: &'a mut [u8], length: &'a mut usize) -> LineRoom<'a>
+        ensures out { result.out.now ≡ out.old }
+        ensures length { result.length.now ≡ length.old }
+    {
         LineRoom { out, length }
     }
 }
 
 impl<'a> Write for LineRoom<'a> {
-    ghost use Rattle.std.specs.Prelude.{None};
+    ghost use Rattle.mq_c.specs.LineRoom.{written_to};
 
-    ghost contents = { λ _. None };
+    ghost contents = { written_to };
 
     fn write(&mut self, buf: &[u8]) -> io::Result<usize> {
         let room = self.out.len();
