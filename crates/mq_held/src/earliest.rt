@@ -15,7 +15,6 @@ ghost use Rattle.mq_held.specs.Stored.{earliest_of, timer_moments};
 use mq_count::{Key, Meter, Moment};
 use mq_sched::{QuerySchedule, Schedule};
 use mq_table::{FilterMode, Group, Source, SourceTimer};
-use std::mem;
 
 /// The earlier of two moments, of those that there are. At most one comparison.
 fn earlier(first: Option<Moment>, second: Option<Moment>, m: &mut Meter) -> Option<Moment>
@@ -81,8 +80,7 @@ fn earliest_of_head(
 }
 
 /// The earliest of a moment, if there is one, and of the deadlines of some sources. At most one
-/// comparison for each source. The loop counts on a meter in its own frame, since one behind a
-/// reference is read and written at each step.
+/// comparison for each source.
 fn earliest_with_row<K: Key>(
     first: Option<Moment>,
     row: &[Source<K>],
@@ -91,12 +89,10 @@ fn earliest_with_row<K: Key>(
     ensures earliest { result ≡ earliest_of (option_to_list first ++ flat_map timer_moments row.now) }
     ensures spent { Spends 0 (length row.now) m.old m.new }
 {
-    let mut meter = mem::replace(m, Meter::new());
     let mut earliest = first;
     for x in row {
-        earliest = earlier_with_timer(earliest, x.timer, &mut meter);
+        earliest = earlier_with_timer(earliest, x.timer, m);
     }
-    *m = meter;
     earliest
 }
 

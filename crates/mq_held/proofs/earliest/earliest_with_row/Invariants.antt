@@ -8,4 +8,4 @@ use Rattle.mq_held.proofs.earliest.earliest_with_row.Given as goal
 -- the earliest so far
 abbrev pub invariant-loop-x : goal.invariant-loop-x
 invariant-loop-x g l =
-    (l.earliest ≡ earliest_of (option_to_list l.fn.first ++ flat_map timer_moments (take l.x-index l.row))) × Spends 0 l.x-index l.initial.meter l.meter
+    (l.earliest ≡ earliest_of (option_to_list l.fn.first ++ flat_map timer_moments (take l.x-index l.row))) × Spends 0 l.x-index l.initial.m l.m
