@@ -62,7 +62,7 @@ invariant_of-self g c =
     let room : c.change.new.self.room ≡ c.self.inside.deadlines.room = rw c.change.ensures.deadlines refl in
     let heads_room : c.set.new.self.room ≡ c.self.inside.heads.room = rw c.set.ensures refl in
     let size : length c.set.new.self.items ≡ length heads = rw c.set.ensures (length-set heads c.args.place h) in
-    (rw (c.set.ensures, c.replace.ensures, c.change.ensures.deadlines, c.count_schedules.ensures, c.count_schedules-2.ensures) stored, omega (arith, row_limit, c.self.invariant.1), omega (arith, row_limit, room, c.self.invariant.2), omega (arith, row_limit, c.self.invariant.3), omega (arith, cell_limit, c.self.invariant.4), omega (arith, row_limit, c.self.invariant.5), omega (arith, row_limit, heads_room, c.self.invariant.6), omega (arith, size, each))
+    (rw (c.set.ensures, c.replace.ensures, c.change.ensures.deadlines, c.count_schedules.ensures, c.count_schedules-2.ensures) stored, omega (arith, row_limit, c.self.invariant.1), omega (arith, row_limit, room, c.self.invariant.2), omega (arith, row_limit, c.self.invariant.3), omega (arith, cell_limit, c.self.invariant.4), omega (arith, row_limit, c.self.invariant.5), omega (arith, row_limit, heads_room, c.self.invariant.6), omega (arith, size, each), c.self.invariant.8, omega (arith, row_limit, c.self.invariant.9))
 
 pub overflow_add-self : goal.overflow_add-self
 overflow_add-self g c =
