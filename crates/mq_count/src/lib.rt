@@ -12,7 +12,7 @@
 //! ```
 //!
 //! - Addresses: `Addr4`, `Addr6`, and `Key`, by which generic code compares them.
-//! - Time: `Moment` and `Span`, in milliseconds.
+//! - Time: `Moment` and `Span`, in milliseconds, and `Timed` for what has a moment.
 //! - The meter: `Meter`. Its contracts say `Spends low high old new`, and the functions of
 //!   `metering` that do nothing state the laws of that word.
 //! - Streams: `Watched`, and for tests `Faulty`.
@@ -28,6 +28,7 @@ pub mod keys;
 pub mod metering;
 pub mod moments;
 pub mod streams;
+pub mod timed;
 pub mod versions;
 
 pub use address_v4::Addr4;
@@ -38,4 +39,5 @@ pub use keys::Key;
 pub use metering::Meter;
 pub use moments::{Moment, Span};
 pub use streams::Watched;
+pub use timed::Timed;
 pub use versions::OlderVersion;

@@ -6,8 +6,8 @@ ghost use Rattle.mq_count.specs.Spending.{Spends, SpendingAddsUp, SpendingIsANum
 use crate::moments::Moment;
 use std::marker::Model;
 
-/// How many comparisons have been made: calls of `Key::order`, `Meter::reached` and
-/// `Meter::earlier`, and nothing else. A contract sees it as that number, which stays at the
+/// How many comparisons have been made: those of `Key::order`, `Meter::reached`, `Meter::earlier` and
+/// `Meter::earliest_with`, and nothing else. A contract sees it as that number, which stays at the
 /// greatest u64 once it is there.
 #[derive(Drop)]
 pub struct Meter {
@@ -59,7 +59,14 @@ impl Meter {
     pub(crate) fn count_comparison(&mut self)
         ensures { Spends 1 1 self.old self.new }
     {
-        self.spent = self.spent.saturating_add(1);
+        self.count_comparisons(1);
+    }
+
+    /// Counts so many comparisons.
+    pub(crate) fn count_comparisons(&mut self, count: usize)
+        ensures { Spends count count self.old self.new }
+    {
+        self.spent = self.spent.saturating_add(count as u64);
     }
 }
 

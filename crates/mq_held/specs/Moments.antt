@@ -1,8 +1,9 @@
 -- The deadlines and due moments of the groups that are held.
-use Rattle.std.specs.Prelude.{ℕ, min, List, [], ◌∷◌, ◌++◌, Option, Some}
+use Rattle.std.specs.Prelude.{ℕ, List, [], ◌∷◌, ◌++◌, Option, Some}
 use Rattle.std.specs.Option.{option_to_list}
 use Rattle.std.specs.List.{flat_map}
 use Rattle.std.specs.FinMap as map
+pub use Rattle.mq_count.specs.Timed.{least}
 use Rattle.mq_table.specs.Group.{group_deadline, deadline_of}
 use Rattle.mq_sched.specs.Schedule.{ScheduledGroup}
 use Rattle.mq_sched.specs.Sending.{group_due}
@@ -21,7 +22,3 @@ moments_of e =
 
 abbrev pub moments_in : Groups → List ℕ
 moments_in groups = flat_map moments_of (map.values groups)
-
-abbrev pub least : ℕ → List ℕ → ℕ
-least n [] = n
-least n (m ∷ ms) = min m (least n ms)

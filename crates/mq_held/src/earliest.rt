@@ -12,9 +12,9 @@ ghost use Rattle.mq_held.specs.Groups as groups;
 ghost use Rattle.mq_held.specs.Moments.{those_of, moments_of};
 ghost use Rattle.mq_held.specs.Stored.{earliest_of, timer_moments};
 
-use mq_count::{Key, Meter, Moment};
+use mq_count::{Key, Meter, Moment, Timed};
 use mq_sched::{QuerySchedule, Schedule};
-use mq_table::{FilterMode, Group, Source, SourceTimer};
+use mq_table::{FilterMode, Group, Source};
 
 /// The earlier of two moments, of those that there are. At most one comparison.
 fn earlier(first: Option<Moment>, second: Option<Moment>, m: &mut Meter) -> Option<Moment>
@@ -48,18 +48,6 @@ fn group_due(query: Option<QuerySchedule>) -> Option<Moment>
     }
 }
 
-/// The earlier of a moment, if there is one, and of the end of a source's timer, if it runs. At most one
-/// comparison.
-fn earlier_with_timer(first: Option<Moment>, timer: SourceTimer, m: &mut Meter) -> Option<Moment>
-    ensures earliest { result ≡ earliest_of (option_to_list first ++ option_to_list (group_of.deadline_of (Some timer))) }
-    ensures spent { Spends 0 1 m.old m.new }
-{
-    match timer {
-        SourceTimer::Stopped => first,
-        SourceTimer::Running(deadline, _) => earlier(first, Some(deadline), m),
-    }
-}
-
 /// The earliest of the moments of a group without its sources, and of its schedule. At most four
 /// comparisons.
 fn earliest_of_head(
@@ -89,11 +77,16 @@ fn earliest_with_row<K: Key>(
     ensures earliest { result ≡ earliest_of (option_to_list first ++ flat_map timer_moments row.now) }
     ensures spent { Spends 0 (length row.now) m.old m.new }
 {
-    let mut earliest = first;
-    for x in row {
-        earliest = earlier_with_timer(earliest, x.timer, m);
+    let mut start = first;
+    let mut place = 0;
+    while start.is_none() && place < row.len() {
+        start = row[place].moment();
+        place += 1;
     }
-    earliest
+    match start {
+        Some(start) => Some(m.earliest_with(start, &row[place..])),
+        None => None,
+    }
 }
 
 /// The earliest of all moments of a group and its schedule, of which a group that is held has one. At

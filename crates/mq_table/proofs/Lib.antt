@@ -14,3 +14,4 @@ pub mod Changed
 pub mod MadeLists
 pub mod Asking
 pub mod Ended
+pub mod EndedRuns

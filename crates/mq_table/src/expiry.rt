@@ -1,15 +1,15 @@
 //! The end of timers.
 
-ghost use Rattle.std.specs.Prelude.{◌≡◌, ◌+◌, ◌*◌, length, vec_capacity};
+ghost use Rattle.std.specs.Prelude.{◌≡◌, ◌+◌, ◌≤◌, ◌++◌, length, take, drop, vec_capacity};
 ghost use Rattle.std.specs.List.{filter_map};
 ghost use Rattle.std.specs.Option.{option_and_then};
 ghost use Rattle.mq_count.specs.Spending.{Spends};
-ghost use Rattle.mq_table.specs.Expiry.{ahead, mode_expired, source_expired, held_or_vacant, expired};
+ghost use Rattle.mq_table.specs.Expiry.{ahead, at_zero, mode_expired, held_or_vacant, expired};
 ghost use Rattle.mq_table.specs.MadeSources.{source_left};
 ghost use Rattle.mq_table.specs.Stored.{size_of};
 
 use crate::group::Group;
-use crate::sources::Source;
+use crate::sources::{Source, rest_of};
 use crate::timers::{FilterMode, SourceTimer, runs_on};
 use mq_count::{Key, Meter, Moment};
 
@@ -37,28 +37,32 @@ fn mode_left(mode: &FilterMode, now: Moment, m: &mut Meter) -> FilterMode
     }
 }
 
-/// What a source's timer is once it has ended, if it has, in a group of this mode; None where the
-/// source is removed. At most one comparison.
-fn timer_left(
-    timer: &SourceTimer,
-    mode: &FilterMode,
-    now: Moment,
-    m: &mut Meter,
-) -> Option<SourceTimer>
-    ensures timer { result ≡ source_expired mode.now now timer.now }
-    ensures spent { Spends 0 1 m.old m.new }
+/// What a source's timer is once it has ended, in a group of this mode; None where the source is removed.
+fn timer_at_zero(mode: &FilterMode) -> Option<SourceTimer>
+    ensures { result ≡ at_zero mode.now }
 {
-    if runs_on(timer.deadline(), now, m) {
-        return Some(*timer);
-    }
     match mode {
         FilterMode::Include => None,
         FilterMode::Exclude(_) => Some(SourceTimer::Stopped),
     }
 }
 
+/// Moves so many sources at a place towards the front.
+fn move_run<K: Key>(sources: &mut Vec<Source<K>>, place: usize, left: usize, run: usize)
+    requires within { place + run ≤ length sources.old.items }
+    requires behind { left ≤ place }
+    ensures moved { take (left + run) sources.new.items ≡ take left sources.old.items ++ take run (drop place sources.old.items) }
+    ensures rest { drop (place + run) sources.new.items ≡ drop (place + run) sources.old.items }
+    ensures len { length sources.new.items ≡ length sources.old.items }
+    ensures capacity { vec_capacity sources.new ≡ vec_capacity sources.old }
+{
+    if left < place {
+        sources.as_mut_slice().copy_within(place..place + run, left);
+    }
+}
+
 /// Leaves of a list the sources that the end of their timers leaves in a group of this mode, in one
-/// pass over the list.
+/// pass over the list, run by run of those whose timers run on.
 fn leave_sources<K: Key>(
     sources: &mut Vec<Source<K>>,
     mode: &FilterMode,
@@ -70,14 +74,19 @@ fn leave_sources<K: Key>(
     ensures spent { Spends 0 (length sources.old.items) m.old m.new }
 {
     let mut left = 0;
-    for place in 0..sources.len() {
-        let held = sources[place];
-        if let Some(timer) = timer_left(&held.timer, mode, now, m) {
-            sources[left] = Source {
-                address: held.address,
-                timer,
-            };
-            left += 1;
+    let mut place = 0;
+    while place < sources.len() {
+        let run = m.count_ahead(rest_of(sources.as_slice(), place), now);
+        move_run(sources, place, left, run);
+        left += run;
+        place += run;
+        if place < sources.len() {
+            let address = sources[place].address;
+            if let Some(timer) = timer_at_zero(mode) {
+                sources[left] = Source { address, timer };
+                left += 1;
+            }
+            place += 1;
         }
     }
     sources.truncate(left);

@@ -1,7 +1,7 @@
 //! A record merged with its group where it leaves the sources alone that it doesn't name: these are copied run by run, up to
 //! each source that it names.
 
-ghost use Rattle.std.specs.Prelude.{◌≡◌, ◌+◌, ◌≤◌, ◌<◌, ◌++◌, [], min, length, take, drop, vec_capacity, IfOk, IfErr, MatchResult, true};
+ghost use Rattle.std.specs.Prelude.{◌≡◌, ◌+◌, ◌≤◌, ◌<◌, ◌++◌, [], min, length, take, vec_capacity, IfOk, IfErr, MatchResult, true};
 ghost use Rattle.std.specs.List.{HoldsAt, filter_map, list_any};
 ghost use Rattle.std.specs.Option.{option_to_list};
 ghost use Rattle.mq_count.specs.Spending.{Spends};
@@ -14,7 +14,7 @@ ghost use Rattle.mq_table.specs.MergedRecord.{source_made, source_asked, item_is
 use crate::kind::Kind;
 use crate::merged_records::{push_changes, push_if_some, source_asked, source_made};
 use crate::rules::Rule;
-use crate::sources::Source;
+use crate::sources::{Source, rest_of};
 use crate::timers::{FilterMode, SourceTimer};
 use mq_count::{Key, Meter};
 use mq_sets::Merged;
@@ -45,14 +45,6 @@ fn front_of<K: Key>(row: &[Source<K>], count: usize) -> &[Source<K>]
     ensures { result.now ≡ take count row.now }
 {
     &row[..count]
-}
-
-/// The sources of a list behind the first so many.
-fn rest_of<K: Key>(row: &[Source<K>], count: usize) -> &[Source<K>]
-    requires { count ≤ length row.now }
-    ensures { result.now ≡ drop count row.now }
-{
-    &row[count..]
 }
 
 /// Whether some source of a list is stopped.
