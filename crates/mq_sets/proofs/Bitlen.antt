@@ -1,5 +1,5 @@
 -- Laws of `bitlen`.
-use Rattle.std.proofs.Common.{ℕ, ◌+◌, ◌/◌, ◌^◌, ◌<◌, ◌≤◌, ◌≡◌, arith, refl, subst}
+use Rattle.std.proofs.Common.{ℕ, zero, suc, ◌+◌, ◌/◌, ◌^◌, ◌<◌, ◌≤◌, ◌≡◌, arith, refl, subst}
 use Rattle.std.specs.Int.Digits.{digits_of}
 use Rattle.std.proofs.lemmas.Int.Digits.{length-digits_of_step, length-digits_of-le, number_lt, number_digits_of, all_below_base_digits_of}
 use Rattle.std.proofs.Math.Pow.{pow_mono}
@@ -29,6 +29,18 @@ below_power_of_bitlen n =
 -- no fewer digits for a greater number
 pub bitlen-mono : (a b : ℕ) → a ≤ b → bitlen a ≤ bitlen b
 bitlen-mono a b le = let small = below_power_of_bitlen b in bitlen-le (bitlen b) a (omega arith)
+
+-- no more digits than the number says
+pub bitlen-few : (n : ℕ) → bitlen n ≤ n
+bitlen-few n = within n n (omega arith)
+  where
+    within : (most n : ℕ) → n ≤ most → bitlen n ≤ n
+    within most zero few = let none = bitlen-zero in omega (arith, none)
+    within zero (suc n) few = absurd (omega (arith, few))
+    within (suc most) (suc n) few =
+        let half = within most (suc n / 2) (omega (arith, few)) in
+        let one_less = bitlen-half (suc n) (omega arith) in
+        omega (arith, half, one_less)
 
 -- a number is below 2 ^ k exactly where it has at most k binary digits
 pub bitlen_is_least : BitlenIsLeast

@@ -18,6 +18,10 @@ IsAscending-drop number zero xs up = up
 IsAscending-drop number (suc n) [] up = up
 IsAscending-drop number (suc n) (x ∷ xs) up = IsAscending-drop number n xs (IsAscending-tail number x xs up)
 
+-- one item alone ascends
+pub one-IsAscending : {X : Type 0} (number : X → ℕ) (x : X) → IsAscending number (x ∷ [])
+one-IsAscending number x i j d before within = absurd (omega (arith, before, within))
+
 -- what stands behind a place from whose item on all are above a number
 pub above_place : {X : Type 0} (number : X → ℕ) (xs : List X) (n place : ℕ) (x : X) → IsAscending number xs → place < length xs → x ≡ get_or xs place x → n < number x → AllWithin (λ y. n < number y) xs place (length xs)
 above_place number xs n place x up within here above k d from upto =

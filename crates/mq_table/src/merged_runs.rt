@@ -1,13 +1,13 @@
 //! A record merged with its group where it leaves the sources alone that it doesn't name: these are copied run by run, up to
 //! each source that it names.
 
-ghost use Rattle.std.specs.Prelude.{◌≡◌, ◌+◌, ◌≤◌, ◌<◌, ◌++◌, [], min, length, take, vec_capacity, IfOk, IfErr, MatchResult, true};
+ghost use Rattle.std.specs.Prelude.{◌≡◌, ◌+◌, ◌≤◌, ◌<◌, ◌++◌, [], ◌∷◌, min, length, take, vec_capacity, IfOk, IfErr, MatchResult, true};
 ghost use Rattle.std.specs.List.{HoldsAt, filter_map, list_any};
 ghost use Rattle.std.specs.Option.{option_to_list};
 ghost use Rattle.mq_count.specs.Spending.{Spends};
 ghost use Rattle.mq_sets.specs.Ascending.{IsAscending};
 ghost use Rattle.mq_sets.specs.Merging.{merged_lists, pair_of};
-ghost use Rattle.mq_sets.specs.Search.{IsPlaceFor};
+ghost use Rattle.mq_sets.specs.Search.{IsPlaceFor, bitlen};
 ghost use Rattle.mq_table.specs.Stored.{number_in};
 ghost use Rattle.mq_table.specs.MergedRecord.{source_made, source_asked, item_is_stopped, LeavesAlone};
 
@@ -17,7 +17,7 @@ use crate::rules::Rule;
 use crate::sources::{Source, rest_of};
 use crate::timers::{FilterMode, SourceTimer};
 use mq_count::{Key, Meter};
-use mq_sets::Merged;
+use mq_sets::{Merged, find};
 use std::cmp::Ordering;
 
 /// The place of a name among ascending sources, or as an `Err` the place where it would go, by a walk from the front: one
@@ -140,6 +140,42 @@ fn push_runs<K: Key>(
     push_run(sources, left);
 }
 
+/// Pushes what `push_changes` pushes, for a record of one source that leaves the others alone. Its place is looked for by
+/// halves.
+fn push_around<K: Key>(
+    rule: &Rule,
+    held: &[Source<K>],
+    name: &K,
+    sources: &mut Vec<Source<K>>,
+    asked: &mut Vec<K>,
+    m: &mut Meter,
+)
+    requires held_ascending { IsAscending (number_in K.number) held.now }
+    requires alone { LeavesAlone rule.now held.now }
+    requires no_sources { sources.old.items ≡ [] }
+    requires none_asked { asked.old.items ≡ [] }
+    requires room { length held.now + 1 ≤ vec_capacity sources.old }
+    requires asked_room { 0 < vec_capacity asked.old }
+    ensures sources { sources.new.items ≡ filter_map (source_made rule.now) (merged_lists (number_in K.number) K.number held.now (name.now ∷ [])) }
+    ensures asked { asked.new.items ≡ filter_map (source_asked rule.now) (merged_lists (number_in K.number) K.number held.now (name.now ∷ [])) }
+    ensures compares { Spends (min 1 (length held.now)) (bitlen (length held.now)) m.old m.new }
+    ensures sources_room { vec_capacity sources.old ≤ vec_capacity sources.new }
+    ensures asked_room { vec_capacity asked.old ≤ vec_capacity asked.new }
+{
+    match find(held, *name, m) {
+        Ok(place) => {
+            push_run(sources, front_of(held, place));
+            push_named(rule, &Merged::Both(&held[place], name), sources, asked);
+            push_run(sources, rest_of(held, place + 1));
+        }
+        Err(place) => {
+            push_run(sources, front_of(held, place));
+            push_named(rule, &Merged::Right(name), sources, asked);
+            push_run(sources, rest_of(held, place));
+        }
+    }
+}
+
 /// Pushes what `push_changes` pushes, to lists that have room for both sides.
 pub(crate) fn push_within<K: Key>(
     rule: &Rule,
@@ -161,9 +197,11 @@ pub(crate) fn push_within<K: Key>(
     ensures sources_room { vec_capacity sources.old ≤ vec_capacity sources.new }
     ensures asked_room { vec_capacity asked.old ≤ vec_capacity asked.new }
 {
-    if leaves_alone(rule, held) {
-        push_runs(rule, held, named, sources, asked, m);
-    } else {
+    if !leaves_alone(rule, held) {
         push_changes(rule, held, named, sources, asked, m).unwrap();
+    } else if named.len() == 1 {
+        push_around(rule, held, &named[0], sources, asked, m);
+    } else {
+        push_runs(rule, held, named, sources, asked, m);
     }
 }

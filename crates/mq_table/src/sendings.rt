@@ -1,6 +1,6 @@
 //! Sendings of group-and-source-specific queries, which stand with the timers of the sources.
 
-ghost use Rattle.std.specs.Prelude.{◌≡◌, ℕ, ◌-◌, ◌*◌, ◌^◌, ◌<◌, ◌≤◌, true, Some, IsSome, length, map, min, vec_capacity, drop};
+ghost use Rattle.std.specs.Prelude.{◌≡◌, ℕ, ◌-◌, ◌*◌, ◌^◌, ◌<◌, ◌≤◌, true, false, Some, IsSome, length, map, min, vec_capacity, drop};
 ghost use Rattle.std.specs.List.{list_any};
 ghost use Rattle.mq_count.specs.Spending.{Spends};
 ghost use Rattle.mq_sets.specs.Ascending.{IsAscending, set_of};
@@ -93,6 +93,16 @@ fn recounted(timer: &SourceTimer, recount: Recount) -> SourceTimer
     }
 }
 
+/// Whether a timer's sendings are to be counted anew.
+fn is_recounted(timer: &SourceTimer) -> bool
+    ensures { (recount : Recount) → result ≡ false → timer_recounted recount timer.now ≡ timer.now }
+{
+    match timer {
+        SourceTimer::Stopped => false,
+        SourceTimer::Running(_, sendings) => 0 < *sendings,
+    }
+}
+
 /// Counts the sendings of each source of a list anew.
 fn recount_each<K: Key>(sources: &mut Vec<Source<K>>, recount: Recount)
     ensures items { sources.new.items ≡ map (source_recounted recount) sources.old.items }
@@ -100,10 +110,12 @@ fn recount_each<K: Key>(sources: &mut Vec<Source<K>>, recount: Recount)
 {
     for place in 0..sources.len() {
         let held = sources[place];
-        sources[place] = Source {
-            address: held.address,
-            timer: recounted(&held.timer, recount),
-        };
+        if is_recounted(&held.timer) {
+            sources[place] = Source {
+                address: held.address,
+                timer: recounted(&held.timer, recount),
+            };
+        }
     }
 }
 
