@@ -25,6 +25,7 @@
 #![tactic(auto)]
 
 mod extents;
+pub mod inserting;
 pub mod items;
 pub mod memory;
 pub mod merge_state;
@@ -34,6 +35,7 @@ pub mod searching;
 pub mod slots;
 pub mod source_sets;
 
+pub use inserting::insert_at_once;
 pub use items::{Keyed, numbers_find_items};
 pub use memory::Memory;
 pub use merge_state::{Merge, Merged};
