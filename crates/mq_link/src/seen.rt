@@ -7,7 +7,7 @@ ghost use Rattle.mq_sets.specs.Search.{bitlen};
 ghost use Rattle.mq_link.specs.Record.{met};
 
 use mq_count::{Key, Meter};
-use mq_sets::{Keyed, Memory, find};
+use mq_sets::{Keyed, Memory, find, insert_at_once};
 use std::alloc::Global;
 use std::marker::Model;
 
@@ -86,7 +86,7 @@ impl<K: Key> SeenGroups<K> {
                 before.records
             }
             Err(place) => {
-                self.met.insert(place, Met { group, records: 1 }).unwrap();
+                insert_at_once(&mut self.met, place, Met { group, records: 1 });
                 0
             }
         }

@@ -11,7 +11,7 @@ use crate::deadline_order::{
     as_place, copy_places, count_due, index_for, index_of, move_down, move_up,
 };
 use mq_count::{Meter, Moment};
-use mq_sets::Memory;
+use mq_sets::{Memory, insert_at_once};
 use std::alloc::Global;
 use std::marker::Model;
 
@@ -97,8 +97,8 @@ impl Deadlines {
         let index = index_for(&self.moments, &self.order, due, m);
         let as_kept = as_place(place);
         move_up(&mut self.order, as_kept);
-        self.order.insert(index, as_kept).unwrap();
-        self.moments.insert(place, due).unwrap();
+        insert_at_once(&mut self.order, index, as_kept);
+        insert_at_once(&mut self.moments, place, due);
     }
 
     /// The group at a place was deleted. The places behind it move down by one. No comparison.
@@ -124,7 +124,7 @@ impl Deadlines {
         let as_kept = self.order.remove(index);
         self.moments[place] = due;
         let index = index_for(&self.moments, &self.order, due, m);
-        self.order.insert(index, as_kept).unwrap();
+        insert_at_once(&mut self.order, index, as_kept);
     }
 
     /// Writes the places whose deadlines are at or before `now` at the front of `places`, ascending,

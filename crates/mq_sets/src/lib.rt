@@ -18,6 +18,7 @@
 //! - A set: `SourceSet`, with its `InsertFault`. One that is made by `with_room` takes all its memory then,
 //!   or answers `Memory`.
 //! - A list of lists in memory that is reserved once: `Pool`. A list whose items stay where they are: `SlotList`.
+//! - An item that is put into a long list: `insert_at_once`.
 //! - Ascending slices of whatever carries a key: `Keyed`, `find`, and `merge` with `Merge::next`,
 //!   which hands out `Merged`.
 //! - Laws for the crates above, functions that do nothing: `numbers_find_items`,
@@ -25,6 +26,7 @@
 #![tactic(auto)]
 
 mod extents;
+pub mod inserting;
 pub mod items;
 pub mod memory;
 pub mod merge_state;
@@ -34,6 +36,7 @@ pub mod searching;
 pub mod slots;
 pub mod source_sets;
 
+pub use inserting::insert_at_once;
 pub use items::{Keyed, numbers_find_items};
 pub use memory::Memory;
 pub use merge_state::{Merge, Merged};

@@ -5,6 +5,7 @@ ghost use Rattle.std.specs.List.{insert, remove};
 ghost use Rattle.mq_sets.specs.Pools.{PoolState, cells_in};
 
 use crate::extents::{Extent, make_space};
+use crate::inserting::insert_at_once;
 use crate::memory::Memory;
 use std::alloc::Global;
 use std::marker::Model;
@@ -112,7 +113,7 @@ impl<T: Copy> Pool<T> {
             start: 0,
             length: 0,
         };
-        self.extents.insert(place, empty).unwrap();
+        insert_at_once(&mut self.extents, place, empty);
     }
 
     /// Takes the row at a place out with all its cells; the rows behind it move down by one.

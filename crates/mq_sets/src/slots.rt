@@ -4,6 +4,7 @@ ghost use Rattle.std.specs.Prelude.{◌≡◌, ℕ, ◌+◌, ◌^◌, ◌<◌, �
 ghost use Rattle.std.specs.List.{All, insert, remove};
 ghost use Rattle.mq_sets.specs.Slots.{SlotListState, AreSlots, IsCell, item_in, items_in};
 
+use crate::inserting::insert_at_once;
 use crate::memory::Memory;
 use std::alloc::Global;
 use std::marker::Model;
@@ -98,7 +99,7 @@ impl<T: Copy> SlotList<T> {
         ensures { self.new ≡ record self.old { items = insert self.old.items place item } }
     {
         let cell = fill_cell(&mut self.cells, &mut self.free, item);
-        self.order.insert(place, cell).unwrap();
+        insert_at_once(&mut self.order, place, cell);
     }
 
     /// Takes the item at a place out; the places behind it move down by one.

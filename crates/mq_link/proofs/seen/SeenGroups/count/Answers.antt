@@ -1,5 +1,4 @@
-use Rattle.std.proofs.Common.{◌≡◌, ◌+◌, List, length, Bool, true, false, cond, refl, sym, ap, ◌∙◌, arith}
-use Rattle.std.proofs.lemmas.Bool.{false≢true}
+use Rattle.std.proofs.Common.{◌≡◌, ◌+◌, length, refl, sym, ap, ◌∙◌, arith}
 use Rattle.std.specs.FinMap as map
 use Rattle.mq_count.proofs.Spent.{Spends-within}
 use Rattle.mq_sets.proofs.Placing.{IsAscending-insert}
@@ -62,8 +61,8 @@ returns-in-Err-clause-spent g c =
     let len = ap length c.as_slice.ensures.value ∙ sym (len-counts g.K.Key.number c.self.inside.met.items c.self.invariant.0) ∙ ap (λ s. map.len s) counts in
     Spends-within 0 _ (rw len at c.find.ensures.spent) (omega arith) (omega arith)
 
-pub unwrap-requires : goal.unwrap-requires
-unwrap-requires g c =
+pub insert_at_once-requires-clause-room : goal.insert_at_once-requires-clause-room
+insert_at_once-requires-clause-room g c =
     let counts = ap (λ (s : SeenState). s.counts) c.self.view_is in
     let rooms = ap (λ (s : SeenState). s.room) c.self.view_is in
     let goes = rw c.as_slice.ensures.value at c.in-Err.ensures.absent in
@@ -72,25 +71,20 @@ unwrap-requires g c =
     let len = len-counts g.K.Key.number c.self.inside.met.items c.self.invariant.0 in
     let count = sym len ∙ ap (λ s. map.len s) counts in
     let room = c.self.invariant.1 in
-    c.insert.ensures.succeeds (omega (arith, fewer, count, rooms, room))
-
-inserted_items : {X : Type 0} (b : Bool) (xs ys zs : List X) → b ≡ true → zs ≡ cond b xs ys → zs ≡ xs
-inserted_items true xs ys zs is same = same
-inserted_items false xs ys zs is same = absurd (false≢true is)
+    omega (arith, fewer, count, rooms, room)
 
 pub invariant_of-self-in-Err : goal.invariant_of-self-in-Err
 invariant_of-self-in-Err g c =
     let goes = rw c.as_slice.ensures.value at c.in-Err.ensures.absent in
-    let items = inserted_items _ _ _ _ (unwrap-requires g c.before) c.insert.ensures.items in
     let room = c.self.invariant.1 in
-    let more = c.insert.ensures.capacity in
-    (rw items (IsAscending-insert (met_number g.K.Key.number) c.self.inside.met.items c.in-Err.place _ c.self.invariant.0 goes), omega arith)
+    let more = c.insert_at_once.ensures.capacity in
+    (rw c.insert_at_once.ensures.items (IsAscending-insert (met_number g.K.Key.number) c.self.inside.met.items c.in-Err.place _ c.self.invariant.0 goes), omega arith)
 
 pub returns-in-Err-clause-counts : goal.returns-in-Err-clause-counts
 returns-in-Err-clause-counts g c =
     let k = g.K.Key.number c.args.group in
     let counts = ap (λ (s : SeenState). s.counts) c.self.view_is in
     let goes = rw c.as_slice.ensures.value at c.in-Err.ensures.absent in
-    ap (counts_in g.K.Key.number) (inserted_items _ _ _ _ (unwrap-requires g c.before) c.insert.ensures.items)
+    ap (counts_in g.K.Key.number) c.insert_at_once.ensures.items
     ∙ counted-first g.K.Key.number c.self.inside.met.items c.self.invariant.0 c.in-Err.place k goes _ refl
     ∙ (λ i. map.insert (counts i) k (returns-in-Err-clause-before g c i + 1))

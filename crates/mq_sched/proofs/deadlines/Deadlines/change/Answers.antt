@@ -55,8 +55,8 @@ invariant_of-self c =
     let found = rw (c.deref.ensures.value, c.as_place.ensures) at c.index_of-index.ensures.found in
     let without = IsWithout-remove moments order c.index_of-index.result c.args.place within found c.self.invariant.0 in
     let kept = place_taken c.self.inside.order.items c.index_of-index.result c.args.place c.remove-as_kept.result within found c.remove-as_kept.ensures.value in
-    let placed = rw (c.unwrap.ensures, c.remove-as_kept.ensures.items, kept) at c.insert.ensures.items in
+    let placed = rw (c.remove-as_kept.ensures.items, kept) at c.insert_at_once.ensures.items in
     let in_order = rw (c.deref-3.ensures.value, c.remove-as_kept.ensures.items) at c.index_for-index.ensures.within in
     let before = rw (c.deref-3.ensures.value, c.remove-as_kept.ensures.items, c.deref-2.ensures.value) at c.index_for-index.ensures.before in
     let behind = rw (c.deref-3.ensures.value, c.remove-as_kept.ensures.items, c.deref-2.ensures.value) at c.index_for-index.ensures.behind in
-    (rw placed (IsOrder-change moments (remove order c.index_of-index.result) c.args.place in_list without c.args.due c.index_for-index.result in_order before behind), omega (arith, c.self.invariant.1, length-set c.self.inside.moments.items c.args.place c.args.due), c.self.invariant.2, c.self.invariant.3, omega (arith, c.self.invariant.4, c.remove-as_kept.ensures.capacity, c.insert.ensures.capacity))
+    (rw placed (IsOrder-change moments (remove order c.index_of-index.result) c.args.place in_list without c.args.due c.index_for-index.result in_order before behind), omega (arith, c.self.invariant.1, length-set c.self.inside.moments.items c.args.place c.args.due), c.self.invariant.2, c.self.invariant.3, omega (arith, c.self.invariant.4, c.remove-as_kept.ensures.capacity, c.insert_at_once.ensures.capacity))
