@@ -23,9 +23,9 @@ returns-in-Some-clause-earliest g c =
     let start = sym c.loop-start.invariant.start ∙ ap option_to_list c.in-Some.is in
     let parts = ap (flat_map timer_moments) (sym (take-append-drop place row)) ∙ flat_map-append timer_moments (take place row) behind in
     let all =
-        ap (λ ms. first ++ ms) parts
-        ∙ sym (append_assoc first (flat_map timer_moments (take place row)) (flat_map timer_moments behind))
-        ∙ ap (λ ms. ms ++ flat_map timer_moments behind) start in
+    ap (λ ms. first ++ ms) parts
+    ∙ sym (append_assoc first (flat_map timer_moments (take place row)) (flat_map timer_moments behind))
+    ∙ ap (λ ms. ms ++ flat_map timer_moments behind) start in
     ap Some (c.earliest_with.ensures.answer ∙ ap (λ xs. least c.in-Some.start (moments_by moment_of xs)) rest) ∙ sym (ap earliest_of all)
 
 pub returns-in-Some-clause-spent : goal.returns-in-Some-clause-spent

@@ -26,17 +26,17 @@ loop-x-preserved g c =
           let few = i.few in
           elim w.if-ms.branch [
             | then-ms v ↦ record {
-                earliest = omega (arith, least_is, e, w.earliest-is, v.earliest-is, v.if-ms.true, w.ms.ensures, w.ms-in-Some.ensures);
-                count = omega (arith, count, n, w.count-is);
-                few = omega (arith, few, w.count-is);
-                meter = i.meter;
-              }
+              earliest = omega (arith, least_is, e, w.earliest-is, v.earliest-is, v.if-ms.true, w.ms.ensures, w.ms-in-Some.ensures);
+              count = omega (arith, count, n, w.count-is);
+              few = omega (arith, few, w.count-is);
+              meter = i.meter;
+            }
             | else-ms v ↦ record {
-                earliest = omega (arith, least_is, e, w.earliest-is, v.earliest-is, v.if-ms.false, w.ms.ensures, w.ms-in-Some.ensures);
-                count = omega (arith, count, n, w.count-is);
-                few = omega (arith, few, w.count-is);
-                meter = i.meter;
-              }
+              earliest = omega (arith, least_is, e, w.earliest-is, v.earliest-is, v.if-ms.false, w.ms.ensures, w.ms-in-Some.ensures);
+              count = omega (arith, count, n, w.count-is);
+              few = omega (arith, few, w.count-is);
+              meter = i.meter;
+            }
           ]
       | in_default w ↦
           let all = more ∙ ap (λ o. so_far ++ option_to_list o) (sym c.moment.ensures ∙ w.in_default.is) ∙ append-nil so_far in
