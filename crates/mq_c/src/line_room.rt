@@ -5,7 +5,7 @@ ghost use Rattle.std.specs.Prelude.{◌≡◌, ◌≤◌, ◌+◌, ◌++◌, IsT
 use mq_replay::{LineFault, Output};
 use std::marker::{Brand, PhantomData};
 
-/// What stood in memory when it was lent. The caller of a function picks it at `Brand`.
+/// What stood in the memory when it was lent. Proofs alone know it; a call that passes `Brand` names it.
 pub(crate) trait Lent {
     ghost use Rattle.std.specs.Prelude.{ℕ, List};
 
