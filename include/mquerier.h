@@ -218,8 +218,9 @@ mq_page mq_igmp_groups(mq_igmp *link, uint32_t first, mq_igmp_group *groups, siz
 mq_page mq_mld_groups(mq_mld *link, uint32_t first, mq_mld_group *groups, size_t group_room, mq_mld_source *sources,
                       size_t source_room);
 
-/* The line of a message for logs, as `mquerier message` prints it, without its end; or of its fault. Writes at most
-   `room` bytes, and answers how many it wrote: where that is `room`, the line may be cut. No zero byte is added. */
+/* The line of a message for logs, as `mquerier message` prints it, or of its fault, cut where the memory ends. Answers how
+   many bytes of the line stand there, without its end: where that is `room`, the line may be cut. Its end, a line feed,
+   stands behind them where there is room for it, and all bytes behind stay as they were. No zero byte is added. */
 size_t mq_igmp_line(const uint8_t *body, size_t length, uint8_t *line, size_t room);
 size_t mq_mld_line(const uint8_t source[16], const uint8_t destination[16], const uint8_t *body, size_t length,
                    uint8_t *line, size_t room);

@@ -118,6 +118,8 @@ static void lines(void) {
   CHECK(length == 25 && !memcmp(line, "report v2 group 239.1.2.3", 25));
   memset(line, '-', sizeof line);
   CHECK(mq_igmp_line(join, sizeof join, (uint8_t *)line, 9) == 9 && !memcmp(line, "report v2-", 10));
+  CHECK(mq_igmp_line(join, sizeof join, (uint8_t *)line, 25) == 25 && !memcmp(line, "report v2 group 239.1.2.3-", 26));
+  CHECK(mq_igmp_line(join, sizeof join, (uint8_t *)line, 26) == 25 && !memcmp(line, "report v2 group 239.1.2.3\n-", 27));
   CHECK(mq_igmp_line(cut, sizeof cut, (uint8_t *)line, sizeof line) == 22 && !memcmp(line, "fault 1 truncated at 4", 22));
   CHECK(mq_igmp_line(NULL, 0, NULL, 0) == 0);
 }

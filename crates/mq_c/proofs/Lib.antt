@@ -1,5 +1,6 @@
 mod HandedInto
 mod IgmpValues
+mod LentLines
 mod LooseValues
 mod MldValues
 mod Pages

@@ -1,6 +1,6 @@
 //! Links of IGMP, as C calls them.
 
-ghost use Rattle.std.specs.Prelude.{◌≡◌, ◌<◌, ◌≤◌, ◌^◌, ℕ, IsTrue, MatchOption, false};
+ghost use Rattle.std.specs.Prelude.{◌≡◌, ◌<◌, ◌≤◌, ◌^◌, ℕ, IsTrue, MatchOption, [], false};
 ghost use Rattle.std.specs.Int.{w32, from_be_bytes};
 ghost use Rattle.mq_wire.specs.Family as family;
 ghost use Rattle.mq_link.specs.Defaults.{configured_by_default};
@@ -12,6 +12,7 @@ ghost use Rattle.std.specs.FinMap as map;
 ghost use Rattle.mq_c.specs.Calls.{CallsAt, ReceivesInto, TicksInto};
 ghost use Rattle.mq_c.specs.Counted.{counted};
 ghost use Rattle.mq_c.specs.Igmp.{asked, envelope, group_form, source_form};
+ghost use Rattle.mq_c.specs.LineRoom.{LineStands};
 ghost use Rattle.mq_c.specs.Making.{IsMade, IsRefused};
 ghost use Rattle.std.specs.Result.{MatchResult};
 ghost use Rattle.mq_c.specs.OtherQuerier.{with_other_querier};
@@ -23,16 +24,16 @@ use crate::igmp_object::IgmpObject;
 use crate::igmp_pages::put_groups;
 use crate::igmp_place::IgmpPlace;
 use crate::kept::IgmpKept;
-use crate::line_room::{LineRoom, without_end};
+use crate::lines::put_igmp_line;
 use crate::loose::Loose;
 use crate::making::{config_of, link_of};
 use crate::milliseconds::{NONE, milliseconds};
 use crate::statuses::{DONE, MEMORY};
 use crate::{bounds, calls, counting};
-use mq_count::{Addr4, Moment, Watched};
+use mq_count::{Addr4, Moment};
 use mq_link::{Family, Igmp, IgmpEnvelope, Limits};
-use mq_replay::igmp_line;
 use std::alloc::Global;
+use std::marker::Brand;
 
 /// The defaults, with this own address.
 #[unsafe(no_mangle)]
@@ -256,12 +257,10 @@ pub extern "C" fn mq_igmp_groups(
     put_groups(&link.lend().link, first, groups, sources)
 }
 
-/// The line of a message, without its end.
+/// The line of a message, or of its fault.
 #[unsafe(no_mangle)]
-pub extern "C" fn mq_igmp_line(body: &[u8], line: &mut [u8]) -> usize {
-    let mut length = 0;
-    let mut writer = Watched::new(LineRoom::new(line, &mut length));
-    let _line = igmp_line(body, &mut writer);
-    drop(writer);
-    without_end(line, length)
+pub extern "C" fn mq_igmp_line(body: &[u8], line: &mut [u8]) -> usize
+    ensures text { LineStands family.Igmp [] body.now line.old line.new result }
+{
+    put_igmp_line::<Brand>(body, line)
 }

@@ -3,7 +3,7 @@
 //! - the objects that C holds: `igmp_object` and `mld_object`, over `kept` and `loose`, with `igmp_lending` and
 //!   `mld_lending`, and the places that it lends for new ones: `igmp_place` and `mld_place`;
 //! - what crosses besides: `forms`, `statuses`, `milliseconds`, `counting`;
-//! - what is written to memory that C lends: `queries`, `igmp_pages` and `mld_pages`, `address_room`, `line_room`;
+//! - what is written to memory that C lends: `queries`, `igmp_pages` and `mld_pages`, `address_room`, `line_room` and `lines`;
 //! - the calls, for both families: `making`, `calls`;
 //! - and as C calls them: `igmp` and `mld`.
 #![tactic(auto)]
@@ -20,6 +20,7 @@ mod igmp_pages;
 mod igmp_place;
 mod kept;
 mod line_room;
+mod lines;
 mod loose;
 mod making;
 mod milliseconds;

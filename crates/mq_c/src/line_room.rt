@@ -1,54 +1,87 @@
-//! A writer into memory that is lent, for one line.
+//! Memory that is lent, for one line.
 
-ghost use Rattle.std.specs.Prelude.{◌≡◌};
+ghost use Rattle.std.specs.Prelude.{◌≡◌, ◌≤◌, ◌+◌, ◌++◌, IsTrue, length, take, drop, false};
 
-use std::io;
-use std::io::Write;
+use mq_replay::{LineFault, Output};
+use std::marker::{Brand, PhantomData};
 
-/// The memory, and how much of it is written. What doesn't fit is not taken.
-#[derive(Drop)]
-pub(crate) struct LineRoom<'a> {
-    out: &'a mut [u8],
-    length: &'a mut usize,
+/// What stood in the memory when it was lent. Proofs alone know it; a call that passes `Brand` names it.
+pub(crate) trait Lent {
+    ghost use Rattle.std.specs.Prelude.{ℕ, List};
+
+    ghost before: { List ℕ };
 }
 
-impl<'a> LineRoom<'a> {
-    /// A writer into this memory, which counts there.
-    pub(crate) fn new(out: &'a mut [u8], length: &'a mut usize) -> LineRoom<'a>
-        ensures out { result.out.now ≡ out.old }
-        ensures length { result.length.now ≡ length.old }
+impl Lent for Brand {
+    ghost use Rattle.std.specs.Prelude.{[]};
+
+    ghost before = { [] };
+}
+
+/// The memory, how much of it is written, and whether there was more to write than there was room for. Behind what is
+/// written it is as it was lent.
+#[derive(Drop)]
+pub(crate) struct LineRoom<'a, L: Lent> {
+    out: &'a mut [u8],
+    written: usize,
+    full: bool,
+    of: PhantomData<L>,
+    ghost within: { written ≤ length out.now },
+    ghost behind: { drop written out.now ≡ drop written L.before },
+    ghost same_length: { length out.now ≡ length L.before },
+    ghost no_room: { IsTrue full → written ≡ length out.now },
+}
+
+impl<'a, L: Lent> LineRoom<'a, L> {
+    /// Nothing is written yet.
+    pub(crate) fn new(out: &'a mut [u8]) -> LineRoom<'a, L>
+        requires lent { out.old ≡ L.before }
+        ensures same_out { result.out.ghost_name ≡ out.entry.ghost_name }
+        ensures written { result.written ≡ 0 }
+        ensures full { result.full ≡ false }
     {
-        LineRoom { out, length }
+        LineRoom {
+            out,
+            written: 0,
+            full: false,
+            of: PhantomData,
+        }
+    }
+
+    /// How many bytes were written.
+    pub(crate) fn written(&self) -> usize
+        ensures { result ≡ self.now.written }
+    {
+        self.written
     }
 }
 
-impl<'a> Write for LineRoom<'a> {
+/// Overwrites the bytes from a place on.
+fn overwrite(out: &mut [u8], at: usize, bytes: &[u8])
+    requires room { at + length bytes.now ≤ length out.old }
+    ensures { out.new ≡ take at out.old ++ bytes.now ++ drop (at + length bytes.now) out.old }
+{
+    out[at..at + bytes.len()].copy_from_slice(bytes);
+}
+
+impl<'a, L: Lent> Output for LineRoom<'a, L> {
     ghost use Rattle.mq_c.specs.LineRoom.{written_to};
 
-    ghost contents = { written_to };
+    ghost held = { written_to };
 
-    fn write(&mut self, buf: &[u8]) -> io::Result<usize> {
-        let room = self.out.len();
-        let length = *self.length;
-        if room < length {
-            return Ok(0);
+    ghost failed = { λ room. room.full };
+
+    ghost loan = { λ room. room.out.ghost_name };
+
+    fn print(&mut self, text: &[u8]) -> Result<(), LineFault> {
+        let at = self.written;
+        let count = text.len().min(self.out.len() - at);
+        self.written = at + count;
+        overwrite(self.out, at, &text[..count]);
+        if count < text.len() {
+            self.full = true;
+            return Err(LineFault::Write);
         }
-        let count = buf.len().min(room - length);
-        self.out[length..length + count].copy_from_slice(&buf[..count]);
-        *self.length = length + count;
-        Ok(count)
-    }
-
-    fn flush(&mut self) -> io::Result<()> {
         Ok(())
-    }
-}
-
-/// How many bytes of the line stand there, without its end.
-pub(crate) fn without_end(line: &[u8], length: usize) -> usize {
-    if 0 < length && length <= line.len() && line[length - 1] == b'\n' {
-        length - 1
-    } else {
-        length
     }
 }

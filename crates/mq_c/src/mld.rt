@@ -1,8 +1,9 @@
 //! Links of MLD, as C calls them.
 
-ghost use Rattle.std.specs.Prelude.{◌≡◌, ◌<◌, ◌≤◌, ◌^◌, ℕ, IsTrue, MatchOption, false};
+ghost use Rattle.std.specs.Prelude.{◌≡◌, ◌<◌, ◌≤◌, ◌^◌, ℕ, IsTrue, MatchOption, false, length};
 ghost use Rattle.std.specs.Int.{w128, from_be_bytes};
 ghost use Rattle.mq_wire.specs.Family as family;
+ghost use Rattle.mq_wire.specs.PseudoHeader.{pseudo_header};
 ghost use Rattle.mq_link.specs.Defaults.{configured_by_default};
 ghost use Rattle.mq_c.specs.Milliseconds.{no_deadline};
 ghost use Rattle.mq_sched.specs.Election.{is_querier, Other};
@@ -12,6 +13,7 @@ ghost use Rattle.std.specs.FinMap as map;
 ghost use Rattle.mq_c.specs.Calls.{CallsAt, ReceivesInto, TicksInto};
 ghost use Rattle.mq_c.specs.Counted.{counted};
 ghost use Rattle.mq_c.specs.Mld.{asked, envelope, group_form, source_form};
+ghost use Rattle.mq_c.specs.LineRoom.{LineStands};
 ghost use Rattle.mq_c.specs.Making.{IsMade, IsRefused};
 ghost use Rattle.std.specs.Result.{MatchResult};
 ghost use Rattle.mq_c.specs.OtherQuerier.{with_other_querier};
@@ -20,7 +22,7 @@ ghost use Rattle.mq_c.specs.Pages.{IsPage};
 use crate::address_room::put_address;
 use crate::forms::{Answer, Counted, MldConfig, MldGroup, MldSource, Page};
 use crate::kept::MldKept;
-use crate::line_room::{LineRoom, without_end};
+use crate::lines::put_mld_line;
 use crate::loose::Loose;
 use crate::making::{config_of, link_of};
 use crate::milliseconds::{NONE, milliseconds};
@@ -29,10 +31,10 @@ use crate::mld_pages::put_groups;
 use crate::mld_place::MldPlace;
 use crate::statuses::{DONE, MEMORY};
 use crate::{bounds, calls, counting};
-use mq_count::{Addr6, Moment, Watched};
+use mq_count::{Addr6, Moment};
 use mq_link::{Family, Limits, Mld, MldEnvelope};
-use mq_replay::mld_line;
 use std::alloc::Global;
+use std::marker::Brand;
 
 /// The defaults, with this own address.
 #[unsafe(no_mangle)]
@@ -262,22 +264,19 @@ pub extern "C" fn mq_mld_groups(
     put_groups(&link.lend().link, first, groups, sources)
 }
 
-/// The line of a message, without its end.
+/// The line of a message, or of its fault.
 #[unsafe(no_mangle)]
 pub extern "C" fn mq_mld_line(
     source: &[u8; 16],
     destination: &[u8; 16],
     body: &[u8],
     line: &mut [u8],
-) -> usize {
-    let mut length = 0;
-    let mut writer = Watched::new(LineRoom::new(line, &mut length));
-    let _line = mld_line(
-        Addr6::from_octets(*source),
-        Addr6::from_octets(*destination),
-        body,
-        &mut writer,
-    );
-    drop(writer);
-    without_end(line, length)
+) -> usize
+    ensures text { LineStands family.Mld
+        (pseudo_header (from_be_bytes w128 source.now) (from_be_bytes w128 destination.now) (length body.now))
+        body.now line.old line.new result }
+{
+    let source = Addr6::from_octets(*source);
+    let destination = Addr6::from_octets(*destination);
+    put_mld_line::<Brand>(source, destination, body, line)
 }

@@ -6,7 +6,7 @@
 //! mld_line(source, destination, body, &mut output)     // the same of MLD, whose checksum covers the addresses
 //! ```
 //!
-//! - Lines: `igmp_line`, `mld_line`.
+//! - Lines: `igmp_line`, `mld_line`, and what they are written to: an `Output`.
 //! - The listing of a capture: `show`, and its replay on a link: `replay`; and `ReplayFault`, which says why one ended early.
 //! - Printing on a watched writer: `print`, and `LineFault`, which says that a write failed.
 #![tactic(auto)]
@@ -20,6 +20,7 @@ mod line_key;
 mod lines;
 mod listing;
 mod one_packet;
+mod output;
 mod pieces;
 mod printing;
 mod query_outlet;
@@ -35,6 +36,7 @@ pub use captured_family::{CapturedDatagram, CapturedFamily};
 pub use line_key::LineKey;
 pub use lines::{igmp_line, mld_line};
 pub use listing::show;
+pub use output::Output;
 pub use printing::{LineFault, print};
 pub use replay_fault::ReplayFault;
 pub use replaying::replay;

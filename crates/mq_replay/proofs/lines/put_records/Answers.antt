@@ -1,4 +1,4 @@
-use Rattle.std.proofs.Common.{[], ◌++◌, ap, sym, arith}
+use Rattle.std.proofs.Common.{[], ◌++◌, ap, refl, sym, ◌∙◌, arith}
 use Rattle.std.proofs.lemmas.Result.{err_from_is_err_and}
 use Rattle.std.proofs.lemmas.Bool.Decides.{nat_tests}
 use Rattle.mq_wire.specs.Numbered.{numbered_record}
@@ -11,6 +11,7 @@ loop-view-init g c =
     record {
       put = ([], ap (records_text g.K.LineKey.family) (sym c.into_iter-view-iterator.ensures.into_iter_gives), nothing_passed _ _);
       same = grind arith;
+      same_loan = refl;
     }
 
 pub loop-view-preserved : goal.loop-view-preserved
@@ -24,6 +25,7 @@ loop-view-preserved g c =
         both_passed _ _ _ _ _ _ before.put.0 piece before.put.2 c.in_ok-put_record.ensures.text,
       );
       same = grind (arith, nat_tests, c.in_ok-put_record.ensures.failed, before.same);
+      same_loan = c.in_ok-put_record.ensures.same_loan ∙ before.same_loan;
     }
 
 pub returns-in_err-put_record-clause-text : goal.returns-in_err-put_record-clause-text

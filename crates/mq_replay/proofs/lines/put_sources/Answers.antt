@@ -1,4 +1,4 @@
-use Rattle.std.proofs.Common.{[], ◌++◌, ap, sym, arith}
+use Rattle.std.proofs.Common.{[], ◌++◌, ap, refl, sym, ◌∙◌, arith}
 use Rattle.std.proofs.lemmas.Result.{err_from_is_err_and}
 use Rattle.std.proofs.lemmas.Bool.Decides.{nat_tests}
 use Rattle.mq_replay.specs.Text.{sources_text, source_text}
@@ -10,6 +10,7 @@ loop-source-init g c =
     record {
       put = ([], ap (sources_text g.K.LineKey.family) (sym c.into_iter-source-iterator.ensures.into_iter_gives), nothing_passed _ _);
       same = grind arith;
+      same_loan = refl;
     }
 
 pub loop-source-preserved : goal.loop-source-preserved
@@ -23,6 +24,7 @@ loop-source-preserved g c =
         both_passed _ _ _ _ _ _ before.put.0 piece before.put.2 (held_more _ _ _ _ _ [] piece c.in_ok-make_room.ensures.text c.put_source.ensures),
       );
       same = grind (arith, nat_tests, c.in_ok-make_room.ensures.failed, before.same);
+      same_loan = c.in_ok-make_room.ensures.same_loan ∙ before.same_loan;
     }
 
 pub returns-in_err-make_room-clause-text : goal.returns-in_err-make_room-clause-text
