@@ -3,3 +3,7 @@ mod IgmpValues
 mod LooseValues
 mod MldValues
 mod Pages
+mod QueryCounts
+mod QueryLengths
+mod RoomForTicks
+mod RoomSuffices

@@ -1,4 +1,5 @@
-//! How many bytes the queries of one call take at most. It is argued here, and not proved.
+//! How many bytes the queries of one call take at most. For a tick it is proved; what the records of a datagram add is argued
+//! here, and not proved.
 //!
 //! A tick sends a general query at most; for each schedule of a group one query; for each schedule of sources two runs of
 //! queries (with the S flag and without), each in as many queries as it needs, of sources that are held. So the queries are
@@ -11,6 +12,8 @@
 //! met the group, four times at most; and all that are named stand in the body.
 //!
 //! What the tick before sent at that moment isn't due again: the next is later by the last member query interval.
+
+ghost use Rattle.std.specs.Prelude.{◌+◌, ◌*◌, ◌/◌, ◌≤◌, max};
 
 /// The longest body.
 const LONGEST_BODY: u64 = 65535;
@@ -25,7 +28,9 @@ pub(crate) fn outlet_bytes(
     groups: u32,
     sources: u32,
     scheduled: u32,
-) -> u64 {
+) -> u64
+    ensures tick { (width + (2 + head)) * (1 + 2 * scheduled + sources / max per_query 1) + width * sources ≤ result }
+{
     let asked = 4 * u64::from(sources) + 4 * (LONGEST_BODY / u64::from(width).max(1));
     let records = (4 * u64::from(groups)).min(LONGEST_BODY / u64::from(record).max(1));
     let per_query = u64::from(per_query).max(1);

@@ -1,6 +1,6 @@
 //! Links of MLD, as C calls them.
 
-ghost use Rattle.std.specs.Prelude.{◌≡◌, ◌<◌, ◌≤◌, ◌^◌, ℕ, IsTrue, MatchOption, false};
+ghost use Rattle.std.specs.Prelude.{◌≡◌, ◌<◌, ◌≤◌, ◌^◌, ℕ, length, IsTrue, MatchOption, false};
 ghost use Rattle.std.specs.Int.{w128, from_be_bytes};
 ghost use Rattle.mq_wire.specs.Family as family;
 ghost use Rattle.mq_link.specs.Defaults.{configured_by_default};
@@ -16,6 +16,7 @@ ghost use Rattle.mq_c.specs.Making.{IsMade, IsRefused};
 ghost use Rattle.std.specs.Result.{MatchResult};
 ghost use Rattle.mq_c.specs.OtherQuerier.{with_other_querier};
 ghost use Rattle.mq_c.specs.Pages.{IsPage};
+ghost use Rattle.mq_c.specs.Rooms.{tick_room};
 
 use crate::address_room::put_address;
 use crate::forms::{Answer, Counted, MldConfig, MldGroup, MldSource, Page};
@@ -141,12 +142,13 @@ pub extern "C" fn mq_mld_receive(
     calls::receive(&mut link.lend().link, &envelope, body, now, queries)
 }
 
-/// Does what is due.
+/// Does what is due; with as much memory as the room of a tick, no query is left out.
 #[unsafe(no_mangle)]
 pub extern "C" fn mq_mld_tick(link: &mut MldObject, now: u64, queries: &mut [u8]) -> Answer
     ensures at { link.new.at ≡ link.old.at }
     ensures ticks { CallsAt now (TicksInto 16 now link.old.kept.link link.new.kept.link queries.old queries.new result)
         link.old.kept.link link.new.kept.link queries.old queries.new result }
+    ensures none_left_out { tick_room 16 link.old.kept.link.config ≤ length queries.old → result.unsent ≡ 0 }
 {
     let Some(now) = Moment::from_ms(now) else {
         return calls::refused_moment();
@@ -218,7 +220,9 @@ pub extern "C" fn mq_mld_len(link: &mut MldObject) -> u32
 
 /// How much memory suffices for the queries of one call.
 #[unsafe(no_mangle)]
-pub extern "C" fn mq_mld_outlet_bytes(config: MldConfig) -> usize {
+pub extern "C" fn mq_mld_outlet_bytes(config: MldConfig) -> usize
+    ensures tick { tick_room 16 (asked config) ≤ result }
+{
     bounds::outlet_bytes(
         16,
         28,
