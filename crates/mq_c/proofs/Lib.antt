@@ -2,6 +2,7 @@ mod HandedInto
 mod IgmpValues
 mod LooseValues
 mod MldValues
+mod OutletBytes
 mod Pages
 mod QueryCounts
 mod QueryLengths

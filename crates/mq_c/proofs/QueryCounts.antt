@@ -57,17 +57,16 @@ no_portions most n xs none = ap (portions_within most n) none
 portions_count : (most n : ℕ) (xs : List ℕ) → 0 < n → length (portions_within most n xs) * n ≤ n + length xs
 portions_count most n [] positive = omega arith
 portions_count zero n (x ∷ xs) positive = omega arith
-portions_count (suc most) n (x ∷ xs) positive = by_rest (leb (length (x ∷ xs)) n) refl
+portions_count (suc most) n (x ∷ xs) positive = by_rest (leb (length (x ∷ xs)) n) refl (portions_count most n (drop n (x ∷ xs)) positive)
   where
     rest : List (List ℕ)
     rest = portions_within most n (drop n (x ∷ xs))
 
-    by_rest : (b : Bool) → leb (length (x ∷ xs)) n ≡ b → suc (length rest) * n ≤ n + length (x ∷ xs)
-    by_rest true e =
+    by_rest : (b : Bool) → leb (length (x ∷ xs)) n ≡ b → length rest * n ≤ n + length (drop n (x ∷ xs)) → suc (length rest) * n ≤ n + length (x ∷ xs)
+    by_rest true e further =
         let none : length rest ≡ 0 = ap length (no_portions most n (drop n (x ∷ xs)) (drop_all n (x ∷ xs) (leb-true (length (x ∷ xs)) n e))) in
         rw none (omega arith)
-    by_rest false e =
-        let further = portions_count most n (drop n (x ∷ xs)) positive in
+    by_rest false e further =
         omega (arith, further, length-drop n (x ∷ xs), leb-false (length (x ∷ xs)) n e)
 
 portions_named : (most n group : ℕ) (s : Bool) (xs : List ℕ) → sum_by named_in (list_map (SourcesQuery group s) (portions_within most n xs)) ≤ length xs

@@ -1,5 +1,5 @@
 -- The room of a tick suffices for its queries.
-use Rattle.std.proofs.Common.{◌≡◌, ℕ, zero, suc, ◌+◌, ◌*◌, ◌/◌, ◌≤◌, List, length, sum_by, sym, ap, subst, arith, ◌∙◌}
+use Rattle.std.proofs.Common.{◌≡◌, ℕ, ◌+◌, ◌*◌, ◌/◌, ◌≤◌, List, length, sum_by, sym, ap, subst, arith, ◌∙◌}
 use Rattle.mq_wire.specs.Family.{Family, Igmp, Mld, address_width}
 use Rattle.mq_link.specs.Configuration.{Configuration}
 use Rattle.mq_link.specs.Family.{per_query}
@@ -13,6 +13,7 @@ use Rattle.mq_c.specs.declared.forms.Answer.{Answer}
 use Rattle.mq_c.specs.Calls.{TicksInto}
 use Rattle.mq_c.specs.Queries.{outbox_at}
 use Rattle.mq_c.specs.Rooms.{query_head, tick_queries, tick_room}
+use Rattle.mq_c.proofs.OutletBytes.{scaled}
 use Rattle.mq_c.proofs.QueryCounts.{tick_few}
 use Rattle.mq_c.proofs.QueryLengths.{taken_by_all, all_told}
 use Rattle.mq_c.proofs.RoomSuffices.{taken_by, AreTold, none_left_out}
@@ -22,10 +23,7 @@ at_most : (family : Family) (count runs sources : ℕ) → count * per_query fam
 at_most Igmp count runs sources few = omega (arith, few)
 at_most Mld count runs sources few = omega (arith, few)
 
-scaled : (n a b : ℕ) → a ≤ b → n * a ≤ n * b
-scaled zero a b h = omega arith
-scaled (suc n) a b h = let rest = scaled n a b h in omega (arith, rest, h)
-
+-- all that its queries take
 pub tick_taken : (width : ℕ) (config : Configuration) (now : ℕ) (state : LinkState) → IsWellFormed config state
     → sum_by (taken_by width) (outgoing_of config (tick_of config now state)) ≤ tick_room width config
 tick_taken width config now state formed =
@@ -38,6 +36,7 @@ tick_taken width config now state formed =
     let addresses = scaled (address_width config.family) (sum_by named_in step.queries) config.limits.sources few.named in
     omega (arith, bytes, heads, addresses)
 
+-- a tick leaves none out where there is so much
 pub tick_leaves_none : (width now : ℕ) (before after : LinkValue) (old new : List ℕ) (answer : Answer) → IsWellFormed before.config before.state
     → TicksInto width now before after old new answer → tick_room width before.config ≤ length old → answer.unsent ≡ 0
 tick_leaves_none width now before after old new answer formed ticks room =

@@ -21,8 +21,8 @@ length_framed : (width to : ℕ) (bytes : List ℕ) → length (framed width to 
 length_framed width to bytes =
     let address = length-bytes_high_first width to in
     let told = length-bytes_high_first 2 (length bytes) in
-    let front = length-append (big_bytes width to) (big_bytes 2 (length bytes) ++ bytes) in
-    let behind = length-append (big_bytes 2 (length bytes)) bytes in
+    let front = length-append (big_bytes width to) (big_bytes 2 (length bytes)) in
+    let behind = length-append (big_bytes width to ++ big_bytes 2 (length bytes)) bytes in
     omega (arith, address, told, front, behind)
 
 -- the memory stays as long as it was
@@ -34,23 +34,24 @@ length_put width message box fits =
     let before = length-take-le box.written box.bytes (omega (arith, room)) in
     let long = length_framed width message.to message.bytes in
     let behind = length-drop at box.bytes in
-    let all = length-append (take box.written box.bytes) (text ++ drop at box.bytes) in
-    let rest = length-append text (drop at box.bytes) in
-    omega (arith, room, before, long, behind, all, rest)
+    let front = length-append (take box.written box.bytes) text in
+    let all = length-append (take box.written box.bytes ++ text) (drop at box.bytes) in
+    omega (arith, room, before, long, behind, front, all)
 
+first_fits : (width : ℕ) (old : Outbox) (message : Outgoing) (messages : List Outgoing) → AreTold (message ∷ messages)
+    → old.written + sum_by (taken_by width) (message ∷ messages) ≤ length old.bytes → Fits width message old
+first_fits width old message messages told room =
+    let sum = sum_by-cons (taken_by width) message messages in
+    record { told = told.0; room = omega (arith, sum, room) }
+
+-- where all fit, none is left out
 pub none_left_out : (width : ℕ) (old : Outbox) (messages : List Outgoing) (answers : List Bool) (new : Outbox) → AreTold messages
     → old.written + sum_by (taken_by width) messages ≤ length old.bytes → Puts width old messages answers new → new.unsent ≡ old.unsent
 none_left_out width old [] [] new told room puts = ap (λ (box : Outbox). box.unsent) (sym puts)
 none_left_out width old [] (answer ∷ answers) new told room puts = absurd puts
 none_left_out width old (message ∷ messages) [] new told room puts = absurd puts
-none_left_out width old (message ∷ messages) (answer ∷ answers) new told room puts = by_answer answer puts
-  where
-    sum : sum_by (taken_by width) (message ∷ messages) ≡ taken_by width message + sum_by (taken_by width) messages
-    sum = sum_by-cons (taken_by width) message messages
-
-    fits : Fits width message old
-    fits = record { told = told.0; room = omega (arith, sum, room) }
-
-    by_answer : (b : Bool) → Puts width old (message ∷ messages) (b ∷ answers) new → new.unsent ≡ old.unsent
-    by_answer true h = none_left_out width (put width message true old) messages answers new told.1 (omega (arith, sum, room, length_put width message old fits)) h.1
-    by_answer false h = absurd (false≢true (h.0.1 fits))
+none_left_out width old (message ∷ messages) (true ∷ answers) new told room puts =
+    let sum = sum_by-cons (taken_by width) message messages in
+    let fits = first_fits width old message messages told room in
+    none_left_out width (put width message true old) messages answers new told.1 (omega (arith, sum, room, length_put width message old fits)) puts.1
+none_left_out width old (message ∷ messages) (false ∷ answers) new told room puts = absurd (false≢true (puts.0.1 (first_fits width old message messages told room)))
