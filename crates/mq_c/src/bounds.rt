@@ -1,5 +1,4 @@
-//! How many bytes the queries of one call take at most. For a tick it is proved; what the records of a datagram add is argued
-//! here, and not proved.
+//! How many bytes the queries of one call take at most. It is argued here, and not proved.
 //!
 //! A tick sends a general query at most; for each schedule of a group one query; for each schedule of sources two runs of
 //! queries (with the S flag and without), each in as many queries as it needs, of sources that are held. So the queries are
