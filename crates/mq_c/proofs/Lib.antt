@@ -6,5 +6,10 @@ mod OutletBytes
 mod Pages
 mod QueryCounts
 mod QueryLengths
+mod ReceiptQueries
+mod RecordQueries
+mod ReportLengths
+mod RoomForReceives
 mod RoomForTicks
 mod RoomSuffices
+mod RoomTaken

@@ -1,5 +1,6 @@
--- The bytes that are answered are enough for a tick.
-use Rattle.std.proofs.Common.{ℕ, zero, suc, ◌+◌, ◌-◌, ◌*◌, ◌^◌, ◌<◌, ◌≤◌, min, arith}
+-- The bytes that are answered are told by a number of 64 bits.
+use Rattle.std.proofs.Common.{ℕ, zero, suc, ◌+◌, ◌*◌, ◌/◌, ◌^◌, ◌<◌, ◌≤◌, arith}
+use Rattle.std.proofs.Math.Nat.{div-le_self}
 
 pub scaled : (n a b : ℕ) → a ≤ b → n * a ≤ n * b
 scaled zero a b h = omega arith
@@ -12,13 +13,20 @@ within_product a b most other h k =
     let second = scaled other a most h in
     omega (arith, first, second)
 
--- More queries and more addresses take more, and no number of 64 bits is passed.
-pub enough : (head width ticked messages sources addresses : ℕ) → head ≤ 2 ^ 9 → width ≤ 2 ^ 8 → ticked ≤ 2 ^ 34 → sources ≤ 2 ^ 32
-    → ticked ≤ messages → sources ≤ addresses
-    → head * ticked + width * sources ≤ min (min (head * messages) (2 ^ 64 - 1) + min (width * addresses) (2 ^ 64 - 1)) (2 ^ 64 - 1)
-enough head width ticked messages sources addresses few_bytes narrow few small more further =
-    let queries = within_product head ticked (2 ^ 9) (2 ^ 34) few_bytes few in
-    let named = within_product width sources (2 ^ 8) (2 ^ 32) narrow small in
-    let heads = scaled head ticked messages more in
-    let all = scaled width sources addresses further in
-    omega (arith, queries, named, heads, all)
+-- the bytes of so many queries and addresses
+two_products : (head queries width asked : ℕ) → head ≤ 2 ^ 10 → queries ≤ 2 ^ 40 → width ≤ 2 ^ 8 → asked ≤ 2 ^ 40 → head * queries + width * asked < 2 ^ 64
+two_products head queries width asked few_bytes few narrow small =
+    let first = within_product head queries (2 ^ 10) (2 ^ 40) few_bytes few in
+    let second = within_product width asked (2 ^ 8) (2 ^ 40) narrow small in
+    omega (arith, first, second)
+
+pub told_in_64 : (width head per_query sources scheduled : ℕ) → width < 2 ^ 8 → head < 2 ^ 8 → sources < 2 ^ 32 → scheduled < 2 ^ 32
+    → (width + 2 + head) * (1 + 2 * scheduled + 3 * (65535 / (4 + width)) + 5 * (sources + 65535 / width) / per_query) + width * (5 * (sources + 65535 / width)) < 2 ^ 64
+told_in_64 width head per_query sources scheduled narrow short few_sources few_schedules =
+    let named = div-le_self 65535 width in
+    let records = div-le_self 65535 (4 + width) in
+    let asked : 5 * (sources + 65535 / width) ≤ 2 ^ 36 = omega (arith, named, few_sources) in
+    let full = div-le_self (5 * (sources + 65535 / width)) per_query in
+    let queries : 1 + 2 * scheduled + 3 * (65535 / (4 + width)) + 5 * (sources + 65535 / width) / per_query ≤ 2 ^ 40 = omega (arith, records, few_schedules, full, asked) in
+    two_products (width + 2 + head) (1 + 2 * scheduled + 3 * (65535 / (4 + width)) + 5 * (sources + 65535 / width) / per_query) width (5 * (sources + 65535 / width))
+    (omega (arith, narrow, short)) queries (omega (arith, narrow)) (omega (arith, asked))

@@ -30,16 +30,16 @@ pub record AreFew (n runs sources : ℕ) (queries : List SentQuery) : Type 0 whe
   pub count : length queries * n ≤ runs * n + sources
   pub named : sum_by named_in queries ≤ sources
 
-few_append : (n a b x y : ℕ) (xs ys : List SentQuery) → AreFew n a x xs → AreFew n b y ys → AreFew n (a + b) (x + y) (xs ++ ys)
+pub few_append : (n a b x y : ℕ) (xs ys : List SentQuery) → AreFew n a x xs → AreFew n b y ys → AreFew n (a + b) (x + y) (xs ++ ys)
 few_append n a b x y xs ys h k = record {
   count = let all = length-append xs ys in let c = h.count in let d = k.count in rw all (omega (arith, c, d));
   named = let all = sum_by-append named_in xs ys in let c = h.named in let d = k.named in omega (arith, all, c, d);
 }
 
-few_none : (n a x : ℕ) → AreFew n a x []
+pub few_none : (n a x : ℕ) → AreFew n a x []
 few_none n a x = record { count = omega arith; named = omega arith }
 
-few_weaker : (n a b x y : ℕ) (queries : List SentQuery) → a ≤ b → x ≤ y → AreFew n a x queries → AreFew n b y queries
+pub few_weaker : (n a b x y : ℕ) (queries : List SentQuery) → a ≤ b → x ≤ y → AreFew n a x queries → AreFew n b y queries
 few_weaker n a b x y queries runs sources h = record {
   count = let c = h.count in let times = scaled n a b runs in omega (arith, c, times, sources);
   named = let c = h.named in omega (arith, c, sources);
@@ -101,15 +101,19 @@ two_filters has over (x ∷ xs) = by_tests (has x) (over x) (two_filters has ove
     by_tests true false rest = omega (arith, rest)
     by_tests false o rest = omega (arith, rest)
 
+one_at_most : (b : Bool) → one_if b ≤ 1
+one_at_most true = omega arith
+one_at_most false = omega arith
+
 -- what a group sends
 module _ (n : ℕ) (positive : 0 < n) (timing : Timing) (now group : ℕ) (e : ScheduledGroup) where
-  asked_few : (q : Option QuerySchedule) (s : Bool) → AreFew n (2 * one_if (is_some q)) 0 (cond (is_due now (group_due q)) (GroupQuery group s ∷ []) [])
+  asked_few : (q : Option QuerySchedule) (s : Bool) → AreFew n (one_if (is_some q)) 0 (cond (is_due now (group_due q)) (GroupQuery group s ∷ []) [])
   asked_few None s = few_none n 0 0
   asked_few (Some q) s = by_due (leb q.due now)
     where
-      by_due : (b : Bool) → AreFew n 2 0 (cond b (GroupQuery group s ∷ []) [])
+      by_due : (b : Bool) → AreFew n 1 0 (cond b (GroupQuery group s ∷ []) [])
       by_due true = record { count = omega arith; named = omega arith }
-      by_due false = few_none n 2 0
+      by_due false = few_none n 1 0
 
   over : List ℕ
   over = sources_where (has_sendings e.group ∩ above timing now e.group) e.group
@@ -137,15 +141,30 @@ module _ (n : ℕ) (positive : 0 < n) (timing : Timing) (now group : ℕ) (e : S
       by_due true = both_few
       by_due false = few_none n 2 (sources_of e)
 
-  group_few : AreFew n (2 * schedules_of e) (sources_of e) (messages_due n timing now group e)
+  -- one for its group, and two runs for its sources
+  both_asked : AreFew n (one_if (is_some e.schedule.group_query) + 2 * one_if (is_some e.schedule.sources_due)) (sources_of e) (messages_due n timing now group e)
   unfolding over under
-  group_few =
-      let asked = 2 * one_if (is_some e.schedule.group_query) in
+  both_asked =
+      let asked = one_if (is_some e.schedule.group_query) in
       let named = 2 * one_if (is_some e.schedule.sources_due) in
-      few_weaker n (asked + named) (2 * schedules_of e) (0 + sources_of e) (sources_of e) (messages_due n timing now group e) (omega arith) (omega arith)
+      few_weaker n (asked + named) (asked + named) (0 + sources_of e) (sources_of e) (messages_due n timing now group e) (omega arith) (omega arith)
       (few_append n asked named 0 (sources_of e) (group_messages timing now group e) (source_messages n timing now group e)
       (asked_few e.schedule.group_query (is_ahead (lowered_to timing now) (group_deadline e.group.mode)))
       (sources_few e.schedule.sources_due))
+
+  runs : ℕ
+  runs = one_if (is_some e.schedule.group_query) + 2 * one_if (is_some e.schedule.sources_due)
+
+  group_few : AreFew n (2 * schedules_of e) (sources_of e) (messages_due n timing now group e)
+  unfolding runs
+  group_few = few_weaker n runs (2 * schedules_of e) (sources_of e) (sources_of e) (messages_due n timing now group e) (omega arith) (omega arith) both_asked
+
+  pub three_at_most : AreFew n 3 (sources_of e) (messages_due n timing now group e)
+  unfolding runs
+  three_at_most =
+      let asked = one_at_most (is_some e.schedule.group_query) in
+      let named = one_at_most (is_some e.schedule.sources_due) in
+      few_weaker n runs 3 (sources_of e) (sources_of e) (messages_due n timing now group e) (omega (arith, asked, named)) (omega arith) both_asked
 
 -- and all groups
 all_few : (n : ℕ) → 0 < n → (timing : Timing) (now : ℕ) (es : List (ℕ × ScheduledGroup))
@@ -162,7 +181,7 @@ all_few n positive timing now (e ∷ es) =
     (here ++ rest) (omega (arith, schedules)) (omega (arith, sources))
     (few_append n (2 * schedules_of e.1) (2 * sum_by schedules_of held) (sources_of e.1) (sum_by sources_of held) here rest (group_few n positive timing now e.0 e.1) (all_few n positive timing now es))
 
-some_held : (family : Family) → 0 < per_query family
+pub some_held : (family : Family) → 0 < per_query family
 some_held Igmp = omega arith
 some_held Mld = omega arith
 
@@ -177,7 +196,7 @@ general_few n configured now e = by_due (general_is_due now (returned configured
     by_due true = record { count = omega arith; named = omega arith }
     by_due false = few_none n 1 0
 
-expired_within : (config : Configuration) (now : ℕ) (groups : Groups) → AreWithin config.limits groups → AreWithin config.limits (groups_expired now groups)
+pub expired_within : (config : Configuration) (now : ℕ) (groups : Groups) → AreWithin config.limits groups → AreWithin config.limits (groups_expired now groups)
 unfolding groups_expired
 expired_within config now groups within = within-kept config.limits (λ _ e. if_held (group_expired now e)) groups (λ _ e. expired_no_more now e) within
 

@@ -1,4 +1,4 @@
--- How much memory suffices for the queries of a tick.
+-- How much memory suffices for the queries of a tick, and for those of a datagram.
 use Rattle.std.specs.Prelude.{ℕ, ◌+◌, ◌*◌, ◌/◌}
 use Rattle.mq_wire.specs.Family.{Family, address_width, group_end}
 use Rattle.mq_link.specs.Configuration.{Configuration}
@@ -8,13 +8,42 @@ use Rattle.mq_link.specs.Family.{per_query}
 abbrev pub query_head : Family → ℕ
 query_head family = group_end family + 4
 
+-- what so many queries take that name so many sources together, each query behind its destination of so many bytes and
+-- its length
+abbrev pub room_of : (width : ℕ) → Family → (queries sources : ℕ) → ℕ
+room_of width family queries sources = (width + (2 + query_head family)) * queries + address_width family * sources
+
 -- how many queries a tick sends at most: a general one; for each schedule two, with the S flag and without it; and one
 -- more for each full query of sources that can be held
 abbrev pub tick_queries : Configuration → ℕ
 tick_queries config = 1 + 2 * config.limits.scheduled + config.limits.sources / per_query config.family
 
--- what these queries take, each behind its destination of so many bytes and its length, and each source in one of them
 abbrev pub tick_room : (width : ℕ) → Configuration → ℕ
-tick_room width config =
-    (width + (2 + query_head config.family)) * tick_queries config
-    + address_width config.family * config.limits.sources
+tick_room width config = room_of width config.family (tick_queries config) config.limits.sources
+
+-- The longest datagram, and how many records and how many of their sources it has at most: a record begins with its type,
+-- the length of its auxiliary data, the number of its sources, and its group.
+abbrev pub longest_body : ℕ
+longest_body = 65535
+
+abbrev pub records_in_body : Family → ℕ
+records_in_body family = longest_body / (4 + address_width family)
+
+abbrev pub sources_in_body : Family → ℕ
+sources_in_body family = longest_body / address_width family
+
+-- How many sources the queries of a datagram name at most. Those of the tick before it name each source once that is
+-- held; those of its records ask for no more sources than their groups have then, and a group is asked four times at
+-- most. So a source counts once for the tick, and four times for each record that may ask for it; and one that a record
+-- names counts once more, for that record.
+abbrev pub most_asked : Configuration → ℕ
+most_asked config = 5 * (config.limits.sources + sources_in_body config.family)
+
+-- how many queries a datagram sends at most: those of the tick; three for each record, one for its group and two for its
+-- sources; and one more for each full query of what is asked for
+abbrev pub receive_queries : Configuration → ℕ
+receive_queries config =
+    1 + 2 * config.limits.scheduled + 3 * records_in_body config.family + most_asked config / per_query config.family
+
+abbrev pub receive_room : (width : ℕ) → Configuration → ℕ
+receive_room width config = room_of width config.family (receive_queries config) (most_asked config)

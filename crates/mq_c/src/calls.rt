@@ -4,7 +4,7 @@ ghost use Rattle.std.specs.Prelude.{◌≡◌, ◌≤◌, ◌^◌, length};
 ghost use Rattle.mq_c.specs.Calls as spec;
 ghost use Rattle.mq_c.specs.Calls.{TicksInto, ReceivesInto};
 ghost use Rattle.mq_c.specs.Queries.{outbox_of};
-ghost use Rattle.mq_c.specs.Rooms.{tick_room};
+ghost use Rattle.mq_c.specs.Rooms.{longest_body, receive_room, tick_room};
 
 use crate::forms::Answer;
 use crate::queries::Queries;
@@ -79,7 +79,7 @@ pub(crate) fn tick<F: Family>(link: &mut Link<F>, now: Moment, out: &mut [u8]) -
     answer_to_tick(&queries)
 }
 
-/// A datagram, with its queries.
+/// A datagram, with its queries; where the memory is as long as the room of a datagram, none is left out.
 pub(crate) fn receive<F: Family>(
     link: &mut Link<F>,
     envelope: &F::Envelope,
@@ -91,7 +91,9 @@ pub(crate) fn receive<F: Family>(
     ensures config { link.new.config ≡ link.old.config }
     ensures receives { ReceivesInto F.Address.WIDTH (F.envelope_of envelope.now) body.now now link.old link.new
         out.old out.new result }
+    ensures none_left_out { receive_room F.Address.WIDTH link.old.config ≤ length out.old → length body.now ≤ longest_body → result.unsent ≡ 0 }
 {
+    link.is_well_formed();
     let mut queries = Queries::new(out);
     let received = link.receive(envelope, body, now, &mut queries);
     answer_to(received, &queries)

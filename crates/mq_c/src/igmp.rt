@@ -16,7 +16,7 @@ ghost use Rattle.mq_c.specs.Making.{IsMade, IsRefused};
 ghost use Rattle.std.specs.Result.{MatchResult};
 ghost use Rattle.mq_c.specs.OtherQuerier.{with_other_querier};
 ghost use Rattle.mq_c.specs.Pages.{IsPage};
-ghost use Rattle.mq_c.specs.Rooms.{tick_room};
+ghost use Rattle.mq_c.specs.Rooms.{longest_body, receive_room, tick_room};
 
 use crate::address_room::put_address;
 use crate::forms::{Answer, Counted, IgmpConfig, IgmpGroup, IgmpSource, Page};
@@ -114,7 +114,7 @@ pub extern "C" fn mq_igmp_free(alloc: Global, link: IgmpObject) {
     drop(link.into_loose(alloc).into_box());
 }
 
-/// Takes a datagram.
+/// Takes a datagram; with as much memory as the room of a datagram, no query is left out.
 #[unsafe(no_mangle)]
 pub extern "C" fn mq_igmp_receive(
     link: &mut IgmpObject,
@@ -126,6 +126,7 @@ pub extern "C" fn mq_igmp_receive(
     ensures at { link.new.at ≡ link.old.at }
     ensures receives { CallsAt now (ReceivesInto 4 (envelope source.now) body.now now link.old.kept.link link.new.kept.link queries.old queries.new result)
         link.old.kept.link link.new.kept.link queries.old queries.new result }
+    ensures none_left_out { receive_room 4 link.old.kept.link.config ≤ length queries.old → length body.now ≤ longest_body → result.unsent ≡ 0 }
 {
     let Some(now) = Moment::from_ms(now) else {
         return calls::refused_moment();
@@ -215,17 +216,10 @@ pub extern "C" fn mq_igmp_len(link: &mut IgmpObject) -> u32
 /// How much memory suffices for the queries of one call.
 #[unsafe(no_mangle)]
 pub extern "C" fn mq_igmp_outlet_bytes(config: IgmpConfig) -> usize
+    ensures bytes { result ≡ receive_room 4 (asked config) }
     ensures tick { tick_room 4 (asked config) ≤ result }
 {
-    bounds::outlet_bytes(
-        4,
-        12,
-        8,
-        366,
-        config.groups,
-        config.sources,
-        config.scheduled,
-    ) as usize
+    bounds::outlet_bytes(4, 12, 366, config.sources, config.scheduled) as usize
 }
 
 /// Up to when another router is querier, whose address is written where it fits.

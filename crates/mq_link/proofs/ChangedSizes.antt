@@ -24,7 +24,7 @@ use Rattle.mq_table.proofs.Maps.{find-entries_by, get-by_rule}
 use Rattle.mq_link.specs.declared.statements.Said.{Said}
 use Rattle.mq_link.specs.declared.statements.Said.TheVariants.{Record, OlderJoin, OlderLeave}
 use Rattle.mq_link.specs.Changing.{statement_of}
-use Rattle.mq_link.specs.Record.{asking_nothing, change_stated}
+use Rattle.mq_link.specs.Record.{OlderJoin as StatesJoin, OlderLeave as StatesLeave, asking_nothing, change_stated}
 
 few_entries : {X : Type 0} (es : List (ℕ × X)) → map.len (map.from_entries {R = nat_cmp} es) ≤ length es
 few_entries {X} [] = let n = map.len-empty nat_cmp X in omega arith
@@ -120,3 +120,10 @@ stated_few number mutes muted timing now OlderLeave addresses g = more _ (transl
     more : (change : Option GroupChange) → IfSome change (λ c. size_of c.group ≤ size_of g + 0) → IfSome change (λ c. size_of c.group ≤ size_of g + length addresses)
     more None h = tt
     more (Some c) h = omega (arith, h)
+
+-- an older message leaves its group no source more
+pub joined_few : (mutes muted : Bool) (timing : Timing) (now : ℕ) (version : OlderVersion) (g : GroupState) → IfSome (change_stated mutes muted timing now (StatesJoin version) g) (λ c. size_of c.group ≤ size_of g + 0)
+joined_few mutes muted timing now version g = stated_few (λ (n : ℕ). n) mutes muted timing now (OlderJoin version) [] g
+
+pub left_few : (mutes muted : Bool) (timing : Timing) (now : ℕ) (g : GroupState) → IfSome (change_stated mutes muted timing now StatesLeave g) (λ c. size_of c.group ≤ size_of g + 0)
+left_few mutes muted timing now g = stated_few (λ (n : ℕ). n) mutes muted timing now OlderLeave [] g

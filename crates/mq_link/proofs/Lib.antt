@@ -43,6 +43,7 @@ pub mod LinkReceived
 pub mod EventsRun
 pub mod Potential
 pub mod RecordCosts
+pub mod SpelledMessages
 pub mod LeastLengths
 pub mod TickedSizes
 pub mod LeastCosts

@@ -24,5 +24,5 @@ returns-clause-ticks g c =
 
 pub returns-clause-none_left_out : goal.returns-clause-none_left_out
 returns-clause-none_left_out g c room =
-    tick_leaves_none g.F.Address.WireKey.WIDTH c.args.now c.args.link.old c.args.link.new c.args.out.old c.args.out.new c.result
+    tick_leaves_none g.F.Address.WireKey.WIDTH c.args.now _ _ _ _ _
     c.is_well_formed.ensures.formed (returns-clause-ticks g c) room
