@@ -1,6 +1,7 @@
 mod HandedInto
 mod IgmpValues
 mod LooseValues
+mod Meetings
 mod MldValues
 mod OutletBytes
 mod Pages
@@ -13,3 +14,4 @@ mod RoomForReceives
 mod RoomForTicks
 mod RoomSuffices
 mod RoomTaken
+mod UnheldGroups

@@ -196,7 +196,7 @@ general_few n configured now e = by_due (general_is_due now (returned configured
     by_due true = record { count = omega arith; named = omega arith }
     by_due false = few_none n 1 0
 
-pub expired_within : (config : Configuration) (now : ℕ) (groups : Groups) → AreWithin config.limits groups → AreWithin config.limits (groups_expired now groups)
+expired_within : (config : Configuration) (now : ℕ) (groups : Groups) → AreWithin config.limits groups → AreWithin config.limits (groups_expired now groups)
 unfolding groups_expired
 expired_within config now groups within = within-kept config.limits (λ _ e. if_held (group_expired now e)) groups (λ _ e. expired_no_more now e) within
 

@@ -1,5 +1,5 @@
 -- How much memory suffices for the queries of a tick, and for those of a datagram.
-use Rattle.std.specs.Prelude.{ℕ, ◌+◌, ◌*◌, ◌/◌}
+use Rattle.std.specs.Prelude.{ℕ, ◌+◌, ◌*◌, ◌/◌, min}
 use Rattle.mq_wire.specs.Family.{Family, address_width, group_end}
 use Rattle.mq_link.specs.Configuration.{Configuration}
 use Rattle.mq_link.specs.Family.{per_query}
@@ -32,18 +32,22 @@ records_in_body family = longest_body / (4 + address_width family)
 abbrev pub sources_in_body : Family → ℕ
 sources_in_body family = longest_body / address_width family
 
--- How many sources the queries of a datagram name at most. Those of the tick before it name each source once that is
--- held; those of its records ask for no more sources than their groups have then, and a group is asked four times at
--- most. So a source counts once for the tick, and four times for each record that may ask for it; and one that a record
--- names counts once more, for that record.
-abbrev pub most_asked : Configuration → ℕ
-most_asked config = 5 * (config.limits.sources + sources_in_body config.family)
+-- How many of its records ask at most: four for each group, since a fifth is refused, one that makes a group asks nothing,
+-- and no record deletes one.
+abbrev pub asking_records : Configuration → ℕ
+asking_records config = min (4 * config.limits.groups) (records_in_body config.family)
 
--- how many queries a datagram sends at most: those of the tick; three for each record, one for its group and two for its
--- sources; and one more for each full query of what is asked for
+-- How many sources the queries of a datagram name at most: those of the tick before it no source twice; and its records
+-- ask for no source but those that their groups have then, which were held before, or were named by one that met the
+-- group.
+abbrev pub most_asked : Configuration → ℕ
+most_asked config = config.limits.sources + 4 * (config.limits.sources + sources_in_body config.family)
+
+-- how many queries a datagram sends at most: those of the tick; three for each record that asks, one for its group and two
+-- for its sources; and one more for each full query of what is asked for
 abbrev pub receive_queries : Configuration → ℕ
 receive_queries config =
-    1 + 2 * config.limits.scheduled + 3 * records_in_body config.family + most_asked config / per_query config.family
+    1 + 2 * config.limits.scheduled + 3 * asking_records config + most_asked config / per_query config.family
 
 abbrev pub receive_room : (width : ℕ) → Configuration → ℕ
 receive_room width config = room_of width config.family (receive_queries config) (most_asked config)

@@ -93,6 +93,7 @@ pub(crate) fn receive<F: Family>(
         out.old out.new result }
     ensures none_left_out { receive_room F.Address.WIDTH link.old.config ≤ length out.old → length body.now ≤ longest_body → result.unsent ≡ 0 }
 {
+    link.config().is_faultless();
     link.is_well_formed();
     let mut queries = Queries::new(out);
     let received = link.receive(envelope, body, now, &mut queries);

@@ -219,7 +219,7 @@ pub extern "C" fn mq_igmp_outlet_bytes(config: IgmpConfig) -> usize
     ensures bytes { result ≡ receive_room 4 (asked config) }
     ensures tick { tick_room 4 (asked config) ≤ result }
 {
-    bounds::outlet_bytes(4, 12, 366, config.sources, config.scheduled) as usize
+    bounds::outlet_bytes(4, 12, 366, config.groups, config.sources, config.scheduled) as usize
 }
 
 /// Up to when another router is querier, whose address is written where it fits.

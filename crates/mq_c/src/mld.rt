@@ -225,7 +225,7 @@ pub extern "C" fn mq_mld_outlet_bytes(config: MldConfig) -> usize
     ensures bytes { result ≡ receive_room 16 (asked config) }
     ensures tick { tick_room 16 (asked config) ≤ result }
 {
-    bounds::outlet_bytes(16, 28, 89, config.sources, config.scheduled) as usize
+    bounds::outlet_bytes(16, 28, 89, config.groups, config.sources, config.scheduled) as usize
 }
 
 /// Up to when another router is querier, whose address is written where it fits.
