@@ -11,6 +11,7 @@ use Rattle.mq_held.proofs.Amounts.{total-with_group, len-with_group}
 use Rattle.mq_link.specs.Record.{Seen, met}
 use Rattle.mq_link.proofs.HeldAs.{vacant_is}
 use Rattle.mq_link.proofs.Potential.{sum-falls}
+use Rattle.mq_c.proofs.QueryCounts.{one_at_most}
 
 -- one for a group that is held
 abbrev pub stands : ScheduledGroup → ℕ
@@ -21,10 +22,6 @@ left_to_meet seen e = (4 - met seen e.0) * stands e.1
 
 abbrev pub meetings : Seen → Groups → ℕ
 meetings seen groups = sum_by (left_to_meet seen) (map.entries groups)
-
-one_at_most : (b : Bool) → one_if b ≤ 1
-one_at_most true = omega arith
-one_at_most false = omega arith
 
 -- before any record, four for each
 pub meetings-most : (seen : Seen) (groups : Groups) → meetings seen groups ≤ 4 * map.len groups

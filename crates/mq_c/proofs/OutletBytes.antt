@@ -1,23 +1,12 @@
 -- The bytes that are answered are told by a number of 64 bits.
-use Rattle.std.proofs.Common.{ℕ, zero, suc, ◌+◌, ◌*◌, ◌/◌, ◌^◌, ◌<◌, ◌≤◌, arith}
-use Rattle.std.proofs.Math.Nat.{div-le_self}
-
-pub scaled : (n a b : ℕ) → a ≤ b → n * a ≤ n * b
-scaled zero a b h = omega arith
-scaled (suc n) a b h = let rest = scaled n a b h in omega (arith, rest, h)
-
--- a product of small numbers
-within_product : (a b most other : ℕ) → a ≤ most → b ≤ other → a * b ≤ most * other
-within_product a b most other h k =
-    let first = scaled a b other k in
-    let second = scaled other a most h in
-    omega (arith, first, second)
+use Rattle.std.proofs.Common.{ℕ, ◌+◌, ◌*◌, ◌/◌, ◌^◌, ◌<◌, ◌≤◌, arith}
+use Rattle.std.proofs.Math.Nat.{div-le_self, mul-le-mul}
 
 -- the bytes of so many queries and addresses
 two_products : (head queries width asked : ℕ) → head ≤ 2 ^ 10 → queries ≤ 2 ^ 40 → width ≤ 2 ^ 8 → asked ≤ 2 ^ 40 → head * queries + width * asked < 2 ^ 64
 two_products head queries width asked few_bytes few narrow small =
-    let first = within_product head queries (2 ^ 10) (2 ^ 40) few_bytes few in
-    let second = within_product width asked (2 ^ 8) (2 ^ 40) narrow small in
+    let first = mul-le-mul few_bytes few in
+    let second = mul-le-mul narrow small in
     omega (arith, first, second)
 
 pub told_in_64 : (width head per_query asking sources scheduled : ℕ) → width < 2 ^ 8 → head < 2 ^ 8 → asking ≤ 65535 / (4 + width) → sources < 2 ^ 32 → scheduled < 2 ^ 32

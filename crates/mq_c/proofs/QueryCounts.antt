@@ -1,5 +1,6 @@
 -- How many queries a tick sends at most, and how many sources they name.
 use Rattle.std.proofs.Common.{◌≡◌, ℕ, zero, suc, ◌+◌, ◌*◌, ◌<◌, ◌≤◌, Bool, true, false, cond, not, ◌&&◌, refl, List, [], ◌∷◌, ◌++◌, length, take, drop, filter, sum_by, Option, None, Some, is_some, sym, ap, ◌∙◌, arith, leb, length-append, length-drop}
+use Rattle.std.proofs.Math.Nat.{mul-le-mul_right}
 use Rattle.std.specs.Prelude.{map as list_map}
 use Rattle.std.specs.List.{flat_map}
 use Rattle.std.specs.FinMap as map
@@ -41,14 +42,9 @@ few_none n a x = record { count = omega arith; named = omega arith }
 
 pub few_weaker : (n a b x y : ℕ) (queries : List SentQuery) → a ≤ b → x ≤ y → AreFew n a x queries → AreFew n b y queries
 few_weaker n a b x y queries runs sources h = record {
-  count = let c = h.count in let times = scaled n a b runs in omega (arith, c, times, sources);
+  count = let c = h.count in let times = mul-le-mul_right n runs in omega (arith, c, times, sources);
   named = let c = h.named in omega (arith, c, sources);
 }
-  where
-    scaled : (n a b : ℕ) → a ≤ b → a * n ≤ b * n
-    scaled n zero b h = omega arith
-    scaled n (suc a) zero h = absurd (omega arith)
-    scaled n (suc a) (suc b) h = let rest = scaled n a b (omega (arith, h)) in omega (arith, rest)
 
 -- the portions of a list
 no_portions : (most n : ℕ) (xs : List ℕ) → xs ≡ [] → portions_within most n xs ≡ []
@@ -101,7 +97,7 @@ two_filters has over (x ∷ xs) = by_tests (has x) (over x) (two_filters has ove
     by_tests true false rest = omega (arith, rest)
     by_tests false o rest = omega (arith, rest)
 
-one_at_most : (b : Bool) → one_if b ≤ 1
+pub one_at_most : (b : Bool) → one_if b ≤ 1
 one_at_most true = omega arith
 one_at_most false = omega arith
 

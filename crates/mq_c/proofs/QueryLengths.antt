@@ -1,5 +1,6 @@
 -- How many bytes the queries of a tick take.
-use Rattle.std.proofs.Common.{◌≡◌, ℕ, suc, ◌+◌, ◌*◌, ◌<◌, ◌≤◌, ◌^◌, Bool, false, List, [], ◌∷◌, length, sum_by, ap, arith, ◌∙◌}
+use Rattle.std.proofs.Common.{◌≡◌, ℕ, ◌+◌, ◌*◌, ◌<◌, ◌≤◌, ◌^◌, Bool, false, List, [], ◌∷◌, length, sum_by, ap, arith, ◌∙◌}
+use Rattle.std.proofs.Math.Nat.{add-mul, suc-mul}
 use Rattle.std.specs.Prelude.{map as list_map}
 use Rattle.std.proofs.lemmas.List.Sums.{sum_by-cons}
 use Rattle.mq_wire.specs.declared.query.QuerierFields.{QuerierFields}
@@ -39,12 +40,6 @@ module _ (config : Configuration) (timing : Timing) where
   length_outgoing (GroupQuery group s) = length_sent timing s [] config.family config.own group timing.last_member_interval
   length_outgoing (SourcesQuery group s sources) = length_sent timing s sources config.family config.own group timing.last_member_interval
 
-  one_more : (n head : ℕ) → suc n * head ≡ head + n * head
-  one_more n head = omega arith
-
-  spread : (a b width : ℕ) → (a + b) * width ≡ a * width + b * width
-  spread a b width = omega arith
-
   -- all that some queries take: each its head, and each source its address
   pub taken_by_all : (width : ℕ) (queries : List SentQuery)
       → sum_by (taken_by width) (list_map (outgoing config timing) queries)
@@ -56,9 +51,9 @@ module _ (config : Configuration) (timing : Timing) where
       let bytes = sum_by-cons (taken_by width) (outgoing config timing query) (list_map (outgoing config timing) queries) in
       let named = sum_by-cons named_in query queries in
       let head = width + (2 + query_head config.family) in
-      let heads : length (query ∷ queries) * head ≡ head + length queries * head = one_more (length queries) head in
+      let heads = suc-mul (length queries) head in
       let more : sum_by named_in (query ∷ queries) * address_width config.family ≡ named_in query * address_width config.family + sum_by named_in queries * address_width config.family =
-      ap (λ n. n * address_width config.family) named ∙ spread (named_in query) (sum_by named_in queries) (address_width config.family) in
+      ap (λ n. n * address_width config.family) named ∙ add-mul (named_in query) (sum_by named_in queries) (address_width config.family) in
       bytes ∙ omega (arith, here, rest, heads, more)
 
   few_bytes : (family : Family) (n : ℕ) → n ≤ per_query family → query_head family + n * address_width family < 2 ^ 16

@@ -1,5 +1,6 @@
 -- How many records a datagram has at most, and how many sources they name.
 use Rattle.std.proofs.Common.{◌≡◌, ℕ, zero, suc, ◌+◌, ◌*◌, ◌≤◌, List, [], ◌∷◌, ◌++◌, length, Bool, cond, Ok, drop, replicate, sum, sum_by, ap, ◌∙◌, arith}
+use Rattle.std.proofs.Math.Nat.{add-mul, suc-mul}
 use Rattle.std.proofs.lemmas.List.Sums.{sum_by-cons}
 use Rattle.mq_wire.specs.declared.message.Message.{Message}
 use Rattle.mq_wire.specs.declared.message.Message.TheVariants.{Query, OldReport, Leave, Report}
@@ -27,12 +28,6 @@ module _ (width : ℕ) (bytes : List ℕ) where
       let behind = sum-append (replicate n width) (auxiliary ∷ []) in
       omega (arith, head, behind, sum-replicate n width)
 
-  one_more : (n head : ℕ) → suc n * head ≡ head + n * head
-  one_more n head = omega arith
-
-  spread : (a b : ℕ) → (a + b) * width ≡ a * width + b * width
-  spread a b = omega arith
-
   records_bytes : (count place : ℕ)
       → (let rs = records_at width count place bytes in
       length rs * (4 + width) + sum_by sources_named rs * width ≤ sum (spans_of_records width count place bytes))
@@ -44,10 +39,10 @@ module _ (width : ℕ) (bytes : List ℕ) where
       let first = record_bytes place in
       let rest = records_bytes count next in
       let all = sum-append (record_spans width place bytes) (spans_of_records width count next bytes) in
-      let heads = one_more (length rs) (4 + width) in
+      let heads = suc-mul (length rs) (4 + width) in
       let named = length_addresses width (record_source_count place bytes) (drop (place + 4 + width) bytes) in
       let addresses : sum_by sources_named (r ∷ rs) * width ≡ record_source_count place bytes * width + sum_by sources_named rs * width =
-      ap (λ n. n * width) (sum_by-cons sources_named r rs ∙ ap (λ n. n + sum_by sources_named rs) named) ∙ spread (record_source_count place bytes) (sum_by sources_named rs) in
+      ap (λ n. n * width) (sum_by-cons sources_named r rs ∙ ap (λ n. n + sum_by sources_named rs) named) ∙ add-mul (record_source_count place bytes) (sum_by sources_named rs) width in
       omega (arith, first, rest, all, heads, addresses)
 
 -- so much of a message that a body holds

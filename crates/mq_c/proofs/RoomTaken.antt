@@ -1,15 +1,14 @@
 -- What few queries take has room.
 use Rattle.std.proofs.Common.{ℕ, ◌+◌, ◌*◌, ◌/◌, ◌≤◌, List, length, sum_by, arith}
+use Rattle.std.proofs.Math.Nat.{mul-le-mul_left}
 use Rattle.std.specs.Prelude.{map as list_map}
 use Rattle.mq_wire.specs.Family.{Family, Igmp, Mld, address_width}
 use Rattle.mq_table.specs.declared.timing.Timing.{Timing}
 use Rattle.mq_sched.specs.Sending.{SentQuery}
 use Rattle.mq_link.specs.Configuration.{Configuration}
 use Rattle.mq_link.specs.Family.{per_query}
-use Rattle.mq_link.specs.Handing.{named_in}
 use Rattle.mq_link.specs.Sent.{outgoing}
 use Rattle.mq_c.specs.Rooms.{query_head, room_of}
-use Rattle.mq_c.proofs.OutletBytes.{scaled}
 use Rattle.mq_c.proofs.QueryCounts.{AreFew}
 use Rattle.mq_c.proofs.QueryLengths.{taken_by_all}
 use Rattle.mq_c.proofs.RoomSuffices.{taken_by}
@@ -25,6 +24,6 @@ room_taken width config timing queries runs sources few =
     let head = width + (2 + query_head config.family) in
     let bytes = taken_by_all config timing width queries in
     let count = at_most config.family (length queries) runs sources few.count in
-    let heads = scaled head (length queries) (runs + sources / per_query config.family) count in
-    let addresses = scaled (address_width config.family) (sum_by named_in queries) sources few.named in
+    let heads = mul-le-mul_left head count in
+    let addresses = mul-le-mul_left (address_width config.family) few.named in
     omega (arith, bytes, heads, addresses)
