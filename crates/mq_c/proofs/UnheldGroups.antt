@@ -1,18 +1,16 @@
 -- A record asks nothing of a group that isn't held, and leaves a group held that is.
-use Rattle.std.proofs.Common.{◌≡◌, ℕ, Bool, true, false, cond, ◌&&◌, ◌||◌, refl, List, [], ◌∷◌, None, Some, IfSome, ap, ◌∙◌}
+use Rattle.std.proofs.Common.{◌≡◌, ℕ, Bool, true, false, cond, refl, List, [], ◌∷◌, Some, IfSome, ap, ◌∙◌}
 use Rattle.std.specs.List.{list_any}
-use Rattle.std.specs.Option.{option_map}
 use Rattle.std.specs.Ordering.{nat_cmp}
 use Rattle.std.specs.FinMap as map
 use Rattle.std.specs.FinSet as set
 use Rattle.mq_table.specs.declared.kind.Kind.{Kind}
 use Rattle.mq_table.specs.declared.kind.Kind.TheVariants.{IsIn, IsEx, ToIn, ToEx, Allow, Block}
-use Rattle.mq_table.specs.declared.older_hosts.Hosts.{Hosts}
 use Rattle.mq_table.specs.declared.timers.SourceTimer.{SourceTimer}
 use Rattle.mq_table.specs.declared.timing.Timing.{Timing}
 use Rattle.mq_table.specs.Sets.{Set, ◌∩◌}
 use Rattle.mq_table.specs.Group.{GroupState, vacant, is_running, running, IsWellFormed}
-use Rattle.mq_table.specs.OlderHosts.{hosts_of, translated, translated_change}
+use Rattle.mq_table.specs.OlderHosts.{hosts_of, translated_change}
 use Rattle.mq_table.specs.Sendings.{above}
 use Rattle.mq_table.specs.Table.{NamedSources, GroupChange, change_of}
 use Rattle.mq_table.proofs.Held.{IsWellFormed-change_of}
@@ -20,28 +18,7 @@ use Rattle.mq_sched.specs.Schedule.{ScheduleState, ScheduledGroup, no_schedule, 
 use Rattle.mq_sched.specs.Sending.{after_change, messages_due}
 use Rattle.mq_link.proofs.HeldAs.{settled_silent}
 use Rattle.mq_link.proofs.Silent.{silent_messages}
-
--- what holds of each change by the tables, holds of what a record changes
-module _ (P : GroupChange → Type 0) (mutes muted : Bool) (timing : Timing) (now : ℕ) (g : GroupState) (named : NamedSources) (of_each : (kind : Kind) (names : NamedSources) → P (change_of timing now g kind names)) where
-  unless : (b : Bool) (kind : Kind) → IfSome (option_map (λ (r : Kind × NamedSources). change_of timing now g r.0 r.1) (cond b None (Some (kind, named)))) P
-  unless true kind = tt
-  unless false kind = of_each kind named
-
-  emptied : (b : Bool) → IfSome (option_map (λ (r : Kind × NamedSources). change_of timing now g r.0 r.1) (cond b (Some (ToEx, set.empty)) (Some (ToEx, named)))) P
-  emptied true = of_each ToEx set.empty
-  emptied false = of_each ToEx named
-
-  by_kind : (muted_so : Bool) (hosts : Hosts) (kind : Kind) → IfSome (option_map (λ (r : Kind × NamedSources). change_of timing now g r.0 r.1) (translated mutes muted_so hosts kind named)) P
-  by_kind true hosts kind = tt
-  by_kind false hosts Block = unless (hosts.v1 || hosts.v2) Block
-  by_kind false hosts ToEx = emptied (hosts.v1 || hosts.v2)
-  by_kind false hosts ToIn = unless (mutes && hosts.v1) ToIn
-  by_kind false hosts IsIn = of_each IsIn named
-  by_kind false hosts IsEx = of_each IsEx named
-  by_kind false hosts Allow = of_each Allow named
-
-  of_translated : (kind : Kind) → IfSome (translated_change mutes muted timing now g kind named) P
-  of_translated kind = by_kind muted (hosts_of g now) kind
+use Rattle.mq_link.proofs.TranslatedRecords.{of_translated}
 
 -- a change that asks for nothing
 pub record AsksNothing (change : GroupChange) : Type 0 where
@@ -60,11 +37,12 @@ none_asked timing now Allow named = record { query = λ s. refl; query_group = r
 none_asked timing now Block named = record { query = λ s. rw (none_runs s) refl; query_group = refl }
 
 pub unheld_asks_nothing : (mutes muted : Bool) (timing : Timing) (now : ℕ) (kind : Kind) (named : NamedSources) → IfSome (translated_change mutes muted timing now vacant kind named) AsksNothing
-unheld_asks_nothing mutes muted timing now kind named = of_translated AsksNothing mutes muted timing now vacant named (none_asked timing now) kind
+unheld_asks_nothing mutes muted timing now kind named =
+    of_translated AsksNothing mutes timing now vacant named (λ k. none_asked timing now k named) (none_asked timing now ToEx set.empty) muted (hosts_of vacant now) kind
 
 pub held_stays_held : (mutes muted : Bool) (timing : Timing) (now : ℕ) (g : GroupState) (kind : Kind) (named : NamedSources) → IsWellFormed g → IfSome (translated_change mutes muted timing now g kind named) (λ c. IsWellFormed c.group)
 held_stays_held mutes muted timing now g kind named held =
-    of_translated (λ c. IsWellFormed c.group) mutes muted timing now g named (λ k names. IsWellFormed-change_of timing now g k names held) kind
+    of_translated (λ c. IsWellFormed c.group) mutes timing now g named (λ k. IsWellFormed-change_of timing now g k named held) (IsWellFormed-change_of timing now g ToEx set.empty held) muted (hosts_of g now) kind
 
 -- nothing is sent for it
 none_of : (query other : Set) → ((s : ℕ) → query s ≡ false) → (ks : List ℕ) → list_any (query ∩ other) ks ≡ false

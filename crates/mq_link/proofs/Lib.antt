@@ -36,6 +36,7 @@ pub mod LinkStored
 pub mod DueSent
 pub mod HandedOut
 pub mod LinkTicked
+pub mod TranslatedRecords
 pub mod ChangedSizes
 pub mod StatedSteps
 pub mod RecordsRead
