@@ -178,7 +178,7 @@ mq_answer mq_igmp_tick(mq_igmp *link, uint64_t now, uint8_t *queries, size_t roo
 mq_answer mq_mld_tick(mq_mld *link, uint64_t now, uint8_t *queries, size_t room);
 
 /* As many bytes of `queries` as always suffice for one call at a link so configured, whose body has at most 65535
-   bytes. */
+   bytes: with no fewer, `unsent` is 0. */
 size_t mq_igmp_outlet_bytes(mq_igmp_config config);
 size_t mq_mld_outlet_bytes(mq_mld_config config);
 

@@ -2,5 +2,17 @@ mod HandedInto
 mod IgmpValues
 mod LentLines
 mod LooseValues
+mod Meetings
 mod MldValues
+mod OutletBytes
 mod Pages
+mod QueryCounts
+mod QueryLengths
+mod ReceiptQueries
+mod RecordQueries
+mod ReportLengths
+mod RoomForReceives
+mod RoomForTicks
+mod RoomSuffices
+mod RoomTaken
+mod UnheldGroups

@@ -10,4 +10,5 @@ pub mod OtherQuerier
 pub mod Pages
 pub mod Placing
 pub mod Queries
+pub mod Rooms
 pub mod Statuses

@@ -1,9 +1,10 @@
 //! The calls of a link that hand out queries, for both families.
 
-ghost use Rattle.std.specs.Prelude.{◌≡◌, ◌≤◌, ◌^◌};
+ghost use Rattle.std.specs.Prelude.{◌≡◌, ◌≤◌, ◌^◌, length};
 ghost use Rattle.mq_c.specs.Calls as spec;
 ghost use Rattle.mq_c.specs.Calls.{TicksInto, ReceivesInto};
 ghost use Rattle.mq_c.specs.Queries.{outbox_of};
+ghost use Rattle.mq_c.specs.Rooms.{longest_body, receive_room, tick_room};
 
 use crate::forms::Answer;
 use crate::queries::Queries;
@@ -65,18 +66,20 @@ fn answer_to(received: Received, queries: &Queries<'_>) -> Answer
     }
 }
 
-/// A tick, with its queries.
+/// A tick, with its queries; where the memory is as long as the room of a tick, none is left out.
 pub(crate) fn tick<F: Family>(link: &mut Link<F>, now: Moment, out: &mut [u8]) -> Answer
     requires in_range { now ≤ 2 ^ 53 }
     ensures config { link.new.config ≡ link.old.config }
     ensures ticks { TicksInto F.Address.WIDTH now link.old link.new out.old out.new result }
+    ensures none_left_out { tick_room F.Address.WIDTH link.old.config ≤ length out.old → result.unsent ≡ 0 }
 {
+    link.is_well_formed();
     let mut queries = Queries::new(out);
     link.tick(now, &mut queries);
     answer_to_tick(&queries)
 }
 
-/// A datagram, with its queries.
+/// A datagram, with its queries; where the memory is as long as the room of a datagram, none is left out.
 pub(crate) fn receive<F: Family>(
     link: &mut Link<F>,
     envelope: &F::Envelope,
@@ -88,7 +91,10 @@ pub(crate) fn receive<F: Family>(
     ensures config { link.new.config ≡ link.old.config }
     ensures receives { ReceivesInto F.Address.WIDTH (F.envelope_of envelope.now) body.now now link.old link.new
         out.old out.new result }
+    ensures none_left_out { receive_room F.Address.WIDTH link.old.config ≤ length out.old → length body.now ≤ longest_body → result.unsent ≡ 0 }
 {
+    link.config().is_faultless();
+    link.is_well_formed();
     let mut queries = Queries::new(out);
     let received = link.receive(envelope, body, now, &mut queries);
     answer_to(received, &queries)

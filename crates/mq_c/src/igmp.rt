@@ -1,6 +1,6 @@
 //! Links of IGMP, as C calls them.
 
-ghost use Rattle.std.specs.Prelude.{◌≡◌, ◌<◌, ◌≤◌, ◌^◌, ℕ, IsTrue, MatchOption, [], false};
+ghost use Rattle.std.specs.Prelude.{◌≡◌, ◌<◌, ◌≤◌, ◌^◌, ℕ, IsTrue, MatchOption, [], false, length};
 ghost use Rattle.std.specs.Int.{w32, from_be_bytes};
 ghost use Rattle.mq_wire.specs.Family as family;
 ghost use Rattle.mq_link.specs.Defaults.{configured_by_default};
@@ -17,6 +17,7 @@ ghost use Rattle.mq_c.specs.Making.{IsMade, IsRefused};
 ghost use Rattle.std.specs.Result.{MatchResult};
 ghost use Rattle.mq_c.specs.OtherQuerier.{with_other_querier};
 ghost use Rattle.mq_c.specs.Pages.{IsPage};
+ghost use Rattle.mq_c.specs.Rooms.{longest_body, receive_room, tick_room};
 
 use crate::address_room::put_address;
 use crate::forms::{Answer, Counted, IgmpConfig, IgmpGroup, IgmpSource, Page};
@@ -114,7 +115,7 @@ pub extern "C" fn mq_igmp_free(alloc: Global, link: IgmpObject) {
     drop(link.into_loose(alloc).into_box());
 }
 
-/// Takes a datagram.
+/// Takes a datagram; with as much memory as the room of a datagram, no query is left out.
 #[unsafe(no_mangle)]
 pub extern "C" fn mq_igmp_receive(
     link: &mut IgmpObject,
@@ -126,6 +127,7 @@ pub extern "C" fn mq_igmp_receive(
     ensures at { link.new.at ≡ link.old.at }
     ensures receives { CallsAt now (ReceivesInto 4 (envelope source.now) body.now now link.old.kept.link link.new.kept.link queries.old queries.new result)
         link.old.kept.link link.new.kept.link queries.old queries.new result }
+    ensures none_left_out { receive_room 4 link.old.kept.link.config ≤ length queries.old → length body.now ≤ longest_body → result.unsent ≡ 0 }
 {
     let Some(now) = Moment::from_ms(now) else {
         return calls::refused_moment();
@@ -136,12 +138,13 @@ pub extern "C" fn mq_igmp_receive(
     calls::receive(&mut link.lend().link, &envelope, body, now, queries)
 }
 
-/// Does what is due.
+/// Does what is due; with as much memory as the room of a tick, no query is left out.
 #[unsafe(no_mangle)]
 pub extern "C" fn mq_igmp_tick(link: &mut IgmpObject, now: u64, queries: &mut [u8]) -> Answer
     ensures at { link.new.at ≡ link.old.at }
     ensures ticks { CallsAt now (TicksInto 4 now link.old.kept.link link.new.kept.link queries.old queries.new result)
         link.old.kept.link link.new.kept.link queries.old queries.new result }
+    ensures none_left_out { tick_room 4 link.old.kept.link.config ≤ length queries.old → result.unsent ≡ 0 }
 {
     let Some(now) = Moment::from_ms(now) else {
         return calls::refused_moment();
@@ -213,16 +216,11 @@ pub extern "C" fn mq_igmp_len(link: &mut IgmpObject) -> u32
 
 /// How much memory suffices for the queries of one call.
 #[unsafe(no_mangle)]
-pub extern "C" fn mq_igmp_outlet_bytes(config: IgmpConfig) -> usize {
-    bounds::outlet_bytes(
-        4,
-        12,
-        8,
-        366,
-        config.groups,
-        config.sources,
-        config.scheduled,
-    ) as usize
+pub extern "C" fn mq_igmp_outlet_bytes(config: IgmpConfig) -> usize
+    ensures bytes { result ≡ receive_room 4 (asked config) }
+    ensures tick { tick_room 4 (asked config) ≤ result }
+{
+    bounds::outlet_bytes(4, 12, 366, config.groups, config.sources, config.scheduled) as usize
 }
 
 /// Up to when another router is querier, whose address is written where it fits.

@@ -18,6 +18,7 @@ ghost use Rattle.mq_c.specs.Making.{IsMade, IsRefused};
 ghost use Rattle.std.specs.Result.{MatchResult};
 ghost use Rattle.mq_c.specs.OtherQuerier.{with_other_querier};
 ghost use Rattle.mq_c.specs.Pages.{IsPage};
+ghost use Rattle.mq_c.specs.Rooms.{longest_body, receive_room, tick_room};
 
 use crate::address_room::put_address;
 use crate::forms::{Answer, Counted, MldConfig, MldGroup, MldSource, Page};
@@ -115,7 +116,7 @@ pub extern "C" fn mq_mld_free(alloc: Global, link: MldObject) {
     drop(link.into_loose(alloc).into_box());
 }
 
-/// Takes a datagram.
+/// Takes a datagram; with as much memory as the room of a datagram, no query is left out.
 #[unsafe(no_mangle)]
 pub extern "C" fn mq_mld_receive(
     link: &mut MldObject,
@@ -130,6 +131,7 @@ pub extern "C" fn mq_mld_receive(
     ensures at { link.new.at ≡ link.old.at }
     ensures receives { CallsAt now (ReceivesInto 16 (envelope source.now destination.now hop_limit alert) body.now now link.old.kept.link link.new.kept.link queries.old queries.new result)
         link.old.kept.link link.new.kept.link queries.old queries.new result }
+    ensures none_left_out { receive_room 16 link.old.kept.link.config ≤ length queries.old → length body.now ≤ longest_body → result.unsent ≡ 0 }
 {
     let Some(now) = Moment::from_ms(now) else {
         return calls::refused_moment();
@@ -143,12 +145,13 @@ pub extern "C" fn mq_mld_receive(
     calls::receive(&mut link.lend().link, &envelope, body, now, queries)
 }
 
-/// Does what is due.
+/// Does what is due; with as much memory as the room of a tick, no query is left out.
 #[unsafe(no_mangle)]
 pub extern "C" fn mq_mld_tick(link: &mut MldObject, now: u64, queries: &mut [u8]) -> Answer
     ensures at { link.new.at ≡ link.old.at }
     ensures ticks { CallsAt now (TicksInto 16 now link.old.kept.link link.new.kept.link queries.old queries.new result)
         link.old.kept.link link.new.kept.link queries.old queries.new result }
+    ensures none_left_out { tick_room 16 link.old.kept.link.config ≤ length queries.old → result.unsent ≡ 0 }
 {
     let Some(now) = Moment::from_ms(now) else {
         return calls::refused_moment();
@@ -220,16 +223,11 @@ pub extern "C" fn mq_mld_len(link: &mut MldObject) -> u32
 
 /// How much memory suffices for the queries of one call.
 #[unsafe(no_mangle)]
-pub extern "C" fn mq_mld_outlet_bytes(config: MldConfig) -> usize {
-    bounds::outlet_bytes(
-        16,
-        28,
-        20,
-        89,
-        config.groups,
-        config.sources,
-        config.scheduled,
-    ) as usize
+pub extern "C" fn mq_mld_outlet_bytes(config: MldConfig) -> usize
+    ensures bytes { result ≡ receive_room 16 (asked config) }
+    ensures tick { tick_room 16 (asked config) ≤ result }
+{
+    bounds::outlet_bytes(16, 28, 89, config.groups, config.sources, config.scheduled) as usize
 }
 
 /// Up to when another router is querier, whose address is written where it fits.

@@ -1,5 +1,5 @@
 -- How many sources a statement leaves a group at most.
-use Rattle.std.proofs.Common.{◌≡◌, ℕ, ◌+◌, ◌≤◌, Bool, true, false, cond, ◌||◌, ◌&&◌, List, [], ◌∷◌, ◌++◌, Option, None, Some, IfSome, length, refl, sym, ap, ◌∙◌, subst, arith, length-append}
+use Rattle.std.proofs.Common.{◌≡◌, ℕ, ◌+◌, ◌≤◌, Bool, true, false, cond, ◌||◌, List, [], ◌∷◌, ◌++◌, Option, None, Some, IfSome, length, refl, sym, ap, ◌∙◌, subst, arith, length-append}
 use Rattle.std.specs.Prelude.{map as list_map}
 use Rattle.std.specs.List.{list_any}
 use Rattle.std.specs.Option.{option_map}
@@ -12,7 +12,7 @@ use Rattle.std.proofs.lemmas.List.{length-map}
 use Rattle.mq_count.specs.declared.versions.OlderVersion.{OlderVersion}
 use Rattle.mq_count.specs.declared.versions.OlderVersion.TheVariants.{V1, V2}
 use Rattle.mq_table.specs.declared.kind.Kind.{Kind}
-use Rattle.mq_table.specs.declared.kind.Kind.TheVariants.{IsIn, IsEx, ToIn, ToEx, Allow, Block}
+use Rattle.mq_table.specs.declared.kind.Kind.TheVariants.{IsEx, ToIn, ToEx}
 use Rattle.mq_table.specs.declared.older_hosts.Hosts.{Hosts}
 use Rattle.mq_table.specs.declared.timing.Timing.{Timing}
 use Rattle.mq_table.specs.Maps.{with_entry, entries_by, by_rule}
@@ -24,7 +24,8 @@ use Rattle.mq_table.proofs.Maps.{find-entries_by, get-by_rule}
 use Rattle.mq_link.specs.declared.statements.Said.{Said}
 use Rattle.mq_link.specs.declared.statements.Said.TheVariants.{Record, OlderJoin, OlderLeave}
 use Rattle.mq_link.specs.Changing.{statement_of}
-use Rattle.mq_link.specs.Record.{asking_nothing, change_stated}
+use Rattle.mq_link.proofs.TranslatedRecords.{of_translated}
+use Rattle.mq_link.specs.Record.{OlderJoin as StatesJoin, OlderLeave as StatesLeave, asking_nothing, change_stated}
 
 few_entries : {X : Type 0} (es : List (ℕ × X)) → map.len (map.from_entries {R = nat_cmp} es) ≤ length es
 few_entries {X} [] = let n = map.len-empty nat_cmp X in omega arith
@@ -73,33 +74,9 @@ abbrev pub IsFew : GroupState → ℕ → Option GroupChange → Type 0
 IsFew g n change = IfSome change (λ c. size_of c.group ≤ size_of g + n)
 
 pub translated_few : (mutes muted : Bool) (timing : Timing) (now : ℕ) (g : GroupState) (kind : Kind) (xs : List ℕ) (hosts : Hosts) → IsFew g (length xs) (option_map (λ (r : Kind × NamedSources). change_of timing now g r.0 r.1) (translated mutes muted hosts kind (set.from_list xs)))
-translated_few mutes muted timing now g kind xs hosts = by_kind muted kind
-  where
-    change : Kind × NamedSources → GroupChange
-    change r = change_of timing now g r.0 r.1
-
-    so : (k : Kind) → size_of (change_of timing now g k (set.from_list xs)).group ≤ size_of g + length xs
-    so k = changed_few timing now g k xs
-
-    none : size_of (change_of timing now g ToEx (set.from_list [])).group ≤ size_of g + length xs
-    none = let h = changed_few timing now g ToEx [] in omega arith
-
-    unless : (b : Bool) (k : Kind) → IfSome (option_map (λ (r : Kind × NamedSources). change_of timing now g r.0 r.1) (cond b None (Some (k, set.from_list xs)))) (λ c. size_of c.group ≤ size_of g + length xs)
-    unless true k = tt
-    unless false k = so k
-
-    emptied : (b : Bool) → IfSome (option_map (λ (r : Kind × NamedSources). change_of timing now g r.0 r.1) (cond b (Some (ToEx, set.empty)) (Some (ToEx, set.from_list xs)))) (λ c. size_of c.group ≤ size_of g + length xs)
-    emptied true = none
-    emptied false = so ToEx
-
-    by_kind : (muted_so : Bool) (k : Kind) → IfSome (option_map (λ (r : Kind × NamedSources). change_of timing now g r.0 r.1) (translated mutes muted_so hosts k (set.from_list xs))) (λ c. size_of c.group ≤ size_of g + length xs)
-    by_kind true k = tt
-    by_kind false Block = unless (hosts.v1 || hosts.v2) Block
-    by_kind false ToEx = emptied (hosts.v1 || hosts.v2)
-    by_kind false ToIn = unless (mutes && hosts.v1) ToIn
-    by_kind false IsIn = so IsIn
-    by_kind false IsEx = so IsEx
-    by_kind false Allow = so Allow
+translated_few mutes muted timing now g kind xs hosts =
+    let none = changed_few timing now g ToEx [] in
+    of_translated (λ c. size_of c.group ≤ size_of g + length xs) mutes timing now g (set.from_list xs) (λ k. changed_few timing now g k xs) (omega (arith, none)) muted hosts kind
 
 host_few : (version : OlderVersion) (timing : Timing) (now : ℕ) (g : GroupState) → size_of (older_host version timing now g) ≡ size_of g
 host_few V1 timing now g = refl
@@ -120,3 +97,10 @@ stated_few number mutes muted timing now OlderLeave addresses g = more _ (transl
     more : (change : Option GroupChange) → IfSome change (λ c. size_of c.group ≤ size_of g + 0) → IfSome change (λ c. size_of c.group ≤ size_of g + length addresses)
     more None h = tt
     more (Some c) h = omega (arith, h)
+
+-- an older message leaves its group no source more
+pub joined_few : (mutes muted : Bool) (timing : Timing) (now : ℕ) (version : OlderVersion) (g : GroupState) → IfSome (change_stated mutes muted timing now (StatesJoin version) g) (λ c. size_of c.group ≤ size_of g + 0)
+joined_few mutes muted timing now version g = stated_few (λ (n : ℕ). n) mutes muted timing now (OlderJoin version) [] g
+
+pub left_few : (mutes muted : Bool) (timing : Timing) (now : ℕ) (g : GroupState) → IfSome (change_stated mutes muted timing now StatesLeave g) (λ c. size_of c.group ≤ size_of g + 0)
+left_few mutes muted timing now g = stated_few (λ (n : ℕ). n) mutes muted timing now OlderLeave [] g

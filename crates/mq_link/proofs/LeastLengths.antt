@@ -1,6 +1,6 @@
 -- Bytes that spell a message are no fewer than its least length: each source that it names takes four bytes at least, and
 -- each record eight besides.
-use Rattle.std.proofs.Common.{◌≡◌, ℕ, zero, suc, ◌+◌, ◌*◌, ◌≤◌, Bool, true, false, cond, List, [], ◌∷◌, ◌++◌, length, None, Ok, IfSome, drop, replicate, sum, refl, subst, sym, arith, eqb}
+use Rattle.std.proofs.Common.{◌≡◌, ℕ, zero, suc, ◌+◌, ◌*◌, ◌≤◌, Bool, true, false, cond, List, [], ◌∷◌, ◌++◌, length, Ok, drop, replicate, sum, arith}
 use Rattle.std.proofs.Math.Nat.{mul-le-mul_left}
 use Rattle.std.proofs.lemmas.List.Sums.{sum_by-cons}
 use Rattle.std.specs.List.{sum_by}
@@ -8,15 +8,14 @@ use Rattle.mq_wire.specs.declared.message.Message.{Message}
 use Rattle.mq_wire.specs.declared.message.Message.TheVariants.{Query, Report}
 use Rattle.mq_wire.specs.declared.records.RecordView.{RecordView}
 use Rattle.mq_wire.specs.Family.{Family, Igmp, Mld, address_width, group_end}
-use Rattle.mq_wire.specs.Fields.{number_at, first_cut}
+use Rattle.mq_wire.specs.Fields.{number_at}
 use Rattle.mq_wire.specs.Queries.{older_spans, query_spans, source_spans, older_query, current_query}
 use Rattle.mq_wire.specs.Records.{record_spans, record_end, record_at, record_source_count, auxiliary_length, record_count, records_at, spans_of_records, report_spans, report_records}
-use Rattle.mq_wire.specs.Spelling.{type_named, type_of, spans_of, message_of}
 use Rattle.mq_wire.proofs.Addresses.{length_addresses}
 use Rattle.mq_wire.proofs.Spans.{ends_within, sum-append, sum-replicate}
 use Rattle.mq_link.specs.Cost.{least_length}
 use Rattle.mq_link.specs.Receive.{read_of}
-use Rattle.mq_link.proofs.Runs.{message_read}
+use Rattle.mq_link.proofs.SpelledMessages.{AreWhole, where_read}
 
 -- so many addresses
 four_each : (n width : ℕ) → 4 ≤ width → n * 4 ≤ sum (replicate n width)
@@ -52,10 +51,6 @@ least_older : (family : Family) → 8 ≤ sum (older_spans family)
 least_older Igmp = omega arith
 least_older Mld = omega arith
 
--- where all spans are whole
-abbrev AreWhole : List ℕ → List ℕ → Type 0
-AreWhole bytes widths = first_cut (length bytes) 0 widths ≡ None
-
 all_within : (bytes widths : List ℕ) → AreWhole bytes widths → sum widths ≤ length bytes
 all_within bytes widths whole = let ends = ends_within (length bytes) 0 widths (omega arith) whole in omega (arith, ends)
 
@@ -80,34 +75,5 @@ long_query family bytes false whole =
 long_older : (family : Family) (bytes : List ℕ) → AreWhole bytes (older_spans family) → 8 ≤ length bytes
 long_older family bytes whole = omega (arith, all_within bytes (older_spans family) whole, least_older family)
 
--- by the type of a message
-igmp_long : (bytes : List ℕ) (code : ℕ) → IfSome (type_named Igmp code) (λ kind. AreWhole bytes (spans_of Igmp kind bytes) → IsLong bytes (message_of Igmp kind bytes))
-igmp_long bytes code = by_tests (eqb code 0x11) (eqb code 0x12) (eqb code 0x16) (eqb code 0x17) (eqb code 0x22) refl refl refl refl refl
-  where
-    by_tests : (a b c d e : Bool) → eqb code 0x11 ≡ a → eqb code 0x12 ≡ b → eqb code 0x16 ≡ c → eqb code 0x17 ≡ d → eqb code 0x22 ≡ e → IfSome (type_named Igmp code) (λ kind. AreWhole bytes (spans_of Igmp kind bytes) → IsLong bytes (message_of Igmp kind bytes))
-    by_tests true b c d e p q r s t = rw p (long_query Igmp bytes (eqb (length bytes) (group_end Igmp)))
-    by_tests false true c d e p q r s t = rw (p, q) (long_older Igmp bytes)
-    by_tests false false true d e p q r s t = rw (p, q, r) (long_older Igmp bytes)
-    by_tests false false false true e p q r s t = rw (p, q, r, s) (long_older Igmp bytes)
-    by_tests false false false false true p q r s t = rw (p, q, r, s, t) (long_report Igmp bytes)
-    by_tests false false false false false p q r s t = rw (p, q, r, s, t) tt
-
-mld_long : (bytes : List ℕ) (code : ℕ) → IfSome (type_named Mld code) (λ kind. AreWhole bytes (spans_of Mld kind bytes) → IsLong bytes (message_of Mld kind bytes))
-mld_long bytes code = by_tests (eqb code 130) (eqb code 131) (eqb code 132) (eqb code 143) refl refl refl refl
-  where
-    by_tests : (a b c d : Bool) → eqb code 130 ≡ a → eqb code 131 ≡ b → eqb code 132 ≡ c → eqb code 143 ≡ d → IfSome (type_named Mld code) (λ kind. AreWhole bytes (spans_of Mld kind bytes) → IsLong bytes (message_of Mld kind bytes))
-    by_tests true b c d p q r s = rw p (long_query Mld bytes (eqb (length bytes) (group_end Mld)))
-    by_tests false true c d p q r s = rw (p, q) (long_older Mld bytes)
-    by_tests false false true d p q r s = rw (p, q, r) (long_older Mld bytes)
-    by_tests false false false true p q r s = rw (p, q, r, s) (long_report Mld bytes)
-    by_tests false false false false p q r s = rw (p, q, r, s) tt
-
-long_of_type : (family : Family) (bytes : List ℕ) → IfSome (type_named family (type_of bytes)) (λ kind. AreWhole bytes (spans_of family kind bytes) → IsLong bytes (message_of family kind bytes))
-long_of_type Igmp bytes = igmp_long bytes (type_of bytes)
-long_of_type Mld bytes = mld_long bytes (type_of bytes)
-
 pub long_where_read : (family : Family) (pseudo bytes : List ℕ) (message : Message ℕ) → read_of family pseudo bytes ≡ Ok message → least_length message ≤ length bytes
-long_where_read family pseudo bytes message read =
-    let spelled = (message_read family pseudo bytes message).0 read in
-    let long = subst (λ found. IfSome found (λ kind. AreWhole bytes (spans_of family kind bytes) → IsLong bytes (message_of family kind bytes))) spelled.listed (long_of_type family bytes) in
-    subst (IsLong bytes) (sym spelled.says) (long spelled.whole)
+long_where_read = where_read (λ family bytes message. IsLong bytes message) long_query long_report (λ family bytes version. long_older family bytes) long_older

@@ -36,6 +36,7 @@ pub mod LinkStored
 pub mod DueSent
 pub mod HandedOut
 pub mod LinkTicked
+pub mod TranslatedRecords
 pub mod ChangedSizes
 pub mod StatedSteps
 pub mod RecordsRead
@@ -43,6 +44,7 @@ pub mod LinkReceived
 pub mod EventsRun
 pub mod Potential
 pub mod RecordCosts
+pub mod SpelledMessages
 pub mod LeastLengths
 pub mod TickedSizes
 pub mod LeastCosts

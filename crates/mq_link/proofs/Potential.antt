@@ -28,7 +28,7 @@ potential seen groups = sum_by (left_of seen) (map.entries groups)
 
 -- What is left falls by what is met.
 module _ (before after : ℕ × ScheduledGroup → ℕ) (no_more : (e : ℕ × ScheduledGroup) → after e ≤ before e) (a falls : ℕ) where
-  sum-falls : (es : List (ℕ × ScheduledGroup)) (e : ScheduledGroup) → find nat_cmp a es ≡ Some e → after (a, e) + falls ≤ before (a, e) → sum_by after es + falls ≤ sum_by before es
+  pub sum-falls : (es : List (ℕ × ScheduledGroup)) (e : ScheduledGroup) → find nat_cmp a es ≡ Some e → after (a, e) + falls ≤ before (a, e) → sum_by after es + falls ≤ sum_by before es
   sum-falls [] e found here = absurd (cc)
   sum-falls (x ∷ es) e found here = by_test (eq_by_cmp nat_cmp a x.0) refl found (λ is. sum-falls es e is here)
     where

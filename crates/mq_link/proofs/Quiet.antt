@@ -143,7 +143,7 @@ same_timer m Include (Some Stopped) stays h = let s = stays refl in cc
 same_timer m (Exclude d) (Some Stopped) stays h = refl
 same_timer m mode (Some (Running d n)) stays h = ap (λ b. cond b (Some (Running d n)) (at_zero mode)) (ltb_is m d h)
 
-not_vacant : (g : GroupState) → IsHeld g → is_vacant g ≡ false
+pub not_vacant : (g : GroupState) → IsHeld g → is_vacant g ≡ false
 not_vacant g h = by_mode g.mode refl
   where
     by_len : (b : Bool) → eqb (map.len g.sources) 0 ≡ b → g.mode ≡ Include → b ≡ false

@@ -57,7 +57,7 @@ module _ (at : Setting) (seen : Seen) (group : ℕ) (kind : Kind) (xs : List ℕ
       by_limit (Some name) = omega arith
       by_limit None = changed_left seen groups group (length xs) (after_sending at e) size
 
-  stated_left : potential seen (stated at group (RecordOf kind (set.from_list xs)) groups).groups ≤ may_be_left
+  pub stated_left : potential seen (stated at group (RecordOf kind (set.from_list xs)) groups).groups ≤ may_be_left
   unfolding stated
   stated_left =
       let e = group_at groups group in
@@ -66,7 +66,7 @@ module _ (at : Setting) (seen : Seen) (group : ℕ) (kind : Kind) (xs : List ℕ
 few_digits : (n : ℕ) → n ≤ 65535 → bitlen n ≤ 16
 few_digits n few = bitlen-le 16 n (omega (arith, few))
 
-four_times : (m n : ℕ) → left_for m n ≤ 24 * n
+pub four_times : (m n : ℕ) → left_for m n ≤ 24 * n
 four_times m n = let few : 4 - m ≤ 4 = omega arith in let most = mul-le-mul_right (6 * n) few in omega (arith, most)
 
 pub record_pays : (at : Setting) (seen : Seen) (r : RecordView ℕ) (groups : Groups) → map.len groups ≤ 65535 → map.len seen ≤ 65535

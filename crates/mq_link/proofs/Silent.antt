@@ -71,7 +71,7 @@ from-each P (e ∷ es) h q x is = at_front P e es h.0 q x (eq_by_cmp nat_cmp q e
     at_front P e es here q x false apart is later = later is
 
 -- a group of which nothing is to go sends nothing
-silent_messages : (n : ℕ) (timing : Timing) (now group : ℕ) (e : ScheduledGroup) → IsSilent e → messages_due n timing now group e ≡ []
+pub silent_messages : (n : ℕ) (timing : Timing) (now group : ℕ) (e : ScheduledGroup) → IsSilent e → messages_due n timing now group e ≡ []
 silent_messages n timing now group e h = ap (λ s. messages_due n timing now group (record { group = e.group; schedule = s })) h.schedule
 
 none_due : (n : ℕ) (timing : Timing) (now : ℕ) (es : List (ℕ × ScheduledGroup)) → Each (λ _. IsSilent) es → flat_map (λ (e : ℕ × ScheduledGroup). messages_due n timing now e.0 e.1) es ≡ []
@@ -97,7 +97,7 @@ unasked : (q : Bool) (n : ℕ) (timing : Timing) (now group : ℕ) (change : Gro
 unasked true n timing now group change schedule is none = cc
 unasked false n timing now group change schedule is none = silent_messages n timing now group (record { group = change.group; schedule = settled change.group schedule }) (record { schedule = settled_silent change.group schedule none })
 
-none_unless : (name : Option Refusal) (before after : Groups) (queries : List SentQuery) → queries ≡ [] → (unless_passed name before after queries).queries ≡ []
+pub none_unless : (name : Option Refusal) (before after : Groups) (queries : List SentQuery) → queries ≡ [] → (unless_passed name before after queries).queries ≡ []
 none_unless (Some name) before after queries h = refl
 none_unless None before after queries h = h
 

@@ -1,6 +1,8 @@
 use Rattle.std.proofs.Common.{refl, sym, ◌∙◌, subst}
+use Rattle.mq_link.specs.Configuration.{IsFaultless}
 use Rattle.mq_c.specs.Queries.{outbox_of, Puts}
 use Rattle.mq_c.proofs.HandedInto.{handed}
+use Rattle.mq_c.proofs.RoomForReceives.{receive_leaves_none}
 use Rattle.mq_c.proofs.calls.receive.Goals as goal
 
 pub returns-clause-receives : goal.returns-clause-receives
@@ -21,3 +23,8 @@ returns-clause-receives g c =
       bytes_are = refl;
       answer_is = c.answer_to.ensures;
     })
+
+pub returns-clause-none_left_out : goal.returns-clause-none_left_out
+returns-clause-none_left_out g c room short =
+    receive_leaves_none g.F.Address.WireKey.WIDTH (g.F.Family.envelope_of c.args.envelope.now) c.args.body.now c.args.now _ _ _ _ _
+    (subst IsFaultless c.config.ensures c.is_faultless.ensures.faultless) c.is_well_formed.ensures.formed (returns-clause-receives g c) room short

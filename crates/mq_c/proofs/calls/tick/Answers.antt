@@ -1,6 +1,7 @@
 use Rattle.std.proofs.Common.{refl, sym, ◌∙◌, subst}
 use Rattle.mq_c.specs.Queries.{outbox_of, Puts}
 use Rattle.mq_c.proofs.HandedInto.{handed}
+use Rattle.mq_c.proofs.RoomForTicks.{tick_leaves_none}
 use Rattle.mq_c.proofs.calls.tick.Goals as goal
 
 pub returns-clause-ticks : goal.returns-clause-ticks
@@ -20,3 +21,8 @@ returns-clause-ticks g c =
       bytes_are = refl;
       answer_is = c.answer_to_tick.ensures;
     })
+
+pub returns-clause-none_left_out : goal.returns-clause-none_left_out
+returns-clause-none_left_out g c room =
+    tick_leaves_none g.F.Address.WireKey.WIDTH c.args.now _ _ _ _ _
+    c.is_well_formed.ensures.formed (returns-clause-ticks g c) room
