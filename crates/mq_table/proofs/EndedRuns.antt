@@ -1,5 +1,5 @@
 -- Runs of sources whose timers run on, in a pass over a list that leaves what the end of timers leaves.
-use Rattle.std.proofs.Common.{◌≡◌, ℕ, zero, suc, ◌+◌, ◌≤◌, Bool, true, false, cond, refl, List, [], ◌∷◌, ◌++◌, length, get_or, take, drop, Option, Some, sym, ap, ◌∙◌, arith, nat_lt}
+use Rattle.std.proofs.Common.{◌≡◌, ℕ, zero, suc, ◌+◌, ◌≤◌, Bool, true, false, cond, refl, List, [], ◌∷◌, ◌++◌, length, get_or, take, drop, Option, Some, sym, ap, subst, ◌∙◌, arith, nat_lt}
 use Rattle.std.specs.List.{AllWithin, filter_map}
 use Rattle.std.proofs.lemmas.Bool.{true≢false}
 use Rattle.std.proofs.lemmas.List.Elements.{filter_map-append}
@@ -34,7 +34,7 @@ all_stay rule (suc n) (x ∷ xs) within stay =
     (ap (λ ys. x ∷ ys) (all_stay rule n xs (omega (arith, within)) (λ k d low high. stay (suc k) d (omega arith) (omega (arith, high)))))
 
 -- a source whose timer runs on stays
-pub runs_stay : {K : Type 0} (mode : FilterMode) (now : ℕ) (x : Source K) → lies_ahead now (deadline_of (Some x.timer)) ≡ true → source_left mode now x ≡ Some x
+runs_stay : {K : Type 0} (mode : FilterMode) (now : ℕ) (x : Source K) → lies_ahead now (deadline_of (Some x.timer)) ≡ true → source_left mode now x ≡ Some x
 runs_stay mode now x is = by_timer x.timer is
   where
     by_test : (b : Bool) (d n : ℕ) → b ≡ true → source_with x.address (cond b (Some (Running d n)) (at_zero mode)) ≡ Some (record { address = x.address; timer = Running d n })
@@ -44,6 +44,11 @@ runs_stay mode now x is = by_timer x.timer is
     by_timer : (timer : SourceTimer) → lies_ahead now (deadline_of (Some timer)) ≡ true → source_with x.address (source_expired mode now timer) ≡ Some (record { address = x.address; timer = timer })
     by_timer Stopped is = absurd (true≢false (sym is))
     by_timer (Running d n) is = by_test (nat_lt now d) d n is
+
+-- so do those of a run that lies ahead
+pub run_stays : {K : Type 0} (mode : FilterMode) (now : ℕ) (row rest : List (Source K)) (run : ℕ) → row ≡ rest → AllWithin (λ x. lies_ahead now (deadline_of (Some x.timer)) ≡ true) row 0 run → AllWithin (λ x. source_left mode now x ≡ Some x) rest 0 run
+run_stays mode now row rest run same ahead k d low high =
+    runs_stay mode now (get_or rest k d) (subst (λ xs. lies_ahead now (deadline_of (Some (get_or xs k d).timer)) ≡ true) same (ahead k d low high))
 
 -- A run of items that stay has been moved behind what is left of those before.
 module _ {X : Type 0} (rule : X → Option X) (initial xs moved : List X) (left place run : ℕ) (made : take left xs ≡ filter_map rule (take place initial)) (rest : drop place xs ≡ drop place initial) (within : run ≤ length (drop place xs)) (stay : AllWithin (λ x. rule x ≡ Some x) (drop place xs) 0 run) (is_moved : take (left + run) moved ≡ take left xs ++ take run (drop place xs)) (as_before : drop (place + run) moved ≡ drop (place + run) xs) where

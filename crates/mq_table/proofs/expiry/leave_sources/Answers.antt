@@ -1,4 +1,4 @@
-use Rattle.std.proofs.Common.{◌≡◌, ◌+◌, ◌<◌, ◌≤◌, min, true, false, Option, List, Some, length, length-drop, drop, slice_index_or, sym, ap, subst, ◌∙◌, arith}
+use Rattle.std.proofs.Common.{◌≡◌, ◌+◌, ◌<◌, ◌≤◌, min, false, Option, List, Some, length, length-drop, drop, sym, ap, subst, ◌∙◌, arith}
 use Rattle.std.proofs.Math.ListN.{length-set}
 use Rattle.std.specs.List.{AllWithin}
 use Rattle.mq_count.specs.Timed.{lies_ahead}
@@ -7,7 +7,7 @@ use Rattle.mq_table.specs.declared.sources.Source.{Source}
 use Rattle.mq_table.specs.Group.{deadline_of}
 use Rattle.mq_table.specs.MadeSources.{source_left}
 use Rattle.mq_table.specs.MergedRecord.{source_with}
-use Rattle.mq_table.proofs.EndedRuns.{runs_stay, ended_leaves, behind_run, run_made, run_rest}
+use Rattle.mq_table.proofs.EndedRuns.{run_stays, ended_leaves, behind_run, run_made, run_rest}
 use Rattle.mq_table.proofs.MadeLists.{passed_some, passed_none, rest_after_some, rest_after_none}
 use Rattle.mq_table.proofs.expiry.leave_sources.Goals as goal
 use Rattle.mq_table.proofs.expiry.leave_sources.Goals.{in-Some, in_default}
@@ -27,8 +27,7 @@ loop-place-preserved-then-place-len g c =
     let few = c.count_ahead-run.ensures.within in
     let long = ap length row in
     let within : run ≤ length (drop place xs) = omega (arith, few, long) in
-    let ahead = subst (λ (xs : List (Source g.row.K.Denot)). AllWithin (λ x. lies_ahead c.args.now (deadline_of (Some x.timer)) ≡ true) xs 0 run) row c.count_ahead-run.ensures.ahead in
-    let stay : AllWithin (λ x. rule x ≡ Some x) (drop place xs) 0 run = λ k d low high. runs_stay c.args.mode.now c.args.now (slice_index_or (drop place xs) k d) (ahead k d low high) in
+    let stay = run_stays c.args.mode.now c.args.now c.rest_of.result.now (drop place xs) run row c.count_ahead-run.ensures.ahead in
     let rest_long = length-drop place xs in
     let moved_long = c.move_run.ensures.len ∙ so_far.len in
     let end = c.if-place-len.true in
@@ -79,8 +78,7 @@ loop-place-preserved g c =
     let few = c.count_ahead-run.ensures.within in
     let long = ap length row in
     let within : run ≤ length (drop place xs) = omega (arith, few, long) in
-    let ahead = subst (λ (xs : List (Source g.row.K.Denot)). AllWithin (λ x. lies_ahead c.args.now (deadline_of (Some x.timer)) ≡ true) xs 0 run) row c.count_ahead-run.ensures.ahead in
-    let stay : AllWithin (λ x. rule x ≡ Some x) (drop place xs) 0 run = λ k d low high. runs_stay c.args.mode.now c.args.now (slice_index_or (drop place xs) k d) (ahead k d low high) in
+    let stay = run_stays c.args.mode.now c.args.now c.rest_of.result.now (drop place xs) run row c.count_ahead-run.ensures.ahead in
     let rest_long = length-drop place xs in
     let moved_long = c.move_run.ensures.len in
     let end = c.if-place-len.false in
