@@ -1,3 +1,4 @@
+pub mod Apart
 pub mod Ascents
 pub mod Bitlen
 pub mod Cells
@@ -11,3 +12,4 @@ pub mod Placing
 pub mod Rules
 pub mod Stored
 pub mod WholeMerge
+pub mod WrittenOver

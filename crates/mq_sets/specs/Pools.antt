@@ -1,5 +1,5 @@
 -- A list of lists, and how it stands in one list of cells.
-use Rattle.std.specs.Prelude.{ℕ, ◌+◌, ◌≡◌, ◌≤◌, List, length, map, take, drop}
+use Rattle.std.specs.Prelude.{ℕ, ◌+◌, ◌≡◌, ◌≤◌, ◌⊎◌, List, [], ◌∷◌, length, map, take, drop}
 use Rattle.std.specs.List.{All, sum_by}
 use Rattle.mq_sets.specs.declared.extents.Extent.{Extent}
 
@@ -30,9 +30,19 @@ IsWithin cells extent = extent.start + extent.length ≤ length cells
 abbrev pub cells_said : List Extent → ℕ
 cells_said extents = sum_by (λ extent. extent.length) extents
 
--- each row lies within the cells, and the limits are kept
+-- two rows that have no cell in common
+abbrev pub IsApart : Extent → Extent → Type 0
+IsApart a b = (a.start + a.length ≤ b.start) ⊎ (b.start + b.length ≤ a.start)
+
+-- no two of some rows have one
+abbrev pub AreApart : List Extent → Type 0
+AreApart [] = Unit {0}
+AreApart (e ∷ extents) = All (IsApart e) extents × AreApart extents
+
+-- each row lies within the cells, no two have a cell in common, and the limits are kept
 pub record IsStored {T : Type 0} (extents : List Extent) (cells : List T) (used row_limit cell_limit : ℕ) : Type 0 where
   pub within : All (IsWithin cells) extents
+  pub apart : AreApart extents
   pub used_is : used ≡ cells_said extents
   pub cells_fit : used ≤ cell_limit
   pub rows_fit : length extents ≤ row_limit

@@ -1,8 +1,8 @@
 //! Where the rows of a pool stand in its cells.
 
-ghost use Rattle.std.specs.Prelude.{◌≡◌, ◌+◌, ◌^◌, ◌<◌, ◌≤◌, [], length, map, vec_capacity};
+ghost use Rattle.std.specs.Prelude.{◌≡◌, ◌+◌, ◌^◌, ◌<◌, ◌≤◌, [], length, map, slice_index_or, slice_set, vec_capacity};
 ghost use Rattle.std.specs.List.{All};
-ghost use Rattle.mq_sets.specs.Pools.{rows_of, cells_said, IsWithin};
+ghost use Rattle.mq_sets.specs.Pools.{rows_of, cells_said, IsWithin, AreApart};
 
 use std::mem;
 
@@ -23,6 +23,7 @@ pub(crate) fn pack<T: Copy>(extents: &mut [Extent], cells: &[T], packed: &mut Ve
     ensures rows { rows_of packed.new.items extents.new ≡ rows_of cells.now extents.old }
     ensures within { All (IsWithin packed.new.items) extents.new }
     ensures lengths { map (λ e. e.length) extents.new ≡ map (λ e. e.length) extents.old }
+    ensures apart { AreApart extents.new }
     ensures filled { length packed.new.items ≡ cells_said extents.old }
     ensures capacity { vec_capacity packed.old ≤ vec_capacity packed.new }
 {
@@ -45,6 +46,7 @@ pub(crate) fn make_space<T: Copy>(
     size: usize,
 )
     requires within { All (IsWithin cells.old.items) extents.old.items }
+    requires apart { AreApart extents.old.items }
     requires empty { spare.old.items ≡ [] }
     requires space { cells_said extents.old.items + count ≤ size }
     requires filled { length cells.old.items ≤ size }
@@ -53,6 +55,7 @@ pub(crate) fn make_space<T: Copy>(
     requires spare_capacity { size ≤ vec_capacity spare.old }
     ensures rows { rows_of cells.new.items extents.new.items ≡ rows_of cells.old.items extents.old.items }
     ensures within { All (IsWithin cells.new.items) extents.new.items }
+    ensures apart { AreApart extents.new.items }
     ensures lengths { map (λ e. e.length) extents.new.items ≡ map (λ e. e.length) extents.old.items }
     ensures empty { spare.new.items ≡ [] }
     ensures rows_capacity { vec_capacity extents.new ≡ vec_capacity extents.old }
@@ -66,4 +69,31 @@ pub(crate) fn make_space<T: Copy>(
     pack(extents, cells, spare);
     mem::swap(cells, spare);
     spare.clear();
+}
+
+/// Writes a row over the front of the one at a place, which is as long or longer, and has no cell in common with another.
+pub(crate) fn write_over<T: Copy>(
+    extents: &mut [Extent],
+    cells: &mut [T],
+    place: usize,
+    before: Extent,
+    row: &[T],
+)
+    requires place { place < length extents.old }
+    requires here { before ≡ slice_index_or extents.old place before }
+    requires fits { length row.now ≤ before.length }
+    requires within { All (IsWithin cells.old) extents.old }
+    requires apart { AreApart extents.old }
+    ensures rows { rows_of cells.new extents.new ≡ slice_set (rows_of cells.old extents.old) place row.now }
+    ensures within { All (IsWithin cells.new) extents.new }
+    ensures apart { AreApart extents.new }
+    ensures lengths { map (λ e. e.length) extents.new ≡ slice_set (map (λ e. e.length) extents.old) place (length row.now) }
+    ensures len { length cells.new ≡ length cells.old }
+{
+    let first = before.start as usize;
+    cells[first..first + row.len()].copy_from_slice(row);
+    extents[place] = Extent {
+        start: before.start,
+        length: row.len() as u32,
+    };
 }

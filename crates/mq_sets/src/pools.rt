@@ -4,7 +4,7 @@ ghost use Rattle.std.specs.Prelude.{◌≡◌, ◌+◌, ◌*◌, ◌<◌, ◌≤
 ghost use Rattle.std.specs.List.{insert, remove};
 ghost use Rattle.mq_sets.specs.Pools.{PoolState, cells_in};
 
-use crate::extents::{Extent, make_space};
+use crate::extents::{Extent, make_space, write_over};
 use crate::inserting::insert_at_once;
 use crate::memory::Memory;
 use std::alloc::Global;
@@ -14,11 +14,11 @@ use std::marker::Model;
 /// limits: how many rows there may be, and how many cells they may have together. `new` reserves
 /// the memory for both, and no other call takes any.
 ///
-/// A row's cells stand behind one another in one vector that is only appended to. `replace` writes
-/// the new row behind the last cell, and the old one is forgotten; where the vector's end is reached,
-/// the rows are copied, one after another, into a second vector of the same size, and the two change
-/// places. Each is so long that this copies no more than one cell and one row for each cell written
-/// since the time before.
+/// A row's cells stand behind one another in one vector. `replace` writes the new row over the old one
+/// where it is no longer; else behind the last cell, and the old one is forgotten; where the vector's end
+/// is reached, the rows are copied, one after another, into a second vector of the same size, and the two
+/// change places. Each is so long that this copies no more than one cell and one row for each cell that was
+/// appended since the time before.
 #[derive(Drop)]
 pub struct Pool<T: Copy> {
     extents: Vec<Extent>,
@@ -127,6 +127,22 @@ impl<T: Copy> Pool<T> {
 
     /// Puts the cells of `row` in the place of those that the row at a place has.
     pub fn replace(&mut self, place: usize, row: &[T])
+        requires place { place < length self.old.rows }
+        requires fits { let old_row = slice_index_or self.old.rows place [] in
+            cells_in self.old.rows + length row.now ≤ self.old.cell_limit + length old_row }
+        ensures { self.new ≡ record self.old { rows = slice_set self.old.rows place row.now } }
+    {
+        let before = self.extents[place];
+        if row.len() <= before.length as usize {
+            write_over(&mut self.extents, &mut self.cells, place, before, row);
+            self.used = self.used - before.length as usize + row.len();
+        } else {
+            self.write_behind(place, row);
+        }
+    }
+
+    /// The same behind the last cell.
+    fn write_behind(&mut self, place: usize, row: &[T])
         requires place { place < length self.old.rows }
         requires fits { let old_row = slice_index_or self.old.rows place [] in
             cells_in self.old.rows + length row.now ≤ self.old.cell_limit + length old_row }
