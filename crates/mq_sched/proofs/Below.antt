@@ -4,7 +4,6 @@ use Rattle.std.specs.Prelude.{nat_lt, nat_le, if◌then◌else◌}
 use Rattle.std.proofs.lemmas.Bool.{cases_lt, lt-ltb, le-ltb, lt-leb, le-leb, and_right}
 use Rattle.mq_sets.specs.Search.{bitlen}
 use Rattle.mq_sets.proofs.Bitlen.{bitlen-half}
-
 use Rattle.std.proofs.lemmas.List.{get_or-set_same}
 use Rattle.mq_sched.specs.DeadlineTree.{HasEarlier, IsTreeBut, sum_to_depth, sum_below, one_if_due, is_leaf_due, first_below, second_below}
 

@@ -16,7 +16,6 @@ sum_from-last g zero from = let same : from + 0 ≡ from = omega arith in rw sam
 sum_from-last g (suc k) from =
     let rest = sum_from-last g k (from + 1) in let same : from + 1 + k ≡ from + suc k = omega arith in let at = ap g same in omega (arith, rest, at)
 
-
 -- two sums of items that are alike
 sum_from-agree : (g h : ℕ → ℕ) (k from : ℕ) → ((node : ℕ) → from ≤ node → node < from + k → g node ≡ h node) → sum_from g k from ≡ sum_from h k from
 unfolding sum_from

@@ -1,6 +1,9 @@
+pub mod AtLeaves
 pub mod Below
+pub mod Counts
 pub mod DeadlineTree
 pub mod DueLeaves
+pub mod DuePlaces
 pub mod LeafMoves
 pub mod LeafPlaces
 pub mod Leaves

@@ -1,6 +1,6 @@
 //! Which groups are due: an index of the held groups' earliest deadlines.
 
-ghost use Rattle.std.specs.Prelude.{◌≡◌, ℕ, ◌+◌, ◌-◌, ◌<◌, ◌≤◌, [], min, length, take, drop, slice_set, vec_capacity, IfOk, MatchOption};
+ghost use Rattle.std.specs.Prelude.{◌≡◌, ℕ, ◌+◌, ◌-◌, ◌*◌, ◌<◌, ◌≤◌, [], min, length, take, drop, slice_set, IfOk, MatchOption};
 ghost use Rattle.std.specs.List.{insert, remove};
 ghost use Rattle.mq_count.specs.Spending.{Spends};
 ghost use Rattle.mq_sets.specs.Search.{bitlen};

@@ -20,7 +20,11 @@ pub(crate) fn move_first_leaf(leaves: &mut [u32], places: &[u16])
 pub(crate) fn at_or(places: &[u16], index: usize, other: u16) -> u16
     ensures { result ≡ slice_index_or places.now index other }
 {
-    if index < places.len() { places[index] } else { other }
+    if index < places.len() {
+        places[index]
+    } else {
+        other
+    }
 }
 
 /// The leaf of a place is given up, and with it the last two: the place of `later`, which is one of them, has the leaf

@@ -11,7 +11,7 @@ invariant-loop-node l =
       within : 0 < l.node → l.node < length l.nodes;
       leaves : (leaf : ℕ) → length l.initial.lefts ≤ leaf → get_or l.nodes leaf 0 ≡ get_or l.initial.nodes leaf 0;
       lower : l.node ≤ l.from;
-      spent : Spends (bitlen (l.from / 2) - bitlen (l.node / 2)) (bitlen (l.from / 2) - bitlen (l.node / 2)) l.initial.m l.m
+      spent : Spends (bitlen (l.from / 2) - bitlen (l.node / 2)) (bitlen (l.from / 2) - bitlen (l.node / 2)) l.initial.m l.m;
     }
 
 abbrev pub decreases-loop-node : goal.decreases-loop-node
