@@ -66,7 +66,7 @@ pub(crate) fn put_or_remove<K: Key>(
     ensures spent { Spends 0 (size_of group.now.state + 4 + bitlen (map.len held.old.groups - 1)) m.old m.new }
 {
     if group.is_vacant() {
-        held.remove(place);
+        held.remove(place, m);
         true
     } else {
         held.put(place, group, schedule, m);

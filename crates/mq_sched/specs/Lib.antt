@@ -1,6 +1,9 @@
+pub mod DeadlineTree
 pub mod Deadlines
 pub mod Schedule
 pub mod StoredSchedule
+pub mod LeafPlaces
+pub mod PlaceMoves
 pub mod Portions
 pub mod Sending
 pub mod Sink

@@ -1,17 +1,16 @@
 //! Which groups are due: an index of the held groups' earliest deadlines.
 
-ghost use Rattle.std.specs.Prelude.{◌≡◌, ℕ, ◌+◌, ◌-◌, ◌<◌, ◌≤◌, [], min, length, take, drop, slice_set, vec_capacity, IfOk, MatchOption};
+ghost use Rattle.std.specs.Prelude.{◌≡◌, ℕ, ◌+◌, ◌-◌, ◌*◌, ◌<◌, ◌≤◌, [], min, length, take, drop, slice_set, IfOk, MatchOption};
 ghost use Rattle.std.specs.List.{insert, remove};
 ghost use Rattle.mq_count.specs.Spending.{Spends};
 ghost use Rattle.mq_sets.specs.Search.{bitlen};
 ghost use Rattle.mq_sets.specs.Ascending.{IsAscending, set_of};
 ghost use Rattle.mq_sched.specs.Deadlines.{DeadlinesState, IsEarliest, is_due};
 
-use crate::deadline_order::{
-    as_place, copy_places, count_due, index_for, index_of, move_down, move_up,
-};
+use crate::deadline_tree::DeadlineTree;
+use crate::leaf_places::LeafPlaces;
 use mq_count::{Meter, Moment};
-use mq_sets::{Memory, insert_at_once};
+use mq_sets::Memory;
 use std::alloc::Global;
 use std::marker::Model;
 
@@ -22,29 +21,30 @@ const PLACES: usize = 65536;
 /// contract sees the list of these deadlines, and the room: for how many of them memory was reserved.
 /// `with_room` takes that memory, and no other call takes any.
 ///
-/// Beside the deadlines stands the order of the places by their deadlines, those of one moment in any
-/// order. So the earliest is at hand, and those that are due stand in front. A place is kept in 16 bits,
-/// so that few bytes are looked through and moved where a deadline changes.
+/// The deadlines stand at the leaves of a tree, which has the earliest at its top, and beside it stands which
+/// place has which leaf.
 #[derive(Drop)]
 pub struct Deadlines {
-    moments: Vec<Moment>,
-    order: Vec<u16>,
+    tree: DeadlineTree,
+    places: LeafPlaces,
     room: usize,
 }
 
 impl Model for Deadlines {
-    ghost use Rattle.std.specs.Prelude.{◌≤◌, ◌^◌, length, vec_capacity};
-    ghost use Rattle.mq_sched.specs.Deadlines.{DeadlinesState, IsOrder};
+    ghost use Rattle.std.specs.Prelude.{◌≡◌, ◌≤◌, ◌^◌, length, map, slice_index};
+    ghost use Rattle.mq_sched.specs.Deadlines.{DeadlinesState};
+    ghost use Rattle.mq_sched.specs.LeafPlaces.{AreLeaves};
 
     ghost Value = { DeadlinesState };
 
-    ghost view = { λ d. record { deadlines = d.moments.items; room = d.room } };
+    ghost view = { λ d. record { deadlines = map (slice_index d.tree.nodes) d.places.leaves; room = d.room } };
 
-    ghost invariant = { λ d. IsOrder d.moments.items d.order.items
-        × (length d.moments.items ≤ d.room)
-        × (d.room ≤ 2 ^ 16)
-        × (d.room ≤ vec_capacity d.moments)
-        × (d.room ≤ vec_capacity d.order) };
+    ghost invariant = { λ d. AreLeaves d.places.leaves
+        × (d.tree.count ≡ length d.places.leaves)
+        × (d.tree.room ≡ d.room)
+        × (d.places.room ≡ d.room)
+        × (length d.places.leaves ≤ d.room)
+        × (d.room ≤ 2 ^ 16) };
 }
 
 impl Deadlines {
@@ -57,8 +57,8 @@ impl Deadlines {
             return Err(Memory);
         }
         Ok(Deadlines {
-            moments: Vec::with_capacity(alloc, room)?,
-            order: Vec::with_capacity(alloc, room)?,
+            tree: DeadlineTree::with_room(alloc, room)?,
+            places: LeafPlaces::with_room(alloc, room)?,
             room,
         })
     }
@@ -74,15 +74,14 @@ impl Deadlines {
     pub fn len(&self) -> usize
         ensures { result ≡ length self.now.deadlines }
     {
-        self.moments.len()
+        self.places.len()
     }
 
     /// The earliest deadline, or None where there is none. No comparison.
     pub fn earliest(&self) -> Option<Moment>
         ensures { MatchOption result (self.now.deadlines ≡ []) (IsEarliest self.now.deadlines) }
     {
-        let first = self.order.first()?;
-        Some(self.moments[*first as usize])
+        self.tree.earliest()
     }
 
     /// A group was made at a place, with its earliest deadline. The places from there on move up by
@@ -94,22 +93,21 @@ impl Deadlines {
         ensures spent { let had = length self.old.deadlines in
             Spends (min 1 had) (bitlen had) m.old m.new }
     {
-        let index = index_for(&self.moments, &self.order, due, m);
-        let as_kept = as_place(place);
-        move_up(&mut self.order, as_kept);
-        insert_at_once(&mut self.order, index, as_kept);
-        insert_at_once(&mut self.moments, place, due);
+        self.tree.grow(due, m);
+        self.places.insert(place);
     }
 
-    /// The group at a place was deleted. The places behind it move down by one. No comparison.
-    pub fn remove(&mut self, place: usize)
+    /// The group at a place was deleted. The places behind it move down by one. At most one comparison for each
+    /// binary digit of how many other deadlines there are.
+    pub fn remove(&mut self, place: usize, m: &mut Meter)
         requires place { place < length self.old.deadlines }
-        ensures { self.new ≡ record self.old { deadlines = remove self.old.deadlines place } }
+        ensures deadlines { self.new ≡ record self.old { deadlines = remove self.old.deadlines place } }
+        ensures spent { let others = length self.old.deadlines - 1 in
+            Spends 0 (bitlen others) m.old m.new }
     {
-        let index = index_of(&self.order, as_place(place));
-        let as_kept = self.order.remove(index);
-        move_down(&mut self.order, as_kept);
-        self.moments.remove(place);
+        let leaf = self.places.leaf(place);
+        let later = self.tree.shrink(leaf, m);
+        self.places.remove(place, later);
     }
 
     /// The group at a place has another earliest deadline. At most one comparison for each binary
@@ -120,16 +118,14 @@ impl Deadlines {
         ensures spent { let others = length self.old.deadlines - 1 in
             Spends (min 1 others) (bitlen others) m.old m.new }
     {
-        let index = index_of(&self.order, as_place(place));
-        let as_kept = self.order.remove(index);
-        self.moments[place] = due;
-        let index = index_for(&self.moments, &self.order, due, m);
-        insert_at_once(&mut self.order, index, as_kept);
+        let leaf = self.places.leaf(place);
+        self.tree.change(leaf, due, m);
     }
 
     /// Writes the places whose deadlines are at or before `now` at the front of `places`, ascending,
-    /// and answers how many they are. One comparison for each of them, and one more where there is
-    /// another.
+    /// and answers how many they are. At least one comparison for each of them, and one more where there is
+    /// another; and at most one more than, for each of them, one for each binary digit of how many other
+    /// deadlines there are, but none more than there are deadlines.
     pub fn due(&self, now: Moment, places: &mut [usize], m: &mut Meter) -> usize
         requires space { length self.now.deadlines ≤ length places.old }
         ensures within { result ≤ length self.now.deadlines }
@@ -137,12 +133,12 @@ impl Deadlines {
             (place : ℕ) → set_of (λ p. p) handed_out place ≡ is_due self.now.deadlines now place }
         ensures ascending { IsAscending (λ place. place) (take result places.new) }
         ensures behind { drop result places.new ≡ drop result places.old }
-        ensures spent { let count = min (result + 1) (length self.now.deadlines) in
-            Spends count count m.old m.new }
+        ensures spent { let count = length self.now.deadlines in
+            Spends (min (result + 1) count) (min count (1 + result * bitlen (count - 1))) m.old m.new }
     {
-        let count = count_due(&self.moments, &self.order, now, m);
+        let count = self.tree.due(now, places, m);
         let handed_out = &mut places[..count];
-        copy_places(&self.order[..count], handed_out);
+        self.places.write_places(handed_out);
         handed_out.sort_unstable();
         count
     }

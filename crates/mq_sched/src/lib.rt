@@ -6,14 +6,20 @@
 #![tactic(auto)]
 
 pub mod announced;
-mod deadline_order;
+mod deadline_tree;
 pub mod deadlines;
+mod due_leaves;
 pub mod election;
+mod leaf_moves;
+mod leaf_places;
+mod node_pairs;
+mod place_moves;
 mod portions;
 pub mod queries;
 pub mod roles;
 pub mod schedules;
 mod sending;
+mod settling;
 pub mod sinks;
 
 pub use announced::Announced;

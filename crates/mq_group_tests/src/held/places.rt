@@ -71,7 +71,7 @@ fn hold(held: &mut HeldGroups<Addr4>, last: u8, group: &Group<Addr4>) -> bool {
 fn let_go(held: &mut HeldGroups<Addr4>, last: u8) -> bool {
     match held.find(address(last), &mut Meter::new()) {
         Ok(place) => {
-            held.remove(place);
+            held.remove(place, &mut Meter::new());
             true
         }
         Err(_) => false,

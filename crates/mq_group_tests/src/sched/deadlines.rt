@@ -39,16 +39,17 @@ fn change(deadlines: &mut Deadlines, place: usize, ms: u32) -> Option<u64> {
     Some(m.spent())
 }
 
-fn remove(deadlines: &mut Deadlines, place: usize) -> bool {
+fn remove(deadlines: &mut Deadlines, place: usize) -> Option<u64> {
     if deadlines.len() <= place {
-        return false;
+        return None;
     }
-    deadlines.remove(place);
-    true
+    let mut m = Meter::new();
+    deadlines.remove(place, &mut m);
+    Some(m.spent())
 }
 
-/// Whether the places that are due at `ms` are `want`, and finding them spends one comparison for each and
-/// one more where another is there.
+/// Whether the places that are due at `ms` are `want`, and finding them spends one comparison for each, one more
+/// where another is there, and none more than there are deadlines.
 fn is_due(deadlines: &Deadlines, ms: u32, want: &[usize]) -> bool {
     let mut places = [7777; 64];
     if deadlines.len() > places.len() {
@@ -57,7 +58,8 @@ fn is_due(deadlines: &Deadlines, ms: u32, want: &[usize]) -> bool {
     let mut m = Meter::new();
     let count = deadlines.due(moment(ms), &mut places, &mut m);
     let spent = want.len().saturating_add(1).min(deadlines.len());
-    m.spent() == spent as u64 && are_at_the_front(&places, count, want)
+    let most = if want.is_empty() { 1 } else { deadlines.len() as u64 };
+    m.spent() >= spent as u64 && m.spent() <= most && are_at_the_front(&places, count, want)
 }
 
 /// Whether so many places are those of `want`, and behind them nothing was written.
@@ -100,7 +102,7 @@ fn holds(all: &mut Deadlines, step: &Step) -> bool {
         Step::Comes(place, ms) => insert(all, place, ms).is_some(),
         Step::NoRoom(place, ms) => insert(all, place, ms).is_none(),
         Step::Change(place, ms, spent) => change(all, place, ms) == Some(spent),
-        Step::Remove(place) => remove(all, place),
+        Step::Remove(place) => remove(all, place).is_some(),
         Step::Earliest(ms) => is_earliest(all, ms),
         Step::NoneEarliest => all.earliest().is_none(),
         Step::Due(ms, want) => is_due(all, ms, want),
@@ -211,7 +213,7 @@ fn both_change(all: &mut Deadlines, plain: &mut Vec<u32>, random: u32) -> bool {
             }
         }
         _ => {
-            if remove(all, place) && place < plain.len() {
+            if remove(all, place).is_some() && place < plain.len() {
                 plain.remove(place);
             }
         }
@@ -267,9 +269,9 @@ fn come(all: &mut Deadlines, count: u32) -> bool {
     true
 }
 
-/// Whether one among the 1023 comes with 1 to 10 comparisons, and is removed.
+/// Whether one among the 1023 comes with 1 to 10 comparisons, and is removed with at most 11.
 fn comes_with_10(all: &mut Deadlines, ms: u32) -> bool {
-    matches!(insert(all, 512, ms), Some(1..=10)) && remove(all, 512)
+    matches!(insert(all, 512, ms), Some(1..=10)) && matches!(remove(all, 512), Some(0..=11))
 }
 
 #[test]

@@ -45,10 +45,14 @@ invariant_of-self g c =
     let fewer_heads = length-remove heads c.args.place (omega (arith, within, each)) in
     let row_limit : c.remove_row.new.self.row_limit ≡ c.self.inside.sources.row_limit = rw c.remove_row.ensures refl in
     let cell_limit : c.remove_row.new.self.cell_limit ≡ c.self.inside.sources.cell_limit = rw c.remove_row.ensures refl in
-    let room : c.remove.new.self.room ≡ c.self.inside.deadlines.room = rw c.remove.ensures refl in
+    let room : c.remove.new.self.room ≡ c.self.inside.deadlines.room = rw c.remove.ensures.deadlines refl in
     let heads_room : c.remove-item.new.self.room ≡ c.self.inside.heads.room = rw c.remove-item.ensures.items refl in
-    (rw (c.remove_row.ensures, c.remove.ensures, c.remove-2.ensures.items, c.remove-item.ensures.items, c.count_schedules.ensures) stored, omega (arith, row_limit, c.self.invariant.1, c.remove-2.ensures.capacity), omega (arith, row_limit, room, c.self.invariant.2), omega (arith, row_limit, c.self.invariant.3), omega (arith, cell_limit, c.self.invariant.4), omega (arith, row_limit, c.self.invariant.5, size, fewer), omega (arith, row_limit, heads_room, c.self.invariant.6), omega (arith, size, heads_size, fewer, fewer_heads, each))
+    (rw (c.remove_row.ensures, c.remove.ensures.deadlines, c.remove-2.ensures.items, c.remove-item.ensures.items, c.count_schedules.ensures) stored, omega (arith, row_limit, c.self.invariant.1, c.remove-2.ensures.capacity), omega (arith, row_limit, room, c.self.invariant.2), omega (arith, row_limit, c.self.invariant.3), omega (arith, cell_limit, c.self.invariant.4), omega (arith, row_limit, c.self.invariant.5, size, fewer), omega (arith, row_limit, heads_room, c.self.invariant.6), omega (arith, size, heads_size, fewer, fewer_heads, each))
 
 pub returns-clause-groups : goal.returns-clause-groups
 returns-clause-groups g c address has =
     rw (c.remove-2.ensures.items, c.remove-item.ensures.items, c.remove_row.ensures) (held-remove_head g.K.Key.number _ _ c.self.invariant.7 c.self.invariant.0 c.self.view_is address c.args.place has)
+
+pub returns-clause-spent : goal.returns-clause-spent
+returns-clause-spent g c =
+    rw (deadlines-held g.K.Key.number c.self.invariant.0 c.self.view_is) c.remove.ensures.spent

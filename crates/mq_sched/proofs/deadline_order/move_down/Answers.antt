@@ -1,8 +1,0 @@
-use Rattle.std.proofs.Common.{arith}
-use Rattle.mq_sched.specs.Deadlines.{moved_down}
-use Rattle.mq_sched.proofs.Places.{moves_one_more}
-use Rattle.mq_sched.proofs.deadline_order.move_down.Goals as goal
-
-pub loop-place-preserved : goal.loop-place-preserved
-loop-place-preserved c =
-    moves_one_more (moved_down c.args.from) c.args.order.now c.loop-place.order c.loop-place.place-index c.moved_down.result (omega arith) (omega arith) c.moved_down.ensures c.loop-place.invariant

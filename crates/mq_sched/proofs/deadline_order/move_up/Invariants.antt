@@ -1,6 +1,0 @@
-use Rattle.mq_sched.specs.Deadlines.{moved_up}
-use Rattle.mq_sched.proofs.Places.{MovedUpTo}
-use Rattle.mq_sched.proofs.deadline_order.move_up.Given as goal
-
-abbrev pub invariant-loop-place : goal.invariant-loop-place
-invariant-loop-place l = MovedUpTo (moved_up l.from) l.initial.order l.order l.place-index

@@ -1,0 +1,29 @@
+//! How the nodes of a tree of deadlines come to be in order once one of them has another deadline.
+
+ghost use Rattle.std.specs.Prelude.{◌≡◌, ℕ, ◌+◌, ◌*◌, ◌/◌, ◌<◌, ◌≤◌, min, length, slice_index};
+ghost use Rattle.mq_count.specs.Spending.{Spends};
+ghost use Rattle.mq_sets.specs.Search.{bitlen};
+ghost use Rattle.mq_sched.specs.DeadlineTree.{IsTreeBut};
+
+use mq_count::{Meter, Moment};
+
+/// Brings the nodes above a node in order, of which that next above it may not be. The leaves stay as they are.
+pub(crate) fn settle(nodes: &mut [Moment], lefts: &mut [bool], from: usize, m: &mut Meter)
+    requires tree { IsTreeBut nodes.old lefts.old (from / 2) }
+    requires within { 0 < from → from < length nodes.old }
+    ensures tree { IsTreeBut nodes.new lefts.new 0 }
+    ensures size { length nodes.new ≡ length nodes.old }
+    ensures count { length lefts.new ≡ length lefts.old }
+    ensures leaves { (leaf : ℕ) → length lefts.old ≤ leaf → slice_index nodes.new leaf ≡ slice_index nodes.old leaf }
+    ensures spent { Spends (min 1 (from / 2)) (bitlen (from / 2)) m.old m.new }
+{
+    let mut node = from;
+    while node > 1 {
+        node /= 2;
+        let left = nodes[2 * node];
+        let right = nodes[2 * node + 1];
+        let is_left = m.reached(left, right);
+        lefts[node] = is_left;
+        nodes[node] = if is_left { left } else { right };
+    }
+}
