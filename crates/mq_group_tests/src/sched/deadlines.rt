@@ -186,7 +186,7 @@ fn turn_fails(all: &mut Deadlines, turn: u32) -> Option<&'static str> {
 }
 
 /// Passes whichever request for memory is refused: `rt try --test --fail-alloc N` refuses the Nth. An
-/// index takes two.
+/// index takes four.
 #[test]
 fn deadlines_take_memory_only_when_they_are_made(rt: HostRuntime) -> Result<(), Fail> {
     let mut all = reserved(&rt, 8)?;

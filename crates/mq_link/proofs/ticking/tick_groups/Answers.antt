@@ -73,4 +73,6 @@ returns-clause-quiet g c quiet =
     let so_far = c.loop-place.invariant.0.3 in
     let none = none_handed c.args.per_query c.args.timing.now c.args.now _ _ _ c.requires.served c.due-count.ensures.due c.due-count.ensures.ascending quiet in
     let size = length-take c.due-count.result c.due-count.new.places in
-    Spends-join_within 0 1 c.due-count.ensures.spent so_far.spent (omega arith) (omega (arith, none, so_far.weightless (omega (arith, none, c.loop-place.auto.place-index-end)), c.loop-place.auto.place-index-end, size, c.due-count.ensures.within, c.requires.space))
+    let nothing : c.due-count.result ≡ 0 = omega (arith, none, size, c.due-count.ensures.within, c.requires.space, c.due-count.auto.places) in
+    let looked = rw nothing at c.due-count.ensures.spent in
+    Spends-join_within 0 1 looked so_far.spent (omega arith) (omega (arith, none, so_far.weightless (omega (arith, none, c.loop-place.auto.place-index-end)), c.loop-place.auto.place-index-end))
