@@ -58,7 +58,11 @@ fn is_due(deadlines: &Deadlines, ms: u32, want: &[usize]) -> bool {
     let mut m = Meter::new();
     let count = deadlines.due(moment(ms), &mut places, &mut m);
     let spent = want.len().saturating_add(1).min(deadlines.len());
-    let most = if want.is_empty() { 1 } else { deadlines.len() as u64 };
+    let most = if want.is_empty() {
+        1
+    } else {
+        deadlines.len() as u64
+    };
     m.spent() >= spent as u64 && m.spent() <= most && are_at_the_front(&places, count, want)
 }
 
