@@ -1,7 +1,5 @@
-use Rattle.std.proofs.Common.{◌<◌, ◌≤◌, ◌≡◌, ◌+◌, ◌*◌, ap, sym, ◌∙◌, arith, length, map}
-use Rattle.std.specs.List.{insert}
+use Rattle.std.proofs.Common.{◌<◌, ◌≤◌, ◌≡◌, ◌+◌, ap, ◌∙◌, arith, length}
 use Rattle.std.proofs.lemmas.List.{take_at, length-map, get_or_default}
-use Rattle.std.proofs.lemmas.List.Edits.{length-insert}
 use Rattle.mq_sched.specs.LeafPlaces.{LeafPlacesState, leaf_grown}
 use Rattle.mq_sched.proofs.LeafPlaces.{AreLeaves-from_placed, ArePlaced-insert, made_count}
 use Rattle.mq_sched.proofs.leaf_places.LeafPlaces.insert.Goals as goal
