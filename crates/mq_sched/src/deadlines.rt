@@ -124,8 +124,8 @@ impl Deadlines {
 
     /// Writes the places whose deadlines are at or before `now` at the front of `places`, ascending,
     /// and answers how many they are. At least one comparison for each of them, and one more where there is
-    /// another; and at most one more than, for each of them, one for each binary digit of how many other
-    /// deadlines there are, but none more than there are deadlines.
+    /// another. At most one, and for each of them one for each binary digit of how many other deadlines there
+    /// are; but no more than there are deadlines.
     pub fn due(&self, now: Moment, places: &mut [usize], m: &mut Meter) -> usize
         requires space { length self.now.deadlines ≤ length places.old }
         ensures within { result ≤ length self.now.deadlines }

@@ -4,7 +4,7 @@ ghost use Rattle.std.specs.Prelude.{◌≡◌, ℕ, ◌+◌, ◌-◌, ◌*◌, �
 ghost use Rattle.mq_sched.specs.LeafPlaces.{ArePlaced, leaf_grown};
 ghost use Rattle.mq_sched.specs.DeadlineTree.{leaf_after};
 
-/// A leaf more comes to `leaves.len()` of them, and the place of the first one has the leaf behind them.
+/// One leaf more comes to `leaves.len()` of them: the place of the first leaf has the last but one then.
 pub(crate) fn move_first_leaf(leaves: &mut [u32], places: &[u16])
     requires placed { ArePlaced leaves.old places.now }
     requires few { length leaves.old < 65536 }

@@ -78,7 +78,7 @@ impl LeafPlaces {
         }
     }
 
-    /// A place is made, and has the last leaf. The place of the first leaf has the leaf before then.
+    /// A place is made, and has the last leaf. The place of the first leaf has the last but one then.
     pub(crate) fn insert(&mut self, place: usize)
         requires place { place ≤ length self.old.leaves }
         requires room { length self.old.leaves < self.old.room }

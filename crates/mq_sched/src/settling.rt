@@ -27,6 +27,7 @@ pub(crate) fn settle(nodes: &mut [Moment], lefts: &mut [bool], from: usize, m: &
         let right = nodes[2 * node + 1];
         let is_left = m.reached(left, right);
         if is_left == is_right && is_left == lefts[node] {
+            // The other one is first, as it was: nothing changes from here on.
             return;
         }
         lefts[node] = is_left;
