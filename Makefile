@@ -1,11 +1,10 @@
 # Builds, runs and tests `mquerier`. `rt` is the command of the Rattle toolchain.
 
 PREFIX ?= /usr/local
-SOURCES := $(shell tools/build --sources)
-LIBRARY_SOURCES := $(shell tools/build --library-sources)
+SOURCES := crates.txt $(shell find crates/*/src crates/*/specs crates/*/proofs -type f)
 FIRST_PATH := message igmp 1600f8faef010203
 
-.PHONY: all run lib test live live-test mutants bench install clean
+.PHONY: all run lib quick test live live-test mutants bench install clean
 
 all: bin/mquerier
 
@@ -20,12 +19,21 @@ run: bin/mquerier
 # The links as a library for C: lib/libmquerier.a, whose header is include/mquerier.h.
 lib: lib/libmquerier.a
 
-lib/libmquerier.a: $(LIBRARY_SOURCES)
-	@tools/library
+# The archive of the crate mq_c, with what it needs of the kit inside: the kit lies where the page does that `rt doc` names.
+lib/libmquerier.a: $(SOURCES)
+	@tools/build --library
+	@printf 'create $@.new\naddlib crates/mq_c/out/libmq_c.a\naddlib %s/c/liblibc_c.a\nsave\nend\n' "$$(dirname "$$(rt doc)")" | ar -M
+	@mv $@.new $@
+	@echo "$@ is built"
 
 # Shows that it holds here: proofs, tests, and runs of the program with refused calls. The last line counts what passed.
 test:
 	@tools/gate test
+
+# The same of what changed since a commit, and which wrong bodies of that are refused: `make quick SINCE=COMMIT`. Where none is
+# named, it is the last one of origin/main below HEAD.
+quick:
+	@tools/gate quick $(SINCE)
 
 # Shows that the contracts are strong: each wrong body of crates/*/wrong-bodies is refused.
 mutants:
