@@ -3,7 +3,7 @@
 ghost use Rattle.std.specs.Prelude.{◌≡◌, ◌+◌, ◌≤◌, ℕ, Option, length, min, true, false};
 ghost use Rattle.std.specs.List.{AllWithin};
 ghost use Rattle.mq_count.specs.Spending.{Spends};
-ghost use Rattle.mq_count.specs.Timed.{least, lies_ahead, moments_by};
+ghost use Rattle.mq_count.specs.Timed.{compared_at, least, lies_ahead, moments_by};
 
 use crate::metering::Meter;
 use crate::moments::Moment;
@@ -26,18 +26,21 @@ impl Meter {
             Spends count count self.old self.new }
     {
         let mut earliest = first;
-        let mut count = 0;
+        let mut without = 0;
         for x in items {
-            if let Some(moment) = x.moment() {
-                if moment.ms() < earliest.ms() {
-                    earliest = moment;
+            match x.moment() {
+                Some(moment) => {
+                    if moment.ms() < earliest.ms() {
+                        earliest = moment;
+                    }
                 }
-                count += 1;
+                None => without += 1,
             }
         }
-        self.count_comparisons(count);
+        self.count_comparisons(items.len() - without);
         earliest
     }
+
     /// How many items, from the front on, have a moment after `now`. One comparison for each of these, and one for the next
     /// where that has a moment.
     pub fn count_ahead<T: Timed>(&mut self, items: &[T], now: Moment) -> usize
@@ -45,7 +48,8 @@ impl Meter {
         ensures ahead { AllWithin (λ x. lies_ahead now (T.moment_of x) ≡ true) items.now 0 result }
         ensures next { let end = min (result + 1) (length items.now) in
             AllWithin (λ x. lies_ahead now (T.moment_of x) ≡ false) items.now result end }
-        ensures spent { Spends result (min (result + 1) (length items.now)) self.old self.new }
+        ensures spent { let count = result + compared_at T.moment_of items.now result in
+            Spends count count self.old self.new }
     {
         let mut ahead = 0;
         while ahead < items.len() {

@@ -28,16 +28,6 @@ fn earlier(first: Option<Moment>, second: Option<Moment>, m: &mut Meter) -> Opti
     }
 }
 
-/// Until when the group timer runs, in EXCLUDE.
-fn group_deadline(mode: FilterMode) -> Option<Moment>
-    ensures { result ≡ group_of.group_deadline mode }
-{
-    match mode {
-        FilterMode::Include => None,
-        FilterMode::Exclude(deadline) => Some(deadline),
-    }
-}
-
 /// When the next sending of a group query is due, if there is one.
 fn group_due(query: Option<QuerySchedule>) -> Option<Moment>
     ensures { result ≡ sending.group_due query }
@@ -62,7 +52,7 @@ fn earliest_of_head(
     ensures spent { Spends 0 4 m.old m.new }
 {
     let hosts = earlier(v1, v2, m);
-    let timers = earlier(group_deadline(mode), hosts, m);
+    let timers = earlier(mode.deadline(), hosts, m);
     let queries = earlier(group_due(schedule.group_query()), schedule.sources_due(), m);
     earlier(timers, queries, m)
 }
@@ -103,7 +93,7 @@ pub(crate) fn earliest_moment<K: Key>(group: &Group<K>, schedule: Schedule, m: &
 }
 
 /// How many schedules this is: the group's query, and the sources'.
-pub(crate) fn count_schedules(schedule: Schedule) -> usize
+pub fn count_schedules(schedule: Schedule) -> usize
     ensures { result ≡ groups.one_if (is_some schedule.group_query) + groups.one_if (is_some schedule.sources_due) }
 {
     usize::from(schedule.group_query().is_some()) + usize::from(schedule.sources_due().is_some())

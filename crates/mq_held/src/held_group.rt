@@ -1,7 +1,6 @@
 //! A look at one held group.
 
 ghost use Rattle.std.specs.Prelude.{◌≡◌, length};
-ghost use Rattle.std.specs.FinMap as map;
 ghost use Rattle.mq_count.specs.Spending.{Spends};
 ghost use Rattle.mq_sets.specs.Ascending.{IsAscending};
 ghost use Rattle.mq_sets.specs.Search.{bitlen};
@@ -10,8 +9,7 @@ ghost use Rattle.mq_table.specs.Stored.{number_in, timers_in};
 
 use mq_count::{Key, Meter, Moment};
 use mq_sched::Schedule;
-use mq_sets::find;
-use mq_table::{FilterMode, Source, SourceTimer};
+use mq_table::{FilterMode, Source, timer_among};
 
 /// A held group, as it stands in the storage.
 #[derive_where(Clone, Copy)]
@@ -41,22 +39,6 @@ impl<'a, K: Key> HeldGroup<'a, K> {
             result ≡ forwards_in g (K.number source) }
         ensures spent { Spends 0 (bitlen (length self.now.sources.now)) m.old m.new }
     {
-        let timer = timer_of(self.sources, source, m);
-        match self.mode {
-            FilterMode::Include => matches!(timer, Some(SourceTimer::Running(_, _))),
-            FilterMode::Exclude(_) => !matches!(timer, Some(SourceTimer::Stopped)),
-        }
-    }
-}
-
-/// The timer of a source among ascending sources, or None where it isn't there.
-fn timer_of<K: Key>(sources: &[Source<K>], source: K, m: &mut Meter) -> Option<SourceTimer>
-    requires ascending { IsAscending (number_in K.number) sources.now }
-    ensures timer { result ≡ map.get (timers_in K.number sources.now) (K.number source) }
-    ensures spent { Spends 0 (bitlen (length sources.now)) m.old m.new }
-{
-    match find(sources, source, m) {
-        Ok(place) => Some(sources[place].timer),
-        Err(_) => None,
+        self.mode.wants(timer_among(self.sources, source, m))
     }
 }

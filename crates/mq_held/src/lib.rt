@@ -13,10 +13,11 @@
 //! - `HeldGroup`: one of them, as it stands there.
 #![tactic(auto)]
 
-mod earliest;
+pub mod earliest;
 pub mod held_group;
 pub mod held_groups;
 mod scheduled_head;
 
+pub use earliest::count_schedules;
 pub use held_group::HeldGroup;
 pub use held_groups::HeldGroups;

@@ -1,11 +1,11 @@
 -- Sums over the leaves at or below a node of a tree.
-use Rattle.std.proofs.Common.{ℕ, zero, suc, ◌+◌, ◌-◌, ◌*◌, ◌/◌, ◌<◌, ◌≤◌, ◌≡◌, ◌==◌, ◌&&◌, Bool, true, false, cond, arith, refl, List, length, get_or, sym, ap, ◌∙◌, ⊎_elim}
-use Rattle.std.specs.Prelude.{nat_lt, nat_le, if◌then◌else◌}
-use Rattle.std.proofs.lemmas.Bool.{cases_lt, lt-ltb, le-ltb, lt-leb, le-leb, and_right}
+use Rattle.std.proofs.Common.{ℕ, zero, suc, ◌+◌, ◌*◌, ◌/◌, ◌<◌, ◌≤◌, ◌≡◌, ◌==◌, Bool, true, false, arith, refl, List, length, get_or, sym, ap, ◌∙◌, ⊎_elim}
+use Rattle.std.specs.Prelude.{nat_le, if◌then◌else◌}
+use Rattle.std.proofs.lemmas.Bool.{cases_lt, lt-ltb, le-ltb, lt-leb, and_right}
 use Rattle.mq_sets.specs.Search.{bitlen}
 use Rattle.mq_sets.proofs.Bitlen.{bitlen-half}
-use Rattle.std.proofs.lemmas.List.{get_or-set_same}
-use Rattle.mq_sched.specs.DeadlineTree.{HasEarlier, IsTreeBut, sum_to_depth, sum_below, one_if_due, is_leaf_due, first_below, second_below}
+use Rattle.mq_sched.proofs.DeadlineTree.{no_earlier}
+use Rattle.mq_sched.specs.DeadlineTree.{HasEarlier, IsTreeBut, sum_to_depth, sum_below, one_if_due, first_below, second_below}
 
 module _ (f : ℕ → ℕ) (n : ℕ) where
   to_depth-node : (depth node : ℕ) → node < n → sum_to_depth f n (suc depth) node ≡ sum_to_depth f n depth (2 * node) + sum_to_depth f n depth (2 * node + 1)
@@ -60,11 +60,6 @@ ones-to_depth n (suc depth) node =
 pub ones-below : (n node : ℕ) → 1 ≤ sum_below (λ _. 1) n node
 unfolding sum_below
 ones-below n node = ones-to_depth n n node
-
--- the deadlines below a node are no earlier than its own
-pub no_earlier : (nodes : List ℕ) (node : ℕ) (b : Bool) → HasEarlier nodes node b → (get_or nodes node 0 ≤ get_or nodes (2 * node) 0) × (get_or nodes node 0 ≤ get_or nodes (2 * node + 1) 0)
-no_earlier nodes node true known = (omega (arith, known.0), omega (arith, known.0, known.1))
-no_earlier nodes node false known = (omega (arith, known.0, known.1), omega (arith, known.0))
 
 -- what is not due counts for no leaf
 one-if_later : (nodes : List ℕ) (now leaf node : ℕ) → now < get_or nodes node 0 → one_if_due nodes now leaf node ≡ 0

@@ -1,9 +1,9 @@
 -- A tree of deadlines, and what it says of its leaves.
-use Rattle.std.proofs.Common.{ℕ, zero, suc, ◌+◌, ◌-◌, ◌*◌, ◌/◌, ◌<◌, ◌≤◌, ◌≡◌, Bool, true, false, cond, arith, refl, List, length, get_or, set, sym, ◌∙◌, ⊎_elim, ◌⊎◌, inl, inr, ap, length-set}
-use Rattle.std.specs.Prelude.{◌↔◌}
+use Rattle.std.proofs.Common.{ℕ, zero, suc, ◌+◌, ◌*◌, ◌/◌, ◌<◌, ◌≤◌, ◌≡◌, Bool, true, false, cond, arith, refl, List, length, get_or, set, sym, ◌∙◌, ⊎_elim, ◌⊎◌, inl, inr, ap, length-set}
+use Rattle.std.specs.Prelude.{if◌then◌else◌}
 use Rattle.std.proofs.lemmas.Bool.{cases_lt, cases_eq}
 use Rattle.std.proofs.lemmas.List.{get_or-set_same, get_or-set_other}
-use Rattle.mq_sched.specs.DeadlineTree.{HasEarlier, IsTreeBut, IsEarliestLeaf}
+use Rattle.mq_sched.specs.DeadlineTree.{HasEarlier, IsTreeBut, IsEarliestLeaf, KeepsOther, first_below}
 
 -- a node has the earlier deadline in two lists that agree there and below
 pub earlier-agree : (nodes other : List ℕ) (i : ℕ) (b : Bool) → get_or other i 0 ≡ get_or nodes i 0 → get_or other (2 * i) 0 ≡ get_or nodes (2 * i) 0 → get_or other (2 * i + 1) 0 ≡ get_or nodes (2 * i + 1) 0 → HasEarlier nodes i b → HasEarlier other i b
@@ -56,14 +56,60 @@ settled_one nodes lefts i b some within here there known =
           (cases_eq j i);
     }
 
-module _ (nodes : List ℕ) (lefts : List Bool) (known : IsTreeBut nodes lefts 0) where
-  -- a node has the deadline of one of the two below it, and none below it is earlier
-  one_below : (i : ℕ) (b : Bool) → HasEarlier nodes i b → ((get_or nodes i 0 ≡ get_or nodes (2 * i) 0) ⊎ (get_or nodes i 0 ≡ get_or nodes (2 * i + 1) 0)) × ((get_or nodes i 0 ≤ get_or nodes (2 * i) 0) × (get_or nodes i 0 ≤ get_or nodes (2 * i + 1) 0))
-  one_below i true has = (inl has.0, (omega (arith, has.0), omega (arith, has.0, has.1)))
-  one_below i false has = (inr has.0, (omega (arith, has.0, has.1), omega (arith, has.0)))
+-- a node has the deadline of the first of the two below it, and none of the two is earlier
+pub first_has : (nodes : List ℕ) (node : ℕ) (b : Bool) → HasEarlier nodes node b → get_or nodes node 0 ≡ get_or nodes (if b then 2 * node else 2 * node + 1) 0
+first_has nodes node true has = has.0
+first_has nodes node false has = has.0
 
+pub no_earlier : (nodes : List ℕ) (node : ℕ) (b : Bool) → HasEarlier nodes node b → (get_or nodes node 0 ≤ get_or nodes (2 * node) 0) × (get_or nodes node 0 ≤ get_or nodes (2 * node + 1) 0)
+no_earlier nodes node true known = (omega (arith, known.0), omega (arith, known.0, known.1))
+no_earlier nodes node false known = (omega (arith, known.0, known.1), omega (arith, known.0))
+
+one_of_two : (node : ℕ) (b : Bool) → ((if b then 2 * node else 2 * node + 1) ≡ 2 * node) ⊎ ((if b then 2 * node else 2 * node + 1) ≡ 2 * node + 1)
+one_of_two node true = inl refl
+one_of_two node false = inr refl
+
+-- above the top there is nothing that could have another deadline
+keeps_at_top : (nodes : List ℕ) (lefts : List Bool) (node : ℕ) → 1 ≤ node → node / 2 ≡ 0 → KeepsOther nodes lefts node
+keeps_at_top nodes lefts node some top differs =
+    rw top (by_side (get_or lefts 0 false) (λ same. differs (rw top same)))
+  where
+    by_side : (b : Bool) → ((if b then 2 * 0 else 2 * 0 + 1) ≡ node → ⊥) → get_or nodes 0 0 ≡ get_or nodes (if b then 2 * 0 else 2 * 0 + 1) 0
+    by_side true off = refl
+    by_side false off = absurd (off (omega arith))
+
+-- in a tree each node above another has the deadline of the first below it
+pub KeepsOther-from_tree : (nodes : List ℕ) (lefts : List Bool) (node but : ℕ) → IsTreeBut nodes lefts but → 1 ≤ node → (node / 2 ≡ but → ⊥) ⊎ (node / 2 ≡ 0) → node / 2 < length lefts → KeepsOther nodes lefts node
+KeepsOther-from_tree nodes lefts node but known some off below =
+    ⊎_elim
+    (λ (more : 0 < node / 2).
+    λ (_ : first_below lefts (node / 2) ≡ node → ⊥).
+    first_has nodes (node / 2) (get_or lefts (node / 2) false) (known.each (node / 2) more below (λ same. ⊎_elim (λ (differs : node / 2 ≡ but → ⊥). differs same) (λ (top : node / 2 ≡ 0). absurd (omega arith)) off)))
+    (λ (none : node / 2 ≤ 0). keeps_at_top nodes lefts node some (omega arith))
+    (cases_lt 0 (node / 2))
+
+-- and still where the other one gets another deadline
+pub KeepsOther-set : (nodes : List ℕ) (lefts : List Bool) (node w : ℕ) → 1 ≤ node → KeepsOther nodes lefts node → KeepsOther (set nodes node w) lefts node
+KeepsOther-set nodes lefts node w some kept differs =
+    get_or-set_other nodes node (node / 2) w 0 (λ same. absurd (omega arith))
+    ∙ kept differs
+    ∙ sym (get_or-set_other nodes node (first_below lefts (node / 2)) w 0 differs)
+
+-- a node comes to be in order, and that above it has the deadline of the other one below, if it had
+pub next_kept : (nodes : List ℕ) (lefts : List Bool) (i w : ℕ) (b : Bool) → 1 ≤ i → i < length lefts → IsTreeBut nodes lefts i → KeepsOther (set nodes i w) (set lefts i b) i
+next_kept nodes lefts i w b some below known =
+    let told : get_or (set lefts i b) (i / 2) false ≡ get_or lefts (i / 2) false = get_or-set_other lefts i (i / 2) b false (λ same. absurd (omega arith)) in
+    let kept = KeepsOther-set nodes lefts i w some (KeepsOther-from_tree nodes lefts i i known some (inl (λ same. absurd (omega arith))) (omega arith)) in
+    let first = ap (λ (side : Bool). if side then 2 * (i / 2) else 2 * (i / 2) + 1) told in
+    λ differs. kept (λ same. differs (first ∙ same)) ∙ sym (ap (λ k. get_or (set nodes i w) k 0) first)
+
+module _ (nodes : List ℕ) (lefts : List Bool) (known : IsTreeBut nodes lefts 0) where
   here_below : (i : ℕ) → 1 ≤ i → i < length lefts → ((get_or nodes i 0 ≡ get_or nodes (2 * i) 0) ⊎ (get_or nodes i 0 ≡ get_or nodes (2 * i + 1) 0)) × ((get_or nodes i 0 ≤ get_or nodes (2 * i) 0) × (get_or nodes i 0 ≤ get_or nodes (2 * i + 1) 0))
-  here_below i some below = one_below i (get_or lefts i false) (known.each i some below (λ same. absurd (omega arith)))
+  here_below i some below =
+      let has = known.each i some below (λ same. absurd (omega arith)) in
+      let b = get_or lefts i false in
+      let first = first_has nodes i b has in
+      (⊎_elim (λ same. inl (first ∙ ap (λ k. get_or nodes k 0) same)) (λ same. inr (first ∙ ap (λ k. get_or nodes k 0) same)) (one_of_two i b), no_earlier nodes i b has)
 
   top_least : (fuel i : ℕ) → i ≤ fuel → 1 ≤ i → i < 2 * length lefts → get_or nodes 1 0 ≤ get_or nodes i 0
   top_least zero i few some below = absurd (omega arith)

@@ -1,7 +1,6 @@
 -- Places and the leaves that they have.
-use Rattle.std.proofs.Common.{ℕ, zero, suc, ◌+◌, ◌-◌, ◌*◌, ◌<◌, ◌≤◌, ◌≡◌, ◌==◌, ◌++◌, cond, arith, refl, List, [], ◌∷◌, length, get_or, set, map, take, sym, ap, ◌∙◌, ⊎_elim, length-append}
+use Rattle.std.proofs.Common.{ℕ, ◌+◌, ◌-◌, ◌*◌, ◌<◌, ◌≤◌, ◌≡◌, ◌++◌, arith, refl, List, [], ◌∷◌, length, get_or, map, sym, ap, ◌∙◌, ⊎_elim, length-append}
 use Rattle.std.specs.List.{insert, remove}
-use Rattle.std.specs.Prelude.{if◌then◌else◌}
 use Rattle.std.proofs.lemmas.Bool.{cases_lt, cases_eq, eq-eqb, ne_eqb}
 use Rattle.std.proofs.lemmas.List.{get_or_append_left, get_or_at, get_or-map, length-map, same_lists, get_or_default}
 use Rattle.std.proofs.lemmas.List.Edits.{length-insert, get_or-insert_below, get_or-insert_at, get_or-insert_above, length-remove, get_or-remove_below, get_or-remove_above}

@@ -1,10 +1,10 @@
 -- A tree that loses a leaf.
-use Rattle.std.proofs.Common.{ℕ, ◌+◌, ◌-◌, ◌*◌, ◌/◌, ◌<◌, ◌≤◌, ◌≡◌, ◌==◌, Bool, true, false, cond, arith, refl, List, length, get_or, set, take, sym, ap, ◌∙◌, ⊎_elim, ◌⊎◌, inl, inr, length-set}
+use Rattle.std.proofs.Common.{ℕ, ◌+◌, ◌-◌, ◌*◌, ◌/◌, ◌<◌, ◌≤◌, ◌≡◌, ◌==◌, Bool, true, false, arith, List, length, get_or, set, take, sym, ap, ◌∙◌, ⊎_elim, ◌⊎◌, inl, inr, length-set}
 use Rattle.std.specs.Prelude.{if◌then◌else◌}
-use Rattle.std.proofs.lemmas.Bool.{cases_lt, cases_eq, eq-eqb, ne_eqb}
+use Rattle.std.proofs.lemmas.Bool.{cases_eq, eq-eqb, ne_eqb}
 use Rattle.std.proofs.lemmas.List.{get_or-set_same, get_or-set_other, get_or-take, length-take-le}
-use Rattle.mq_sched.specs.DeadlineTree.{HasEarlier, IsTreeBut, first_below, second_below, leaf_before}
-use Rattle.mq_sched.proofs.DeadlineTree.{earlier-agree}
+use Rattle.mq_sched.specs.DeadlineTree.{IsTreeBut, first_below, second_below, leaf_before}
+use Rattle.mq_sched.proofs.DeadlineTree.{earlier-agree, first_has}
 
 -- the deadline of the later one of the last two leaves goes to a leaf, and then that of the earlier one to the node above
 module _ (nodes : List ℕ) (last leaf first second x y : ℕ) (room : (leaf < length nodes) × (last < length nodes)) (pair : first + second ≡ 4 * last + 1) (is_x : x ≡ get_or nodes second 0) (is_y : y ≡ get_or (set nodes leaf x) first 0) where
@@ -46,11 +46,6 @@ pair_below lefts node = pair (get_or lefts node false)
     pair : (b : Bool) → ((if b then 2 * node else 2 * node + 1) + (if b then 2 * node + 1 else 2 * node) ≡ 4 * node + 1) × ((2 * node ≤ (if b then 2 * node else 2 * node + 1)) × (2 * node ≤ (if b then 2 * node + 1 else 2 * node)))
     pair true = (omega arith, (omega arith, omega arith))
     pair false = (omega arith, (omega arith, omega arith))
-
--- it has the deadline of the first
-first_has : (nodes : List ℕ) (node : ℕ) (b : Bool) → HasEarlier nodes node b → get_or nodes node 0 ≡ get_or nodes (if b then 2 * node else 2 * node + 1) 0
-first_has nodes node true has = has.0
-first_has nodes node false has = has.0
 
 -- the tree without its last two leaves, but for the node above that whose deadline is another
 pub shrunk : (nodes : List ℕ) (lefts : List Bool) (leaf changed x y : ℕ) → IsTreeBut nodes lefts 0 → 0 < length lefts → length lefts ≤ leaf → leaf < 2 * length lefts

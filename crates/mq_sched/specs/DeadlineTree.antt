@@ -1,6 +1,6 @@
 -- A tree of deadlines: its nodes by their numbers. With n deadlines the nodes from n to 2n - 1 are its leaves, and
 -- below node i of the others stand the nodes 2i and 2i + 1.
-use Rattle.std.specs.Prelude.{ℕ, zero, suc, ◌+◌, ◌-◌, ◌*◌, ◌<◌, ◌≤◌, ◌≡◌, ◌==◌, ◌&&◌, Bool, true, false, if◌then◌else◌, List, length, slice_index, slice_index_or, nat_lt, nat_le}
+use Rattle.std.specs.Prelude.{ℕ, zero, suc, ◌+◌, ◌-◌, ◌*◌, ◌/◌, ◌<◌, ◌≤◌, ◌≡◌, ◌==◌, ◌&&◌, Bool, true, false, if◌then◌else◌, List, length, slice_index, slice_index_or, nat_lt, nat_le}
 
 -- what a contract sees of a tree: the deadline of each node, how many leaves there are, and for how many memory was
 -- reserved
@@ -27,6 +27,11 @@ second_below lefts node = if slice_index_or lefts node false then 2 * node + 1 e
 pub record IsTreeBut (nodes : List ℕ) (lefts : List Bool) (but : ℕ) : Type 0 where
   pub size : length nodes ≡ 2 * length lefts
   pub each : (node : ℕ) → 1 ≤ node → node < length lefts → (node ≡ but → ⊥) → HasEarlier nodes node (slice_index_or lefts node false)
+
+-- the node above one has the deadline of the other node below it, where it is told that it has that of the other
+abbrev pub KeepsOther : List ℕ → List Bool → ℕ → Type 0
+KeepsOther nodes lefts node =
+    (first_below lefts (node / 2) ≡ node → ⊥) → slice_index nodes (node / 2) ≡ slice_index nodes (first_below lefts (node / 2))
 
 -- a moment is the earliest of the leaves' deadlines
 pub record IsEarliestLeaf (nodes : List ℕ) (count moment : ℕ) : Type 0 where

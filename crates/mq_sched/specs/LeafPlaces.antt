@@ -1,6 +1,5 @@
 -- Which place has which leaf of a tree.
-use Rattle.std.specs.Prelude.{ℕ, ◌+◌, ◌-◌, ◌*◌, ◌<◌, ◌≤◌, ◌≡◌, ◌==◌, if◌then◌else◌, List, length, slice_index}
-use Rattle.std.specs.List.{All}
+use Rattle.std.specs.Prelude.{ℕ, ◌*◌, ◌<◌, ◌≤◌, ◌≡◌, ◌==◌, if◌then◌else◌, List, length, slice_index}
 
 -- what a contract sees: the leaf of each place, and for how many memory was reserved
 pub record LeafPlacesState : Type 0 where

@@ -1,6 +1,6 @@
 //! Which groups are due: an index of the held groups' earliest deadlines.
 
-ghost use Rattle.std.specs.Prelude.{◌≡◌, ℕ, ◌+◌, ◌-◌, ◌*◌, ◌<◌, ◌≤◌, [], min, length, take, drop, slice_set, IfOk, MatchOption};
+ghost use Rattle.std.specs.Prelude.{◌≡◌, ℕ, ◌+◌, ◌-◌, ◌*◌, ◌^◌, ◌<◌, ◌≤◌, [], min, length, take, drop, slice_set, IfOk, MatchOption};
 ghost use Rattle.std.specs.List.{insert, remove};
 ghost use Rattle.mq_count.specs.Spending.{Spends};
 ghost use Rattle.mq_sets.specs.Search.{bitlen};
@@ -13,9 +13,6 @@ use mq_count::{Meter, Moment};
 use mq_sets::Memory;
 use std::alloc::Global;
 use std::marker::Model;
-
-/// How many places there may be.
-const PLACES: usize = 65536;
 
 /// The earliest deadline of each held group, by the group's place in the ascending list of groups. A
 /// contract sees the list of these deadlines, and the room: for how many of them memory was reserved.
@@ -48,14 +45,11 @@ impl Model for Deadlines {
 }
 
 impl Deadlines {
-    /// No deadlines, with room for so many, or `Memory` where that memory was refused or they are more than
-    /// have a place.
+    /// No deadlines, with room for so many, which all have a place, or `Memory` where that memory was refused.
     pub fn with_room(alloc: Global, room: usize) -> Result<Deadlines, Memory>
+        requires numbered { room ≤ 2 ^ 16 }
         ensures { IfOk result (λ d. d ≡ record { deadlines = []; room = room }) }
     {
-        if room > PLACES {
-            return Err(Memory);
-        }
         Ok(Deadlines {
             tree: DeadlineTree::with_room(alloc, room)?,
             places: LeafPlaces::with_room(alloc, room)?,

@@ -7,7 +7,7 @@ ghost use Rattle.mq_sched.specs.DeadlineTree.{leaf_after};
 
 use crate::leaf_moves::{at_or, give_up_leaf, move_first_leaf};
 use crate::place_moves::{as_place, move_down_from, move_up_from};
-use mq_sets::Memory;
+use mq_sets::{Memory, insert_at_once};
 use std::alloc::Global;
 use std::marker::Model;
 
@@ -89,7 +89,7 @@ impl LeafPlaces {
         let count = self.leaves.len();
         let as_kept = as_place(place);
         move_first_leaf(&mut self.leaves, &self.places);
-        self.leaves.insert(place, 2 * count as u32 + 1).unwrap();
+        insert_at_once(&mut self.leaves, place, 2 * count as u32 + 1);
         move_up_from(&mut self.places, count, as_kept);
         let first = at_or(&self.places, count, as_kept);
         self.places.push(first).unwrap();

@@ -1,6 +1,6 @@
 //! A list of lists whose cells stand in memory that is reserved once.
 
-ghost use Rattle.std.specs.Prelude.{◌≡◌, ◌+◌, ◌*◌, ◌<◌, ◌≤◌, [], length, slice_index_or, slice_set, vec_capacity, IfOk};
+ghost use Rattle.std.specs.Prelude.{◌≡◌, ◌+◌, ◌*◌, ◌^◌, ◌<◌, ◌≤◌, [], length, slice_index_or, slice_set, vec_capacity, IfOk};
 ghost use Rattle.std.specs.List.{insert, remove};
 ghost use Rattle.mq_sets.specs.Pools.{PoolState, cells_in};
 
@@ -48,19 +48,12 @@ impl<T: Copy> Model for Pool<T> {
 
 impl<T: Copy> Pool<T> {
     /// No rows, with memory for `rows` of them that have `cells` cells together; or `Memory`, where
-    /// that was refused or the vector of cells is longer than 32 bits can count.
+    /// that was refused. The vector of cells is no longer than 32 bits can count.
     pub fn new(alloc: Global, rows: usize, cells: usize) -> Result<Pool<T>, Memory>
+        requires counted { 2 * cells + rows < 2 ^ 32 }
         ensures { IfOk result (λ p. p ≡ record { rows = []; row_limit = rows; cell_limit = cells }) }
     {
-        let Some(twice) = cells.checked_mul(2) else {
-            return Err(Memory);
-        };
-        let Some(size) = twice.checked_add(rows) else {
-            return Err(Memory);
-        };
-        if size > u32::MAX as usize {
-            return Err(Memory);
-        }
+        let size = 2 * cells + rows;
         Ok(Pool {
             extents: Vec::with_capacity(alloc, rows)?,
             cells: Vec::with_capacity(alloc, size)?,

@@ -9,9 +9,6 @@ use crate::memory::Memory;
 use std::alloc::Global;
 use std::marker::Model;
 
-/// How many items there may be.
-const CELLS: usize = 65536;
-
 /// A list of items that may be long, of which none is moved where one is made or taken out. A contract
 /// sees the list, and the room: how many items there may be. `with_room` reserves the memory for them,
 /// and no other call takes any.
@@ -45,14 +42,11 @@ impl<T: Copy> Model for SlotList<T> {
 }
 
 impl<T: Copy> SlotList<T> {
-    /// No items, with room for so many; or `Memory`, where that memory was refused or they are more
-    /// than have a number.
+    /// No items, with room for so many, which all have a number; or `Memory`, where that memory was refused.
     pub fn with_room(alloc: Global, room: usize) -> Result<SlotList<T>, Memory>
+        requires numbered { room ≤ 2 ^ 16 }
         ensures { IfOk result (λ s. s ≡ record { items = []; room = room }) }
     {
-        if room > CELLS {
-            return Err(Memory);
-        }
         Ok(SlotList {
             cells: Vec::with_capacity(alloc, room)?,
             order: Vec::with_capacity(alloc, room)?,

@@ -1,15 +1,18 @@
 -- Runs of sources whose timers run on, in a pass over a list that leaves what the end of timers leaves.
-use Rattle.std.proofs.Common.{◌≡◌, ℕ, zero, suc, ◌+◌, ◌≤◌, Bool, true, false, cond, refl, List, [], ◌∷◌, ◌++◌, length, get_or, take, drop, Option, Some, sym, ap, subst, ◌∙◌, arith, nat_lt}
+use Rattle.std.proofs.Common.{◌≡◌, ℕ, zero, suc, ◌+◌, ◌<◌, ◌≤◌, Bool, true, false, cond, refl, List, [], ◌∷◌, ◌++◌, length, length-append, get_or, take, drop, Option, None, Some, sym, ap, subst, ◌∙◌, arith, nat_lt}
 use Rattle.std.specs.List.{AllWithin, filter_map}
 use Rattle.std.proofs.lemmas.Bool.{true≢false}
 use Rattle.std.proofs.lemmas.List.Elements.{filter_map-append}
 use Rattle.std.proofs.lemmas.List.{drop-drop, get_or-drop}
-use Rattle.mq_count.specs.Timed.{lies_ahead}
+use Rattle.std.proofs.lemmas.List.Concat.{flat_map-append}
+use Rattle.std.specs.Option.{option_to_list}
+use Rattle.mq_count.specs.Timed.{compared, lies_ahead, moments_by}
+use Rattle.mq_count.proofs.TimedMoments.{moments-more}
 use Rattle.mq_table.specs.declared.sources.Source.{Source}
 use Rattle.mq_table.specs.Group.{FilterMode, SourceTimer, Stopped, Running, deadline_of}
 use Rattle.mq_table.specs.Expiry.{at_zero, source_expired}
 use Rattle.mq_table.specs.MergedRecord.{source_with}
-use Rattle.mq_table.specs.MadeSources.{source_left}
+use Rattle.mq_table.specs.MadeSources.{running_among, source_left}
 
 take_none : {X : Type 0} (n : ℕ) → take {A = X} n [] ≡ []
 take_none zero = refl
@@ -78,3 +81,41 @@ ended_leaves mode now x is = by_timer x.timer is
     by_timer : (timer : SourceTimer) → lies_ahead now (deadline_of (Some timer)) ≡ false → source_with x.address (source_expired mode now timer) ≡ source_with x.address (at_zero mode)
     by_timer Stopped is = refl
     by_timer (Running d n) is = ap (λ (b : Bool). source_with x.address (cond b (Some (Running d n)) (at_zero mode))) is
+
+one_or_none : (o : Option ℕ) → length (option_to_list o) ≡ compared o
+one_or_none None = refl
+one_or_none (Some moment) = refl
+
+-- how many of some sources run, where one more is counted
+pub running_among-more : {K : Type 0} (sources : List (Source K)) (place : ℕ) (x : Source K) → place < length sources → x ≡ get_or sources place x → running_among (take (place + 1) sources) ≡ running_among (take place sources) + compared (deadline_of (Some x.timer))
+running_among-more sources place x within here =
+    ap length (moments-more (λ x. deadline_of (Some x.timer)) sources place x within here)
+    ∙ length-append (moments_by (λ x. deadline_of (Some x.timer)) (take place sources)) (option_to_list (deadline_of (Some x.timer)))
+    ∙ ap (λ n. running_among (take place sources) + n) (one_or_none (deadline_of (Some x.timer)))
+
+-- and where a list is counted in two parts
+running_among-append : {K : Type 0} (front back : List (Source K)) → running_among (front ++ back) ≡ running_among front + running_among back
+running_among-append front back =
+    ap length (flat_map-append (λ x. option_to_list (deadline_of (Some x.timer))) front back)
+    ∙ length-append (moments_by (λ x. deadline_of (Some x.timer)) front) (moments_by (λ x. deadline_of (Some x.timer)) back)
+
+-- each of a run that lies ahead runs
+all_run : {K : Type 0} (now run : ℕ) (row : List (Source K)) → run ≤ length row → AllWithin (λ x. lies_ahead now (deadline_of (Some x.timer)) ≡ true) row 0 run → running_among (take run row) ≡ run
+all_run now zero row within ahead = refl
+all_run now (suc run) [] within ahead = absurd (omega (arith, within))
+all_run now (suc run) (x ∷ row) within ahead =
+    let both = running_among-append (x ∷ []) (take run row) in
+    let first = one x.timer (ahead 0 x (omega arith) (omega arith)) in
+    let others = all_run now run row (omega (arith, within)) (λ k d low high. ahead (suc k) d (omega arith) (omega (arith, high))) in
+    omega (arith, both, first, others)
+  where
+    one : (timer : SourceTimer) → lies_ahead now (deadline_of (Some timer)) ≡ true → length (option_to_list (deadline_of (Some timer)) ++ []) ≡ 1
+    one Stopped is = absurd (true≢false (sym is))
+    one (Running d n) is = refl
+
+-- how many run of those that were passed and of such a run behind them
+pub running_among-run : {K : Type 0} (now place run : ℕ) (xs row : List (Source K)) → row ≡ drop place xs → run ≤ length row → AllWithin (λ x. lies_ahead now (deadline_of (Some x.timer)) ≡ true) row 0 run → running_among (take (place + run) xs) ≡ running_among (take place xs) + run
+running_among-run now place run xs row is within ahead =
+    ap running_among (take_parts place run xs)
+    ∙ running_among-append (take place xs) (take run (drop place xs))
+    ∙ ap (λ n. running_among (take place xs) + n) (ap (λ ys. running_among (take run ys)) (sym is) ∙ all_run now run row within ahead)

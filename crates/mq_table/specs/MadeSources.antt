@@ -1,7 +1,8 @@
 -- What becomes of each source of a list, where nothing is added to it.
-use Rattle.std.specs.Prelude.{ℕ, ◌==◌, if◌then◌else◌, Option, Some}
+use Rattle.std.specs.Prelude.{ℕ, ◌==◌, if◌then◌else◌, List, length, Option, Some}
+use Rattle.mq_count.specs.Timed.{moments_by}
 use Rattle.mq_table.specs.declared.sources.Source.{Source}
-use Rattle.mq_table.specs.Group.{FilterMode, SourceTimer}
+use Rattle.mq_table.specs.Group.{FilterMode, SourceTimer, deadline_of}
 use Rattle.mq_table.specs.Expiry.{source_expired}
 use Rattle.mq_table.specs.Lowering.{source_lowered}
 use Rattle.mq_table.specs.Sendings.{source_counted, source_cleared}
@@ -12,6 +13,10 @@ use Rattle.mq_table.specs.MergedRecord.{source_with}
 -- a source that the end of timers leaves
 abbrev pub source_left : {K : Type 0} → FilterMode → ℕ → Source K → Option (Source K)
 source_left mode now x = source_with x.address (source_expired mode now x.timer)
+
+-- how many of some sources have a timer that runs
+abbrev pub running_among : {K : Type 0} → List (Source K) → ℕ
+running_among sources = length (moments_by (λ x. deadline_of (Some x.timer)) sources)
 
 -- the source of a number, lowered; any other stays
 abbrev pub source_lowered_at : {K : Type 0} → (K → ℕ) → (limit n : ℕ) → Source K → Option (Source K)

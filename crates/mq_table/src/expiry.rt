@@ -5,7 +5,7 @@ ghost use Rattle.std.specs.List.{filter_map};
 ghost use Rattle.std.specs.Option.{option_and_then};
 ghost use Rattle.mq_count.specs.Spending.{Spends};
 ghost use Rattle.mq_table.specs.Expiry.{ahead, at_zero, mode_expired, held_or_vacant, expired};
-ghost use Rattle.mq_table.specs.MadeSources.{source_left};
+ghost use Rattle.mq_table.specs.MadeSources.{running_among, source_left};
 ghost use Rattle.mq_table.specs.Stored.{size_of};
 
 use crate::group::Group;
@@ -62,7 +62,7 @@ fn move_run<K: Key>(sources: &mut Vec<Source<K>>, place: usize, left: usize, run
 }
 
 /// Leaves of a list the sources that the end of their timers leaves in a group of this mode, in one
-/// pass over the list, run by run of those whose timers run on.
+/// pass over the list, run by run of those whose timers run on. One comparison for each source with a deadline.
 fn leave_sources<K: Key>(
     sources: &mut Vec<Source<K>>,
     mode: &FilterMode,
@@ -71,7 +71,7 @@ fn leave_sources<K: Key>(
 )
     ensures items { sources.new.items ≡ filter_map (source_left mode.now now) sources.old.items }
     ensures capacity { vec_capacity sources.new ≡ vec_capacity sources.old }
-    ensures spent { Spends 0 (length sources.old.items) m.old m.new }
+    ensures spent { let count = running_among sources.old.items in Spends count count m.old m.new }
 {
     let mut left = 0;
     let mut place = 0;

@@ -8,10 +8,10 @@ ghost use Rattle.mq_table.specs.Group.{vacant, is_vacant, timer_at, forwards_in}
 ghost use Rattle.mq_table.specs.Stored.{timers_in, number_in, state_of, size_of};
 
 use crate::heads::Head;
-use crate::sources::Source;
+use crate::sources::{Source, timer_among};
 use crate::timers::{FilterMode, SourceTimer};
 use mq_count::{Key, Meter, Moment};
-use mq_sets::{Memory, find};
+use mq_sets::Memory;
 use std::alloc::Global;
 use std::marker::Model;
 
@@ -139,10 +139,7 @@ impl<K: Key> Group<K> {
         ensures spent { let size = size_of self.now.state in
             Spends (min 1 size) (bitlen size) m.old m.new }
     {
-        match find(self.sources.as_slice(), source, m) {
-            Ok(place) => Some(self.sources[place].timer),
-            Err(_) => None,
-        }
+        timer_among(self.sources.as_slice(), source, m)
     }
 
     /// Whether what this source sends to the group is forwarded, as of the last moment that the
@@ -152,10 +149,6 @@ impl<K: Key> Group<K> {
         ensures spent { let size = size_of self.now.state in
             Spends (min 1 size) (bitlen size) m.old m.new }
     {
-        let timer = self.timer_of(source, m);
-        match self.mode {
-            FilterMode::Include => matches!(timer, Some(SourceTimer::Running(_, _))),
-            FilterMode::Exclude(_) => !matches!(timer, Some(SourceTimer::Stopped)),
-        }
+        self.mode.wants(self.timer_of(source, m))
     }
 }

@@ -24,6 +24,6 @@ pub use heads::Head;
 pub use kind::Kind;
 pub use mq_count::OlderVersion;
 pub use older_hosts::{Hosts, translate};
-pub use sources::Source;
+pub use sources::{Source, timer_among};
 pub use timers::{FilterMode, SourceTimer, runs_on};
 pub use timing::Timing;

@@ -2,10 +2,15 @@
 
 ghost use Rattle.std.specs.Prelude.{◌≡◌, ◌+◌, ◌^◌, ◌≤◌, true, false};
 ghost use Rattle.mq_count.specs.Spending.{Spends};
+ghost use Rattle.std.specs.FinMap.{FinMap};
+ghost use Rattle.std.specs.Ordering.{nat_cmp};
+ghost use Rattle.mq_table.specs.Group.{SourceTimer};
+ghost use Rattle.mq_table.specs.Stored.{state_of};
 ghost use Rattle.mq_table.specs.Table.{NamedSources};
 ghost use Rattle.mq_table.specs.OlderHosts.{hosts_of, translated, with_sources, older_host};
 
 use crate::group::Group;
+use crate::heads::Head;
 use crate::kind::Kind;
 use crate::timers::runs_on;
 use crate::timing::Timing;
@@ -43,11 +48,11 @@ pub fn translate(
     }
 }
 
-impl<K: Key> Group<K> {
-    /// The older versions that have hosts in the group (RFC 3376 section 7.3.2, RFC 3810 section
-    /// 8.3.2).
+impl Head {
+    /// The older versions that have hosts in the group, whatever its sources are (RFC 3376 section 7.3.2, RFC 3810 section
+    /// 8.3.2). At most two comparisons.
     pub fn compat(&self, now: Moment, m: &mut Meter) -> Hosts
-        ensures hosts { result ≡ hosts_of self.now.state now }
+        ensures hosts { (timers : FinMap nat_cmp SourceTimer) → result ≡ hosts_of (state_of self.now timers) now }
         ensures spent { Spends 0 2 m.old m.new }
     {
         Hosts {
@@ -55,7 +60,9 @@ impl<K: Key> Group<K> {
             v2: runs_on(self.v2, now, m),
         }
     }
+}
 
+impl<K: Key> Group<K> {
     /// Sets the host-present timer of a version whose Report was heard to the older host present
     /// interval. The Report acts as IS_EX of no source besides.
     pub fn older(&mut self, version: OlderVersion, now: Moment, timing: &Timing)

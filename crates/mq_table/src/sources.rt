@@ -1,11 +1,16 @@
 //! A source of a group, with its timer.
 
-ghost use Rattle.std.specs.Prelude.{◌≡◌, ◌≤◌, Some, length, drop};
+ghost use Rattle.std.specs.Prelude.{◌≡◌, ◌≤◌, Some, length, drop, min};
+ghost use Rattle.std.specs.FinMap as map;
+ghost use Rattle.mq_count.specs.Spending.{Spends};
+ghost use Rattle.mq_sets.specs.Ascending.{IsAscending};
+ghost use Rattle.mq_sets.specs.Search.{bitlen};
 ghost use Rattle.mq_table.specs.Group.{deadline_of};
+ghost use Rattle.mq_table.specs.Stored.{number_in, timers_in};
 
 use crate::timers::SourceTimer;
-use mq_count::{Key, Moment, Timed};
-use mq_sets::Keyed;
+use mq_count::{Key, Meter, Moment, Timed};
+use mq_sets::{Keyed, find};
 
 /// A source that a group holds. Slices of sources ascend by their addresses.
 #[derive_where(Clone, Copy)]
@@ -38,4 +43,17 @@ pub(crate) fn rest_of<K: Key>(row: &[Source<K>], count: usize) -> &[Source<K>]
     ensures { result.now ≡ drop count row.now }
 {
     &row[count..]
+}
+
+/// The timer of a source among ascending sources, or None where it isn't there. At most one comparison for each binary
+/// digit of how many there are, and at least one where there is one.
+pub fn timer_among<K: Key>(sources: &[Source<K>], source: K, m: &mut Meter) -> Option<SourceTimer>
+    requires ascending { IsAscending (number_in K.number) sources.now }
+    ensures timer { result ≡ map.get (timers_in K.number sources.now) (K.number source) }
+    ensures spent { let size = length sources.now in Spends (min 1 size) (bitlen size) m.old m.new }
+{
+    match find(sources, source, m) {
+        Ok(place) => Some(sources[place].timer),
+        Err(_) => None,
+    }
 }

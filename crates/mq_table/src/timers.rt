@@ -2,7 +2,7 @@
 
 ghost use Rattle.std.specs.Prelude.{◌≡◌, Some};
 ghost use Rattle.mq_count.specs.Spending.{Spends};
-ghost use Rattle.mq_table.specs.Group.{is_ahead, deadline_of, group_deadline};
+ghost use Rattle.mq_table.specs.Group.{is_ahead, deadline_of, group_deadline, wants};
 
 use mq_count::{Meter, Moment};
 
@@ -36,6 +36,17 @@ impl FilterMode {
         match self {
             FilterMode::Include => None,
             FilterMode::Exclude(deadline) => Some(*deadline),
+        }
+    }
+
+    /// Whether a group of this mode wants a source that has this timer, or none (RFC 3376 section 6.3, RFC 3810 section
+    /// 7.3).
+    pub fn wants(&self, timer: Option<SourceTimer>) -> bool
+        ensures { result ≡ wants self.now timer }
+    {
+        match self {
+            FilterMode::Include => matches!(timer, Some(SourceTimer::Running(_, _))),
+            FilterMode::Exclude(_) => !matches!(timer, Some(SourceTimer::Stopped)),
         }
     }
 }

@@ -1,12 +1,11 @@
-use Rattle.std.proofs.Common.{ℕ, ◌-◌, ◌+◌, ◌*◌, ◌<◌, ◌≤◌, ◌≡◌, ◌==◌, true, false, arith, refl, List, length, get_or, take, drop, sym, ap, ◌∙◌, min, ⊎_elim}
-use Rattle.std.specs.List.{count_by}
+use Rattle.std.proofs.Common.{ℕ, ◌-◌, ◌+◌, ◌<◌, ◌≤◌, ◌≡◌, arith, List, length, get_or, drop, sym, ap, ◌∙◌, ⊎_elim}
 use Rattle.std.proofs.lemmas.List.{get_or_read, drop-drop}
 use Rattle.std.proofs.lemmas.Bool.{cases_lt, false≢true}
 use Rattle.mq_sets.specs.Search.{bitlen}
 use Rattle.mq_sets.proofs.Bitlen.{bitlen-mono}
 use Rattle.mq_count.proofs.Spent.{Spends-within, Spends-none}
-use Rattle.mq_sched.specs.DeadlineTree.{sum_below, first_below, second_below, one_if_due}
-use Rattle.mq_sched.proofs.Below.{AreBelow, AreBelow-from_tree, ones-below, sum_below-leaf, none_below}
+use Rattle.mq_sched.specs.DeadlineTree.{sum_below, one_if_due}
+use Rattle.mq_sched.proofs.Below.{AreBelow-from_tree, ones-below, sum_below-leaf, none_below}
 use Rattle.mq_sched.proofs.DueLeaves.{leaf_written, spent_on_one, spent_on_both}
 use Rattle.mq_sched.proofs.due_leaves.+collect.Goals as goal
 

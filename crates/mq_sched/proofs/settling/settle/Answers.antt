@@ -1,10 +1,9 @@
-use Rattle.std.proofs.Common.{ℕ, ◌-◌, ◌+◌, ◌*◌, ◌/◌, ◌<◌, ◌≤◌, ◌≡◌, true, false, cond, arith, refl, length, get_or, set, sym, ◌∙◌, length-set, ⊎_elim, min}
+use Rattle.std.proofs.Common.{◌+◌, ◌*◌, ◌/◌, ◌<◌, ◌≤◌, ◌≡◌, cond, arith, length, get_or, sym, ◌∙◌, length-set, ⊎_elim}
 use Rattle.std.proofs.lemmas.Bool.{cond-true, cond-false, cases_lt}
 use Rattle.std.proofs.lemmas.List.{get_or_read, get_or-set_other}
 use Rattle.mq_count.proofs.Spent.{Spends-join_within, Spends-within}
-use Rattle.mq_sets.specs.Search.{bitlen}
 use Rattle.mq_sets.proofs.Bitlen.{bitlen-half, bitlen-zero, bitlen-mono}
-use Rattle.mq_sched.proofs.DeadlineTree.{settled_one}
+use Rattle.mq_sched.proofs.DeadlineTree.{settled_one, next_kept}
 use Rattle.mq_sched.proofs.settling.settle.Goals as goal
 use Rattle.mq_sched.proofs.settling.settle.Goals.{then-is_left, else-is_left}
 
@@ -26,6 +25,7 @@ loop-node-preserved c =
     let settled = settled_one nodes lefts i b (omega arith) below (rw (← left, ← right) c.reached-is_left.ensures.answer.1) (rw (← left, ← right) c.reached-is_left.ensures.answer.0) known.tree in
     record {
       tree = rw is settled;
+      kept = next_kept nodes lefts i c.if-is_left.nodes b (omega arith) below known.tree;
       within = λ some. omega (arith, length-set nodes i c.if-is_left.nodes);
       leaves =
           λ leaf behind. get_or-set_other nodes i leaf c.if-is_left.nodes 0 (λ same. absurd (omega (arith, below, behind, c.loop-node.auto.lefts))) ∙ known.leaves leaf behind;
@@ -40,3 +40,11 @@ returns-clause-spent c =
     Spends-within _ _ none
     (⊎_elim (λ (some : 0 < c.args.from / 2). omega (arith, bitlen-half (c.args.from / 2) some)) (λ (low : c.args.from / 2 ≤ 0). omega arith) (cases_lt 0 (c.args.from / 2)))
     (omega arith)
+
+pub returns-then-is_left-lefts-clause-spent : goal.returns-then-is_left-lefts-clause-spent
+returns-then-is_left-lefts-clause-spent c =
+    let i = c.loop-node.node / 2 in
+    let known = c.loop-node.invariant in
+    let digits = bitlen-half i (omega arith) in
+    let most = bitlen-mono i (c.args.from / 2) (omega (arith, known.lower)) in
+    Spends-join_within _ _ known.spent c.reached-is_left.ensures.spent (omega arith) (omega (arith, digits, most))

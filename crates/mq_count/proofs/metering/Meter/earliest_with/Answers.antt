@@ -1,14 +1,14 @@
-use Rattle.std.proofs.Common.{◌++◌, [], ◌∷◌, take, length, length-append, append-nil, ap, sym, subst, ◌∙◌, arith}
+use Rattle.std.proofs.Common.{◌≡◌, ◌-◌, ◌++◌, [], ◌∷◌, take, length, length-append, append-nil, ap, sym, subst, ◌∙◌, arith}
 use Rattle.std.specs.Option.{option_to_list}
 use Rattle.std.proofs.lemmas.List.{take_all}
 use Rattle.mq_count.specs.Spending.{Spends}
 use Rattle.mq_count.specs.Timed.{least, moments_by}
 use Rattle.mq_count.proofs.TimedMoments.{moments-more, least-more}
 use Rattle.mq_count.proofs.metering.Meter.earliest_with.Goals as goal
-use Rattle.mq_count.proofs.metering.Meter.earliest_with.Goals.{in-Some, then-ms, else-ms, in_default}
+use Rattle.mq_count.proofs.metering.Meter.earliest_with.Goals.{in-Some+then-ms, in-Some+else-ms, in-None}
 
-pub overflow_add-count : goal.overflow_add-count
-overflow_add-count g c = let long = c.well_formed.1.1.0.0 in omega (arith, c.loop-x.invariant.few, c.loop-x-test.true, long)
+pub overflow_add-without : goal.overflow_add-without
+overflow_add-without g c = let long = c.well_formed.1.1.0.0 in omega (arith, c.loop-x.invariant.without, c.loop-x-test.true, long)
 
 pub loop-x-preserved : goal.loop-x-preserved
 loop-x-preserved g c =
@@ -17,33 +17,35 @@ loop-x-preserved g c =
     let more = moments-more f c.args.items.now c.loop-x.x-index c.x-item.result c.loop-x-test.true c.x-item.is in
     let i = c.loop-x.invariant in
     elim c.match-moment.branch [
-      | in-Some w ↦
+      | in-Some+then-ms w ↦
           let all = more ∙ ap (λ o. so_far ++ option_to_list o) (sym c.moment.ensures ∙ w.in-Some.is) in
           let count = ap length all ∙ length-append so_far (w.in-Some.moment ∷ []) in
           let least_is = ap (least c.args.first) all ∙ least-more c.args.first w.in-Some.moment so_far in
           let e = i.earliest in
-          let n = i.count in
-          let few = i.few in
-          elim w.if-ms.branch [
-            | then-ms v ↦ record {
-              earliest = omega (arith, least_is, e, w.earliest-is, v.earliest-is, v.if-ms.true, w.ms.ensures, w.ms-in-Some.ensures);
-              count = omega (arith, count, n, w.count-is);
-              few = omega (arith, few, w.count-is);
-              meter = i.meter;
-            }
-            | else-ms v ↦ record {
-              earliest = omega (arith, least_is, e, w.earliest-is, v.earliest-is, v.if-ms.false, w.ms.ensures, w.ms-in-Some.ensures);
-              count = omega (arith, count, n, w.count-is);
-              few = omega (arith, few, w.count-is);
-              meter = i.meter;
-            }
-          ]
-      | in_default w ↦
-          let all = more ∙ ap (λ o. so_far ++ option_to_list o) (sym c.moment.ensures ∙ w.in_default.is) ∙ append-nil so_far in
+          let n = i.without in
+          record {
+            earliest = omega (arith, least_is, e, w.earliest-is, w.if-ms.true, w.ms.ensures, w.ms-in-Some.ensures);
+            without = omega (arith, count, n, w.without-is);
+            meter = i.meter;
+          }
+      | in-Some+else-ms w ↦
+          let all = more ∙ ap (λ o. so_far ++ option_to_list o) (sym c.moment.ensures ∙ w.in-Some.is) in
+          let count = ap length all ∙ length-append so_far (w.in-Some.moment ∷ []) in
+          let least_is = ap (least c.args.first) all ∙ least-more c.args.first w.in-Some.moment so_far in
+          let e = i.earliest in
+          let n = i.without in
+          record {
+            earliest = omega (arith, least_is, e, w.earliest-is, w.if-ms.false, w.ms.ensures, w.ms-in-Some.ensures);
+            without = omega (arith, count, n, w.without-is);
+            meter = i.meter;
+          }
+      | in-None w ↦
+          let all = more ∙ ap (λ o. so_far ++ option_to_list o) (sym c.moment.ensures ∙ w.in-None.is) ∙ append-nil so_far in
+          let count = ap length all in
+          let n = i.without in
           record {
             earliest = w.earliest-is ∙ i.earliest ∙ ap (least c.args.first) (sym all);
-            count = w.count-is ∙ i.count ∙ ap length (sym all);
-            few = omega (arith, i.few, w.count-is);
+            without = omega (arith, count, n, w.without-is);
             meter = i.meter;
           }
     ]
@@ -56,5 +58,8 @@ returns-clause-answer g c =
 pub returns-clause-spent : goal.returns-clause-spent
 returns-clause-spent g c =
     let all = take_all c.loop-x.x-index c.args.items.now c.loop-x-test.false in
-    let count = c.loop-x.invariant.count ∙ ap (λ xs. length (moments_by g.T.Timed.moment_of xs)) all in
+    let same = ap (λ xs. length (moments_by g.T.Timed.moment_of xs)) all in
+    let few = ap length all in
+    let counted = c.loop-x.invariant.without in
+    let count : length c.args.items.now - c.loop-x.without ≡ length (moments_by g.T.Timed.moment_of c.args.items.now) = omega (arith, same, counted, few, c.loop-x-test.false) in
     subst (λ n. Spends n n c.args.self.now c.count_comparisons.new.self) count c.count_comparisons.ensures

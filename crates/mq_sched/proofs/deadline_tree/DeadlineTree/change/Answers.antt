@@ -1,7 +1,6 @@
-use Rattle.std.proofs.Common.{◌-◌, ◌/◌, arith, ap, length}
+use Rattle.std.proofs.Common.{◌-◌, ◌/◌, arith}
 use Rattle.mq_count.proofs.Spent.{Spends-within}
 use Rattle.mq_sets.proofs.Bitlen.{bitlen-mono}
-use Rattle.mq_sched.specs.DeadlineTree.{TreeState}
 use Rattle.mq_sched.proofs.deadline_tree.DeadlineTree.change.Goals as goal
 
 pub returns-clause-spent : goal.returns-clause-spent

@@ -4,7 +4,7 @@ use Rattle.std.proofs.lemmas.Bool.{cases_lt, false≢true, le-ltb, le-leb}
 use Rattle.mq_sets.specs.Search.{bitlen}
 use Rattle.mq_sets.proofs.Bitlen.{bitlen-half, bitlen-zero}
 use Rattle.mq_count.proofs.Spent.{Spends-join_within}
-use Rattle.mq_sched.specs.DeadlineTree.{TreeState, is_leaf_due, sum_below}
+use Rattle.mq_sched.specs.DeadlineTree.{TreeState}
 use Rattle.mq_sched.proofs.Below.{none_below}
 use Rattle.mq_sched.proofs.Leaves.{ones-top, one-top}
 use Rattle.mq_sched.proofs.deadline_tree.DeadlineTree.due.Goals as goal

@@ -1,8 +1,8 @@
-use Rattle.std.proofs.Common.{◌<◌, ◌≤◌, ◌≡◌, ◌-◌, ◌*◌, ◌/◌, ◌⊎◌, inl, inr, arith, ap, length, get_or, set, ◌∙◌}
+use Rattle.std.proofs.Common.{◌<◌, ◌≤◌, ◌≡◌, ◌-◌, ◌*◌, ◌/◌, ◌⊎◌, inl, inr, arith, ap, length, set, ◌∙◌}
 use Rattle.std.proofs.lemmas.List.{get_or_read, take_at, length-set, get_or-take}
 use Rattle.mq_count.proofs.Spent.{Spends-within}
 use Rattle.mq_sets.proofs.Bitlen.{bitlen-mono}
-use Rattle.mq_sched.specs.DeadlineTree.{TreeState, second_below, first_below}
+use Rattle.mq_sched.specs.DeadlineTree.{TreeState}
 use Rattle.mq_sched.proofs.Shrinking.{shrunk, pair_below, went_to}
 use Rattle.mq_sched.proofs.deadline_tree.DeadlineTree.shrink.Goals as goal
 use Rattle.mq_sched.proofs.deadline_tree.DeadlineTree.shrink.Goals.{then-leaf-last, else-leaf-last}

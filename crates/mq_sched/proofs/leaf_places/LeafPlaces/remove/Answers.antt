@@ -1,5 +1,4 @@
-use Rattle.std.proofs.Common.{ℕ, ◌<◌, ◌≤◌, ◌≡◌, ◌+◌, ◌-◌, ◌*◌, ap, sym, ◌∙◌, arith, refl, length, get_or, map, take}
-use Rattle.std.specs.List.{remove}
+use Rattle.std.proofs.Common.{ℕ, ◌<◌, ◌≤◌, ◌≡◌, ◌+◌, ◌-◌, ◌*◌, ap, ◌∙◌, arith, refl, length, get_or}
 use Rattle.std.proofs.lemmas.List.{take_at, length-take-le, get_or-take}
 use Rattle.std.proofs.lemmas.List.Edits.{length-remove}
 use Rattle.mq_sched.specs.LeafPlaces.{LeafPlacesState}

@@ -1,6 +1,8 @@
-use Rattle.std.proofs.Common.{ap, arith}
+use Rattle.std.proofs.Common.{Some, ap, arith}
 use Rattle.mq_count.proofs.Spent.{Spends-join, Spends-within}
+use Rattle.mq_count.proofs.TimedMoments.{moments-few}
 use Rattle.mq_sets.proofs.Rules.{IsAscending-filter_map}
+use Rattle.mq_table.specs.Group.{deadline_of}
 use Rattle.mq_table.specs.MadeSources.{source_left}
 use Rattle.mq_table.specs.Stored.{number_in}
 use Rattle.mq_table.proofs.SourceLists.{len-timers_in}
@@ -22,5 +24,6 @@ returns-clause-state g c =
 
 pub returns-clause-spent : goal.returns-clause-spent
 returns-clause-spent g c =
+    let few = moments-few (λ x. deadline_of (Some x.timer)) c.self.inside.sources.items in
     let all = Spends-join (Spends-join (Spends-join c.mode_left-mode.ensures.spent c.leave_sources.ensures.spent) c.still_ahead-self-inside.ensures.spent) c.still_ahead-self-inside-2.ensures.spent in
-    rw (← c.self.view_is, len-timers_in g.K.Key.number c.self.inside.sources.items c.self.invariant) (Spends-within 0 _ all (omega arith) (omega arith))
+    rw (← c.self.view_is, len-timers_in g.K.Key.number c.self.inside.sources.items c.self.invariant) (Spends-within 0 _ all (omega arith) (omega (arith, few)))

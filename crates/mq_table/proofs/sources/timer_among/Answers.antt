@@ -1,6 +1,6 @@
 use Rattle.std.proofs.Common.{sym}
 use Rattle.mq_table.proofs.SourceLists.{get-found, get-absent}
-use Rattle.mq_held.proofs.held_group.timer_of.Goals as goal
+use Rattle.mq_table.proofs.sources.timer_among.Goals as goal
 
 pub returns-in-Ok-clause-timer : goal.returns-in-Ok-clause-timer
 returns-in-Ok-clause-timer g c =
