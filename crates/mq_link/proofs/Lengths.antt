@@ -1,5 +1,7 @@
 -- How many bytes a query has that one message holds.
-use Rattle.std.proofs.Common.{◌≡◌, ℕ, ◌+◌, ◌*◌, ◌≤◌, Bool, false, List, [], length, arith, ◌∙◌}
+use Rattle.std.proofs.Common.{◌≡◌, ℕ, ◌+◌, ◌*◌, ◌≤◌, ◌++◌, Bool, false, List, [], length, take, drop, arith, ◌∙◌}
+use Rattle.std.specs.List.{refill}
+use Rattle.std.proofs.lemmas.List.{take-append-le, take-take}
 use Rattle.mq_wire.specs.declared.query.QuerierFields.{QuerierFields}
 use Rattle.mq_wire.specs.Canon.{canon, first_bytes, without_checksum, covered_before}
 use Rattle.mq_wire.specs.Family.{Family, Igmp, Mld}
@@ -47,3 +49,9 @@ within_longest family terms (GroupQuery group s) fits =
     let t = terms.timing in length_sent family terms.own group t.last_member_interval t s [] (none_fits family)
 within_longest family terms (SourcesQuery group s sources) fits =
     let t = terms.timing in length_sent family terms.own group t.last_member_interval t s sources fits
+
+-- what stands in front of a list that was lent and given back
+pub written_back : (n count : ℕ) (before after : List ℕ) → count ≤ n → count ≤ length after → take count (refill n before after) ≡ take count after
+written_back n count before after within inside =
+    take-take count n (after ++ drop (length after) before) within
+    ∙ take-append-le count after (drop (length after) before) inside

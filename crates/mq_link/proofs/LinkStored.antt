@@ -71,11 +71,11 @@ stored_at_start config held election start counters scratch seen stored h = reco
 }
 
 -- each group is fit to be worked on, and the scratch has room for it
-pub served_in : {K : Type 0} (config : Configuration) (state : LinkState) (scratch : Scratch K) → IsWellFormed config state → HasRoom config.limits.group_sources scratch → AreServed scratch.before.room state.groups
+pub served_in : {K : Type 0} (config : Configuration) (state : LinkState) (scratch : Scratch K) → IsWellFormed config state → HasRoom config.limits.group_sources scratch → AreServed scratch.group.room state.groups
 served_in config state scratch h room group e is =
     let as_held = h.groups group e is in
     let few : sources_of e ≤ config.limits.group_sources = subst (λ x. sources_of (unwrap_or x unheld) ≤ config.limits.group_sources) is (h.within.group_sources group) in
-    let wide = room.before in
+    let wide = room.group in
     record { held = as_held.held; fits = as_held.fits; room_for = omega arith }
 
 -- places that were lent come back as many

@@ -4,7 +4,6 @@ use Rattle.mq_link.specs.declared.scratch.Scratch.{Scratch}
 
 -- room for a group of so many sources and a record that names no more, and for what both may make
 pub record HasRoom {K : Type 0} (sources : ℕ) (s : Scratch K) : Type 0 where
-  pub before : 2 * sources ≤ s.before.room
-  pub after : 2 * sources ≤ s.after.room
+  pub group : 2 * sources ≤ s.group.room
   pub named : sources ≤ s.named.room
   pub asked : 2 * sources ≤ vec_capacity s.asked

@@ -2,6 +2,9 @@
 
 ghost use Rattle.std.specs.Prelude.{◌≡◌};
 
+use std::fmt;
+use thiserror::Error;
+
 /// How much a link may hold at most.
 #[derive(Clone, Copy, Debug, PartialEq, Eq)]
 pub struct Limits {
@@ -71,23 +74,40 @@ pub enum LimitName {
     Scheduled,
 }
 
+impl fmt::Display for LimitName {
+    fn fmt<W: fmt::Write>(&self, f: &mut fmt::Formatter<W>) -> fmt::Result {
+        f.write_str(match self {
+            LimitName::Groups => "groups",
+            LimitName::GroupSources => "group_sources",
+            LimitName::Sources => "sources",
+            LimitName::Scheduled => "scheduled",
+        })
+    }
+}
+
 /// Why a configuration may not be: the first of these that holds.
-#[derive(Clone, Copy, Debug, PartialEq, Eq)]
+#[derive(Clone, Copy, Debug, PartialEq, Eq, Error)]
 pub enum ConfigFault {
     /// The robustness variable is outside of 1 to 7.
+    #[error("the robustness variable is not within 1 to 7")]
     Robustness,
     /// The query interval is outside of 1 to 31744 seconds.
+    #[error("the query interval is not within 1 to 31744 seconds")]
     QueryInterval,
     /// The query response interval is below one unit of its code, not below the query interval, or above the
     /// greatest value of the code.
+    #[error("the query response interval is not below the query interval, or no code says it")]
     ResponseInterval,
     /// The last member query interval is below one unit of its code or above the greatest value of the code.
+    #[error("no code says the last member query interval")]
     LastMember,
     /// A limit is out of its range.
+    #[error("the limit {which} is out of its range")]
     Limit {
         /// The first such limit.
         which: LimitName,
     },
     /// The router's own address is none that it may send queries from.
+    #[error("the router's own address is none that it may send queries from")]
     OwnAddress,
 }

@@ -105,7 +105,7 @@ fn take_message<F: Family, O: Outlet<F::Address>>(
     match message {
         Message::Query(query) => {
             let source = F::source(envelope);
-            hear(election, held, &mut scratch.before, source, query, now, m);
+            hear(election, held, &mut scratch.group, source, query, now, m);
             Received::Taken {
                 applied: 0,
                 ignored: 0,

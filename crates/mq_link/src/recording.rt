@@ -26,11 +26,11 @@ use crate::family::Family;
 use crate::refusing::refusal;
 use crate::scratch::Scratch;
 use crate::statements::{Muting, Said};
-use crate::storing::{keep, load};
+use crate::storing::{keep, look};
 use mq_count::{Meter, Moment};
 use mq_held::HeldGroups;
 use mq_sched::{Election, Sink};
-use mq_table::Kind;
+use mq_table::{Head, Kind};
 use mq_wire::WireKey;
 
 /// What became of a statement.
@@ -106,26 +106,32 @@ pub(crate) fn apply<F: Family, S: Sink<F::Address>>(
         v1_mutes_leave: F::V1_MUTES_LEAVE,
         is_muted: is_muted(config, group, said),
     };
-    let before = load(held, group, found, &mut scratch.before);
+    let stored = look(held, group, found);
+    let head = Head {
+        mode: stored.mode,
+        v1: stored.v1,
+        v2: stored.v2,
+    };
     let asks_group = change(
-        &scratch.before,
+        &head,
+        stored.sources,
         said,
         &mut scratch.named,
         muting,
         now,
         &timing,
-        &mut scratch.after,
+        &mut scratch.group,
         &mut scratch.asked,
         m,
     );
     let Some(asks_group) = asks_group else {
         return Fate::Ignored;
     };
-    let mut schedule = before;
+    let mut schedule = stored.schedule;
     let asked = scratch.asked.as_slice();
     ask(
         &mut schedule,
-        &mut scratch.after,
+        &mut scratch.group,
         asks_group,
         asked,
         election.is_querier(),
@@ -138,9 +144,9 @@ pub(crate) fn apply<F: Family, S: Sink<F::Address>>(
         &limits,
         held,
         is_held,
-        &scratch.before,
-        before,
-        &scratch.after,
+        stored.sources.len(),
+        stored.schedule,
+        &scratch.group,
         schedule,
         now,
         m,
@@ -149,13 +155,13 @@ pub(crate) fn apply<F: Family, S: Sink<F::Address>>(
     }
     schedule.round(
         group,
-        &mut scratch.after,
+        &mut scratch.group,
         now,
         &timing,
         F::Address::PER_QUERY,
         m,
         sink,
     );
-    keep(held, group, found, &scratch.after, schedule, m);
+    keep(held, group, found, &scratch.group, schedule, m);
     Fate::Applied
 }

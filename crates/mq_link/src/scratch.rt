@@ -8,12 +8,11 @@ use mq_sets::{Memory, SourceSet};
 use mq_table::Group;
 use std::alloc::Global;
 
-/// A group before and after it is worked on, the sources that a record names, and those to ask for, with room for what
-/// one record may bring.
+/// A group that is worked on, the sources that a record names, and those to ask for, with room for what one record may
+/// bring.
 #[derive(Drop)]
 pub(crate) struct Scratch<K: Key> {
-    pub(crate) before: Group<K>,
-    pub(crate) after: Group<K>,
+    pub(crate) group: Group<K>,
     pub(crate) named: SourceSet<K>,
     pub(crate) asked: Vec<K>,
 }
@@ -28,8 +27,7 @@ impl<K: Key> Scratch<K> {
             return Err(Memory);
         };
         Ok(Scratch {
-            before: Group::with_room(alloc, both)?,
-            after: Group::with_room(alloc, both)?,
+            group: Group::with_room(alloc, both)?,
             named: SourceSet::with_room(alloc, sources)?,
             asked: Vec::with_capacity(alloc, both)?,
         })

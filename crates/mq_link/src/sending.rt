@@ -14,6 +14,7 @@ ghost use Rattle.mq_link.specs.State.{one_if};
 use crate::config::Config;
 use crate::family::Family;
 use crate::outlet::Outlet;
+use arrayvec::ArrayVec;
 use mq_sched::{QueryParts, Sink};
 use mq_table::Timing;
 use mq_wire::{Qrv, QuerierFields, Query, QueryVersion, Sources, WireKey};
@@ -111,6 +112,7 @@ impl<F: Family> QueryTerms<F> {
         ensures to { F.Address.number result.0
             ≡ (outgoing_on F.FAMILY self.now (query_of F.Address.number query.entry)).to }
         ensures within { result.1 ≤ 1476 }
+        ensures len { length out.new ≡ length out.old }
         ensures bytes { take result.1 out.new
             ≡ (outgoing_on F.FAMILY self.now (query_of F.Address.number query.entry)).bytes }
     {
@@ -237,8 +239,8 @@ impl<'a, F: Family, O: Outlet<F::Address>> Sink<F::Address> for Sender<'a, F, O>
         if !fits_one::<F>(&query) {
             return false;
         }
-        let mut out = [0; LONGEST];
-        let (to, length) = self.terms.write(query, &mut out);
-        self.hand_over(to, &out[..length])
+        let mut out = ArrayVec::from([0; LONGEST]);
+        let (to, length) = self.terms.write(query, out.as_mut_slice());
+        self.hand_over(to, &out.as_slice()[..length])
     }
 }

@@ -1,46 +1,46 @@
-//! How a group is taken from the storage and put back.
+//! How a group is looked at in the storage and put back.
 
-ghost use Rattle.std.specs.Prelude.{◌≡◌, ℕ, ◌+◌, ◌-◌, ◌<◌, ◌≤◌, false, MatchResult};
+ghost use Rattle.std.specs.Prelude.{◌≡◌, ℕ, ◌+◌, ◌-◌, ◌<◌, ◌≤◌, false, length, MatchResult};
 ghost use Rattle.std.specs.FinMap as map;
 ghost use Rattle.mq_count.specs.Spending.{Spends};
+ghost use Rattle.mq_sets.specs.Ascending.{IsAscending};
 ghost use Rattle.mq_sets.specs.Search.{bitlen};
-ghost use Rattle.mq_table.specs.Group.{is_vacant, IsWellFormed as IsHeld};
-ghost use Rattle.mq_table.specs.Stored.{size_of};
+ghost use Rattle.mq_table.specs.Group.{GroupState, is_vacant, IsWellFormed as IsHeld};
+ghost use Rattle.mq_table.specs.Stored.{number_in, size_of, timers_in};
 ghost use Rattle.mq_sched.specs.Schedule.{ScheduledGroup};
 ghost use Rattle.mq_held.specs.Groups.{group_at, sources_of, sources_in, with_group};
 ghost use Rattle.mq_held.specs.Places.{HasPlace, GoesAt};
 
 use mq_count::{Key, Meter};
-use mq_held::HeldGroups;
+use mq_held::{HeldGroup, HeldGroups};
 use mq_sched::Schedule;
-use mq_table::{FilterMode, Group, Head};
+use mq_table::{FilterMode, Group};
 
-/// Writes the group of an address, whose place was looked for, into `into`, and answers its schedule. A group that isn't
-/// held is INCLUDE without sources, and nothing is due for it. No comparison.
-pub(crate) fn load<K: Key>(
-    held: &HeldGroups<K>,
+/// The group of an address, whose place was looked for, as it stands in the storage. One that isn't held is INCLUDE without
+/// sources, and nothing is due for it. No comparison.
+pub(crate) fn look<'a, K: Key>(
+    held: &'a HeldGroups<K>,
     address: K,
     found: Result<usize, usize>,
-    into: &mut Group<K>,
-) -> Schedule
+) -> HeldGroup<'a, K>
     requires found { MatchResult found (HasPlace held.now.groups (K.number address)) (GoesAt held.now.groups (K.number address)) }
-    requires room { sources_of (group_at held.now.groups (K.number address)) ≤ into.old.room }
-    ensures group { let e : ScheduledGroup = record { group = into.new.state; schedule = result } in
+    ensures group { let timers = timers_in K.number result.sources.now in
+        let g : GroupState = record { mode = result.mode; sources = timers; v1 = result.v1; v2 = result.v2 } in
+        let e : ScheduledGroup = record { group = g; schedule = result.schedule } in
         e ≡ group_at held.now.groups (K.number address) }
-    ensures room { into.old.room ≤ into.new.room }
+    ensures ascending { IsAscending (number_in K.number) result.sources.now }
+    ensures len { length result.sources.now ≡ sources_of (group_at held.now.groups (K.number address)) }
 {
     match found {
-        Ok(place) => held.load(place, into),
-        Err(_) => {
-            let vacant = Head {
-                mode: FilterMode::Include,
-                v1: None,
-                v2: None,
-            };
-            let no_sources = [];
-            into.load(vacant, &no_sources);
-            Schedule::none()
-        }
+        Ok(place) => held.entry(place),
+        Err(_) => HeldGroup {
+            address,
+            mode: FilterMode::Include,
+            sources: &[],
+            v1: None,
+            v2: None,
+            schedule: Schedule::none(),
+        },
     }
 }
 

@@ -1,7 +1,9 @@
 -- The texts of a replay, in parts.
-use Rattle.std.proofs.Common.{◌≡◌, ℕ, List, [], ◌∷◌, ◌++◌, refl, ap, ◌∙◌}
+use Rattle.std.proofs.Common.{◌≡◌, ℕ, ◌+◌, List, [], ◌∷◌, ◌++◌, take, drop, refl, sym, ap, ◌∙◌}
 use Rattle.std.specs.Prelude.{map as list_map}
 use Rattle.std.specs.List.{flat_map}
+use Rattle.std.proofs.lemmas.List.Concat.{flat_map-append}
+use Rattle.std.proofs.Math.Seq.{take-add}
 use Rattle.hex.specs.Hex.{encode_with, encode_lower}
 use Rattle.mq_wire.specs.Family.{Family}
 use Rattle.mq_sets.specs.Ascending.{IsAscending}
@@ -23,6 +25,14 @@ pub encode_lower-each : (bytes : List ℕ) → encode_lower bytes ≡ flat_map b
 unfolding encode_with
 encode_lower-each [] = refl
 encode_lower-each (byte ∷ bytes) = ap (λ (rest : List ℕ). byte_text byte ++ rest) (encode_lower-each bytes)
+
+-- and so are some more of them
+pub encode_lower-next : (bytes : List ℕ) (done count : ℕ) → flat_map byte_text (take (done + count) bytes) ≡ flat_map byte_text (take done bytes) ++ encode_lower (take count (drop done bytes))
+encode_lower-next bytes done count =
+    let first : List ℕ = take done bytes in
+    let next : List ℕ = take count (drop done bytes) in
+    ap (flat_map byte_text) (take-add done count bytes) ∙ flat_map-append byte_text first next
+    ∙ ap (λ (t : List ℕ). flat_map byte_text first ++ t) (sym (encode_lower-each next))
 
 -- the sources of a stored group are in the order of their addresses
 module _ {K : Type 0} (number : K → ℕ) (family : Family) where

@@ -2,7 +2,7 @@ use Rattle.std.proofs.Common.{◌≡◌, ◌+◌, ◌*◌, length, refl, sym, ap
 use Rattle.std.specs.FinMap as map
 use Rattle.mq_count.proofs.Spent.{Spends-within, Spends-join_within}
 use Rattle.mq_sets.specs.Ascending.{IsAscending, set_of}
-use Rattle.mq_table.specs.Stored.{named_in, size_of}
+use Rattle.mq_table.specs.Stored.{named_in, size_of, timers_in}
 use Rattle.mq_table.specs.Table.{GroupChange}
 use Rattle.mq_sched.specs.Schedule.{ScheduledGroup}
 use Rattle.mq_sched.specs.Sending.{messages_due, after_change, after_round}
@@ -25,12 +25,13 @@ returns-in_default-clause-fate g c =
     let groups = c.args.held.now.groups in
     let names = named_in g.F.Address.Key.number c.args.scratch.now.named.members in
     let st = statement_of c.args.said names in
-    let before : ScheduledGroup = record { group = c.load-before.new.into.state; schedule = c.load-before.result } in
+    let stored = c.look-stored.result in
+    let before : ScheduledGroup = record { group = record { mode = stored.mode; sources = timers_in g.F.Address.Key.number stored.sources.now; v1 = stored.v1; v2 = stored.v2 }; schedule = stored.schedule } in
     let mutes = c.V1_MUTES_LEAVE.ensures ∙ g.met.F.Family.v1_mutes_leave ∙ ap v1_mutes_leave (sym c.is_faultless.ensures.family) in
     let muted = c.is_muted.ensures names in
     let written = c.change-asks_group in
     let none = (λ i. change_stated (sym mutes i) (sym muted i) (sym c.timing-timing.ensures i) c.args.now st before.group) ∙ written.ensures.changes ∙ ap (change_written g.F.Address.Key.number written.new.into.state written.new.asked.items) c.in_default.is in
-    let is = stated_ignored at address st groups before c.load-before.ensures.group none in
+    let is = stated_ignored at address st groups before c.look-stored.ensures.group none in
     ap (λ (o : Outcome). o.verdict) (sym is)
 
 pub returns-in_default-clause-groups : goal.returns-in_default-clause-groups
@@ -40,12 +41,13 @@ returns-in_default-clause-groups g c =
     let groups = c.args.held.now.groups in
     let names = named_in g.F.Address.Key.number c.args.scratch.now.named.members in
     let st = statement_of c.args.said names in
-    let before : ScheduledGroup = record { group = c.load-before.new.into.state; schedule = c.load-before.result } in
+    let stored = c.look-stored.result in
+    let before : ScheduledGroup = record { group = record { mode = stored.mode; sources = timers_in g.F.Address.Key.number stored.sources.now; v1 = stored.v1; v2 = stored.v2 }; schedule = stored.schedule } in
     let mutes = c.V1_MUTES_LEAVE.ensures ∙ g.met.F.Family.v1_mutes_leave ∙ ap v1_mutes_leave (sym c.is_faultless.ensures.family) in
     let muted = c.is_muted.ensures names in
     let written = c.change-asks_group in
     let none = (λ i. change_stated (sym mutes i) (sym muted i) (sym c.timing-timing.ensures i) c.args.now st before.group) ∙ written.ensures.changes ∙ ap (change_written g.F.Address.Key.number written.new.into.state written.new.asked.items) c.in_default.is in
-    let is = stated_ignored at address st groups before c.load-before.ensures.group none in
+    let is = stated_ignored at address st groups before c.look-stored.ensures.group none in
     ap (λ (o : Outcome). o.groups) (sym is)
 
 pub returns-in_default-clause-sent : goal.returns-in_default-clause-sent
@@ -55,12 +57,13 @@ returns-in_default-clause-sent g c =
     let groups = c.args.held.now.groups in
     let names = named_in g.F.Address.Key.number c.args.scratch.now.named.members in
     let st = statement_of c.args.said names in
-    let before : ScheduledGroup = record { group = c.load-before.new.into.state; schedule = c.load-before.result } in
+    let stored = c.look-stored.result in
+    let before : ScheduledGroup = record { group = record { mode = stored.mode; sources = timers_in g.F.Address.Key.number stored.sources.now; v1 = stored.v1; v2 = stored.v2 }; schedule = stored.schedule } in
     let mutes = c.V1_MUTES_LEAVE.ensures ∙ g.met.F.Family.v1_mutes_leave ∙ ap v1_mutes_leave (sym c.is_faultless.ensures.family) in
     let muted = c.is_muted.ensures names in
     let written = c.change-asks_group in
     let none = (λ i. change_stated (sym mutes i) (sym muted i) (sym c.timing-timing.ensures i) c.args.now st before.group) ∙ written.ensures.changes ∙ ap (change_written g.F.Address.Key.number written.new.into.state written.new.asked.items) c.in_default.is in
-    let is = stated_ignored at address st groups before c.load-before.ensures.group none in
+    let is = stated_ignored at address st groups before c.look-stored.ensures.group none in
     subst (λ (o : Outcome). Sends g.S.Sink.takes c.args.sink.now o.queries c.args.sink.now) (sym is) refl
 
 pub ask-requires-clause-ascending : goal.ask-requires-clause-ascending
@@ -73,7 +76,8 @@ refusal-requires-clause-few g c =
     let groups = c.args.held.now.groups in
     let names = named_in g.F.Address.Key.number c.args.scratch.now.named.members in
     let st = statement_of c.args.said names in
-    let before : ScheduledGroup = record { group = c.load-before.new.into.state; schedule = c.load-before.result } in
+    let stored = c.look-stored.result in
+    let before : ScheduledGroup = record { group = record { mode = stored.mode; sources = timers_in g.F.Address.Key.number stored.sources.now; v1 = stored.v1; v2 = stored.v2 }; schedule = stored.schedule } in
     let mutes = c.V1_MUTES_LEAVE.ensures ∙ g.met.F.Family.v1_mutes_leave ∙ ap v1_mutes_leave (sym c.is_faultless.ensures.family) in
     let muted = c.is_muted.ensures names in
     let written = c.change-asks_group in
@@ -81,7 +85,7 @@ refusal-requires-clause-few g c =
     let change : GroupChange = record { group = written.new.into.state; query = set_of g.F.Address.Key.number written.new.asked.items; query_group = c.in-Some.asks_group } in
     let asked_is : asked ≡ after_change c.is_querier.result c.timing-timing.result c.args.now change before.schedule = c.ask.ensures.asked ∙ ap (λ items. after_change c.is_querier.result c.timing-timing.result c.args.now (record { group = written.new.into.state; query = set_of g.F.Address.Key.number items; query_group = c.in-Some.asks_group }) before.schedule) c.as_slice-asked.ensures.value in
     let few = made_few g.F.Address.Key.number c.V1_MUTES_LEAVE.result c.is_muted.result c.timing-timing.result c.args.now c.args.said c.args.scratch.now.named.members before written.new.into.state written.new.asked.items written.result c.in-Some.asks_group c.is_querier.result asked written.ensures.changes c.in-Some.is asked_is in
-    let size_before = ap (λ (e : ScheduledGroup). size_of e.group) c.load-before.ensures.group in
+    let size_before = ap (λ (e : ScheduledGroup). size_of e.group) c.look-stored.ensures.group in
     let most = few_sources c.args.config.now c.is_faultless.ensures.faultless in
     let within = c.requires.sound.within.group_sources address in
     let named = c.requires.named in
@@ -90,7 +94,7 @@ refusal-requires-clause-few g c =
     omega (arith, most, within, named, size_before, a, b)
 
 pub refusal-requires-clause-before : goal.refusal-requires-clause-before
-refusal-requires-clause-before g c = (g.F.Address.Key.number c.args.group, held_by_place c.args.held.now.groups (g.F.Address.Key.number c.args.group) c.args.found c.requires.found ∙ sym c.is_ok-is_held.ensures.value, sym c.load-before.ensures.group)
+refusal-requires-clause-before g c = (g.F.Address.Key.number c.args.group, held_by_place c.args.held.now.groups (g.F.Address.Key.number c.args.group) c.args.found c.requires.found ∙ sym c.is_ok-is_held.ensures.value, sym c.look-stored.ensures.len, ap (λ (e : ScheduledGroup). e.schedule) (sym c.look-stored.ensures.group))
 
 pub returns-in-Some-refusal-clause-fate : goal.returns-in-Some-refusal-clause-fate
 returns-in-Some-refusal-clause-fate g c =
@@ -99,16 +103,17 @@ returns-in-Some-refusal-clause-fate g c =
     let groups = c.args.held.now.groups in
     let names = named_in g.F.Address.Key.number c.args.scratch.now.named.members in
     let st = statement_of c.args.said names in
-    let before : ScheduledGroup = record { group = c.load-before.new.into.state; schedule = c.load-before.result } in
+    let stored = c.look-stored.result in
+    let before : ScheduledGroup = record { group = record { mode = stored.mode; sources = timers_in g.F.Address.Key.number stored.sources.now; v1 = stored.v1; v2 = stored.v2 }; schedule = stored.schedule } in
     let mutes = c.V1_MUTES_LEAVE.ensures ∙ g.met.F.Family.v1_mutes_leave ∙ ap v1_mutes_leave (sym c.is_faultless.ensures.family) in
     let muted = c.is_muted.ensures names in
     let written = c.change-asks_group in
     let asked : ScheduledGroup = record { group = c.ask.new.group.state; schedule = c.ask.new.schedule } in
     let change : GroupChange = record { group = written.new.into.state; query = set_of g.F.Address.Key.number written.new.asked.items; query_group = c.in-Some.asks_group } in
     let asked_is : asked ≡ after_change c.is_querier.result c.timing-timing.result c.args.now change before.schedule = c.ask.ensures.asked ∙ ap (λ items. after_change c.is_querier.result c.timing-timing.result c.args.now (record { group = written.new.into.state; query = set_of g.F.Address.Key.number items; query_group = c.in-Some.asks_group }) before.schedule) c.as_slice-asked.ensures.value in
-    let name = c.refusal.ensures.name at.election.timing address (held_by_place groups address c.args.found c.requires.found ∙ sym c.is_ok-is_held.ensures.value) (sym c.load-before.ensures.group) in
+    let name = c.refusal.ensures.name at.election.timing address (held_by_place groups address c.args.found c.requires.found ∙ sym c.is_ok-is_held.ensures.value) (sym c.look-stored.ensures.len) (ap (λ (e : ScheduledGroup). e.schedule) (sym c.look-stored.ensures.group)) in
     let passed_is = name ∙ ap (λ limits. limit_passed limits (with_group groups address (after_round at.election.timing at.now asked)) (after_round at.election.timing at.now asked)) c.limits-limits.ensures in
-    let did = is_changed g.F.Address.Key.number at address st groups written.new.into.state written.new.asked.items written.result c.in-Some.asks_group before asked c.refusal.result c.V1_MUTES_LEAVE.result c.is_muted.result c.is_querier.result c.timing-timing.result mutes muted c.is_querier.ensures c.timing-timing.ensures c.load-before.ensures.group written.ensures.changes c.in-Some.is asked_is passed_is in
+    let did = is_changed g.F.Address.Key.number at address st groups written.new.into.state written.new.asked.items written.result c.in-Some.asks_group before asked c.refusal.result c.V1_MUTES_LEAVE.result c.is_muted.result c.is_querier.result c.timing-timing.result mutes muted c.is_querier.ensures c.timing-timing.ensures c.look-stored.ensures.group written.ensures.changes c.in-Some.is asked_is passed_is in
     let is = stated_judged at address st groups before change asked c.refusal.result did ∙ ap (λ p. unless_passed p groups (with_group groups address (after_sending at asked)) (sent_at_once at address asked)) c.in-Some-refusal.is in
     ap (λ (o : Outcome). o.verdict) (sym is)
 
@@ -119,16 +124,17 @@ returns-in-Some-refusal-clause-groups g c =
     let groups = c.args.held.now.groups in
     let names = named_in g.F.Address.Key.number c.args.scratch.now.named.members in
     let st = statement_of c.args.said names in
-    let before : ScheduledGroup = record { group = c.load-before.new.into.state; schedule = c.load-before.result } in
+    let stored = c.look-stored.result in
+    let before : ScheduledGroup = record { group = record { mode = stored.mode; sources = timers_in g.F.Address.Key.number stored.sources.now; v1 = stored.v1; v2 = stored.v2 }; schedule = stored.schedule } in
     let mutes = c.V1_MUTES_LEAVE.ensures ∙ g.met.F.Family.v1_mutes_leave ∙ ap v1_mutes_leave (sym c.is_faultless.ensures.family) in
     let muted = c.is_muted.ensures names in
     let written = c.change-asks_group in
     let asked : ScheduledGroup = record { group = c.ask.new.group.state; schedule = c.ask.new.schedule } in
     let change : GroupChange = record { group = written.new.into.state; query = set_of g.F.Address.Key.number written.new.asked.items; query_group = c.in-Some.asks_group } in
     let asked_is : asked ≡ after_change c.is_querier.result c.timing-timing.result c.args.now change before.schedule = c.ask.ensures.asked ∙ ap (λ items. after_change c.is_querier.result c.timing-timing.result c.args.now (record { group = written.new.into.state; query = set_of g.F.Address.Key.number items; query_group = c.in-Some.asks_group }) before.schedule) c.as_slice-asked.ensures.value in
-    let name = c.refusal.ensures.name at.election.timing address (held_by_place groups address c.args.found c.requires.found ∙ sym c.is_ok-is_held.ensures.value) (sym c.load-before.ensures.group) in
+    let name = c.refusal.ensures.name at.election.timing address (held_by_place groups address c.args.found c.requires.found ∙ sym c.is_ok-is_held.ensures.value) (sym c.look-stored.ensures.len) (ap (λ (e : ScheduledGroup). e.schedule) (sym c.look-stored.ensures.group)) in
     let passed_is = name ∙ ap (λ limits. limit_passed limits (with_group groups address (after_round at.election.timing at.now asked)) (after_round at.election.timing at.now asked)) c.limits-limits.ensures in
-    let did = is_changed g.F.Address.Key.number at address st groups written.new.into.state written.new.asked.items written.result c.in-Some.asks_group before asked c.refusal.result c.V1_MUTES_LEAVE.result c.is_muted.result c.is_querier.result c.timing-timing.result mutes muted c.is_querier.ensures c.timing-timing.ensures c.load-before.ensures.group written.ensures.changes c.in-Some.is asked_is passed_is in
+    let did = is_changed g.F.Address.Key.number at address st groups written.new.into.state written.new.asked.items written.result c.in-Some.asks_group before asked c.refusal.result c.V1_MUTES_LEAVE.result c.is_muted.result c.is_querier.result c.timing-timing.result mutes muted c.is_querier.ensures c.timing-timing.ensures c.look-stored.ensures.group written.ensures.changes c.in-Some.is asked_is passed_is in
     let is = stated_judged at address st groups before change asked c.refusal.result did ∙ ap (λ p. unless_passed p groups (with_group groups address (after_sending at asked)) (sent_at_once at address asked)) c.in-Some-refusal.is in
     ap (λ (o : Outcome). o.groups) (sym is)
 
@@ -139,16 +145,17 @@ returns-in-Some-refusal-clause-sent g c =
     let groups = c.args.held.now.groups in
     let names = named_in g.F.Address.Key.number c.args.scratch.now.named.members in
     let st = statement_of c.args.said names in
-    let before : ScheduledGroup = record { group = c.load-before.new.into.state; schedule = c.load-before.result } in
+    let stored = c.look-stored.result in
+    let before : ScheduledGroup = record { group = record { mode = stored.mode; sources = timers_in g.F.Address.Key.number stored.sources.now; v1 = stored.v1; v2 = stored.v2 }; schedule = stored.schedule } in
     let mutes = c.V1_MUTES_LEAVE.ensures ∙ g.met.F.Family.v1_mutes_leave ∙ ap v1_mutes_leave (sym c.is_faultless.ensures.family) in
     let muted = c.is_muted.ensures names in
     let written = c.change-asks_group in
     let asked : ScheduledGroup = record { group = c.ask.new.group.state; schedule = c.ask.new.schedule } in
     let change : GroupChange = record { group = written.new.into.state; query = set_of g.F.Address.Key.number written.new.asked.items; query_group = c.in-Some.asks_group } in
     let asked_is : asked ≡ after_change c.is_querier.result c.timing-timing.result c.args.now change before.schedule = c.ask.ensures.asked ∙ ap (λ items. after_change c.is_querier.result c.timing-timing.result c.args.now (record { group = written.new.into.state; query = set_of g.F.Address.Key.number items; query_group = c.in-Some.asks_group }) before.schedule) c.as_slice-asked.ensures.value in
-    let name = c.refusal.ensures.name at.election.timing address (held_by_place groups address c.args.found c.requires.found ∙ sym c.is_ok-is_held.ensures.value) (sym c.load-before.ensures.group) in
+    let name = c.refusal.ensures.name at.election.timing address (held_by_place groups address c.args.found c.requires.found ∙ sym c.is_ok-is_held.ensures.value) (sym c.look-stored.ensures.len) (ap (λ (e : ScheduledGroup). e.schedule) (sym c.look-stored.ensures.group)) in
     let passed_is = name ∙ ap (λ limits. limit_passed limits (with_group groups address (after_round at.election.timing at.now asked)) (after_round at.election.timing at.now asked)) c.limits-limits.ensures in
-    let did = is_changed g.F.Address.Key.number at address st groups written.new.into.state written.new.asked.items written.result c.in-Some.asks_group before asked c.refusal.result c.V1_MUTES_LEAVE.result c.is_muted.result c.is_querier.result c.timing-timing.result mutes muted c.is_querier.ensures c.timing-timing.ensures c.load-before.ensures.group written.ensures.changes c.in-Some.is asked_is passed_is in
+    let did = is_changed g.F.Address.Key.number at address st groups written.new.into.state written.new.asked.items written.result c.in-Some.asks_group before asked c.refusal.result c.V1_MUTES_LEAVE.result c.is_muted.result c.is_querier.result c.timing-timing.result mutes muted c.is_querier.ensures c.timing-timing.ensures c.look-stored.ensures.group written.ensures.changes c.in-Some.is asked_is passed_is in
     let is = stated_judged at address st groups before change asked c.refusal.result did ∙ ap (λ p. unless_passed p groups (with_group groups address (after_sending at asked)) (sent_at_once at address asked)) c.in-Some-refusal.is in
     subst (λ (o : Outcome). Sends g.S.Sink.takes c.args.sink.now o.queries c.args.sink.now) (sym is) refl
 
@@ -159,7 +166,8 @@ returns-in-Some-refusal-clause-spent g c =
     let groups = c.args.held.now.groups in
     let names = named_in g.F.Address.Key.number c.args.scratch.now.named.members in
     let st = statement_of c.args.said names in
-    let before : ScheduledGroup = record { group = c.load-before.new.into.state; schedule = c.load-before.result } in
+    let stored = c.look-stored.result in
+    let before : ScheduledGroup = record { group = record { mode = stored.mode; sources = timers_in g.F.Address.Key.number stored.sources.now; v1 = stored.v1; v2 = stored.v2 }; schedule = stored.schedule } in
     let mutes = c.V1_MUTES_LEAVE.ensures ∙ g.met.F.Family.v1_mutes_leave ∙ ap v1_mutes_leave (sym c.is_faultless.ensures.family) in
     let muted = c.is_muted.ensures names in
     let written = c.change-asks_group in
@@ -167,11 +175,11 @@ returns-in-Some-refusal-clause-spent g c =
     let change : GroupChange = record { group = written.new.into.state; query = set_of g.F.Address.Key.number written.new.asked.items; query_group = c.in-Some.asks_group } in
     let asked_is : asked ≡ after_change c.is_querier.result c.timing-timing.result c.args.now change before.schedule = c.ask.ensures.asked ∙ ap (λ items. after_change c.is_querier.result c.timing-timing.result c.args.now (record { group = written.new.into.state; query = set_of g.F.Address.Key.number items; query_group = c.in-Some.asks_group }) before.schedule) c.as_slice-asked.ensures.value in
     let few = made_few g.F.Address.Key.number c.V1_MUTES_LEAVE.result c.is_muted.result c.timing-timing.result c.args.now c.args.said c.args.scratch.now.named.members before written.new.into.state written.new.asked.items written.result c.in-Some.asks_group c.is_querier.result asked written.ensures.changes c.in-Some.is asked_is in
-    let size_before = ap (λ (e : ScheduledGroup). size_of e.group) c.load-before.ensures.group in
+    let size_before = ap (λ (e : ScheduledGroup). size_of e.group) c.look-stored.ensures.group in
     let a = few.changed in
     let b = few.asked in
     let work = least_work at address st groups in
-    let spent = worked at address st groups before c.V1_MUTES_LEAVE.result c.is_muted.result _ _ _ mutes muted c.load-before.ensures.group written.ensures.spent in
+    let spent = worked at address st groups before c.V1_MUTES_LEAVE.result c.is_muted.result _ _ _ mutes muted c.look-stored.ensures.group written.ensures.spent in
     let changed = Spends-join_within work (3 * (size_of before.group + length c.args.scratch.now.named.members) + 3) spent c.ask.ensures.spent (omega arith) (omega (arith, a)) in
     let judged = Spends-join_within work (3 * (size_of before.group + length c.args.scratch.now.named.members) + 5) changed c.refusal.ensures.spent (omega arith) (omega arith) in
     Spends-within work _ judged (omega arith) (omega (arith, size_before))
@@ -183,16 +191,17 @@ keep-requires-clause-held g c =
     let groups = c.args.held.now.groups in
     let names = named_in g.F.Address.Key.number c.args.scratch.now.named.members in
     let st = statement_of c.args.said names in
-    let before : ScheduledGroup = record { group = c.load-before.new.into.state; schedule = c.load-before.result } in
+    let stored = c.look-stored.result in
+    let before : ScheduledGroup = record { group = record { mode = stored.mode; sources = timers_in g.F.Address.Key.number stored.sources.now; v1 = stored.v1; v2 = stored.v2 }; schedule = stored.schedule } in
     let mutes = c.V1_MUTES_LEAVE.ensures ∙ g.met.F.Family.v1_mutes_leave ∙ ap v1_mutes_leave (sym c.is_faultless.ensures.family) in
     let muted = c.is_muted.ensures names in
     let written = c.change-asks_group in
     let asked : ScheduledGroup = record { group = c.ask.new.group.state; schedule = c.ask.new.schedule } in
     let change : GroupChange = record { group = written.new.into.state; query = set_of g.F.Address.Key.number written.new.asked.items; query_group = c.in-Some.asks_group } in
     let asked_is : asked ≡ after_change c.is_querier.result c.timing-timing.result c.args.now change before.schedule = c.ask.ensures.asked ∙ ap (λ items. after_change c.is_querier.result c.timing-timing.result c.args.now (record { group = written.new.into.state; query = set_of g.F.Address.Key.number items; query_group = c.in-Some.asks_group }) before.schedule) c.as_slice-asked.ensures.value in
-    let name = c.refusal.ensures.name at.election.timing address (held_by_place groups address c.args.found c.requires.found ∙ sym c.is_ok-is_held.ensures.value) (sym c.load-before.ensures.group) in
+    let name = c.refusal.ensures.name at.election.timing address (held_by_place groups address c.args.found c.requires.found ∙ sym c.is_ok-is_held.ensures.value) (sym c.look-stored.ensures.len) (ap (λ (e : ScheduledGroup). e.schedule) (sym c.look-stored.ensures.group)) in
     let passed_is = name ∙ ap (λ limits. limit_passed limits (with_group groups address (after_round at.election.timing at.now asked)) (after_round at.election.timing at.now asked)) c.limits-limits.ensures in
-    let did = is_changed g.F.Address.Key.number at address st groups written.new.into.state written.new.asked.items written.result c.in-Some.asks_group before asked c.refusal.result c.V1_MUTES_LEAVE.result c.is_muted.result c.is_querier.result c.timing-timing.result mutes muted c.is_querier.ensures c.timing-timing.ensures c.load-before.ensures.group written.ensures.changes c.in-Some.is asked_is passed_is in
+    let did = is_changed g.F.Address.Key.number at address st groups written.new.into.state written.new.asked.items written.result c.in-Some.asks_group before asked c.refusal.result c.V1_MUTES_LEAVE.result c.is_muted.result c.is_querier.result c.timing-timing.result mutes muted c.is_querier.ensures c.timing-timing.ensures c.look-stored.ensures.group written.ensures.changes c.in-Some.is asked_is passed_is in
     let left : ScheduledGroup = record { group = c.round.new.group.state; schedule = c.round.new.self } in
     let left_is : left ≡ after_round at.election.timing c.args.now asked = c.round.ensures.after ∙ ap (λ t. after_round t c.args.now asked) c.timing-timing.ensures in
     kept_is_held at address st groups before change asked c.refusal.result did c.requires.positive c.requires.admitted c.requires.sound left left_is
@@ -204,16 +213,17 @@ keep-requires-clause-room g c =
     let groups = c.args.held.now.groups in
     let names = named_in g.F.Address.Key.number c.args.scratch.now.named.members in
     let st = statement_of c.args.said names in
-    let before : ScheduledGroup = record { group = c.load-before.new.into.state; schedule = c.load-before.result } in
+    let stored = c.look-stored.result in
+    let before : ScheduledGroup = record { group = record { mode = stored.mode; sources = timers_in g.F.Address.Key.number stored.sources.now; v1 = stored.v1; v2 = stored.v2 }; schedule = stored.schedule } in
     let mutes = c.V1_MUTES_LEAVE.ensures ∙ g.met.F.Family.v1_mutes_leave ∙ ap v1_mutes_leave (sym c.is_faultless.ensures.family) in
     let muted = c.is_muted.ensures names in
     let written = c.change-asks_group in
     let asked : ScheduledGroup = record { group = c.ask.new.group.state; schedule = c.ask.new.schedule } in
     let change : GroupChange = record { group = written.new.into.state; query = set_of g.F.Address.Key.number written.new.asked.items; query_group = c.in-Some.asks_group } in
     let asked_is : asked ≡ after_change c.is_querier.result c.timing-timing.result c.args.now change before.schedule = c.ask.ensures.asked ∙ ap (λ items. after_change c.is_querier.result c.timing-timing.result c.args.now (record { group = written.new.into.state; query = set_of g.F.Address.Key.number items; query_group = c.in-Some.asks_group }) before.schedule) c.as_slice-asked.ensures.value in
-    let name = c.refusal.ensures.name at.election.timing address (held_by_place groups address c.args.found c.requires.found ∙ sym c.is_ok-is_held.ensures.value) (sym c.load-before.ensures.group) in
+    let name = c.refusal.ensures.name at.election.timing address (held_by_place groups address c.args.found c.requires.found ∙ sym c.is_ok-is_held.ensures.value) (sym c.look-stored.ensures.len) (ap (λ (e : ScheduledGroup). e.schedule) (sym c.look-stored.ensures.group)) in
     let passed_is = name ∙ ap (λ limits. limit_passed limits (with_group groups address (after_round at.election.timing at.now asked)) (after_round at.election.timing at.now asked)) c.limits-limits.ensures in
-    let did = is_changed g.F.Address.Key.number at address st groups written.new.into.state written.new.asked.items written.result c.in-Some.asks_group before asked c.refusal.result c.V1_MUTES_LEAVE.result c.is_muted.result c.is_querier.result c.timing-timing.result mutes muted c.is_querier.ensures c.timing-timing.ensures c.load-before.ensures.group written.ensures.changes c.in-Some.is asked_is passed_is in
+    let did = is_changed g.F.Address.Key.number at address st groups written.new.into.state written.new.asked.items written.result c.in-Some.asks_group before asked c.refusal.result c.V1_MUTES_LEAVE.result c.is_muted.result c.is_querier.result c.timing-timing.result mutes muted c.is_querier.ensures c.timing-timing.ensures c.look-stored.ensures.group written.ensures.changes c.in-Some.is asked_is passed_is in
     let left : ScheduledGroup = record { group = c.round.new.group.state; schedule = c.round.new.self } in
     let left_is : left ≡ after_round at.election.timing c.args.now asked = c.round.ensures.after ∙ ap (λ t. after_round t c.args.now asked) c.timing-timing.ensures in
     let most = left_has_place at address st groups before change asked c.refusal.result did c.requires.positive c.requires.admitted c.requires.sound c.in_default-refusal.is in
@@ -228,16 +238,17 @@ keep-requires-clause-fits g c =
     let groups = c.args.held.now.groups in
     let names = named_in g.F.Address.Key.number c.args.scratch.now.named.members in
     let st = statement_of c.args.said names in
-    let before : ScheduledGroup = record { group = c.load-before.new.into.state; schedule = c.load-before.result } in
+    let stored = c.look-stored.result in
+    let before : ScheduledGroup = record { group = record { mode = stored.mode; sources = timers_in g.F.Address.Key.number stored.sources.now; v1 = stored.v1; v2 = stored.v2 }; schedule = stored.schedule } in
     let mutes = c.V1_MUTES_LEAVE.ensures ∙ g.met.F.Family.v1_mutes_leave ∙ ap v1_mutes_leave (sym c.is_faultless.ensures.family) in
     let muted = c.is_muted.ensures names in
     let written = c.change-asks_group in
     let asked : ScheduledGroup = record { group = c.ask.new.group.state; schedule = c.ask.new.schedule } in
     let change : GroupChange = record { group = written.new.into.state; query = set_of g.F.Address.Key.number written.new.asked.items; query_group = c.in-Some.asks_group } in
     let asked_is : asked ≡ after_change c.is_querier.result c.timing-timing.result c.args.now change before.schedule = c.ask.ensures.asked ∙ ap (λ items. after_change c.is_querier.result c.timing-timing.result c.args.now (record { group = written.new.into.state; query = set_of g.F.Address.Key.number items; query_group = c.in-Some.asks_group }) before.schedule) c.as_slice-asked.ensures.value in
-    let name = c.refusal.ensures.name at.election.timing address (held_by_place groups address c.args.found c.requires.found ∙ sym c.is_ok-is_held.ensures.value) (sym c.load-before.ensures.group) in
+    let name = c.refusal.ensures.name at.election.timing address (held_by_place groups address c.args.found c.requires.found ∙ sym c.is_ok-is_held.ensures.value) (sym c.look-stored.ensures.len) (ap (λ (e : ScheduledGroup). e.schedule) (sym c.look-stored.ensures.group)) in
     let passed_is = name ∙ ap (λ limits. limit_passed limits (with_group groups address (after_round at.election.timing at.now asked)) (after_round at.election.timing at.now asked)) c.limits-limits.ensures in
-    let did = is_changed g.F.Address.Key.number at address st groups written.new.into.state written.new.asked.items written.result c.in-Some.asks_group before asked c.refusal.result c.V1_MUTES_LEAVE.result c.is_muted.result c.is_querier.result c.timing-timing.result mutes muted c.is_querier.ensures c.timing-timing.ensures c.load-before.ensures.group written.ensures.changes c.in-Some.is asked_is passed_is in
+    let did = is_changed g.F.Address.Key.number at address st groups written.new.into.state written.new.asked.items written.result c.in-Some.asks_group before asked c.refusal.result c.V1_MUTES_LEAVE.result c.is_muted.result c.is_querier.result c.timing-timing.result mutes muted c.is_querier.ensures c.timing-timing.ensures c.look-stored.ensures.group written.ensures.changes c.in-Some.is asked_is passed_is in
     let left : ScheduledGroup = record { group = c.round.new.group.state; schedule = c.round.new.self } in
     let left_is : left ≡ after_round at.election.timing c.args.now asked = c.round.ensures.after ∙ ap (λ t. after_round t c.args.now asked) c.timing-timing.ensures in
     let most = left_has_room at address st groups before change asked c.refusal.result did c.requires.positive c.requires.admitted c.requires.sound c.in_default-refusal.is in
@@ -252,16 +263,17 @@ returns-clause-fate g c =
     let groups = c.args.held.now.groups in
     let names = named_in g.F.Address.Key.number c.args.scratch.now.named.members in
     let st = statement_of c.args.said names in
-    let before : ScheduledGroup = record { group = c.load-before.new.into.state; schedule = c.load-before.result } in
+    let stored = c.look-stored.result in
+    let before : ScheduledGroup = record { group = record { mode = stored.mode; sources = timers_in g.F.Address.Key.number stored.sources.now; v1 = stored.v1; v2 = stored.v2 }; schedule = stored.schedule } in
     let mutes = c.V1_MUTES_LEAVE.ensures ∙ g.met.F.Family.v1_mutes_leave ∙ ap v1_mutes_leave (sym c.is_faultless.ensures.family) in
     let muted = c.is_muted.ensures names in
     let written = c.change-asks_group in
     let asked : ScheduledGroup = record { group = c.ask.new.group.state; schedule = c.ask.new.schedule } in
     let change : GroupChange = record { group = written.new.into.state; query = set_of g.F.Address.Key.number written.new.asked.items; query_group = c.in-Some.asks_group } in
     let asked_is : asked ≡ after_change c.is_querier.result c.timing-timing.result c.args.now change before.schedule = c.ask.ensures.asked ∙ ap (λ items. after_change c.is_querier.result c.timing-timing.result c.args.now (record { group = written.new.into.state; query = set_of g.F.Address.Key.number items; query_group = c.in-Some.asks_group }) before.schedule) c.as_slice-asked.ensures.value in
-    let name = c.refusal.ensures.name at.election.timing address (held_by_place groups address c.args.found c.requires.found ∙ sym c.is_ok-is_held.ensures.value) (sym c.load-before.ensures.group) in
+    let name = c.refusal.ensures.name at.election.timing address (held_by_place groups address c.args.found c.requires.found ∙ sym c.is_ok-is_held.ensures.value) (sym c.look-stored.ensures.len) (ap (λ (e : ScheduledGroup). e.schedule) (sym c.look-stored.ensures.group)) in
     let passed_is = name ∙ ap (λ limits. limit_passed limits (with_group groups address (after_round at.election.timing at.now asked)) (after_round at.election.timing at.now asked)) c.limits-limits.ensures in
-    let did = is_changed g.F.Address.Key.number at address st groups written.new.into.state written.new.asked.items written.result c.in-Some.asks_group before asked c.refusal.result c.V1_MUTES_LEAVE.result c.is_muted.result c.is_querier.result c.timing-timing.result mutes muted c.is_querier.ensures c.timing-timing.ensures c.load-before.ensures.group written.ensures.changes c.in-Some.is asked_is passed_is in
+    let did = is_changed g.F.Address.Key.number at address st groups written.new.into.state written.new.asked.items written.result c.in-Some.asks_group before asked c.refusal.result c.V1_MUTES_LEAVE.result c.is_muted.result c.is_querier.result c.timing-timing.result mutes muted c.is_querier.ensures c.timing-timing.ensures c.look-stored.ensures.group written.ensures.changes c.in-Some.is asked_is passed_is in
     let is = stated_judged at address st groups before change asked c.refusal.result did ∙ ap (λ p. unless_passed p groups (with_group groups address (after_sending at asked)) (sent_at_once at address asked)) c.in_default-refusal.is in
     ap (λ (o : Outcome). o.verdict) (sym is)
 
@@ -272,16 +284,17 @@ returns-clause-groups g c =
     let groups = c.args.held.now.groups in
     let names = named_in g.F.Address.Key.number c.args.scratch.now.named.members in
     let st = statement_of c.args.said names in
-    let before : ScheduledGroup = record { group = c.load-before.new.into.state; schedule = c.load-before.result } in
+    let stored = c.look-stored.result in
+    let before : ScheduledGroup = record { group = record { mode = stored.mode; sources = timers_in g.F.Address.Key.number stored.sources.now; v1 = stored.v1; v2 = stored.v2 }; schedule = stored.schedule } in
     let mutes = c.V1_MUTES_LEAVE.ensures ∙ g.met.F.Family.v1_mutes_leave ∙ ap v1_mutes_leave (sym c.is_faultless.ensures.family) in
     let muted = c.is_muted.ensures names in
     let written = c.change-asks_group in
     let asked : ScheduledGroup = record { group = c.ask.new.group.state; schedule = c.ask.new.schedule } in
     let change : GroupChange = record { group = written.new.into.state; query = set_of g.F.Address.Key.number written.new.asked.items; query_group = c.in-Some.asks_group } in
     let asked_is : asked ≡ after_change c.is_querier.result c.timing-timing.result c.args.now change before.schedule = c.ask.ensures.asked ∙ ap (λ items. after_change c.is_querier.result c.timing-timing.result c.args.now (record { group = written.new.into.state; query = set_of g.F.Address.Key.number items; query_group = c.in-Some.asks_group }) before.schedule) c.as_slice-asked.ensures.value in
-    let name = c.refusal.ensures.name at.election.timing address (held_by_place groups address c.args.found c.requires.found ∙ sym c.is_ok-is_held.ensures.value) (sym c.load-before.ensures.group) in
+    let name = c.refusal.ensures.name at.election.timing address (held_by_place groups address c.args.found c.requires.found ∙ sym c.is_ok-is_held.ensures.value) (sym c.look-stored.ensures.len) (ap (λ (e : ScheduledGroup). e.schedule) (sym c.look-stored.ensures.group)) in
     let passed_is = name ∙ ap (λ limits. limit_passed limits (with_group groups address (after_round at.election.timing at.now asked)) (after_round at.election.timing at.now asked)) c.limits-limits.ensures in
-    let did = is_changed g.F.Address.Key.number at address st groups written.new.into.state written.new.asked.items written.result c.in-Some.asks_group before asked c.refusal.result c.V1_MUTES_LEAVE.result c.is_muted.result c.is_querier.result c.timing-timing.result mutes muted c.is_querier.ensures c.timing-timing.ensures c.load-before.ensures.group written.ensures.changes c.in-Some.is asked_is passed_is in
+    let did = is_changed g.F.Address.Key.number at address st groups written.new.into.state written.new.asked.items written.result c.in-Some.asks_group before asked c.refusal.result c.V1_MUTES_LEAVE.result c.is_muted.result c.is_querier.result c.timing-timing.result mutes muted c.is_querier.ensures c.timing-timing.ensures c.look-stored.ensures.group written.ensures.changes c.in-Some.is asked_is passed_is in
     let left : ScheduledGroup = record { group = c.round.new.group.state; schedule = c.round.new.self } in
     let left_is : left ≡ after_round at.election.timing c.args.now asked = c.round.ensures.after ∙ ap (λ t. after_round t c.args.now asked) c.timing-timing.ensures in
     let is = stated_judged at address st groups before change asked c.refusal.result did ∙ ap (λ p. unless_passed p groups (with_group groups address (after_sending at asked)) (sent_at_once at address asked)) c.in_default-refusal.is in
@@ -294,16 +307,17 @@ returns-clause-sent g c =
     let groups = c.args.held.now.groups in
     let names = named_in g.F.Address.Key.number c.args.scratch.now.named.members in
     let st = statement_of c.args.said names in
-    let before : ScheduledGroup = record { group = c.load-before.new.into.state; schedule = c.load-before.result } in
+    let stored = c.look-stored.result in
+    let before : ScheduledGroup = record { group = record { mode = stored.mode; sources = timers_in g.F.Address.Key.number stored.sources.now; v1 = stored.v1; v2 = stored.v2 }; schedule = stored.schedule } in
     let mutes = c.V1_MUTES_LEAVE.ensures ∙ g.met.F.Family.v1_mutes_leave ∙ ap v1_mutes_leave (sym c.is_faultless.ensures.family) in
     let muted = c.is_muted.ensures names in
     let written = c.change-asks_group in
     let asked : ScheduledGroup = record { group = c.ask.new.group.state; schedule = c.ask.new.schedule } in
     let change : GroupChange = record { group = written.new.into.state; query = set_of g.F.Address.Key.number written.new.asked.items; query_group = c.in-Some.asks_group } in
     let asked_is : asked ≡ after_change c.is_querier.result c.timing-timing.result c.args.now change before.schedule = c.ask.ensures.asked ∙ ap (λ items. after_change c.is_querier.result c.timing-timing.result c.args.now (record { group = written.new.into.state; query = set_of g.F.Address.Key.number items; query_group = c.in-Some.asks_group }) before.schedule) c.as_slice-asked.ensures.value in
-    let name = c.refusal.ensures.name at.election.timing address (held_by_place groups address c.args.found c.requires.found ∙ sym c.is_ok-is_held.ensures.value) (sym c.load-before.ensures.group) in
+    let name = c.refusal.ensures.name at.election.timing address (held_by_place groups address c.args.found c.requires.found ∙ sym c.is_ok-is_held.ensures.value) (sym c.look-stored.ensures.len) (ap (λ (e : ScheduledGroup). e.schedule) (sym c.look-stored.ensures.group)) in
     let passed_is = name ∙ ap (λ limits. limit_passed limits (with_group groups address (after_round at.election.timing at.now asked)) (after_round at.election.timing at.now asked)) c.limits-limits.ensures in
-    let did = is_changed g.F.Address.Key.number at address st groups written.new.into.state written.new.asked.items written.result c.in-Some.asks_group before asked c.refusal.result c.V1_MUTES_LEAVE.result c.is_muted.result c.is_querier.result c.timing-timing.result mutes muted c.is_querier.ensures c.timing-timing.ensures c.load-before.ensures.group written.ensures.changes c.in-Some.is asked_is passed_is in
+    let did = is_changed g.F.Address.Key.number at address st groups written.new.into.state written.new.asked.items written.result c.in-Some.asks_group before asked c.refusal.result c.V1_MUTES_LEAVE.result c.is_muted.result c.is_querier.result c.timing-timing.result mutes muted c.is_querier.ensures c.timing-timing.ensures c.look-stored.ensures.group written.ensures.changes c.in-Some.is asked_is passed_is in
     let is = stated_judged at address st groups before change asked c.refusal.result did ∙ ap (λ p. unless_passed p groups (with_group groups address (after_sending at asked)) (sent_at_once at address asked)) c.in_default-refusal.is in
     let per = c.PER_QUERY.ensures ∙ g.met.F.Family.per_query ∙ ap per_query (sym c.is_faultless.ensures.family) in
     let queries_are = (λ i. messages_due (per i) (c.timing-timing.ensures i) c.args.now address asked) ∙ ap (λ (o : Outcome). o.queries) (sym is) in
@@ -316,7 +330,8 @@ returns-clause-spent g c =
     let groups = c.args.held.now.groups in
     let names = named_in g.F.Address.Key.number c.args.scratch.now.named.members in
     let st = statement_of c.args.said names in
-    let before : ScheduledGroup = record { group = c.load-before.new.into.state; schedule = c.load-before.result } in
+    let stored = c.look-stored.result in
+    let before : ScheduledGroup = record { group = record { mode = stored.mode; sources = timers_in g.F.Address.Key.number stored.sources.now; v1 = stored.v1; v2 = stored.v2 }; schedule = stored.schedule } in
     let mutes = c.V1_MUTES_LEAVE.ensures ∙ g.met.F.Family.v1_mutes_leave ∙ ap v1_mutes_leave (sym c.is_faultless.ensures.family) in
     let muted = c.is_muted.ensures names in
     let written = c.change-asks_group in
@@ -324,13 +339,13 @@ returns-clause-spent g c =
     let change : GroupChange = record { group = written.new.into.state; query = set_of g.F.Address.Key.number written.new.asked.items; query_group = c.in-Some.asks_group } in
     let asked_is : asked ≡ after_change c.is_querier.result c.timing-timing.result c.args.now change before.schedule = c.ask.ensures.asked ∙ ap (λ items. after_change c.is_querier.result c.timing-timing.result c.args.now (record { group = written.new.into.state; query = set_of g.F.Address.Key.number items; query_group = c.in-Some.asks_group }) before.schedule) c.as_slice-asked.ensures.value in
     let few = made_few g.F.Address.Key.number c.V1_MUTES_LEAVE.result c.is_muted.result c.timing-timing.result c.args.now c.args.said c.args.scratch.now.named.members before written.new.into.state written.new.asked.items written.result c.in-Some.asks_group c.is_querier.result asked written.ensures.changes c.in-Some.is asked_is in
-    let size_before = ap (λ (e : ScheduledGroup). size_of e.group) c.load-before.ensures.group in
+    let size_before = ap (λ (e : ScheduledGroup). size_of e.group) c.look-stored.ensures.group in
     let left : ScheduledGroup = record { group = c.round.new.group.state; schedule = c.round.new.self } in
     let left_is : left ≡ after_round at.election.timing c.args.now asked = c.round.ensures.after ∙ ap (λ t. after_round t c.args.now asked) c.timing-timing.ensures in
     let a = few.changed in
     let b = few.asked in
     let work = least_work at address st groups in
-    let spent = worked at address st groups before c.V1_MUTES_LEAVE.result c.is_muted.result _ _ _ mutes muted c.load-before.ensures.group written.ensures.spent in
+    let spent = worked at address st groups before c.V1_MUTES_LEAVE.result c.is_muted.result _ _ _ mutes muted c.look-stored.ensures.group written.ensures.spent in
     let changed = Spends-join_within work (3 * (size_of before.group + length c.args.scratch.now.named.members) + 3) spent c.ask.ensures.spent (omega arith) (omega (arith, a)) in
     let judged = Spends-join_within work (3 * (size_of before.group + length c.args.scratch.now.named.members) + 5) changed c.refusal.ensures.spent (omega arith) (omega arith) in
     let round = Spends-join_within work (5 * (size_of before.group + length c.args.scratch.now.named.members) + 8) judged c.round.ensures.spent (omega arith) (omega (arith, a, b)) in
@@ -344,10 +359,11 @@ returns-in_default-clause-spent g c =
     let groups = c.args.held.now.groups in
     let names = named_in g.F.Address.Key.number c.args.scratch.now.named.members in
     let st = statement_of c.args.said names in
-    let before : ScheduledGroup = record { group = c.load-before.new.into.state; schedule = c.load-before.result } in
+    let stored = c.look-stored.result in
+    let before : ScheduledGroup = record { group = record { mode = stored.mode; sources = timers_in g.F.Address.Key.number stored.sources.now; v1 = stored.v1; v2 = stored.v2 }; schedule = stored.schedule } in
     let mutes = c.V1_MUTES_LEAVE.ensures ∙ g.met.F.Family.v1_mutes_leave ∙ ap v1_mutes_leave (sym c.is_faultless.ensures.family) in
     let muted = c.is_muted.ensures names in
     let work = least_work at address st groups in
-    let spent = worked at address st groups before c.V1_MUTES_LEAVE.result c.is_muted.result _ _ _ mutes muted c.load-before.ensures.group c.change-asks_group.ensures.spent in
-    let size_before = ap (λ (e : ScheduledGroup). size_of e.group) c.load-before.ensures.group in
+    let spent = worked at address st groups before c.V1_MUTES_LEAVE.result c.is_muted.result _ _ _ mutes muted c.look-stored.ensures.group c.change-asks_group.ensures.spent in
+    let size_before = ap (λ (e : ScheduledGroup). size_of e.group) c.look-stored.ensures.group in
     Spends-within work _ spent (omega arith) (omega (arith, size_before))

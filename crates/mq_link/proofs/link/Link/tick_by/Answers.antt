@@ -38,7 +38,7 @@ invariant_of-self g c =
       intervals = kept-ticked config.timing moment before.election c.self.invariant.intervals;
       group_room = done.group_room;
       source_room = done.source_room;
-      scratch_room = record { before = let a = room.before in let b = done.room in omega arith; after = room.after; named = room.named; asked = room.asked };
+      scratch_room = record { group = let a = room.group in let b = done.room in omega arith; named = room.named; asked = room.asked };
       seen_room = c.self.invariant.seen_room;
       place_room = places_back c.self.inside.places.len c.do_due.new.places c.self.inside.places.items (c.do_due.auto.places ∙ ap length c.deref_mut.ensures.value) (omega (arith, c.self.inside.places.ok.0));
     })

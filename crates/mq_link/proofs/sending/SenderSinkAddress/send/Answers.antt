@@ -1,7 +1,8 @@
-use Rattle.std.proofs.Common.{◌≡◌, Bool, false, subst, refl, arith, take}
+use Rattle.std.proofs.Common.{◌≡◌, Bool, false, length, ap, ◌∙◌, subst, refl, arith, take}
 use Rattle.std.specs.Bool.{IsTrue}
 use Rattle.mq_sched.specs.Sink.{query_of}
 use Rattle.mq_link.specs.Handing.{outgoing_on}
+use Rattle.mq_link.proofs.Lengths.{written_back}
 use Rattle.mq_link.proofs.sending.SenderSinkAddress.send.Goals as goal
 
 not_both : (b : Bool) → b ≡ false → IsTrue b → ⊥
@@ -26,14 +27,17 @@ returns-clause-takes g c =
     let written = c.write-to.ensures in
     let message = outgoing_on g.F.Family.FAMILY before.terms.now (query_of g.F.Address.Key.number c.args.query) in
     let fits = c.fits_one.ensures.0 c.if-not-fits_one.false in
+    let room = ap length c.as_mut_slice.ensures.value in
+    let stored = ap (take c.write-to.result.1) c.as_slice.ensures.value
+    ∙ written_back _ _ c.from-out.result.items c.write-to.new.out (omega (arith, written.within, written.len, room)) (omega (arith, written.within, written.len, room)) in
     record {
       same_terms = handed.terms;
       same_outlet = handed.same_outlet;
       hands = record {
         handed = λ small. (
           c.hand_over.result,
-          subst (λ bytes. takes before.outlet.now message.to bytes c.hand_over.result c.hand_over.new.self.outlet.now) written.bytes
-              (subst (λ to. takes before.outlet.now to (take c.write-to.result.1 c.write-to.new.out) c.hand_over.result c.hand_over.new.self.outlet.now) written.to handed.takes),
+          subst (λ bytes. takes before.outlet.now message.to bytes c.hand_over.result c.hand_over.new.self.outlet.now) (stored ∙ written.bytes)
+              (subst (λ to. takes before.outlet.now to (take c.write-to.result.1 c.as_slice.result.now) c.hand_over.result c.hand_over.new.self.outlet.now) written.to handed.takes),
           handed.sent,
           handed.unsent,
         );
