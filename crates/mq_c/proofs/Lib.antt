@@ -1,11 +1,11 @@
 mod HandedInto
-mod IgmpValues
 mod LentLines
 mod LooseValues
 mod Meetings
-mod MldValues
 mod OutletBytes
-mod Pages
+mod PointerWalks
+mod Pointers
+mod Pointing
 mod QueryCounts
 mod QueryLengths
 mod ReceiptQueries
@@ -15,4 +15,5 @@ mod RoomForReceives
 mod RoomForTicks
 mod RoomSuffices
 mod RoomTaken
+mod ShownGroups
 mod UnheldGroups

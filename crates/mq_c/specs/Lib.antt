@@ -11,4 +11,5 @@ pub mod Pages
 pub mod Placing
 pub mod Queries
 pub mod Rooms
+pub mod Rows
 pub mod Statuses

@@ -1,10 +1,36 @@
 -- Links that are made for C.
-use Rattle.std.specs.Prelude.{◌≡◌, ◌⊎◌, ℕ, ◌<◌, ◌≤◌, ◌^◌, Some, Result, Ok, Err}
+use Rattle.std.specs.Prelude.{◌≡◌, ◌⊎◌, ℕ, ◌<◌, ◌≤◌, ◌^◌, ◌==◌, not, Some, Result, Ok, Err}
+use Rattle.mq_wire.specs.Family.{Family}
 use Rattle.mq_link.specs.declared.configuration.ConfigFault.{ConfigFault}
 use Rattle.mq_link.specs.Configuration.{Configuration, configuration_fault, IsFaultless}
+use Rattle.mq_link.specs.Configured.{variables, configured}
+use Rattle.mq_link.specs.Defaults.{defaults_of}
 use Rattle.mq_link.specs.Link.{LinkValue}
 use Rattle.mq_link.specs.State.{link_at}
+use Rattle.mq_c.specs.declared.forms.Settings.{Settings}
 use Rattle.mq_c.specs.Statuses.{memory, moment, status_of}
+
+-- the configuration that is asked for, of a family
+abbrev pub asked_of : Family → Settings → (own source_specific : ℕ) → Configuration
+asked_of family s own source_specific =
+    configured family (variables s.robustness s.query_interval s.response_interval s.last_member_interval)
+    (record { groups = s.groups; group_sources = s.group_sources; sources = s.sources; scheduled = s.scheduled })
+    own (not (source_specific == 0))
+
+-- the defaults
+abbrev pub default_settings : Family → Settings
+default_settings family =
+    let d = defaults_of family in
+    record {
+      robustness = d.robustness;
+      query_interval = d.query_seconds;
+      response_interval = d.response_interval;
+      last_member_interval = d.last_member_interval;
+      groups = d.limits.groups;
+      group_sources = d.limits.group_sources;
+      sources = d.limits.sources;
+      scheduled = d.limits.scheduled;
+    }
 
 -- a configuration is given where it has no fault, and else the status of its fault
 abbrev pub IsConfigOrStatus : (asked : Configuration) → Result Configuration ℕ → Type 0

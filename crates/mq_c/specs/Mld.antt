@@ -1,24 +1,17 @@
--- What C hands over, of MLD.
-use Rattle.std.specs.Prelude.{ℕ, ◌==◌, not, Bool, List, Some}
+-- What C hands over, and what it is handed, of MLD.
+use Rattle.std.specs.Prelude.{ℕ, Bool, List}
 use Rattle.std.specs.Int.{w128, from_be_bytes, to_be_bytes}
-use Rattle.mq_table.specs.Group.{group_deadline, deadline_of}
 use Rattle.mq_wire.specs.Family.{Mld}
-use Rattle.mq_held.specs.Groups.{sources_of}
 use Rattle.mq_link.specs.Configuration.{Configuration}
-use Rattle.mq_link.specs.Configured.{variables, configured}
 use Rattle.mq_link.specs.Receive.{Envelope}
 use Rattle.mq_c.specs.declared.forms.MldConfig.{MldConfig}
 use Rattle.mq_c.specs.declared.forms.MldGroup.{MldGroup}
 use Rattle.mq_c.specs.declared.forms.MldSource.{MldSource}
-use Rattle.mq_c.specs.Milliseconds.{deadline_or_none}
-use Rattle.mq_c.specs.Pages.{Entry, SourceEntry}
+use Rattle.mq_c.specs.Making.{asked_of}
 
 -- the configuration that is asked for
 abbrev pub asked : MldConfig → Configuration
-asked c =
-    configured Mld (variables c.robustness c.query_interval c.response_interval c.last_member_interval)
-    (record { groups = c.groups; group_sources = c.group_sources; sources = c.sources; scheduled = c.scheduled })
-    (from_be_bytes w128 c.own) (not (c.source_specific == 0))
+asked c = asked_of Mld c.settings (from_be_bytes w128 c.own) c.source_specific
 
 -- what is known of a datagram beside its bytes
 abbrev pub envelope : (source destination : List ℕ) → (hop_limit : ℕ) → (alert : Bool) → Envelope
@@ -29,14 +22,10 @@ envelope source destination hop_limit alert = record {
   alert = alert;
 }
 
--- a group that is held, and a source of it, as C has them
-abbrev pub group_form : Entry → MldGroup
-group_form e = record {
-  address = to_be_bytes w128 e.0;
-  sources = sources_of e.1;
-  deadline = deadline_or_none (group_deadline e.1.group.mode);
-  v1 = deadline_or_none e.1.group.v1;
-}
+-- a group that is held, and a source of it; MLD has no version 2 besides
+abbrev pub group_with : (address sources deadline v1 v2 : ℕ) → MldGroup
+group_with address sources deadline v1 v2 =
+    record { address = to_be_bytes w128 address; sources = sources; deadline = deadline; v1 = v1 }
 
-abbrev pub source_form : SourceEntry → MldSource
-source_form e = record { address = to_be_bytes w128 e.0; deadline = deadline_or_none (deadline_of (Some e.1)) }
+abbrev pub source_with : (address deadline : ℕ) → MldSource
+source_with address deadline = record { address = to_be_bytes w128 address; deadline = deadline }

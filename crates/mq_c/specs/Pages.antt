@@ -1,12 +1,15 @@
 -- A page of the groups that a link holds, in memory that is lent.
-use Rattle.std.specs.Prelude.{◌≡◌, ℕ, ◌+◌, ◌<◌, List, ◌++◌, length, map as list_map, take, drop}
+use Rattle.std.specs.Prelude.{◌≡◌, ℕ, ◌+◌, ◌<◌, List, ◌++◌, length, map as list_map, take, drop, Some}
 use Rattle.std.specs.List.{flat_map}
 use Rattle.std.specs.FinMap as map
+use Rattle.mq_table.specs.declared.sources.Source.{Source}
 use Rattle.mq_table.specs.declared.timers.SourceTimer.{SourceTimer}
+use Rattle.mq_table.specs.Group.{group_deadline, deadline_of}
 use Rattle.mq_sched.specs.Schedule.{ScheduledGroup}
 use Rattle.mq_held.specs.Groups.{Groups, sources_of}
 use Rattle.mq_held.specs.Places.{group_in}
 use Rattle.mq_c.specs.declared.forms.Page.{Page}
+use Rattle.mq_c.specs.Milliseconds.{deadline_or_none}
 
 -- a group that is held, with its address; and a source of it
 abbrev pub Entry : Type 0
@@ -14,6 +17,17 @@ Entry = ℕ × ScheduledGroup
 
 abbrev pub SourceEntry : Type 0
 SourceEntry = ℕ × SourceTimer
+
+-- each as C has it, by what a family makes of the address, how many sources there are, and the deadlines
+abbrev pub group_form : {G : Type 0} → (group_with : (address sources deadline v1 v2 : ℕ) → G) → Entry → G
+group_form group_with e =
+    group_with e.0 (sources_of e.1) (deadline_or_none (group_deadline e.1.group.mode)) (deadline_or_none e.1.group.v1) (deadline_or_none e.1.group.v2)
+
+abbrev pub source_form : {S : Type 0} → (source_with : (address deadline : ℕ) → S) → SourceEntry → S
+source_form source_with e = source_with e.0 (deadline_or_none (deadline_of (Some e.1)))
+
+abbrev pub stored_form : {K S : Type 0} → (number : K → ℕ) → (source_with : (address deadline : ℕ) → S) → Source K → S
+stored_form number source_with x = source_form source_with (number x.address, x.timer)
 
 -- so many groups from a place on, ascending
 abbrev pub groups_from : Groups → (first count : ℕ) → List Entry

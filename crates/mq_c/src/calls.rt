@@ -2,7 +2,7 @@
 
 ghost use Rattle.std.specs.Prelude.{◌≡◌, ◌≤◌, ◌^◌, length};
 ghost use Rattle.mq_c.specs.Calls as spec;
-ghost use Rattle.mq_c.specs.Calls.{TicksInto, ReceivesInto};
+ghost use Rattle.mq_c.specs.Calls.{CallsAt, TicksInto, ReceivesInto};
 ghost use Rattle.mq_c.specs.Queries.{outbox_of};
 ghost use Rattle.mq_c.specs.Rooms.{longest_body, receive_room, tick_room};
 
@@ -13,7 +13,7 @@ use mq_count::Moment;
 use mq_link::{Family, Link, Received};
 
 /// The answer to a moment that is out of range.
-pub(crate) fn refused_moment() -> Answer
+fn refused_moment() -> Answer
     ensures { result ≡ spec.refused_moment }
 {
     Answer {
@@ -66,8 +66,8 @@ fn answer_to(received: Received, queries: &Queries<'_>) -> Answer
     }
 }
 
-/// A tick, with its queries; where the memory is as long as the room of a tick, none is left out.
-pub(crate) fn tick<F: Family>(link: &mut Link<F>, now: Moment, out: &mut [u8]) -> Answer
+/// A tick at a moment, with its queries; where the memory is as long as the room of a tick, none is left out.
+fn tick_at<F: Family>(link: &mut Link<F>, now: Moment, out: &mut [u8]) -> Answer
     requires in_range { now ≤ 2 ^ 53 }
     ensures config { link.new.config ≡ link.old.config }
     ensures ticks { TicksInto F.Address.WIDTH now link.old link.new out.old out.new result }
@@ -79,8 +79,8 @@ pub(crate) fn tick<F: Family>(link: &mut Link<F>, now: Moment, out: &mut [u8]) -
     answer_to_tick(&queries)
 }
 
-/// A datagram, with its queries; where the memory is as long as the room of a datagram, none is left out.
-pub(crate) fn receive<F: Family>(
+/// A datagram at a moment, with its queries; where the memory is as long as the room of a datagram, none is left out.
+fn receive_at<F: Family>(
     link: &mut Link<F>,
     envelope: &F::Envelope,
     body: &[u8],
@@ -98,4 +98,34 @@ pub(crate) fn receive<F: Family>(
     let mut queries = Queries::new(out);
     let received = link.receive(envelope, body, now, &mut queries);
     answer_to(received, &queries)
+}
+
+/// Does what is due; with as much memory as the room of a tick, no query is left out.
+pub(crate) fn tick<F: Family>(link: &mut Link<F>, now: u64, out: &mut [u8]) -> Answer
+    ensures ticks { CallsAt now (TicksInto F.Address.WIDTH now link.old link.new out.old out.new result) link.old link.new
+        out.old out.new result }
+    ensures none_left_out { tick_room F.Address.WIDTH link.old.config ≤ length out.old → result.unsent ≡ 0 }
+{
+    match Moment::from_ms(now) {
+        Some(now) => tick_at(link, now, out),
+        None => refused_moment(),
+    }
+}
+
+/// Takes a datagram; with as much memory as the room of a datagram, no query is left out.
+pub(crate) fn receive<F: Family>(
+    link: &mut Link<F>,
+    envelope: F::Envelope,
+    body: &[u8],
+    now: u64,
+    out: &mut [u8],
+) -> Answer
+    ensures receives { CallsAt now (ReceivesInto F.Address.WIDTH (F.envelope_of envelope) body.now now link.old link.new
+        out.old out.new result) link.old link.new out.old out.new result }
+    ensures none_left_out { receive_room F.Address.WIDTH link.old.config ≤ length out.old → length body.now ≤ longest_body → result.unsent ≡ 0 }
+{
+    match Moment::from_ms(now) {
+        Some(now) => receive_at(link, &envelope, body, now, out),
+        None => refused_moment(),
+    }
 }

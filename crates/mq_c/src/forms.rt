@@ -2,10 +2,10 @@
 
 ghost use Rattle.std.specs.Prelude.{◌≡◌, ◌<◌, ◌^◌};
 
-/// What a link of IGMP is configured with.
+/// What a link is configured with, of both families alike.
 #[repr(C)]
 #[derive(Clone, Copy)]
-pub struct IgmpConfig {
+pub struct Settings {
     pub robustness: u32,
     pub query_interval: u32,
     pub response_interval: u32,
@@ -14,6 +14,13 @@ pub struct IgmpConfig {
     pub group_sources: u32,
     pub sources: u32,
     pub scheduled: u32,
+}
+
+/// What a link of IGMP is configured with.
+#[repr(C)]
+#[derive(Clone, Copy)]
+pub struct IgmpConfig {
+    pub settings: Settings,
     pub own: [u8; 4],
     pub source_specific: u8,
 }
@@ -22,14 +29,7 @@ pub struct IgmpConfig {
 #[repr(C)]
 #[derive(Clone, Copy)]
 pub struct MldConfig {
-    pub robustness: u32,
-    pub query_interval: u32,
-    pub response_interval: u32,
-    pub last_member_interval: u32,
-    pub groups: u32,
-    pub group_sources: u32,
-    pub sources: u32,
-    pub scheduled: u32,
+    pub settings: Settings,
     pub own: [u8; 16],
     pub source_specific: u8,
 }

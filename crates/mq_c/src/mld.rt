@@ -2,6 +2,10 @@
 
 ghost use Rattle.std.specs.Prelude.{◌≡◌, ◌<◌, ◌≤◌, ◌^◌, ℕ, IsTrue, MatchOption, false, length};
 ghost use Rattle.std.specs.Int.{w128, from_be_bytes};
+ghost use types.Logic.{sem};
+ghost use denote.Follow.{follows};
+ghost use Rattle.mq_c.specs.Rows.{mld_row};
+ghost use Rattle.mq_c.specs.contracts.mld_object.MldObject as object;
 ghost use Rattle.mq_wire.specs.Family as family;
 ghost use Rattle.mq_wire.specs.PseudoHeader.{pseudo_header};
 ghost use Rattle.mq_link.specs.Defaults.{configured_by_default};
@@ -12,80 +16,47 @@ ghost use Rattle.mq_link.specs.Tick.{next_of};
 ghost use Rattle.std.specs.FinMap as map;
 ghost use Rattle.mq_c.specs.Calls.{CallsAt, ReceivesInto, TicksInto};
 ghost use Rattle.mq_c.specs.Counted.{counted};
-ghost use Rattle.mq_c.specs.Mld.{asked, envelope, group_form, source_form};
+ghost use Rattle.mq_c.specs.Mld.{asked, envelope, group_with, source_with};
 ghost use Rattle.mq_c.specs.LineRoom.{LineStands};
 ghost use Rattle.mq_c.specs.Making.{IsMade, IsRefused};
-ghost use Rattle.std.specs.Result.{MatchResult};
 ghost use Rattle.mq_c.specs.OtherQuerier.{with_other_querier};
-ghost use Rattle.mq_c.specs.Pages.{IsPage};
+ghost use Rattle.mq_c.specs.Pages.{IsPage, group_form, source_form};
 ghost use Rattle.mq_c.specs.Rooms.{longest_body, receive_room, tick_room};
 
-use crate::address_room::put_address;
 use crate::forms::{Answer, Counted, MldConfig, MldGroup, MldSource, Page};
-use crate::kept::MldKept;
 use crate::lines::put_mld_line;
-use crate::loose::Loose;
-use crate::making::{config_of, link_of};
-use crate::milliseconds::{NONE, milliseconds};
-use crate::mld_object::MldObject;
-use crate::mld_pages::put_groups;
-use crate::mld_place::MldPlace;
-use crate::statuses::{DONE, MEMORY};
+use crate::making::{default_settings, made};
+use crate::milliseconds::milliseconds;
+use crate::mld_object::{MldObject, MldPlace};
+use crate::other_querier::other_querier;
+use crate::pages::put_groups;
+use crate::statuses::DONE;
 use crate::{bounds, calls, counting};
-use mq_count::{Addr6, Moment};
-use mq_link::{Family, Limits, Mld, MldEnvelope};
+use mq_count::Addr6;
+use mq_link::{Link, Mld, MldEnvelope};
 use std::alloc::Global;
 use std::marker::Brand;
+
+impl MldObject {
+    /// The link behind the pointer. Once the loan ends, the object holds what was last written there. It stands apart from
+    /// the object, whose description it names.
+    fn lend(&mut self) -> &mut Link<Mld>
+        ensures* writes_back { sem 𝓛 (follows object.the_row mld_row self.entry.ghost_name result.ghost_name (λ w. record self.old { kept = w })) }
+        ensures value { result.now ≡ self.old.kept }
+    {
+        unsafe { &mut *(self.at as *mut Link<Mld>) }
+    }
+}
 
 /// The defaults, with this own address.
 #[unsafe(no_mangle)]
 pub extern "C" fn mq_mld_defaults(own: &[u8; 16]) -> MldConfig
     ensures { asked result ≡ configured_by_default family.Mld (from_be_bytes w128 own.now) false }
 {
-    let defaults = Mld::defaults();
     MldConfig {
-        robustness: defaults.robustness,
-        query_interval: defaults.query_seconds,
-        response_interval: defaults.response_interval,
-        last_member_interval: defaults.last_member_interval,
-        groups: defaults.limits.groups,
-        group_sources: defaults.limits.group_sources,
-        sources: defaults.limits.sources,
-        scheduled: defaults.limits.scheduled,
+        settings: default_settings::<Mld>(),
         own: *own,
         source_specific: 0,
-    }
-}
-
-/// The object of a link so configured that starts at a moment, or the status that says why there is none.
-fn made(alloc: Global, config: MldConfig, start: u64) -> Result<MldObject, u32>
-    ensures { MatchResult result (λ object. IsMade (asked config) start object.kept.link) (λ status. IsRefused (asked config) start status) }
-{
-    let made = config_of::<Mld>(
-        config.robustness,
-        config.query_interval,
-        config.response_interval,
-        config.last_member_interval,
-        Limits {
-            groups: config.groups,
-            group_sources: config.group_sources,
-            sources: config.sources,
-            scheduled: config.scheduled,
-        },
-        Addr6::from_octets(config.own),
-        config.source_specific,
-    );
-    let made = match made {
-        Ok(config) => link_of(alloc, config, start),
-        Err(status) => return Err(status),
-    };
-    let link = match made {
-        Ok(link) => link,
-        Err(status) => return Err(status),
-    };
-    match Box::new(alloc, MldKept { link }) {
-        Ok(kept) => Ok(MldObject::of(Loose::of(kept))),
-        Err(_) => Err(MEMORY),
     }
 }
 
@@ -97,13 +68,19 @@ pub extern "C" fn mq_mld_new(
     start: u64,
     place: &mut MldPlace,
 ) -> u32
-    ensures made { result ≡ 0 → MatchOption place.new.kept ⊥ (λ kept. IsMade (asked config) start kept.link) }
+    ensures made { result ≡ 0 → MatchOption place.new.kept ⊥ (λ kept. IsMade (asked config) start kept) }
     ensures refused { 0 < result → IsRefused (asked config) start result }
     ensures place { 0 < result → place.new ≡ place.old }
 {
-    match made(alloc, config, start) {
-        Ok(object) => {
-            *place = MldPlace::of(object);
+    match made::<Mld>(
+        alloc,
+        config.settings,
+        Addr6::from_octets(config.own),
+        config.source_specific,
+        start,
+    ) {
+        Ok(link) => {
+            *place = MldPlace::of(link);
             DONE
         }
         Err(status) => status,
@@ -129,96 +106,89 @@ pub extern "C" fn mq_mld_receive(
     queries: &mut [u8],
 ) -> Answer
     ensures at { link.new.at ≡ link.old.at }
-    ensures receives { CallsAt now (ReceivesInto 16 (envelope source.now destination.now hop_limit alert) body.now now link.old.kept.link link.new.kept.link queries.old queries.new result)
-        link.old.kept.link link.new.kept.link queries.old queries.new result }
-    ensures none_left_out { receive_room 16 link.old.kept.link.config ≤ length queries.old → length body.now ≤ longest_body → result.unsent ≡ 0 }
+    ensures receives { CallsAt now (ReceivesInto 16 (envelope source.now destination.now hop_limit alert) body.now now link.old.kept link.new.kept queries.old queries.new result)
+        link.old.kept link.new.kept queries.old queries.new result }
+    ensures none_left_out { receive_room 16 link.old.kept.config ≤ length queries.old → length body.now ≤ longest_body → result.unsent ≡ 0 }
 {
-    let Some(now) = Moment::from_ms(now) else {
-        return calls::refused_moment();
-    };
     let envelope = MldEnvelope {
         source: Addr6::from_octets(*source),
         destination: Addr6::from_octets(*destination),
         hop_limit,
         alert,
     };
-    calls::receive(&mut link.lend().link, &envelope, body, now, queries)
+    calls::receive(link.lend(), envelope, body, now, queries)
 }
 
 /// Does what is due; with as much memory as the room of a tick, no query is left out.
 #[unsafe(no_mangle)]
 pub extern "C" fn mq_mld_tick(link: &mut MldObject, now: u64, queries: &mut [u8]) -> Answer
     ensures at { link.new.at ≡ link.old.at }
-    ensures ticks { CallsAt now (TicksInto 16 now link.old.kept.link link.new.kept.link queries.old queries.new result)
-        link.old.kept.link link.new.kept.link queries.old queries.new result }
-    ensures none_left_out { tick_room 16 link.old.kept.link.config ≤ length queries.old → result.unsent ≡ 0 }
+    ensures ticks { CallsAt now (TicksInto 16 now link.old.kept link.new.kept queries.old queries.new result)
+        link.old.kept link.new.kept queries.old queries.new result }
+    ensures none_left_out { tick_room 16 link.old.kept.config ≤ length queries.old → result.unsent ≡ 0 }
 {
-    let Some(now) = Moment::from_ms(now) else {
-        return calls::refused_moment();
-    };
-    calls::tick(&mut link.lend().link, now, queries)
+    calls::tick(link.lend(), now, queries)
 }
 
 /// When a tick has something to do next.
 #[unsafe(no_mangle)]
 pub extern "C" fn mq_mld_next_deadline(link: &mut MldObject) -> u64
-    ensures answer { result ≡ next_of link.old.kept.link.state }
-    ensures same { link.new.kept.link ≡ link.old.kept.link }
+    ensures answer { result ≡ next_of link.old.kept.state }
+    ensures same { link.new.kept ≡ link.old.kept }
     ensures at { link.new.at ≡ link.old.at }
 {
-    milliseconds(link.lend().link.next_deadline())
+    milliseconds(link.lend().next_deadline())
 }
 
 /// Whether a source of a group is forwarded.
 #[unsafe(no_mangle)]
 pub extern "C" fn mq_mld_forwards(link: &mut MldObject, group: &[u8; 16], source: &[u8; 16]) -> bool
-    ensures answer { result ≡ state.forwards link.old.kept.link.state (from_be_bytes w128 group.now) (from_be_bytes w128 source.now) }
-    ensures same { link.new.kept.link ≡ link.old.kept.link }
+    ensures answer { result ≡ state.forwards link.old.kept.state (from_be_bytes w128 group.now) (from_be_bytes w128 source.now) }
+    ensures same { link.new.kept ≡ link.old.kept }
     ensures at { link.new.at ≡ link.old.at }
 {
-    let group = Addr6::from_octets(*group);
-    let source = Addr6::from_octets(*source);
-    link.lend().link.forwards(group, source)
+    link.lend()
+        .forwards(Addr6::from_octets(*group), Addr6::from_octets(*source))
 }
 
 /// Whether the link is querier.
 #[unsafe(no_mangle)]
 pub extern "C" fn mq_mld_is_querier(link: &mut MldObject) -> bool
-    ensures answer { result ≡ is_querier link.old.kept.link.state.election.role }
-    ensures same { link.new.kept.link ≡ link.old.kept.link }
+    ensures answer { result ≡ is_querier link.old.kept.state.election.role }
+    ensures same { link.new.kept ≡ link.old.kept }
     ensures at { link.new.at ≡ link.old.at }
 {
-    link.lend().link.is_querier()
+    link.lend().is_querier()
 }
 
 /// How many comparisons the calls have made.
 #[unsafe(no_mangle)]
 pub extern "C" fn mq_mld_spent(link: &mut MldObject) -> u64
-    ensures answer { result ≡ link.old.kept.link.spent }
-    ensures same { link.new.kept.link ≡ link.old.kept.link }
+    ensures answer { result ≡ link.old.kept.spent }
+    ensures same { link.new.kept ≡ link.old.kept }
     ensures at { link.new.at ≡ link.old.at }
 {
-    link.lend().link.spent()
+    link.lend().spent()
 }
 
 /// All counters.
 #[unsafe(no_mangle)]
 pub extern "C" fn mq_mld_counts(link: &mut MldObject) -> Counted
-    ensures answer { result ≡ counted link.old.kept.link.state.counters }
-    ensures same { link.new.kept.link ≡ link.old.kept.link }
+    ensures answer { result ≡ counted link.old.kept.state.counters }
+    ensures same { link.new.kept ≡ link.old.kept }
     ensures at { link.new.at ≡ link.old.at }
 {
-    counting::counted(link.lend().link.counts())
+    counting::counted(link.lend().counts())
 }
 
 /// How many groups are held.
 #[unsafe(no_mangle)]
 pub extern "C" fn mq_mld_len(link: &mut MldObject) -> u32
-    ensures answer { map.len link.old.kept.link.state.groups < 2 ^ 32 → result ≡ map.len link.old.kept.link.state.groups }
-    ensures same { link.new.kept.link ≡ link.old.kept.link }
+    ensures answer { map.len link.old.kept.state.groups < 2 ^ 32 → result ≡ map.len link.old.kept.state.groups }
+    ensures same { link.new.kept ≡ link.old.kept }
     ensures at { link.new.at ≡ link.old.at }
 {
-    counting::few(link.lend().link.len())
+    counting::few(link.lend().len())
 }
 
 /// How much memory suffices for the queries of one call.
@@ -227,25 +197,26 @@ pub extern "C" fn mq_mld_outlet_bytes(config: MldConfig) -> usize
     ensures bytes { result ≡ receive_room 16 (asked config) }
     ensures tick { tick_room 16 (asked config) ≤ result }
 {
-    bounds::outlet_bytes(16, 28, 89, config.groups, config.sources, config.scheduled) as usize
+    bounds::outlet_bytes(
+        16,
+        28,
+        89,
+        config.settings.groups,
+        config.settings.sources,
+        config.settings.scheduled,
+    ) as usize
 }
 
 /// Up to when another router is querier, whose address is written where it fits.
 #[unsafe(no_mangle)]
 pub extern "C" fn mq_mld_other_querier(link: &mut MldObject, address: &mut [u8]) -> u64
-    ensures none { IsTrue (is_querier link.old.kept.link.state.election.role) → result ≡ no_deadline }
-    ensures deadline { (other deadline : ℕ) → link.old.kept.link.state.election.role ≡ Other other deadline → result ≡ deadline }
-    ensures address { address.new ≡ with_other_querier 16 link.old.kept.link.state.election.role address.old }
-    ensures same { link.new.kept.link ≡ link.old.kept.link }
+    ensures none { IsTrue (is_querier link.old.kept.state.election.role) → result ≡ no_deadline }
+    ensures deadline { (other deadline : ℕ) → link.old.kept.state.election.role ≡ Other other deadline → result ≡ deadline }
+    ensures address { address.new ≡ with_other_querier 16 link.old.kept.state.election.role address.old }
+    ensures same { link.new.kept ≡ link.old.kept }
     ensures at { link.new.at ≡ link.old.at }
 {
-    match link.lend().link.other_querier() {
-        None => NONE,
-        Some(other) => {
-            put_address(other.address, address);
-            milliseconds(other.deadline)
-        }
-    }
+    other_querier(link.lend(), address)
 }
 
 /// A page of the groups.
@@ -256,10 +227,10 @@ pub extern "C" fn mq_mld_groups(
     groups: &mut [MldGroup],
     sources: &mut [MldSource],
 ) -> Page
-    ensures page { IsPage group_form source_form link.old.kept.link.state.groups first groups.old groups.new sources.old sources.new result }
+    ensures page { IsPage (group_form group_with) (source_form source_with) link.old.kept.state.groups first groups.old groups.new sources.old sources.new result }
     ensures same { link.new ≡ link.old }
 {
-    put_groups(&link.lend().link, first, groups, sources)
+    put_groups::<Mld>(link.lend(), first, groups, sources)
 }
 
 /// The line of a message, or of its fault.
