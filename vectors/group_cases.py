@@ -2,7 +2,7 @@
 
 import wire
 from bench import ALLOW, BLOCK, IS_EX, IS_IN, TO_EX, TO_IN, Case
-from wire import IGMP, KINDS, text_of
+from wire import IGMP, KINDS, address, text_of
 
 # The rows of the standards' tables: the record, the group behind it, and what is asked for at its moment. `=N` is a timer
 # that ends at N, `!` a stopped one; `G` is the group itself.
@@ -475,6 +475,40 @@ def elections(b):
         "--until 5999",
         has=("end 5999 other", f"group {text_of(g)} include {text_of(a)}=6000"),
     )
+    yield Case(
+        "query-lowers-as-its-own-would",
+        "the same for a query of the bytes of which the router's own for this source would be",
+        ("6.6.1", "7.6.1"),
+        [(0, b.report((ALLOW, b.H, [a]))), (4000, b.query(lower, b.H, [a]))],
+        "--until 5999",
+        has=("end 5999 other", f"group {text_of(b.H)} include {text_of(a)}=6000"),
+    )
+    yield Case(
+        "query-with-s-lowers-as-little",
+        "the same with S set, from a higher address",
+        ("6.6.1, 6.6.2", "7.6.1, 7.6.2"),
+        [(0, b.report((ALLOW, b.H, [a]))), (4000, b.query(higher, b.H, [a], s=True))],
+        "--until 6000",
+        has=("end 6000 querier", f"group {text_of(b.H)} include {text_of(a)}=260000"),
+    )
+    if b.family is not IGMP:
+        second, least = address("fe80::2"), address("fe80::")
+        yield Case(
+            "query-lowers-from-the-one-below",
+            "the same from the one address below the router's own, which is fe80::1",
+            ("", "7.6.1, 7.6.2"),
+            [(0, b.report((ALLOW, b.H, [a]), source=second)), (4000, b.query(least, b.H, [a]))],
+            "--own fe80::1 --until 5999",
+            has=("end 5999 other", f"group {text_of(b.H)} include {text_of(a)}=6000"),
+        )
+        yield Case(
+            "query-with-s-from-the-one-above",
+            "the same with S set, from the next address above",
+            ("", "7.6.1, 7.6.2"),
+            [(0, b.report((ALLOW, b.H, [a]), source=second)), (4000, b.query(second, b.H, [a], s=True))],
+            "--own fe80::1 --until 6000",
+            has=("end 6000 querier", f"group {text_of(b.H)} include {text_of(a)}=260000"),
+        )
     yield Case(
         "query-with-bytes-behind",
         "bytes behind the fields of a query, and of one with a source, count for the checksum and for nothing else",

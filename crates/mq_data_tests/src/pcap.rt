@@ -1,3 +1,0 @@
-//! Captures cut, handed out in pieces and failing. Frames are vectors, and rows of `tools/refuse.cases`.
-
-mod captures;

@@ -1,4 +1,0 @@
-//! Codes, checksums, and queries that are written.
-
-mod codes;
-mod writing;

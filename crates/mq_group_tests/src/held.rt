@@ -1,3 +1,0 @@
-//! The storage of the groups of a link.
-
-mod places;

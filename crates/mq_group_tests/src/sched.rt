@@ -1,4 +1,0 @@
-//! What queries announce, and the index of deadlines.
-
-mod announcements;
-mod deadlines;
