@@ -9,3 +9,4 @@ pub mod Inside
 pub mod ByHeads
 pub mod Places
 pub mod Amounts
+mod DueCount

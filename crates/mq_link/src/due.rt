@@ -10,6 +10,7 @@ ghost use Rattle.mq_sched.specs.Sink.{Sends};
 ghost use Rattle.mq_held.specs.Groups.{sources_in};
 ghost use Rattle.mq_held.specs.Places.{has_due};
 ghost use Rattle.mq_link.specs.Handing.{KeepsIntervals};
+ghost use Rattle.mq_link.specs.LeastCost.{least_ticked};
 ghost use Rattle.mq_link.specs.Sender.{TakesQuery, begun};
 ghost use Rattle.mq_link.specs.Serving.{AreServed};
 ghost use Rattle.mq_link.specs.Tick.{groups_expired, queries_due, groups_after_round};
@@ -43,8 +44,9 @@ fn send_general<F: Family, O: Outlet<F::Address>>(is_due: bool, sender: &mut Sen
 }
 
 /// Does what is due at or before `now`, in this order: the end of the other querier's deadline; the general query; the
-/// end of timers, and what is due for the groups. The sender begins anew, on the terms that are in force then. At most four
-/// comparisons for each source, 27 for each group and two more; where no group has such a moment, two at most.
+/// end of timers, and what is due for the groups. The sender begins anew, on the terms that are in force then. At least one
+/// comparison for each group that has such a moment, and one more; at most four for each source, 27 for each group and two
+/// more; where no group has such a moment, two at most.
 pub(crate) fn do_due<F: Family, O: Outlet<F::Address>>(
     config: &Config<F>,
     held: &mut HeldGroups<F::Address>,
@@ -72,7 +74,8 @@ pub(crate) fn do_due<F: Family, O: Outlet<F::Address>>(
     ensures room { group.old.room ≤ group.new.room }
     ensures group_room { held.new.group_room ≡ held.old.group_room }
     ensures source_room { held.new.source_room ≡ held.old.source_room }
-    ensures spent { Spends 1 (4 * sources_in held.old.groups + 27 * map.len held.old.groups + 2) m.old m.new }
+    ensures spent { let least = least_ticked now held.old.groups in
+        Spends (1 + least) (4 * sources_in held.old.groups + 27 * map.len held.old.groups + 2) m.old m.new }
     ensures quiet { let is_quiet = (address : ℕ) (e : ScheduledGroup) → map.get held.old.groups address ≡ Some e → has_due now e ≡ false in
         is_quiet → Spends 1 2 m.old m.new }
 {

@@ -12,6 +12,7 @@ ghost use Rattle.mq_held.specs.Groups.{group_at, sources_of, sources_in, with_gr
 ghost use Rattle.mq_held.specs.Places.{HasPlace, has_due};
 ghost use Rattle.mq_wire.specs.Family.{Family};
 ghost use Rattle.mq_link.specs.Family as definitions;
+ghost use Rattle.mq_link.specs.LeastCost.{least_ticked};
 ghost use Rattle.mq_link.specs.Serving.{AreServed};
 ghost use Rattle.mq_link.specs.Tick.{group_expired, groups_expired, queries_due, groups_after_round};
 
@@ -98,7 +99,8 @@ pub(crate) fn tick_groups<K: Key, S: Sink<K>>(
     ensures room { group.old.room ≤ group.new.room }
     ensures group_room { held.new.group_room ≡ held.old.group_room }
     ensures source_room { held.new.source_room ≡ held.old.source_room }
-    ensures spent { Spends 0 (4 * sources_in held.old.groups + 27 * map.len held.old.groups + 1) m.old m.new }
+    ensures spent { let least = least_ticked now held.old.groups in
+        Spends least (4 * sources_in held.old.groups + 27 * map.len held.old.groups + 1) m.old m.new }
     ensures quiet { let none_is_due =
         (address : ℕ) (e : ScheduledGroup) → map.get held.old.groups address ≡ Some e → has_due now e ≡ false in
         none_is_due → Spends 0 1 m.old m.new }

@@ -61,6 +61,9 @@ returns-clause-query_group g c =
 pub returns-clause-spent : goal.returns-clause-spent
 returns-clause-spent g c = rw c.as_slice.ensures.members at c.push_within.ensures.compares
 
+pub returns-clause-spent_on_one : goal.returns-clause-spent_on_one
+returns-clause-spent_on_one g c one kept = c.push_within.ensures.one_named (ap length c.as_slice.ensures.members ∙ one) kept
+
 pub returns-clause-held : goal.returns-clause-held
 returns-clause-held g c s is_asked =
     let P : GroupState → Type 0 = λ g. IsSome (timer_at g s) in
