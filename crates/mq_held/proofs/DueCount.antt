@@ -18,34 +18,32 @@ module _ {X : Type 0} (p : X → Bool) where
 
   length-places_of : (start : ℕ) (xs : List X) → length (places_of start xs) ≡ count_by p xs
   length-places_of start [] = refl
-  length-places_of start (x ∷ xs) = by_test (p x) ∙ sym (sum_by-cons (λ y. cond (p y) 1 0) x xs)
+  length-places_of start (x ∷ xs) = by_test (p x) (length-places_of (suc start) xs) ∙ sym (sum_by-cons (λ y. cond (p y) 1 0) x xs)
     where
-      by_test : (b : Bool) → length (cond b (start ∷ places_of (suc start) xs) (places_of (suc start) xs)) ≡ cond b 1 0 + count_by p xs
-      by_test true = let rest = length-places_of (suc start) xs in omega arith
-      by_test false = let rest = length-places_of (suc start) xs in omega arith
+      by_test : (b : Bool) → length (places_of (suc start) xs) ≡ count_by p xs → length (cond b (start ∷ places_of (suc start) xs) (places_of (suc start) xs)) ≡ cond b 1 0 + count_by p xs
+      by_test true rest = omega arith
+      by_test false rest = omega arith
 
   -- they are no lower than that number
   places_from : (start : ℕ) (xs : List X) → All (λ q. start ≤ q) (places_of start xs)
   places_from start [] = λ k d in_list. absurd (omega arith)
-  places_from start (x ∷ xs) = by_test (p x)
+  places_from start (x ∷ xs) =
+      by_test (p x) (All-weaker (λ q. suc start ≤ q) (λ q. start ≤ q) (λ q h. omega arith) (places_of (suc start) xs) (places_from (suc start) xs))
     where
-      behind : All (λ q. start ≤ q) (places_of (suc start) xs)
-      behind = All-weaker (λ q. suc start ≤ q) (λ q. start ≤ q) (λ q h. omega arith) (places_of (suc start) xs) (places_from (suc start) xs)
-
-      by_test : (b : Bool) → All (λ q. start ≤ q) (cond b (start ∷ places_of (suc start) xs) (places_of (suc start) xs))
-      by_test true = All-cons (λ q. start ≤ q) start (places_of (suc start) xs) (omega arith) behind
-      by_test false = behind
+      by_test : (b : Bool) → All (λ q. start ≤ q) (places_of (suc start) xs) → All (λ q. start ≤ q) (cond b (start ∷ places_of (suc start) xs) (places_of (suc start) xs))
+      by_test true behind = All-cons (λ q. start ≤ q) start (places_of (suc start) xs) (omega arith) behind
+      by_test false behind = behind
 
   places_ascend : (start : ℕ) (xs : List X) → IsAscending (λ q. q) (places_of start xs)
   places_ascend start [] = λ i j d before in_list. absurd (omega arith)
-  places_ascend start (x ∷ xs) = by_test (p x)
+  places_ascend start (x ∷ xs) = by_test (p x) (places_ascend (suc start) xs)
     where
       above : All (λ q. start < q) (places_of (suc start) xs)
       above = All-weaker (λ q. suc start ≤ q) (λ q. start < q) (λ q h. omega arith) (places_of (suc start) xs) (places_from (suc start) xs)
 
-      by_test : (b : Bool) → IsAscending (λ q. q) (cond b (start ∷ places_of (suc start) xs) (places_of (suc start) xs))
-      by_test true = IsAscending-cons (λ q. q) start (places_of (suc start) xs) above (places_ascend (suc start) xs)
-      by_test false = places_ascend (suc start) xs
+      by_test : (b : Bool) → IsAscending (λ q. q) (places_of (suc start) xs) → IsAscending (λ q. q) (cond b (start ∷ places_of (suc start) xs) (places_of (suc start) xs))
+      by_test true up = IsAscending-cons (λ q. q) start (places_of (suc start) xs) above up
+      by_test false up = up
 
   -- whether a number is one of them
   abbrev is_at : ℕ → List X → ℕ → Bool
@@ -54,19 +52,19 @@ module _ {X : Type 0} (p : X → Bool) where
 
   set_of-places_of : (start : ℕ) (xs : List X) (n : ℕ) → set_of (λ q. q) (places_of start xs) n ≡ is_at start xs n
   set_of-places_of start [] n = refl
-  set_of-places_of start (x ∷ xs) n = by_test (p x)
+  set_of-places_of start (x ∷ xs) n = by_test (p x) (set_of-places_of (suc start) xs n)
     where
-      by_test : (b : Bool) → set_of (λ q. q) (cond b (start ∷ places_of (suc start) xs) (places_of (suc start) xs)) n ≡ ((b && (start == n)) || is_at (suc start) xs n)
-      by_test true = ap (λ r. (start == n) || r) (set_of-places_of (suc start) xs n)
-      by_test false = set_of-places_of (suc start) xs n
+      by_test : (b : Bool) → set_of (λ q. q) (places_of (suc start) xs) n ≡ is_at (suc start) xs n → set_of (λ q. q) (cond b (start ∷ places_of (suc start) xs) (places_of (suc start) xs)) n ≡ ((b && (start == n)) || is_at (suc start) xs n)
+      by_test true rest = ap (λ r. (start == n) || r) rest
+      by_test false rest = rest
 
   none_below : (start : ℕ) (xs : List X) (n : ℕ) → n < start → is_at start xs n ≡ false
   none_below start [] n below = refl
-  none_below start (x ∷ xs) n below = rw (above-eqb start n below) (by_test (p x))
+  none_below start (x ∷ xs) n below = rw (above-eqb start n below) (by_test (p x) (none_below (suc start) xs n (omega arith)))
     where
-      by_test : (b : Bool) → ((b && false) || is_at (suc start) xs n) ≡ false
-      by_test true = none_below (suc start) xs n (omega arith)
-      by_test false = none_below (suc start) xs n (omega arith)
+      by_test : (b : Bool) → is_at (suc start) xs n ≡ false → ((b && false) || is_at (suc start) xs n) ≡ false
+      by_test true rest = rest
+      by_test false rest = rest
 
   is_at-from : (start : ℕ) (xs : List X) (d : X) (k : ℕ) → is_at start xs (start + k) ≡ (nat_lt k (length xs) && p (get_or xs k d))
   is_at-from start [] d k = rw (le-ltb k 0 (omega arith)) refl
@@ -77,10 +75,10 @@ module _ {X : Type 0} (p : X → Bool) where
       by_test true = refl
       by_test false = refl
   is_at-from start (x ∷ xs) d (suc k) =
-      rw (below-eqb start (start + suc k) (omega arith)) (by_test (p x))
-      ∙ ap (is_at (suc start) xs) (omega arith)
-      ∙ is_at-from (suc start) xs d k
-      ∙ ap (λ b. b && p (get_or xs k d)) (grind (arith, nat_tests))
+      let moved : start + suc k ≡ suc start + k = omega arith in
+      let first : is_at start (x ∷ xs) (start + suc k) ≡ is_at (suc start) xs (start + suc k) = rw (below-eqb start (start + suc k) (omega arith)) (by_test (p x)) in
+      let tests : nat_lt k (length xs) ≡ nat_lt (suc k) (length (x ∷ xs)) = grind (arith, nat_tests) in
+      first ∙ ap (is_at (suc start) xs) moved ∙ is_at-from (suc start) xs d k ∙ ap (λ b. b && p (get_or xs k d)) tests
     where
       by_test : (b : Bool) → ((b && false) || is_at (suc start) xs (start + suc k)) ≡ is_at (suc start) xs (start + suc k)
       by_test true = refl

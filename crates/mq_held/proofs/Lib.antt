@@ -10,3 +10,4 @@ pub mod ByHeads
 pub mod Places
 pub mod Amounts
 mod DueCount
+mod HeldInOrder

@@ -3,4 +3,4 @@ pub mod Moments
 pub mod Places
 pub mod Held
 pub mod Stored
-pub mod Entries
+pub mod Listed

@@ -27,7 +27,7 @@ use crate::scratch::Scratch;
 use crate::seen::SeenGroups;
 use crate::sending::{QueryTerms, Sender};
 use mq_count::{Meter, Moment};
-use mq_held::{Entries, HeldGroup, HeldGroups};
+use mq_held::{HeldEntries, HeldGroup, HeldGroups};
 use mq_sched::{Election, OtherQuerier};
 use mq_sets::Memory;
 use mq_table::Timing;
@@ -283,7 +283,7 @@ impl<F: Family> Link<F> {
     }
 
     /// All groups that it holds, by ascending address, each as it stands in the storage.
-    pub fn entries(&self) -> Entries<'_, F::Address>
+    pub fn entries(&self) -> HeldEntries<'_, F::Address>
         ensures { result ≡ map.entries self.now.state.groups }
     {
         self.held.entries()

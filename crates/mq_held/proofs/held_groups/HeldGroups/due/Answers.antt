@@ -27,7 +27,7 @@ returns-clause-spent g c =
 
 pub returns-clause-count : goal.returns-clause-count
 returns-clause-count g c =
-    let groups = c.self.now.groups in
+    let groups = c.args.self.now.groups in
     let handed_out = take c.due.result c.due.new.places in
     let size = length-take-le c.due.result c.due.new.places (omega (arith, c.due.ensures.within, c.requires.space, c.due.auto.places, deadlines-held g.K.Key.number c.self.invariant.0 c.self.view_is)) in
     let values = map.values groups in

@@ -2,7 +2,7 @@
 
 ghost use Rattle.std.specs.Prelude.{◌≡◌};
 ghost use Rattle.std.specs.Iterator.{YieldsFirstBy, item_count};
-ghost use Rattle.mq_held.specs.Entries.{entry_in, entries_from};
+ghost use Rattle.mq_held.specs.Listed.{entry_in, entries_from};
 
 use crate::held_group::HeldGroup;
 use crate::held_groups::HeldGroups;
@@ -12,13 +12,13 @@ use std::marker::Model;
 /// The held groups from one of them on, by ascending address, each as it stands in the storage. A contract sees the list of
 /// those that are still to come, each with its address. It takes no memory, and compares nothing.
 #[derive(Drop)]
-pub struct Entries<'a, K: Key> {
+pub struct HeldEntries<'a, K: Key> {
     held: &'a HeldGroups<K>,
     /// The place of the next one.
     place: usize,
 }
 
-impl<'a, K: Key> Model for Entries<'a, K> {
+impl<'a, K: Key> Model for HeldEntries<'a, K> {
     ghost use Rattle.std.specs.Prelude.{ℕ, ◌≤◌, List};
     ghost use Rattle.std.specs.Coded.{coded×, coded_ℕ, coded_list};
     ghost use Rattle.std.specs.FinMap as map;
@@ -27,7 +27,7 @@ impl<'a, K: Key> Model for Entries<'a, K> {
     ghost use Rattle.mq_sched.specs.contracts.queries.QuerySchedule as query_schedule;
     ghost use Rattle.mq_sched.specs.Schedule.{ScheduledGroup};
     ghost use Rattle.mq_held.specs.Held.{scheduled_code};
-    ghost use Rattle.mq_held.specs.Entries.{entries_from};
+    ghost use Rattle.mq_held.specs.Listed.{entries_from};
 
     ghost Value = { List (ℕ × ScheduledGroup) };
 
@@ -38,16 +38,16 @@ impl<'a, K: Key> Model for Entries<'a, K> {
     ghost invariant = { λ e. e.place ≤ map.len e.held.now.groups };
 }
 
-impl<'a, K: Key> Entries<'a, K> {
+impl<'a, K: Key> HeldEntries<'a, K> {
     /// All of them.
-    pub(crate) fn of(held: &'a HeldGroups<K>) -> Entries<'a, K>
+    pub(crate) fn of(held: &'a HeldGroups<K>) -> HeldEntries<'a, K>
         ensures { result ≡ entries_from 0 held.entry.now.groups }
     {
-        Entries { held, place: 0 }
+        HeldEntries { held, place: 0 }
     }
 }
 
-impl<'a, K: Key> Iterator for Entries<'a, K> {
+impl<'a, K: Key> Iterator for HeldEntries<'a, K> {
     type Item = HeldGroup<'a, K>;
 
     ghost next_gives = { YieldsFirstBy (entry_in K.number) (λ r. r) };
