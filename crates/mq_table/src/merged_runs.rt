@@ -9,7 +9,7 @@ ghost use Rattle.mq_sets.specs.Ascending.{IsAscending};
 ghost use Rattle.mq_sets.specs.Merging.{merged_lists, pair_of};
 ghost use Rattle.mq_sets.specs.Search.{IsPlaceFor, bitlen};
 ghost use Rattle.mq_table.specs.Stored.{number_in};
-ghost use Rattle.mq_table.specs.MergedRecord.{source_made, source_asked, item_is_stopped, keeps_unnamed, LeavesAlone};
+ghost use Rattle.mq_table.specs.MergedRecord.{source_made, source_asked, item_is_stopped, keeps_unnamed, LeavesAlone, LooksByHalves};
 
 use crate::kind::Kind;
 use crate::merged_records::{push_changes, push_if_some, source_asked, source_made};
@@ -196,8 +196,7 @@ pub(crate) fn push_within<K: Key>(
     ensures sources { sources.new.items ≡ filter_map (source_made rule.now) (merged_lists (number_in K.number) K.number held.now named.now) }
     ensures asked { asked.new.items ≡ filter_map (source_asked rule.now) (merged_lists (number_in K.number) K.number held.now named.now) }
     ensures compares { Spends (min (length held.now) (length named.now)) (length held.now + length named.now) m.old m.new }
-    ensures one_named { length named.now ≡ 1 → keeps_unnamed rule.now.kind rule.now.mode held.now ≡ true →
-        Spends 0 (bitlen (length held.now)) m.old m.new }
+    ensures by_halves { LooksByHalves rule.now.kind rule.now.mode held.now (length named.now) m.old m.new }
     ensures sources_room { vec_capacity sources.old ≤ vec_capacity sources.new }
     ensures asked_room { vec_capacity asked.old ≤ vec_capacity asked.new }
 {

@@ -3,9 +3,8 @@
 ghost use Rattle.std.specs.Prelude.{◌≡◌, ℕ, ◌+◌, ◌^◌, ◌≤◌, ◌<◌, true, min, length, vec_capacity, IsSome, IfOk, OnOk, OnErr};
 ghost use Rattle.mq_count.specs.Spending.{Spends};
 ghost use Rattle.mq_sets.specs.Ascending.{IsAscending, set_of};
-ghost use Rattle.mq_sets.specs.Search.{bitlen};
 ghost use Rattle.mq_table.specs.Group.{timer_at};
-ghost use Rattle.mq_table.specs.MergedRecord.{keeps_unnamed};
+ghost use Rattle.mq_table.specs.MergedRecord.{LooksByHalves};
 ghost use Rattle.mq_table.specs.Table.{change_of};
 ghost use Rattle.mq_table.specs.Stored.{named_in, number_in, size_of, state_of, timers_in};
 
@@ -60,8 +59,7 @@ impl<K: Key> Group<K> {
         // At least one comparison for each source of the shorter side, at most one for each of both; where one source is
         // named and the others stay as they are, at most one for each binary digit of how many the group has.
         ensures spent { Spends (min (length row.now) (length named.now.members)) (length row.now + length named.now.members) m.old m.new }
-        ensures spent_on_one { length named.now.members ≡ 1 → keeps_unnamed kind head.now.mode row.now ≡ true →
-            Spends 0 (bitlen (length row.now)) m.old m.new }
+        ensures by_halves { LooksByHalves kind head.now.mode row.now (length named.now.members) m.old m.new }
     {
         let rule = Rule {
             kind,

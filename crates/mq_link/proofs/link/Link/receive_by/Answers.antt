@@ -1,5 +1,6 @@
 use Rattle.std.proofs.Common.{◌≡◌, ◌+◌, length, ap, sym, ◌∙◌, subst, arith}
 use Rattle.mq_count.specs.Spending.{Spends}
+use Rattle.mq_count.proofs.Spent.{Spends-within}
 use Rattle.mq_sched.specs.Election.{ElectionState, ticked}
 use Rattle.mq_sched.specs.StoredElection.{RouterElection}
 use Rattle.mq_link.specs.Cost.{cost_of}
@@ -104,7 +105,7 @@ returns-clause-spent g c =
     in
     let met = after_tick_is g.O.Outlet.takes family config moment c.self.inside.held c.self.inside.election c.self.inside.last c.self.inside.counts c.do_due.new.held c.do_due.new.election c.args.sender.now c.do_due.new.sender done in
     let in_force = (ticked config.timing moment c.self.inside.election.state).timing in
-    let spent = received_within in_force moment c.self.inside.held.groups c.do_due.new.held.groups (length c.args.body.now) _ _ _ _ _ due.groups c.later-now.ensures.spent due.spent c.take_in-received.ensures.spent in
+    let spent = received_within in_force moment c.self.inside.held.groups c.do_due.new.held.groups (length c.args.body.now) _ _ _ _ _ due.groups c.later-now.ensures.spent (Spends-within _ _ due.spent (omega arith) (omega arith)) c.take_in-received.ensures.spent in
     let least = least_after_tick family config envelope c.args.body.now c.args.now moment before after c.is_faultless.ensures.family c.later-now.ensures.later met in
     let so = subst (λ n. Spends (2 + n) (cost_of (length c.args.body.now) (held_of before)) c.self.inside.meter c.take_in-received.new.m) least spent in
     subst (λ (v : LinkValue). Spends (2 + least_received v.config envelope c.args.body.now c.args.now v.state) (cost_of (length c.args.body.now) (held_of v.state)) v.spent c.take_in-received.new.m) c.self.view_is so
