@@ -144,9 +144,9 @@ impl<F: Family> Link<F> {
     {
         let mut terms = QueryTerms::of(&self.config);
         let mut sender = Sender::new(&mut terms, outlet);
-        let received = self.receive_by(envelope, body, now, &mut sender);
+        let answer = self.receive_by(envelope, body, now, &mut sender);
         self.is_well_formed();
-        received
+        answer
     }
 
     /// A tick, with the sender that hands its queries to an outlet.
