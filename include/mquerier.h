@@ -34,7 +34,7 @@ extern "C" {
 /* The latest moment that a call takes: 2^53 milliseconds. */
 #define MQ_LATEST (UINT64_C(1) << 53)
 
-/* Statuses. The faults of a configuration are tested in this order, but MQ_OWN_ADDRESS behind the limits. */
+/* Statuses. The faults of a configuration are tested in this order, but MQ_OWN_ADDRESS after the limits. */
 #define MQ_DONE 0
 #define MQ_ROBUSTNESS 1
 #define MQ_QUERY_INTERVAL 2
@@ -201,7 +201,7 @@ void mq_mld_free(mq_mld link);
 
 /* Takes a datagram that came at `now`: its source, of MLD also its destination, its hop limit and whether it has the
    Router Alert option, and its bytes without the IP header. First it does what a tick does then. The queries that it
-   sends stand in `queries`, one behind the other: the destination (4 or 16 bytes), the length of the message (2 bytes,
+   sends stand in `queries`, one after the other: the destination (4 or 16 bytes), the length of the message (2 bytes,
    most significant first), the message. One that doesn't fit into what is left of `room` bytes is left out and counted in
    `unsent`; a shorter one behind it may still fit. The bytes behind `written` stay as they were. */
 mq_answer mq_igmp_receive(mq_igmp *link, const uint8_t source[4], const uint8_t *body, size_t length, uint64_t now,
