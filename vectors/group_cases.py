@@ -477,7 +477,7 @@ def elections(b):
     )
     yield Case(
         "query-lowers-as-its-own-would",
-        "the same for a query of the bytes of which the router's own for this source would be",
+        "the same where the query has the bytes that the router's own for this source would have",
         ("6.6.1", "7.6.1"),
         [(0, b.report((ALLOW, b.H, [a]))), (4000, b.query(lower, b.H, [a]))],
         "--until 5999",
