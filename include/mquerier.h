@@ -220,7 +220,7 @@ size_t mq_igmp_outlet_bytes(mq_igmp_config config);
 size_t mq_mld_outlet_bytes(mq_mld_config config);
 
 /* When a tick has something to do next. Right after a tick it is later than the tick's moment. Near the end of the clock it
-   may lie above MQ_LATEST, where no call can be made: then nothing is due up to MQ_LATEST, unless a datagram comes. */
+   may lie above MQ_LATEST, where no call can be made: then go on without ticks, since nothing is due up to MQ_LATEST. */
 uint64_t mq_igmp_next_deadline(mq_igmp *link);
 uint64_t mq_mld_next_deadline(mq_mld *link);
 
