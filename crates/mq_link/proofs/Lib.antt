@@ -48,3 +48,5 @@ pub mod SpelledMessages
 pub mod LeastLengths
 pub mod TickedSizes
 pub mod LeastCosts
+pub mod Rooms
+pub mod StatusSteps

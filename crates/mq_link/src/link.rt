@@ -19,16 +19,17 @@ ghost use Rattle.mq_link.specs.Tick.{moment_of, tick_of, next_of};
 use crate::answers::Received;
 use crate::config::Config;
 use crate::counts::Counts;
-use crate::due::{do_due, later};
+use crate::datagram::take_in;
 use crate::family::Family;
+use crate::met::MetGroups;
 use crate::outlet::Outlet;
-use crate::receiving::take_in;
-use crate::scratch::Scratch;
-use crate::seen::SeenGroups;
 use crate::sending::{QueryTerms, Sender};
+use crate::status::Status;
+use crate::storage::Storage;
+use crate::tick::{do_due, later};
 use mq_count::{Meter, Moment};
-use mq_held::{HeldGroup, HeldGroups};
-use mq_sched::{Election, OtherQuerier};
+use mq_held::HeldGroup;
+use mq_sched::OtherQuerier;
 use mq_sets::Memory;
 use mq_table::Timing;
 use std::alloc::Global;
@@ -42,14 +43,10 @@ const MOST_RECORDS: usize = 65535;
 /// has made. All storage is taken by `new`, and no other call takes any.
 #[derive(Drop)]
 pub struct Link<F: Family> {
-    config: Config<F>,
-    held: HeldGroups<F::Address>,
-    election: Election<F::Address>,
-    last: Moment,
+    status: Status<F>,
+    storage: Storage<F::Address>,
     counts: Counts,
-    meter: Meter,
-    scratch: Scratch<F::Address>,
-    seen: SeenGroups<F::Address>,
+    seen: MetGroups<F::Address>,
     places: Vec<usize>,
 }
 
@@ -57,16 +54,16 @@ impl<F: Family> Model for Link<F> {
     ghost use Rattle.mq_table.specs.contracts.timers.FilterMode as filter_mode;
     ghost use Rattle.mq_table.specs.contracts.timers.SourceTimer as source_timer;
     ghost use Rattle.mq_sched.specs.contracts.queries.QuerySchedule as query_schedule;
-    ghost use Rattle.mq_link.specs.Link.{LinkValue, IsLinkStored, state_in};
+    ghost use Rattle.mq_link.specs.Link.{LinkValue, IsLinkStored, state_at};
     ghost use Rattle.mq_link.specs.LinkCode.{link_code};
 
     ghost Value = { LinkValue };
 
     ghost coded = { link_code filter_mode.the_row.coded source_timer.the_row.coded query_schedule.the_row.coded };
 
-    ghost view = { λ l. record { config = l.config; state = state_in l.held l.election l.last l.counts; spent = l.meter } };
+    ghost view = { λ l. record { config = l.status.config; state = state_at l.status l.storage.held.groups l.counts; spent = l.storage.work.meter } };
 
-    ghost invariant = { λ l. IsLinkStored l.config l.held l.election l.last l.counts l.scratch l.seen l.places.items };
+    ghost invariant = { λ l. IsLinkStored l.status l.storage l.seen l.places.items };
 }
 
 impl<F: Family> Link<F> {
@@ -80,19 +77,13 @@ impl<F: Family> Link<F> {
         config.is_faultless();
         let limits = config.limits();
         let groups = limits.groups as usize;
-        let held = HeldGroups::with_room(alloc, groups, limits.sources as usize)?;
-        let scratch = Scratch::with_room(alloc, limits.group_sources as usize)?;
-        let seen = SeenGroups::with_room(alloc, MOST_RECORDS)?;
+        let storage = Storage::with_room(alloc, &limits)?;
+        let seen = MetGroups::with_room(alloc, MOST_RECORDS)?;
         let places = vec![in alloc; 0; groups]?;
-        let election = Election::new(config.own(), config.timing(), start);
         Ok(Link {
-            config,
-            held,
-            election,
-            last: start,
+            status: Status::new(config, start),
+            storage,
             counts: Counts::none(),
-            meter: Meter::new(),
-            scratch,
             seen,
             places,
         })
@@ -111,7 +102,7 @@ impl<F: Family> Link<F> {
         ensures bounded { Spends 0 (cost_of 0 (held_of self.old.state)) self.old.spent self.new.spent }
         ensures quiet { moment_of self.old.state now < next_of self.old.state → Spends 2 3 self.old.spent self.new.spent }
     {
-        let mut terms = QueryTerms::of(&self.config);
+        let mut terms = QueryTerms::of(self.status.config());
         let mut sender = Sender::new(&mut terms, outlet);
         self.tick_by(now, &mut sender);
     }
@@ -135,7 +126,7 @@ impl<F: Family> Link<F> {
         ensures spent { let least = least_received self.old.config (F.envelope_of envelope.now) body.now now self.old.state in
             Spends (2 + least) (cost_of (length body.now) (held_of self.old.state)) self.old.spent self.new.spent }
     {
-        let mut terms = QueryTerms::of(&self.config);
+        let mut terms = QueryTerms::of(self.status.config());
         let mut sender = Sender::new(&mut terms, outlet);
         self.receive_by(envelope, body, now, &mut sender)
     }
@@ -150,20 +141,16 @@ impl<F: Family> Link<F> {
             Spends 2 (4 * sources_in groups + 27 * map.len groups + 3) self.old.spent self.new.spent }
         ensures quiet { moment_of self.old.state now < next_of self.old.state → Spends 2 3 self.old.spent self.new.spent }
     {
-        self.config.is_faultless();
-        let now = later(self.last, now, &mut self.meter);
+        self.status.lemma_is_sound();
+        let now = later(self.status.moment(), now, &mut self.storage.work.meter);
         do_due(
-            &self.config,
-            &mut self.held,
-            &mut self.election,
-            &mut self.scratch.group,
+            &mut self.status,
+            &mut self.storage,
             &mut self.places,
             now,
-            &mut self.meter,
             sender,
         );
         self.counts.count_answers(sender.sent(), sender.unsent());
-        self.last = now;
     }
 
     /// A datagram, with that sender.
@@ -182,33 +169,25 @@ impl<F: Family> Link<F> {
         ensures spent { let least = least_received self.old.config (F.envelope_of envelope.now) body.now now self.old.state in
             Spends (2 + least) (cost_of (length body.now) (held_of self.old.state)) self.old.spent self.new.spent }
     {
-        self.config.is_faultless();
-        let now = later(self.last, now, &mut self.meter);
+        self.status.lemma_is_sound();
+        let now = later(self.status.moment(), now, &mut self.storage.work.meter);
         do_due(
-            &self.config,
-            &mut self.held,
-            &mut self.election,
-            &mut self.scratch.group,
+            &mut self.status,
+            &mut self.storage,
             &mut self.places,
             now,
-            &mut self.meter,
             sender,
         );
         let received = take_in(
-            &self.config,
-            &mut self.held,
-            &mut self.election,
+            &mut self.status,
+            &mut self.storage,
             &mut self.counts,
-            &mut self.scratch,
             &mut self.seen,
-            now,
             envelope,
             body,
-            &mut self.meter,
             sender,
         );
         self.counts.count_answers(sender.sent(), sender.unsent());
-        self.last = now;
         received
     }
 
@@ -216,7 +195,7 @@ impl<F: Family> Link<F> {
     pub fn config(&self) -> &Config<F>
         ensures { result.now ≡ self.now.config }
     {
-        &self.config
+        self.status.config()
     }
 
     /// Its state is one that a link may be in, and after a tick its next moment will be later than that of the tick. It does
@@ -225,8 +204,7 @@ impl<F: Family> Link<F> {
         ensures formed { IsWellFormed self.now.config self.now.state }
         ensures later { (now : ℕ) → now < next_of (tick_of self.now.config now self.now.state).state }
     {
-        self.config.is_faultless();
-        let _last = self.last;
+        self.status.lemma_is_sound();
     }
 
     /// What it has counted, where it is no longer needed.
@@ -247,21 +225,21 @@ impl<F: Family> Link<F> {
     pub fn spent(&self) -> u64
         ensures { result ≡ self.now.spent }
     {
-        self.meter.spent()
+        self.storage.work.meter.spent()
     }
 
     /// Whether it is querier (RFC 3376 section 6.6.2, RFC 3810 section 7.6.2).
     pub fn is_querier(&self) -> bool
         ensures { result ≡ is_querier self.now.state.election.role }
     {
-        self.election.is_querier()
+        self.status.election().is_querier()
     }
 
     /// The other router that is querier, or None where this one is.
     pub fn other_querier(&self) -> Option<OtherQuerier<F::Address>>
         ensures { IsOtherOf F.Address.number self.now.state.election.role result }
     {
-        self.election.other_querier()
+        self.status.election().other_querier()
     }
 
     /// The timing in force: the configured one, but for what was taken over from the queries of other routers (RFC 3376
@@ -269,14 +247,14 @@ impl<F: Family> Link<F> {
     pub fn timing(&self) -> Timing
         ensures { result ≡ self.now.state.election.timing }
     {
-        self.election.timing()
+        self.status.election().timing()
     }
 
     /// How many groups it holds.
     pub fn len(&self) -> usize
         ensures { result ≡ map.len self.now.state.groups }
     {
-        self.held.len()
+        self.storage.held.len()
     }
 
     /// The group at a place, its rank in the ascending list of the addresses of all groups, counted from 0, as it stands in
@@ -290,7 +268,7 @@ impl<F: Family> Link<F> {
         ensures len { (address : ℕ) → HasPlace self.now.state.groups address place →
             length result.sources.now ≡ sources_of (group_at self.now.state.groups address) }
     {
-        self.held.entry(place)
+        self.storage.held.entry(place)
     }
 
     /// When a tick has something to do next: the earliest of all deadlines and due moments. It compares two moments on a
@@ -298,8 +276,8 @@ impl<F: Family> Link<F> {
     pub fn next_deadline(&self) -> Moment
         ensures { result ≡ next_of self.now.state }
     {
-        let next = self.election.next_moment();
-        match self.held.earliest() {
+        let next = self.status.election().next_moment();
+        match self.storage.held.earliest() {
             None => next,
             Some(earliest) => Meter::new().earlier(next, earliest),
         }
@@ -312,8 +290,8 @@ impl<F: Family> Link<F> {
         ensures { result ≡ state.forwards self.now.state (F.Address.number group) (F.Address.number source) }
     {
         let mut m = Meter::new();
-        match self.held.find(group, &mut m) {
-            Ok(place) => self.held.entry(place).forwards(source, &mut m),
+        match self.storage.held.find(group, &mut m) {
+            Ok(place) => self.storage.held.entry(place).forwards(source, &mut m),
             Err(_) => false,
         }
     }
