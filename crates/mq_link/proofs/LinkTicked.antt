@@ -13,7 +13,6 @@ use Rattle.mq_link.specs.Record.{Setting}
 use Rattle.mq_link.specs.Sender.{TakesQuery, begun}
 use Rattle.mq_link.specs.Sound.{AreSound}
 use Rattle.mq_link.specs.State.{Groups, LinkState}
-use Rattle.mq_link.specs.Status.{IsStatus}
 use Rattle.mq_link.specs.Tick.{Step, groups_expired, queries_due, groups_after_round, tick_at, tick_of}
 use Rattle.mq_table.specs.Variables.{AreInRange}
 use Rattle.mq_link.proofs.AllFits.{fits-tick_of}

@@ -158,6 +158,7 @@ pub(crate) fn do_due<F: Family, O: Outlet<F::Address>>(
         is_quiet → Spends 1 2 storage.old.work.meter storage.new.work.meter }
 {
     let is_due = status.tick(now, &mut storage.work.meter);
+    status.lemma_is_sound();
     let at = status.in_force();
     sender.begin(status.config(), at.timing);
     send_general(is_due, sender);

@@ -1,10 +1,9 @@
-use Rattle.std.proofs.Common.{◌≡◌, ◌≤◌, sym, ap, ◌∙◌, refl, arith}
+use Rattle.std.proofs.Common.{◌≤◌, ap, refl, arith}
 use Rattle.std.specs.FinMap as map
 use Rattle.mq_count.proofs.Spent.{Spends-within}
 use Rattle.mq_link.specs.Link.{state_at}
-use Rattle.mq_link.specs.Receive.{Envelope, taken_in}
+use Rattle.mq_link.specs.Receive.{taken_in}
 use Rattle.mq_link.specs.Record.{Setting}
-use Rattle.mq_link.specs.State.{LinkState}
 use Rattle.mq_link.proofs.Faultless.{few_groups, few_sources}
 use Rattle.mq_link.proofs.LinkStored.{ready_in}
 use Rattle.mq_link.proofs.RecordCosts.{report_within, statement_within}

@@ -1,6 +1,8 @@
 use Rattle.std.proofs.Common.{◌≡◌, sym, ap, ◌∙◌, subst}
 use Rattle.mq_sched.specs.Sink.{Sends}
 use Rattle.mq_link.specs.declared.status.InForce.{InForce}
+use Rattle.mq_link.specs.Configuration.{Configuration}
+use Rattle.mq_link.specs.Handing.{KeepsIntervals}
 use Rattle.mq_link.specs.Record.{Setting}
 use Rattle.mq_link.specs.Sender.{TakesQuery, begun}
 use Rattle.mq_link.specs.Tick.{groups_after_round, groups_expired, queries_due}
@@ -10,6 +12,12 @@ use Rattle.mq_link.proofs.tick.do_due.Goals as goal
 
 pub tick_groups-requires-clause-ready : goal.tick_groups-requires-clause-ready
 tick_groups-requires-clause-ready g c = ready_counted c.args.storage.now c.tick-is_due.new.m c.requires.ready
+
+pub begin-requires : goal.begin-requires
+begin-requires g c =
+    let timing = ap (λ (f : InForce). f.timing) c.in_force-at.ensures.in_force in
+    subst (λ (k : Configuration). KeepsIntervals k.timing c.in_force-at.result.timing) (sym c.config.ensures)
+    (subst (KeepsIntervals c.tick-is_due.new.self.config.timing) (sym timing) c.lemma_is_sound.ensures.intervals)
 
 pub returns-clause-groups : goal.returns-clause-groups
 returns-clause-groups g c =

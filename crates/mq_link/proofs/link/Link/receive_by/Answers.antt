@@ -1,4 +1,4 @@
-use Rattle.std.proofs.Common.{◌≡◌, ◌+◌, length, refl, ap, sym, ◌∙◌, subst, arith}
+use Rattle.std.proofs.Common.{◌≡◌, ◌+◌, max, length, ap, sym, ◌∙◌, subst, arith}
 use Rattle.mq_count.specs.Spending.{Spends}
 use Rattle.mq_sched.specs.Election.{ticked}
 use Rattle.mq_link.specs.Cost.{cost_of}
@@ -96,7 +96,7 @@ returns-clause-receives g c =
     record { status_is = due.status; groups_are = due.groups; sent = due.sent }
     in
     let after : LinkValue = record { config = left.status.config; state = state_at left.status left.storage.held.groups c.count_answers.new.self; spent = left.storage.work.meter } in
-    let there = has_received g.O.Outlet.takes family envelope c.args.body.now c.args.now c.later-now.result inside.status c.do_due.new.status left.status inside.storage.held.groups c.do_due.new.storage.held.groups left.storage.held.groups inside.counts left.counts c.count_answers.new.self c.take_in-received.result inside.storage.work.meter left.storage.work.meter c.args.sender.now c.do_due.new.sender left.sender c.lemma_is_sound.ensures.family c.later-now.ensures.later did took.received took.sent counted in
+    let there = has_received g.O.Outlet.takes family envelope c.args.body.now c.args.now c.later-now.result inside.status c.do_due.new.status left.status inside.storage.held.groups c.do_due.new.storage.held.groups left.storage.held.groups inside.counts left.counts c.count_answers.new.self c.take_in-received.result inside.storage.work.meter left.storage.work.meter c.args.sender.now c.do_due.new.sender left.sender c.lemma_is_sound.ensures.family (c.later-now.ensures.later ∙ ap (λ n. max n c.args.now) c.moment.ensures) did took.received took.sent counted in
     subst (λ (before : LinkValue). HasReceived g.O.Outlet.takes envelope c.args.body.now c.args.now c.take_in-received.result before after c.args.sender.now.outlet.now left.sender.outlet.now) c.self.view_is there
 
 pub returns-clause-spent : goal.returns-clause-spent
@@ -115,7 +115,7 @@ returns-clause-spent g c =
     let same = same_config _ _ _ _ _ _ _ inside.counts _ _ c.lemma_is_sound.ensures.family did in
     let in_force = (ticked inside.status.config.timing moment inside.status.election).timing in
     let spent = received_within in_force moment inside.storage.held.groups c.do_due.new.storage.held.groups (length c.args.body.now) _ _ _ _ _ due.groups c.later-now.ensures.spent due.spent c.take_in-received.ensures.spent in
-    let least = (λ i. least_after (setting_of (same i) after) envelope (read_in family envelope c.args.body.now) after.groups) ∙ least_after_tick family inside.status.config envelope c.args.body.now c.args.now moment before after c.lemma_is_sound.ensures.family c.later-now.ensures.later met in
+    let least = (λ i. least_after (setting_of (same i) after) envelope (read_in family envelope c.args.body.now) after.groups) ∙ least_after_tick family inside.status.config envelope c.args.body.now c.args.now moment before after c.lemma_is_sound.ensures.family (c.later-now.ensures.later ∙ ap (λ n. max n c.args.now) c.moment.ensures) met in
     let so = subst (λ n. Spends (2 + n) (cost_of (length c.args.body.now) (held_of before)) inside.storage.work.meter c.take_in-received.new.storage.work.meter) least spent in
     subst (λ (v : LinkValue). Spends (2 + least_received v.config envelope c.args.body.now c.args.now v.state) (cost_of (length c.args.body.now) (held_of v.state)) v.spent c.take_in-received.new.storage.work.meter) c.self.view_is so
 

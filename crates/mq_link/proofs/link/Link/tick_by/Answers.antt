@@ -55,7 +55,7 @@ returns-clause-ticks g c =
     record { status_is = done.status; groups_are = done.groups; sent = done.sent }
     in
     let after : LinkValue = record { config = c.do_due.new.status.config; state = state_at c.do_due.new.status c.do_due.new.storage.held.groups c.count_answers.new.self; spent = c.do_due.new.storage.work.meter } in
-    let there = has_ticked _ _ _ _ _ _ _ _ _ _ c.lemma_is_sound.ensures.family did c.args.now inside.storage.work.meter c.do_due.new.storage.work.meter c.count_answers.new.self c.later-now.ensures.later counted in
+    let there = has_ticked _ _ _ _ _ _ _ _ _ _ c.lemma_is_sound.ensures.family did c.args.now inside.storage.work.meter c.do_due.new.storage.work.meter c.count_answers.new.self (c.later-now.ensures.later ∙ ap (λ n. max n c.args.now) c.moment.ensures) counted in
     subst (λ (before : LinkValue). HasTicked g.O.Outlet.takes c.args.now before after c.args.sender.now.outlet.now c.do_due.new.sender.outlet.now) c.self.view_is there
 
 pub returns-clause-same_outlet : goal.returns-clause-same_outlet
@@ -67,6 +67,6 @@ returns-clause-quiet g c before =
     let inside = c.self.inside in
     let state : LinkState = state_at inside.status inside.storage.held.groups inside.counts in
     let earlier : max inside.status.now now < next_of state = subst (λ (v : LinkValue). max v.state.last now < next_of v.state) (sym c.self.view_is) before in
-    let moment : c.later-now.result < next_of state = subst (λ m. m < next_of state) (sym c.later-now.ensures.later) earlier in
+    let moment : c.later-now.result < next_of state = subst (λ m. m < next_of state) (sym (c.later-now.ensures.later ∙ ap (λ n. max n c.args.now) c.moment.ensures)) earlier in
     let spent = Spends-join_within 2 3 c.later-now.ensures.spent (c.do_due.ensures.quiet (none_due state c.later-now.result moment)) (omega arith) (omega arith) in
     subst (λ (v : LinkValue). Spends 2 3 v.spent c.do_due.new.storage.work.meter) c.self.view_is spent

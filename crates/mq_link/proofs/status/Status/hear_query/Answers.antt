@@ -5,15 +5,14 @@ use Rattle.mq_count.proofs.Spent.{Spends-none, Spends-within, Spends-join, Spend
 use Rattle.mq_sched.specs.Election.{loses_role}
 use Rattle.mq_held.specs.Groups.{group_at, sources_of, sources_in}
 use Rattle.mq_held.proofs.Amounts.{own_sources}
-use Rattle.mq_wire.specs.Numbered.{numbered_query, numbered_version}
+use Rattle.mq_wire.specs.Numbered.{numbered_query}
 use Rattle.mq_link.specs.declared.status.InForce.{InForce}
 use Rattle.mq_link.specs.declared.storage.Storage.{Storage}
-use Rattle.mq_link.specs.Heard.{election_after, groups_cleared, groups_lowered}
+use Rattle.mq_link.specs.Heard.{groups_cleared, groups_lowered}
 use Rattle.mq_link.specs.Record.{Setting}
 use Rattle.mq_link.specs.Storage.{IsReady}
 use Rattle.mq_link.proofs.HeardGroups.{cleared_ready, cleared_sources, cleared_small}
 use Rattle.mq_link.proofs.Rooms.{ready_counted, rooms_counted, rooms_on}
-use Rattle.mq_link.proofs.status.Status.hear_query.Given.{Over}
 use Rattle.mq_link.proofs.status.Status.hear_query.Goals as goal
 use Rattle.mq_link.proofs.status.Status.hear_query.Goals.{then-hear, else-hear}
 

@@ -1,8 +1,3 @@
-use Rattle.std.proofs.Common.{◌≡◌, ap, subst, ◌∙◌}
-use Rattle.mq_table.specs.declared.timing.Timing.{Timing}
-use Rattle.mq_sched.specs.Election.{general_messages, ticked}
-use Rattle.mq_sched.specs.StoredElection.{RouterElection}
-use Rattle.mq_link.specs.Record.{Setting}
 use Rattle.mq_link.proofs.StatusSteps.{status_ticked}
 use Rattle.mq_link.proofs.status.Status.tick.Goals as goal
 

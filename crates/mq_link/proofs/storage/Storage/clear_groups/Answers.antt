@@ -1,4 +1,4 @@
-use Rattle.std.proofs.Common.{◌-◌, ◌<◌, ◌∙◌, arith}
+use Rattle.std.proofs.Common.{◌-◌, ◌<◌, arith}
 use Rattle.std.specs.FinMap as map
 use Rattle.mq_sets.proofs.Bitlen.{bitlen-le}
 use Rattle.mq_link.proofs.ClearedPlaces.{len_stays, next_has_place, next_served, one_cleared, all_cleared}

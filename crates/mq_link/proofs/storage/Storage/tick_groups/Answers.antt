@@ -1,4 +1,4 @@
-use Rattle.std.proofs.Common.{◌≡◌, cond, refl, ◌+◌, ◌-◌, [], length, take, sym, ap, ◌∙◌, subst, arith}
+use Rattle.std.proofs.Common.{◌≡◌, cond, ◌+◌, ◌-◌, [], length, take, sym, ap, ◌∙◌, subst, arith}
 use Rattle.std.proofs.lemmas.List.{length-take}
 use Rattle.std.specs.FinMap as map
 use Rattle.mq_count.proofs.Spent.{Spends-join_within}
