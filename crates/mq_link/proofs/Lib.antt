@@ -50,3 +50,4 @@ pub mod TickedSizes
 pub mod LeastCosts
 pub mod Rooms
 pub mod StatusSteps
+pub mod RouterSteps

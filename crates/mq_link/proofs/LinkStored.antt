@@ -15,10 +15,9 @@ use Rattle.mq_held.specs.Moments.{moments_of, moments_in}
 use Rattle.mq_held.specs.Places.{has_due}
 use Rattle.mq_link.specs.declared.storage.Storage.{Storage}
 use Rattle.mq_link.specs.Configuration.{Configuration, IsFaultless}
-use Rattle.mq_link.specs.Counters.{Counters}
-use Rattle.mq_link.specs.Link.{IsLinkStored, state_at}
 use Rattle.mq_link.specs.Reading.{most_records}
 use Rattle.mq_link.specs.Record.{Setting}
+use Rattle.mq_link.specs.Router.{IsStored, RouterValue, state_of}
 use Rattle.mq_link.specs.Seen.{SeenState}
 use Rattle.mq_link.specs.Sound.{AreSound}
 use Rattle.mq_link.specs.State.{LinkState, IsWellFormed, link_at}
@@ -37,15 +36,15 @@ none_forwarded source = ap is_running (map.get-empty nat_cmp source)
 pub absent_forwards : (groups : Groups) (group source : ℕ) → group_at groups group ≡ unheld → forwards_in (group_at groups group).group source ≡ false
 absent_forwards groups group source is = ap (λ e. forwards_in e.group source) is ∙ none_forwarded source
 
--- sound groups are a state that a link may be in, whatever was counted
-pub well_formed_at : (status : Setting) (groups : Groups) (counters : Counters) → AreSound status groups → AreInRange status.election.timing → IsWellFormed status.config (state_at status groups counters)
-well_formed_at status groups counters sound timing = record { groups = sound.all; within = sound.within; timing = timing; silent = sound.silent }
+-- sound groups are a state that a link may be in
+pub well_formed_at : (r : RouterValue) → AreSound r.at r.groups → AreInRange r.at.election.timing → IsWellFormed r.at.config (state_of r)
+well_formed_at r sound timing = record { groups = sound.all; within = sound.within; timing = timing; silent = sound.silent }
 
 -- the storage of a link at its start
 pub stored_at_start : {K : Type 0} (config : Configuration) (start : ℕ) (storage : Storage K) (seen : SeenState) (places : List ℕ)
     → IsFaultless config → (let empty : HeldState = record { groups = map.empty; group_room = config.limits.groups; source_room = config.limits.sources } in storage.held ≡ empty)
     → HasRoom config.limits.group_sources storage.work → most_records ≤ seen.room → length places ≡ config.limits.groups
-    → (let status : Setting = record { config = config; election = election_at config.timing start; now = start } in IsLinkStored status storage seen places)
+    → (let status : Setting = record { config = config; election = election_at config.timing start; now = start } in IsStored status storage seen places)
 stored_at_start config start storage seen places faultless held room seen_room place_room =
     let status : Setting = record { config = config; election = election_at config.timing start; now = start } in
     record {
@@ -88,10 +87,10 @@ none_due state now before group e is =
 
 -- what is stored after a call: the groups are sound still, and the rooms stay
 pub stored_next : {K : Type 0} (status after : Setting) (storage next : Storage K) (seen next_seen : SeenState) (places next_places : List ℕ)
-    → IsLinkStored status storage seen places → after.config ≡ status.config → AreSound after next.held.groups → KeepsRooms storage next
-    → next_seen.room ≡ seen.room → length next_places ≡ length places → IsLinkStored after next next_seen next_places
+    → IsStored status storage seen places → after.config ≡ status.config → AreSound after next.held.groups → KeepsRooms storage next
+    → next_seen.room ≡ seen.room → length next_places ≡ length places → IsStored after next next_seen next_places
 stored_next status after storage next seen next_seen places next_places was same sound kept seen_same place_same =
-    subst (λ (c : Configuration). HasRoom c.limits.group_sources next.work → IsLinkStored after next next_seen next_places) same (λ room.
+    subst (λ (c : Configuration). HasRoom c.limits.group_sources next.work → IsStored after next next_seen next_places) same (λ room.
     record {
       sound = sound;
       group_room = kept.groups ∙ was.group_room ∙ ap (λ (c : Configuration). c.limits.groups) (sym same);

@@ -1,71 +1,68 @@
--- What a tick makes of a link.
-use Rattle.std.proofs.Common.{◌≡◌, ℕ, Bool, max, List, ◌++◌, sym, ap, subst}
+-- What a tick makes of a router.
+use Rattle.std.proofs.Common.{◌≡◌, ℕ, Bool, max, List, ◌++◌, sym, ap, ◌∙◌, subst}
 use Rattle.mq_wire.specs.Family.{Family}
+use Rattle.mq_table.specs.Variables.{AreInRange}
 use Rattle.mq_sched.specs.Election.{ticked, general_messages}
-use Rattle.mq_sched.specs.Rounds.{AllFit}
 use Rattle.mq_sched.specs.Sink.{Sends}
 use Rattle.mq_link.specs.declared.sending.Sender.{Sender}
-use Rattle.mq_link.specs.Configuration.{Configuration}
 use Rattle.mq_link.specs.Counters.{Counters}
-use Rattle.mq_link.specs.Family.{per_query}
-use Rattle.mq_link.specs.Link.{HasTicked, state_at}
+use Rattle.mq_link.specs.Link.{HasTicked}
 use Rattle.mq_link.specs.Record.{Setting}
+use Rattle.mq_link.specs.Router.{Leaves, RouterValue, link_of, state_of}
 use Rattle.mq_link.specs.Sender.{TakesQuery, begun}
 use Rattle.mq_link.specs.Sound.{AreSound}
-use Rattle.mq_link.specs.State.{Groups, LinkState}
+use Rattle.mq_link.specs.State.{LinkState}
 use Rattle.mq_link.specs.Tick.{Step, groups_expired, queries_due, groups_after_round, tick_at, tick_of}
-use Rattle.mq_table.specs.Variables.{AreInRange}
 use Rattle.mq_link.proofs.AllFits.{fits-tick_of}
-use Rattle.mq_link.proofs.HandedOut.{IsHanded, is_handed, with_answers}
+use Rattle.mq_link.proofs.HandedOut.{is_handed, with_answers}
 use Rattle.mq_link.proofs.LinkStored.{well_formed_at}
 use Rattle.mq_link.proofs.Receipts.{sound_in}
 use Rattle.mq_link.proofs.Ticked.{IsWellFormed-tick_at}
 
--- each query of a step fits one message
-abbrev AllFits : Configuration → Step → Type 0
-AllFits config step = AllFit (per_query config.family) step.queries
-
 -- what the work of a moment leaves, and what the sender has taken by it
-pub record HasDone {F O K E : Type 0} (takes : O → ℕ → List ℕ → Bool → O → Type 0) (family : Family) (now : ℕ) (status next_status : Setting) (groups next : Groups) (old new : Sender F O K E) : Type 0 where
-  pub status_is : next_status ≡ record status { election = ticked status.config.timing now status.election; now = now }
-  pub groups_are : next ≡ groups_after_round (ticked status.config.timing now status.election).timing now (groups_expired now groups)
-  pub sent : Sends (TakesQuery takes family) (begun status.config (ticked status.config.timing now status.election).timing old) (general_messages status.config.timing now status.election ++ queries_due family (ticked status.config.timing now status.election).timing now (groups_expired now groups)) new
+pub record HasDone {F O K E : Type 0} (takes : O → ℕ → List ℕ → Bool → O → Type 0) (family : Family) (moment : ℕ) (before after : RouterValue) (old new : Sender F O K E) : Type 0 where
+  pub status_is : after.at ≡ record before.at { election = ticked before.at.config.timing moment before.at.election; now = moment }
+  pub groups_are : after.groups ≡ groups_after_round (ticked before.at.config.timing moment before.at.election).timing moment (groups_expired moment before.groups)
+  pub counters_are : after.counters ≡ before.counters
+  pub sent : Sends (TakesQuery takes family) (begun before.at.config (ticked before.at.config.timing moment before.at.election).timing old) (general_messages before.at.config.timing moment before.at.election ++ queries_due family (ticked before.at.config.timing moment before.at.election).timing moment (groups_expired moment before.groups)) new
 
-module _ {F O K E : Type 0} (takes : O → ℕ → List ℕ → Bool → O → Type 0) (family : Family) (moment : ℕ) (status next_status : Setting) (groups next : Groups) (counters : Counters) (old new : Sender F O K E) (is_family : status.config.family ≡ family) (done : HasDone takes family moment status next_status groups next old new) where
-  abbrev before : LinkState
-  before = state_at status groups counters
+module _ {F O K E : Type 0} (takes : O → ℕ → List ℕ → Bool → O → Type 0) (family : Family) (now moment : ℕ) (before after : RouterValue) (old new : Sender F O K E) (is_family : before.at.config.family ≡ family) (is_moment : moment ≡ max before.at.now now) (done : HasDone takes family moment before after old new) where
+  -- it is the tick of that moment
+  pub leaves_tick : Leaves (tick_of before.at.config now (state_of before)).state before after
+  leaves_tick = record {
+    config = ap (λ (s : Setting). s.config) done.status_is;
+    state_is =
+        (λ i. record { groups = done.groups_are i; election = ap (λ (s : Setting). s.election) done.status_is i; last = ap (λ (s : Setting). s.now) done.status_is i; counters = done.counters_are i })
+        ∙ ap (λ m. (tick_at before.at.config m (state_of before)).state) is_moment;
+  }
 
-  -- what the tick left is what a datagram meets
-  pub after_tick_is : state_at next_status next counters ≡ (tick_at status.config moment (state_at status groups counters)).state
-  after_tick_is = λ i. record { groups = done.groups_are i; election = ap (λ (s : Setting). s.election) done.status_is i; last = ap (λ (s : Setting). s.now) done.status_is i; counters = counters }
-
-  pub same_config : next_status.config ≡ status.config
-  same_config = ap (λ (s : Setting). s.config) done.status_is
+  pub sent_by_tick : (let step = tick_of before.at.config now (state_of before) in Sends (TakesQuery takes family) (begun before.at.config step.timing old) step.queries new)
+  sent_by_tick =
+      let config = before.at.config in
+      let in_force = (ticked config.timing moment before.at.election).timing in
+      let at_moment = subst (λ f. Sends (TakesQuery takes family) (begun config in_force old) (general_messages config.timing moment before.at.election ++ queries_due f in_force moment (groups_expired moment before.groups)) new) (sym is_family) done.sent in
+      subst (λ m. Sends (TakesQuery takes family) (begun config (tick_at config m (state_of before)).timing old) (tick_at config m (state_of before)).queries new) is_moment at_moment
 
   -- the groups are sound still
-  pub sound_after_tick : AreInRange status.config.timing → AreInRange status.election.timing → AreSound status groups → AreSound next_status next
+  pub sound_after_tick : AreInRange before.at.config.timing → AreInRange before.at.election.timing → AreSound before.at before.groups → AreSound after.at after.groups
   sound_after_tick own in_force sound =
-      let at = tick_at status.config moment before in
-      let left = sound_in status.config at.state (IsWellFormed-tick_at status.config moment before own (well_formed_at status groups counters sound in_force)) in
-      let after : Setting = record status { election = at.state.election; now = moment } in
-      let there : AreSound after at.state.groups = left in
-      subst (λ (s : Setting). AreSound s next) (sym done.status_is) (subst (AreSound after) (sym done.groups_are) there)
+      let at = tick_at before.at.config moment (state_of before) in
+      let left : Setting = record before.at { election = at.state.election; now = moment } in
+      let there : AreSound left at.state.groups = sound_in before.at.config at.state (IsWellFormed-tick_at before.at.config moment (state_of before) own (well_formed_at before sound in_force)) in
+      subst (λ (s : Setting). AreSound s after.groups) (sym done.status_is) (subst (AreSound left) (sym done.groups_are) there)
 
-  -- the sender has taken what the tick of that moment sends
-  pub sent_by_tick : (let step = tick_at status.config moment (state_at status groups counters) in Sends (TakesQuery takes family) (begun status.config step.timing old) step.queries new)
-  sent_by_tick =
-      let in_force = (ticked status.config.timing moment status.election).timing in
-      subst (λ f. Sends (TakesQuery takes family) (begun status.config in_force old) (general_messages status.config.timing moment status.election ++ queries_due f in_force moment (groups_expired moment groups)) new) (sym is_family) done.sent
+-- the state once the outlet's answers are counted
+abbrev pub with_answers_in : (sent unsent : ℕ) → LinkState → LinkState
+with_answers_in sent unsent s = record s { counters = with_answers s.counters sent unsent }
 
-  pub has_ticked : (now spent next_spent : ℕ) (next_counters : Counters) → moment ≡ max status.now now → next_counters ≡ with_answers counters new.sent new.unsent
-      → HasTicked takes now (record { config = status.config; state = state_at status groups counters; spent = spent }) (record { config = next_status.config; state = state_at next_status next next_counters; spent = next_spent }) old.outlet.now new.outlet.now
-  has_ticked now spent next_spent next_counters is_moment counted =
-      let after : LinkState = state_at next_status next next_counters in
-      let at : Step = tick_at status.config moment before in
-      let leaves : after ≡ record at.state { counters = with_answers counters new.sent new.unsent } =
-      λ i. record { groups = done.groups_are i; election = ap (λ (s : Setting). s.election) done.status_is i; last = ap (λ (s : Setting). s.now) done.status_is i; counters = counted i }
-      in
-      let fit = subst (λ m. AllFits status.config (tick_at status.config m before)) (sym is_moment) (fits-tick_of status.config now before) in
-      let handed = is_handed takes family status.config at after old new is_family fit sent_by_tick leaves in
-      let there : IsHanded takes status.config (tick_of status.config now before) after old.outlet.now new.outlet.now = subst (λ m. IsHanded takes status.config (tick_at status.config m before) after old.outlet.now new.outlet.now) is_moment handed in
-      record { messages = there.messages; answers = there.answers; ticks = there.hands_out; handed = there.handed }
+-- with the answers counted, it is a tick of the link
+pub has_ticked : {F O K E : Type 0} (takes : O → ℕ → List ℕ → Bool → O → Type 0) (family : Family) (now : ℕ) (before between after : RouterValue) (old new : Sender F O K E)
+    → before.at.config.family ≡ family → Leaves (tick_of before.at.config now (state_of before)).state before between
+    → (let step = tick_of before.at.config now (state_of before) in Sends (TakesQuery takes family) (begun before.at.config step.timing old) step.queries new)
+    → after ≡ record between { counters = with_answers between.counters new.sent new.unsent }
+    → HasTicked takes now (link_of before) (link_of after) old.outlet.now new.outlet.now
+has_ticked takes family now before between after old new is_family leaves sent counted =
+    let step = tick_of before.at.config now (state_of before) in
+    let state_is : state_of after ≡ with_answers_in new.sent new.unsent step.state = ap state_of counted ∙ ap (with_answers_in new.sent new.unsent) leaves.state_is in
+    let handed = is_handed takes family before.at.config step (state_of after) old new is_family (fits-tick_of before.at.config now (state_of before)) sent state_is in
+    record { messages = handed.messages; answers = handed.answers; ticks = handed.hands_out; handed = handed.handed }

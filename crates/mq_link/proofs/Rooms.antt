@@ -1,5 +1,6 @@
 -- What keeps room for groups and their sources.
-use Rattle.std.proofs.Common.{ℕ, refl, ◌∙◌, arith}
+use Rattle.std.proofs.Common.{◌≡◌, ℕ, refl, ◌∙◌, arith}
+use Rattle.mq_sets.specs.SourceSets.{SetState}
 use Rattle.mq_link.specs.declared.storage.Storage.{Storage}
 use Rattle.mq_link.specs.declared.storage.Workspace.{Workspace}
 use Rattle.mq_link.specs.Storage.{HasRoom, IsReady, KeepsRoom, KeepsRooms, has_counted}
@@ -13,6 +14,10 @@ rooms_stay s = record { groups = refl; sources = refl; work = room_stays s.work 
 -- counting takes no room
 pub rooms_counted : {K : Type 0} (s : Storage K) (spent : ℕ) → KeepsRooms s (has_counted s spent)
 rooms_counted s spent = record { groups = refl; sources = refl; work = record { group = omega arith; named = refl; asked = omega arith } }
+
+-- nor does clearing the sources that are named
+pub rooms_cleared : {K : Type 0} (s : Storage K) (named : SetState K) (spent : ℕ) → named.room ≡ s.work.named.room → KeepsRooms s (record s { work = record s.work { named = named; meter = spent } })
+rooms_cleared s named spent same = record { groups = refl; sources = refl; work = record { group = omega arith; named = same; asked = omega arith } }
 
 pub ready_counted : {K : Type 0} (s : Storage K) (spent : ℕ) → IsReady s → IsReady (has_counted s spent)
 ready_counted s spent ready = record { few = ready.few; served = ready.served }

@@ -26,6 +26,7 @@ pub mod Handing
 pub mod Sender
 pub mod Counted
 pub mod Link
+pub mod Router
 pub mod LinkCode
 pub mod Sound
 pub mod Events

@@ -32,6 +32,7 @@ pub mod mld;
 pub mod outlet;
 mod query_heard;
 mod report;
+mod router;
 mod sending;
 mod statement;
 mod status;

@@ -13,11 +13,13 @@ ghost use Rattle.mq_held.specs.Groups.{group_at, sources_of, sources_in};
 ghost use Rattle.mq_held.specs.Places.{HasPlace};
 ghost use Rattle.mq_wire.specs.Canon.{source_count};
 ghost use Rattle.mq_wire.specs.Numbered.{numbered_query, numbered_version};
-ghost use Rattle.mq_link.specs.Heard.{announced_by, asked_by, election_after, groups_cleared, groups_heard, groups_lowered, suppresses};
+ghost use Rattle.mq_link.specs.Heard.{announced_by, asked_by, election_after, groups_cleared, groups_heard, groups_lowered, query_heard, suppresses};
+ghost use Rattle.mq_link.specs.Router.{Leaves, state_of};
 ghost use Rattle.mq_link.specs.Serving.{IsServed};
 ghost use Rattle.mq_link.specs.Storage.{IsReady, KeepsRooms};
 
 use crate::family::Family;
+use crate::router::Router;
 use crate::status::{InForce, Status};
 use crate::storage::Storage;
 use mq_count::{Meter, Moment};
@@ -157,7 +159,7 @@ impl<F: Family> Status<F> {
     /// 7.6.2): the election takes note of it; a router that loses the role by it drops what is to go for each group; then
     /// what the query asks for is lowered, by the timing that is in force then. At most two comparisons for each source
     /// that is held, 20 for each group, 12 for each source that the query names, and 38 more.
-    pub(crate) fn hear_query(
+    fn hear_query(
         &mut self,
         storage: &mut Storage<F::Address>,
         source: F::Address,
@@ -181,5 +183,21 @@ impl<F: Family> Status<F> {
         }
         let at = self.in_force();
         storage.lower_held(query, &at);
+    }
+}
+
+impl<F: Family> Router<F> {
+    /// Takes a query that was heard from another router. At most two comparisons for each source that is held, 20 for each
+    /// group, 12 for each source that the query names, and 38 more.
+    pub(crate) fn hear(&mut self, source: F::Address, query: &Query<'_, F::Address>)
+        requires carried { IfSome (announced_by (numbered_version query.now.version)) IsCarried }
+        ensures leaves { let asked = numbered_query F.Address.number query.now in
+            Leaves (query_heard self.old.at.config self.old.at.now (F.Address.number source) asked (state_of self.old)) self.old self.new }
+        ensures spent { let groups = self.old.groups in
+            let most = 2 * sources_in groups + 20 * map.len groups + 12 * source_count query.now.version + 38 in
+            Spends 1 most self.old.spent self.new.spent }
+    {
+        self.status.lemma_is_sound();
+        self.status.hear_query(&mut self.storage, source, query);
     }
 }

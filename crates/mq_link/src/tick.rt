@@ -15,12 +15,15 @@ ghost use Rattle.mq_held.specs.Groups.{group_at, sources_of, sources_in, with_gr
 ghost use Rattle.mq_held.specs.Places.{HasPlace, has_due};
 ghost use Rattle.mq_wire.specs.Family.{Family};
 ghost use Rattle.mq_link.specs.Family as definitions;
+ghost use Rattle.mq_link.specs.Link.{HasTicked};
+ghost use Rattle.mq_link.specs.Router.{Leaves, link_of, state_of};
 ghost use Rattle.mq_link.specs.Sender.{TakesQuery, begun};
 ghost use Rattle.mq_link.specs.Storage.{IsReady, KeepsRoom, KeepsRooms};
-ghost use Rattle.mq_link.specs.Tick.{group_expired, groups_expired, queries_due, groups_after_round};
+ghost use Rattle.mq_link.specs.Tick.{group_expired, groups_expired, queries_due, groups_after_round, moment_of, next_of, tick_of};
 
 use crate::family::Family;
 use crate::outlet::Outlet;
+use crate::router::Router;
 use crate::sending::Sender;
 use crate::status::{InForce, Status};
 use crate::storage::{Storage, Workspace};
@@ -113,7 +116,7 @@ impl<K: WireKey> Storage<K> {
 }
 
 /// The later of two moments. One comparison.
-pub(crate) fn later(a: Moment, b: Moment, m: &mut Meter) -> Moment
+fn later(a: Moment, b: Moment, m: &mut Meter) -> Moment
     ensures later { result ≡ max a b }
     ensures spent { Spends 1 1 m.old m.new }
 {
@@ -132,7 +135,7 @@ fn send_general<F: Family, O: Outlet<F::Address>>(is_due: bool, sender: &mut Sen
 /// Does what is due at or before `now`, in this order: the end of the other querier's deadline; the general query; the
 /// end of timers, and what is due for the groups. The sender begins anew, on the terms that are in force then. At most four
 /// comparisons for each source, 27 for each group and two more; where no group has such a moment, two at most.
-pub(crate) fn do_due<F: Family, O: Outlet<F::Address>>(
+fn do_due<F: Family, O: Outlet<F::Address>>(
     status: &mut Status<F>,
     storage: &mut Storage<F::Address>,
     places: &mut [usize],
@@ -163,4 +166,45 @@ pub(crate) fn do_due<F: Family, O: Outlet<F::Address>>(
     sender.begin(status.config(), at.timing);
     send_general(is_due, sender);
     storage.tick_groups(places, &at, sender);
+}
+
+impl<F: Family> Router<F> {
+    /// Does what is due at or before `now`; a moment before the last one counts as the last one. At most four comparisons
+    /// for each source, 27 for each group and three more; before the next moment, three at most.
+    pub(crate) fn come_to<O: Outlet<F::Address>>(&mut self, now: Moment, sender: &mut Sender<F, O>)
+        requires in_range { now ≤ 2 ^ 53 }
+        ensures leaves { Leaves (tick_of self.old.at.config now (state_of self.old)).state self.old self.new }
+        ensures sent { let step = tick_of self.old.at.config now (state_of self.old) in
+            Sends (TakesQuery O.takes F.FAMILY) (begun self.old.at.config step.timing sender.old) step.queries sender.new }
+        ensures spent { let groups = self.old.groups in
+            Spends 2 (4 * sources_in groups + 27 * map.len groups + 3) self.old.spent self.new.spent }
+        ensures quiet { let state = state_of self.old in
+            moment_of state now < next_of state → Spends 2 3 self.old.spent self.new.spent }
+    {
+        self.status.lemma_is_sound();
+        let now = later(self.status.moment(), now, &mut self.storage.work.meter);
+        do_due(
+            &mut self.status,
+            &mut self.storage,
+            &mut self.places,
+            now,
+            sender,
+        );
+    }
+
+    /// A tick: what is due then is done, and the answers of the outlet are counted.
+    pub(crate) fn tick<O: Outlet<F::Address>>(&mut self, now: Moment, sender: &mut Sender<F, O>)
+        requires in_range { now ≤ 2 ^ 53 }
+        ensures config { self.new.at.config ≡ self.old.at.config }
+        ensures ticks { HasTicked O.takes now (link_of self.old) (link_of self.new) sender.old.outlet.now sender.new.outlet.now }
+        ensures same_outlet { sender.new.outlet.ghost_name ≡ sender.old.outlet.ghost_name }
+        ensures spent { let groups = self.old.groups in
+            Spends 2 (4 * sources_in groups + 27 * map.len groups + 3) self.old.spent self.new.spent }
+        ensures quiet { let state = state_of self.old in
+            moment_of state now < next_of state → Spends 2 3 self.old.spent self.new.spent }
+    {
+        self.lemma_is_stored();
+        self.come_to(now, sender);
+        self.count_answers(sender.sent(), sender.unsent());
+    }
 }
