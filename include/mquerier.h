@@ -1,22 +1,22 @@
-/* mquerier: the router side of IGMPv3 (RFC 3376) and MLDv2 (RFC 3810) for C. `make lib` makes lib/libmquerier.a.
+/* mquerier: the router side of IGMPv3 (RFC 3376) and MLDv2 (RFC 3810) for C99 and later, and for C++. `make lib` makes
+   lib/libmquerier.a.
 
    An object holds one link. Datagrams and moments go in; what is forwarded, and the queries to be sent, come out. The
-   library has no clock, no socket and no thread, and takes memory in `new` alone.
+   library has no clock, no socket and no thread. Only `new` takes memory.
 
-   What the caller keeps to. Nothing checks these:
-   - a pointer points to as many elements as its prototype or its length says, and is not null. A null pointer with
-     length 0 is no bytes.
-   - `queries`, `address`, `groups`, `sources` and `line` overlap each other, the body and the object nowhere.
-   - an object comes from `new` that answered 0, is freed once, and is not copied to be used beside the copy. After a
-     `new` that answered anything else there is nothing to free.
-   - one thread at a time uses an object; no call is made from a signal handler.
+   What the caller must keep to, since nothing checks it:
+   - A pointer points to as many elements as its prototype or its length says, and is not null. A null pointer with
+     length 0 stands for no bytes.
+   - `queries`, `address`, `groups`, `sources` and `line` overlap neither each other nor the body nor the object.
+   - An object comes from a `new` that answered 0, is freed once, and is not used beside a copy of it. After a `new` that
+     answered anything else there is nothing to free.
+   - One thread at a time uses an object, and no signal handler calls.
    - malloc, realloc and free are of one allocator, and align a block to each power of two up to 16 that divides its
      size.
-   Everything else has an answer: no other argument makes a call stop, overflow, or read or write outside of what it
-   was given.
+   Every other argument has an answer: none makes a call stop, overflow, or read or write outside of what it was given.
 
-   Moments are milliseconds of a clock of the caller's. A moment before the last one handed in counts as that one.
-   Addresses are in network order. */
+   Moments are milliseconds of a clock of the caller's, at most MQ_LATEST. A moment before the last one that was handed in,
+   or before the start, counts as that one. Addresses are in network order. */
 #ifndef MQUERIER_H
 #define MQUERIER_H
 
@@ -28,13 +28,13 @@
 extern "C" {
 #endif
 
-/* A deadline that there isn't. */
+/* No deadline. */
 #define MQ_NONE UINT64_MAX
 
 /* The latest moment that a call takes: 2^53 milliseconds. */
 #define MQ_LATEST (UINT64_C(1) << 53)
 
-/* Statuses. */
+/* Statuses. The faults of a configuration are tested in this order, but MQ_OWN_ADDRESS after the limits. */
 #define MQ_DONE 0
 #define MQ_ROBUSTNESS 1
 #define MQ_QUERY_INTERVAL 2
@@ -48,6 +48,34 @@ extern "C" {
 #define MQ_MEMORY 100
 #define MQ_MOMENT 101
 
+/* Why a datagram was dropped: `dropped` of an answer. The reason of the lowest number that holds is told. */
+#define MQ_DROPPED_TRUNCATED 1    /* a field is cut */
+#define MQ_DROPPED_CHECKSUM 2     /* the checksum is wrong */
+#define MQ_DROPPED_UNKNOWN_TYPE 3 /* no message of this family has the type */
+#define MQ_DROPPED_QUERY_LENGTH 4 /* a query of a length that no version has */
+#define MQ_DROPPED_SOURCE 5       /* MLD: the source is not link-local */
+#define MQ_DROPPED_HOP_LIMIT 6    /* MLD: the hop limit is not 1 */
+#define MQ_DROPPED_NO_ALERT 7     /* MLD: no Router Alert option */
+#define MQ_DROPPED_OWN_OR_ZERO 8  /* a query from the own address, or of IGMP from 0.0.0.0 */
+#define MQ_DROPPED_IGMPV1_QUERY 9 /* a query of IGMPv1 */
+#define MQ_DROPPED_GROUP 10       /* an older Report, Leave or Done for a group that hosts do not report */
+
+/* The places of `spelled` in mq_counts. */
+#define MQ_SPELLED_QUERY 0        /* a query of IGMPv3 or MLDv2 */
+#define MQ_SPELLED_OLDER_QUERY 1  /* a query of an older version */
+#define MQ_SPELLED_OLDER_REPORT 2 /* a Report of an older version */
+#define MQ_SPELLED_LEAVE 3        /* a Leave or a Done */
+#define MQ_SPELLED_REPORT 4       /* a Report of IGMPv3 or MLDv2 */
+
+/* The places of `refused_by` in mq_counts. */
+#define MQ_REFUSED_LONG 0          /* the record names more sources than `group_sources` */
+#define MQ_REFUSED_REPEATED 1      /* the fifth record of its datagram for a group that is held, or a later one */
+#define MQ_REFUSED_GROUPS 2        /* there would be more groups than `groups` */
+#define MQ_REFUSED_GROUP_SOURCES 3 /* the group would have more sources than `group_sources` */
+#define MQ_REFUSED_SOURCES 4       /* there would be more sources than `sources` */
+#define MQ_REFUSED_SCHEDULED 5     /* there would be more schedules than `scheduled` */
+#define MQ_REFUSED_MEMORY 6        /* always 0 */
+
 /* One link of IGMP, and one of MLD. */
 typedef struct {
   void *link;
@@ -57,7 +85,13 @@ typedef struct {
   void *link;
 } mq_mld;
 
-/* What a link is configured with. */
+/* What a link is configured with. Timers run by the exact intervals. On the wire an interval goes as the greatest value not
+   above it that its code can say: a response interval of 150 ms goes as 100 ms (IGMP counts tenths of a second), a query
+   interval of 135 s as 128 s.
+
+   What greater limits cost: memory, all of it at once (docs/EMBEDDING.md, "Memory"); and with `groups` time, since each
+   group that is made or ends moves what is kept of the groups behind it. With thousands of groups a host that makes and
+   ends groups without end costs much (docs/DECISIONS.md, "What greater limits cost"). */
 typedef struct {
   uint32_t robustness;           /* 1 to 7 */
   uint32_t query_interval;       /* seconds, 1 to 31744 */
@@ -65,13 +99,13 @@ typedef struct {
   uint32_t last_member_interval; /* milliseconds, 100 to 3174400 */
   uint32_t groups;               /* how many groups may be held, 1 to 65535 */
   uint32_t group_sources;        /* how many sources a group may have, 1 to 1024 */
-  uint32_t sources;              /* how many sources all groups may have, 1 to 65535 */
-  uint32_t scheduled;            /* how many schedules of specific queries there may be, 1 to 65535 */
-  uint8_t own[4];                /* the router's own address, from which queries are sent */
-  uint8_t source_specific;       /* 0, or 1: 232.0.0.0/8 is kept for source-specific multicast (RFC 4604) */
+  uint32_t sources;              /* how many sources all groups may have together, 1 to 65535 */
+  uint32_t scheduled;            /* how many schedules of specific queries there may be, 1 to 65535; a group has up to two */
+  uint8_t own[4];                /* the address from which queries are sent; not 0.0.0.0, nor 224.0.0.0 or above */
+  uint8_t source_specific;       /* 0: no; any other value: 232.0.0.0/8 is kept for source-specific multicast (RFC 4604) */
 } mq_igmp_config;
 
-/* The same for MLD, whose two intervals in milliseconds are 1 to 8387584. */
+/* The same for MLD, whose two intervals in milliseconds are 1 to 8387584, and go exactly up to 32767. */
 typedef struct {
   uint32_t robustness;
   uint32_t query_interval;
@@ -81,17 +115,17 @@ typedef struct {
   uint32_t group_sources;
   uint32_t sources;
   uint32_t scheduled;
-  uint8_t own[16];         /* link-local */
-  uint8_t source_specific; /* 0, or 1: ff3x::/32 is kept */
+  uint8_t own[16];         /* of fe80::/10 */
+  uint8_t source_specific; /* 0: no; any other value: ff3x::/32 is kept */
 } mq_mld_config;
 
 /* What a call did. */
 typedef struct {
   uint32_t status;  /* MQ_DONE, or MQ_MOMENT: then nothing was done, and all else is 0 */
-  uint32_t dropped; /* 0: the datagram was taken, or it was a tick; 1 to 10: why it was dropped */
+  uint32_t dropped; /* 0: the datagram was taken, or it was a tick; else MQ_DROPPED_..: why it was dropped */
   uint32_t applied; /* of its records, those that were applied, */
   uint32_t ignored; /* those that say nothing for this link, */
-  uint32_t refused; /* and those that met a limit */
+  uint32_t refused; /* and those that met a limit. An older Report, a Leave or a Done is one record, a query none */
   uint32_t sent;    /* queries that stand in `queries` */
   uint32_t unsent;  /* queries that didn't fit there, and are lost as on a link that loses them */
   uint64_t written; /* bytes of `queries` that were written */
@@ -109,13 +143,13 @@ typedef struct {
 typedef struct {
   uint64_t received;       /* datagrams */
   uint64_t dropped;        /* datagrams that were dropped, */
-  uint64_t dropped_by[10]; /* and for which reason: [0] is reason 1 */
-  uint64_t spelled[5];     /* datagrams that spelled a query, an older query, an older Report, a Leave, a Report */
+  uint64_t dropped_by[10]; /* and for which reason: [MQ_DROPPED_.. - 1] */
+  uint64_t spelled[5];     /* datagrams that could be read, by kind: [MQ_SPELLED_..]. Those that were dropped for reasons
+                              5 to 10 are among them */
   uint64_t applied;        /* records */
   uint64_t ignored;
   uint64_t refused;
-  uint64_t refused_by[7]; /* for: too many sources named, a group met too often, groups, sources of a group, sources,
-                             schedules, memory (which never comes) */
+  uint64_t refused_by[7]; /* and for which limit: [MQ_REFUSED_..] */
   uint64_t sent;          /* queries */
   uint64_t unsent;
 } mq_counts;
@@ -156,7 +190,8 @@ mq_igmp_config mq_igmp_defaults(const uint8_t own[4]);
 mq_mld_config mq_mld_defaults(const uint8_t own[16]);
 
 /* Makes a link that starts at a moment, as querier, with all the memory that it will ever take, and writes it to `link`.
-   Answers MQ_DONE; or the first fault of the configuration, MQ_MEMORY or MQ_MOMENT, and then `link` is as it was. */
+   Answers MQ_DONE. Or the first of these, and then `link` is as it was: a fault of the configuration, in the order of the
+   variables, the limits, the own address; MQ_MOMENT; MQ_MEMORY. */
 uint32_t mq_igmp_new(mq_igmp_config config, uint64_t start, mq_igmp *link);
 uint32_t mq_mld_new(mq_mld_config config, uint64_t start, mq_mld *link);
 
@@ -165,9 +200,10 @@ void mq_igmp_free(mq_igmp link);
 void mq_mld_free(mq_mld link);
 
 /* Takes a datagram that came at `now`: its source, of MLD also its destination, its hop limit and whether it has the
-   Router Alert option, and its bytes without the IP header. Before that it does what a tick does then. The queries that
-   are sent by it stand in `queries`, one behind the other: the destination (4 or 16 bytes), the length of the message
-   (2 bytes, most significant first), the message. One that doesn't fit in `room` bytes is left out and counted. */
+   Router Alert option, and its bytes without the IP header. First it does what a tick does then. The queries that it
+   sends stand in `queries`, one after the other: the destination (4 or 16 bytes), the length of the message (2 bytes,
+   most significant first), the message. One that doesn't fit into what is left of `room` bytes is left out and counted in
+   `unsent`; a shorter one behind it may still fit. The bytes behind `written` stay as they were. */
 mq_answer mq_igmp_receive(mq_igmp *link, const uint8_t source[4], const uint8_t *body, size_t length, uint64_t now,
                           uint8_t *queries, size_t room);
 mq_answer mq_mld_receive(mq_mld *link, const uint8_t source[16], const uint8_t destination[16], uint8_t hop_limit,
@@ -177,12 +213,14 @@ mq_answer mq_mld_receive(mq_mld *link, const uint8_t source[16], const uint8_t d
 mq_answer mq_igmp_tick(mq_igmp *link, uint64_t now, uint8_t *queries, size_t room);
 mq_answer mq_mld_tick(mq_mld *link, uint64_t now, uint8_t *queries, size_t room);
 
-/* As many bytes of `queries` as always suffice for one call at a link so configured, whose body has at most 65535
-   bytes: with no fewer, `unsent` is 0. */
+/* How many bytes of `queries` always suffice for one call at a link of this configuration, with a body of at most 65535
+   bytes: with as many or more, `unsent` is 0. It depends on `groups`, `sources` and `scheduled` alone, and is a number
+   also where the configuration has a fault, so that there is no link. */
 size_t mq_igmp_outlet_bytes(mq_igmp_config config);
 size_t mq_mld_outlet_bytes(mq_mld_config config);
 
-/* When a tick has something to do next. Right after a tick it is later than that. */
+/* When a tick has something to do next. Right after a tick it is later than the tick's moment. Near the end of the clock it
+   may lie above MQ_LATEST, where no call can be made: then go on without ticks, since nothing is due up to MQ_LATEST. */
 uint64_t mq_igmp_next_deadline(mq_igmp *link);
 uint64_t mq_mld_next_deadline(mq_mld *link);
 
@@ -194,12 +232,13 @@ bool mq_mld_forwards(mq_mld *link, const uint8_t group[16], const uint8_t source
 bool mq_igmp_is_querier(mq_igmp *link);
 bool mq_mld_is_querier(mq_mld *link);
 
-/* Up to when another router is querier, whose address is written to `address` where it fits in `room` bytes; or MQ_NONE
-   where this link is querier, and then nothing is written. */
+/* Up to when another router is querier; its address is written to `address` where it fits in `room` bytes. It is the router
+   of a lower address than the own one whose query came last, and not the lowest that was heard. Where this link is
+   querier, MQ_NONE, and nothing is written. */
 uint64_t mq_igmp_other_querier(mq_igmp *link, uint8_t *address, size_t room);
 uint64_t mq_mld_other_querier(mq_mld *link, uint8_t *address, size_t room);
 
-/* How many comparisons of addresses and moments the calls have made. */
+/* How many comparisons of addresses and moments `tick` and `receive` have made. Calls that only ask are not counted. */
 uint64_t mq_igmp_spent(mq_igmp *link);
 uint64_t mq_mld_spent(mq_mld *link);
 
@@ -211,8 +250,10 @@ uint32_t mq_igmp_len(mq_igmp *link);
 uint32_t mq_mld_len(mq_mld *link);
 
 /* Writes groups, ascending, from place `first` on (0 is the lowest group), as many as fit with all their sources, which
-   ascend too. Answers how many groups and sources were written. No group was written though `first` is below the number
-   of groups: there was no room for that group or its sources, of which it has at most `group_sources`. */
+   ascend too. Answers how many groups and sources were written; the memory behind them stays as it was. If no group was
+   written though `first` is below the number of groups, there was no room for that group or for its sources, which are at
+   most `group_sources`. Pages are not a snapshot: a tick or a datagram between two of them may make or end groups before
+   `first`, and then a group is missing or comes twice. */
 mq_page mq_igmp_groups(mq_igmp *link, uint32_t first, mq_igmp_group *groups, size_t group_room, mq_igmp_source *sources,
                        size_t source_room);
 mq_page mq_mld_groups(mq_mld *link, uint32_t first, mq_mld_group *groups, size_t group_room, mq_mld_source *sources,
@@ -233,14 +274,14 @@ static inline const char *mq_status_text(uint32_t status) {
   case MQ_QUERY_INTERVAL: return "the query interval is out of range";
   case MQ_RESPONSE_INTERVAL: return "the response interval is out of range or not below the query interval";
   case MQ_LAST_MEMBER_INTERVAL: return "the last member query interval is out of range";
-  case MQ_OWN_ADDRESS: return "the own address is none that a router may send queries from";
+  case MQ_OWN_ADDRESS: return "no router may send queries from the own address";
   case MQ_LIMIT_GROUPS: return "the limit of groups is out of range";
   case MQ_LIMIT_GROUP_SOURCES: return "the limit of sources of a group is out of range";
   case MQ_LIMIT_SOURCES: return "the limit of sources is out of range";
   case MQ_LIMIT_SCHEDULED: return "the limit of schedules is out of range";
   case MQ_MEMORY: return "memory ran out";
   case MQ_MOMENT: return "the moment is above 2^53 milliseconds";
-  default: return "no status";
+  default: return "not a status";
   }
 }
 
@@ -248,24 +289,26 @@ static inline const char *mq_status_text(uint32_t status) {
 static inline const char *mq_dropped_text(uint32_t dropped) {
   switch (dropped) {
   case 0: return "taken";
-  case 1: return "a field isn't whole";
-  case 2: return "the checksum is wrong";
-  case 3: return "the type is none that is listed";
-  case 4: return "a query of a length that no version has";
-  case 5: return "the source isn't link-local";
-  case 6: return "the hop limit isn't 1";
-  case 7: return "no Router Alert option";
-  case 8: return "a query from the own address or from none";
-  case 9: return "a query of IGMPv1";
-  case 10: return "a group that isn't admitted";
-  default: return "no reason";
+  case MQ_DROPPED_TRUNCATED: return "a field is cut";
+  case MQ_DROPPED_CHECKSUM: return "the checksum is wrong";
+  case MQ_DROPPED_UNKNOWN_TYPE: return "the type is unknown";
+  case MQ_DROPPED_QUERY_LENGTH: return "a query of a length that no version has";
+  case MQ_DROPPED_SOURCE: return "the source isn't link-local";
+  case MQ_DROPPED_HOP_LIMIT: return "the hop limit isn't 1";
+  case MQ_DROPPED_NO_ALERT: return "no Router Alert option";
+  case MQ_DROPPED_OWN_OR_ZERO: return "a query from the own address or from 0.0.0.0";
+  case MQ_DROPPED_IGMPV1_QUERY: return "a query of IGMPv1";
+  case MQ_DROPPED_GROUP: return "a group that hosts do not report";
+  default: return "not a reason";
   }
 }
 
-/* The query at `*at`, whose destination has `width` bytes, and steps behind it; false where none is whole before
+/* The query at `*at`, whose destination has `width` bytes, and steps behind it; false where no whole one stands before
    `end`. */
 static inline bool mq_next_query(size_t width, const uint8_t **at, const uint8_t *end, mq_query *query) {
-  size_t left = (size_t)(end - *at), length;
+  size_t left, length;
+  if (*at == end) return false; /* both may be null */
+  left = (size_t)(end - *at);
   if (left < width + 2) return false;
   length = ((size_t)(*at)[width] << 8) | (*at)[width + 1];
   if (left - width - 2 < length) return false;
@@ -276,7 +319,8 @@ static inline bool mq_next_query(size_t width, const uint8_t **at, const uint8_t
   return true;
 }
 
-/* The next of the queries that a call wrote: `at` begins at `queries`, `end` is `queries + written`. */
+/* The next of the queries that a call wrote: `at` begins at `queries`, `end` is `queries + written`. Where `queries` is null
+   and `room` 0, nothing is written: use `queries` itself as `end`, since C has no sum of a null pointer and 0. */
 static inline bool mq_igmp_next_query(const uint8_t **at, const uint8_t *end, mq_query *query) {
   return mq_next_query(4, at, end, query);
 }

@@ -113,7 +113,8 @@ class Bench:
         code = (100 if general else 10) if self.family is IGMP else (10000 if general else 1000)
         body = wire.query(self.family, self.zero if general else group, sources, s, code, qrv, qqic) + behind
         what = "general query" if general else f"Q({self.named(group)}{', ' + self.listed(sources) if sources else ''})"
-        what += f" with S {'set' if s else 'clear'}, QRV {qrv}, QQIC {qqic} from {told or self.senders.get(source, text_of(source))}"
+        fields = ["S set"] * s + [f"QRV {qrv}"] * (qrv != 2) + [f"QQIC {qqic}"] * (qqic != 125)
+        what += f"{' with ' if fields else ''}{', '.join(fields)} from {told or self.senders.get(source, text_of(source))}"
         what += f", with {len(behind)} bytes behind its fields" if behind else ""
         return self.step(body, self.everyone if general else group, what, source)
 

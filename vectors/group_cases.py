@@ -53,7 +53,7 @@ def tables(b):
     for mode, rows in (("include", INCLUDE_ROWS), ("exclude", EXCLUDE_ROWS)):
         for kind, state, asked in rows:
             name = f"{mode}-{KINDS[kind].lower().replace('_', '-')}"
-            shows = f"the row {mode.upper()}, {KINDS[kind]} of the tables"
+            shows = f"{mode.upper()}, {KINDS[kind]}"
             has = (*[asked_of(b, it, 1000) for it in asked], "end 1000 querier", state_of(b, state))
             sections = ("6.4.1", "7.4.1") if kind in (IS_IN, IS_EX) else ("6.4.2, 6.6.3", "7.4.2, 7.6.3")
             own = "the timer of a source new to X is that of the group from before the record" if (mode, kind) == ("exclude", TO_EX) else ""
@@ -477,7 +477,7 @@ def elections(b):
     )
     yield Case(
         "query-lowers-as-its-own-would",
-        "the same for a query of the bytes of which the router's own for this source would be",
+        "the same where the query has the bytes that the router's own for this source would have",
         ("6.6.1", "7.6.1"),
         [(0, b.report((ALLOW, b.H, [a]))), (4000, b.query(lower, b.H, [a]))],
         "--until 5999",

@@ -8,7 +8,7 @@ from wire import ALERT, FAMILIES, IGMP, text_of
 def limits(b):
     """Each reason to refuse a record, alone. The standards have no limits."""
     g, g2, a, bb, c = b.G, b.G2, b.a, b.b, b.c
-    own, sections = "that there is a limit, and that a record that exceeds it is refused whole; by the standard it acts", ("6.4", "7.4")
+    own, sections = "the limit; by the standard the record acts", ("6.4", "7.4")
     host = text_of(b.host)
     yield Case(
         "refused-long",
@@ -274,7 +274,7 @@ def large(b):
     g, most = b.H, b.family.per_query
     sections, own = (
         ("4.1.8, 6.6.3.2", "5.1.10, 7.6.3.2"),
-        "the standard does not say what goes where one query does not hold the sources",
+        "how the sources are split",
     )
 
     def blocked(number, *more):

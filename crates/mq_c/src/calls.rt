@@ -1,6 +1,8 @@
 //! The calls of a link that hand out queries, for both families.
 
-ghost use Rattle.std.specs.Prelude.{◌≡◌, ◌≤◌, ◌^◌, length};
+ghost use Rattle.std.specs.Prelude.{◌≡◌, ◌<◌, ◌≤◌, ◌^◌, length};
+ghost use Rattle.mq_link.specs.State.{IsWellFormed};
+ghost use Rattle.mq_link.specs.Tick.{next_of};
 ghost use Rattle.mq_c.specs.Calls as spec;
 ghost use Rattle.mq_c.specs.Calls.{CallsAt, TicksInto, ReceivesInto};
 ghost use Rattle.mq_c.specs.Queries.{outbox_of};
@@ -70,6 +72,8 @@ fn answer_to(received: Received, queries: &Queries<'_>) -> Answer
 fn tick_at<F: Family>(link: &mut Link<F>, now: Moment, out: &mut [u8]) -> Answer
     requires in_range { now ≤ 2 ^ 53 }
     ensures config { link.new.config ≡ link.old.config }
+    ensures formed { IsWellFormed link.new.config link.new.state }
+    ensures later { now < next_of link.new.state }
     ensures ticks { TicksInto F.Address.WIDTH now link.old link.new out.old out.new result }
     ensures none_left_out { tick_room F.Address.WIDTH link.old.config ≤ length out.old → result.unsent ≡ 0 }
 {
@@ -89,6 +93,7 @@ fn receive_at<F: Family>(
 ) -> Answer
     requires in_range { now ≤ 2 ^ 53 }
     ensures config { link.new.config ≡ link.old.config }
+    ensures formed { IsWellFormed link.new.config link.new.state }
     ensures receives { ReceivesInto F.Address.WIDTH (F.envelope_of envelope.now) body.now now link.old link.new
         out.old out.new result }
     ensures none_left_out { receive_room F.Address.WIDTH link.old.config ≤ length out.old → length body.now ≤ longest_body → result.unsent ≡ 0 }
@@ -104,8 +109,11 @@ fn receive_at<F: Family>(
 pub(crate) fn tick<F: Family>(link: &mut Link<F>, now: u64, out: &mut [u8]) -> Answer
     ensures ticks { CallsAt now (TicksInto F.Address.WIDTH now link.old link.new out.old out.new result) link.old link.new
         out.old out.new result }
+    ensures formed { IsWellFormed link.new.config link.new.state }
+    ensures later { now ≤ 2 ^ 53 → now < next_of link.new.state }
     ensures none_left_out { tick_room F.Address.WIDTH link.old.config ≤ length out.old → result.unsent ≡ 0 }
 {
+    link.is_well_formed();
     match Moment::from_ms(now) {
         Some(now) => tick_at(link, now, out),
         None => refused_moment(),
@@ -122,8 +130,10 @@ pub(crate) fn receive<F: Family>(
 ) -> Answer
     ensures receives { CallsAt now (ReceivesInto F.Address.WIDTH (F.envelope_of envelope) body.now now link.old link.new
         out.old out.new result) link.old link.new out.old out.new result }
+    ensures formed { IsWellFormed link.new.config link.new.state }
     ensures none_left_out { receive_room F.Address.WIDTH link.old.config ≤ length out.old → length body.now ≤ longest_body → result.unsent ≡ 0 }
 {
+    link.is_well_formed();
     match Moment::from_ms(now) {
         Some(now) => receive_at(link, &envelope, body, now, out),
         None => refused_moment(),

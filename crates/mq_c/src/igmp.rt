@@ -104,6 +104,7 @@ pub extern "C" fn mq_igmp_receive(
     ensures at { link.new.at ≡ link.old.at }
     ensures receives { CallsAt now (ReceivesInto 4 (envelope source.now) body.now now link.old.kept link.new.kept queries.old queries.new result)
         link.old.kept link.new.kept queries.old queries.new result }
+    ensures formed { state.IsWellFormed link.new.kept.config link.new.kept.state }
     ensures none_left_out { receive_room 4 link.old.kept.config ≤ length queries.old → length body.now ≤ longest_body → result.unsent ≡ 0 }
 {
     let envelope = IgmpEnvelope {
@@ -118,6 +119,8 @@ pub extern "C" fn mq_igmp_tick(link: &mut IgmpObject, now: u64, queries: &mut [u
     ensures at { link.new.at ≡ link.old.at }
     ensures ticks { CallsAt now (TicksInto 4 now link.old.kept link.new.kept queries.old queries.new result)
         link.old.kept link.new.kept queries.old queries.new result }
+    ensures formed { state.IsWellFormed link.new.kept.config link.new.kept.state }
+    ensures later { now ≤ 2 ^ 53 → now < next_of link.new.kept.state }
     ensures none_left_out { tick_room 4 link.old.kept.config ≤ length queries.old → result.unsent ≡ 0 }
 {
     calls::tick(link.lend(), now, queries)

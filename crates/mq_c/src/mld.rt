@@ -108,6 +108,7 @@ pub extern "C" fn mq_mld_receive(
     ensures at { link.new.at ≡ link.old.at }
     ensures receives { CallsAt now (ReceivesInto 16 (envelope source.now destination.now hop_limit alert) body.now now link.old.kept link.new.kept queries.old queries.new result)
         link.old.kept link.new.kept queries.old queries.new result }
+    ensures formed { state.IsWellFormed link.new.kept.config link.new.kept.state }
     ensures none_left_out { receive_room 16 link.old.kept.config ≤ length queries.old → length body.now ≤ longest_body → result.unsent ≡ 0 }
 {
     let envelope = MldEnvelope {
@@ -125,6 +126,8 @@ pub extern "C" fn mq_mld_tick(link: &mut MldObject, now: u64, queries: &mut [u8]
     ensures at { link.new.at ≡ link.old.at }
     ensures ticks { CallsAt now (TicksInto 16 now link.old.kept link.new.kept queries.old queries.new result)
         link.old.kept link.new.kept queries.old queries.new result }
+    ensures formed { state.IsWellFormed link.new.kept.config link.new.kept.state }
+    ensures later { now ≤ 2 ^ 53 → now < next_of link.new.kept.state }
     ensures none_left_out { tick_room 16 link.old.kept.config ≤ length queries.old → result.unsent ≡ 0 }
 {
     calls::tick(link.lend(), now, queries)

@@ -9,3 +9,5 @@ pub mod Inside
 pub mod ByHeads
 pub mod Places
 pub mod Amounts
+mod DueCount
+mod HeldInOrder

@@ -3,3 +3,4 @@ pub mod Moments
 pub mod Places
 pub mod Held
 pub mod Stored
+pub mod Listed

@@ -1,6 +1,6 @@
 -- The places of groups: a group's rank in the ascending list of addresses.
 use Rattle.std.specs.Prelude.{◌≡◌, ℕ, Bool, ◌&&◌, nat_lt, nat_le, Option, None, Some, min, slice_get, slice_index_or}
-use Rattle.std.specs.List.{list_any}
+use Rattle.std.specs.List.{list_any, count_by}
 use Rattle.std.specs.FinMap as map
 use Rattle.mq_sets.specs.Search.{IsPlaceFor}
 use Rattle.mq_sched.specs.Schedule.{ScheduledGroup}
@@ -27,6 +27,10 @@ has_due now e = list_any (λ t. nat_le t now) (moments_of e)
 -- whether the group at a place has
 abbrev pub is_place_due : Groups → ℕ → ℕ → Bool
 is_place_due groups now place = nat_lt place (map.len groups) && has_due now (group_in groups place)
+
+-- how many groups have
+abbrev pub due_in : ℕ → Groups → ℕ
+due_in now groups = count_by (has_due now) (map.values groups)
 
 -- a moment, or an earlier one if there is one
 abbrev pub min_or : ℕ → Option ℕ → ℕ

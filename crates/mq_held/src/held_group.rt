@@ -29,6 +29,41 @@ pub struct HeldGroup<'a, K: Key> {
 }
 
 impl<'a, K: Key> HeldGroup<'a, K> {
+    /// The group's address.
+    pub fn group(&self) -> K
+        ensures { result ≡ self.now.address }
+    {
+        self.address
+    }
+
+    /// The filter mode, in EXCLUDE with the deadline of the group timer.
+    pub fn mode(&self) -> FilterMode
+        ensures { result ≡ self.now.mode }
+    {
+        self.mode
+    }
+
+    /// The sources with their timers, ascending.
+    pub fn sources(&self) -> &'a [Source<K>]
+        ensures { result.now ≡ self.now.sources.now }
+    {
+        self.sources
+    }
+
+    /// Up to when a host of version 1 is taken to be there.
+    pub fn v1(&self) -> Option<Moment>
+        ensures { result ≡ self.now.v1 }
+    {
+        self.v1
+    }
+
+    /// Up to when a host of version 2 is taken to be there. MLD has none.
+    pub fn v2(&self) -> Option<Moment>
+        ensures { result ≡ self.now.v2 }
+    {
+        self.v2
+    }
+
     /// Whether what this source sends to the group is forwarded, as of the last moment that the
     /// group was told (RFC 3376 section 6.3, RFC 3810 section 7.3). At most one comparison for each
     /// binary digit of how many sources there are.

@@ -10,14 +10,16 @@
 //! ```
 //!
 //! - `HeldGroups`: the finite map from address to group with its schedule, and what may be asked of it.
-//! - `HeldGroup`: one of them, as it stands there.
+//! - `HeldGroup`: one of them, as it stands there; `HeldEntries`: all, one after the other.
 #![tactic(auto)]
 
 pub mod earliest;
+pub mod held_entries;
 pub mod held_group;
 pub mod held_groups;
 mod scheduled_head;
 
 pub use earliest::count_schedules;
+pub use held_entries::HeldEntries;
 pub use held_group::HeldGroup;
 pub use held_groups::HeldGroups;

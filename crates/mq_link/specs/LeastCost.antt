@@ -9,6 +9,7 @@ use Rattle.mq_wire.specs.declared.records.RecordView.{RecordView}
 use Rattle.mq_table.specs.declared.kind.Kind.{Kind}
 use Rattle.mq_table.specs.Table.{NamedSources}
 use Rattle.mq_table.specs.OlderHosts.{hosts_of}
+use Rattle.mq_held.specs.Places.{due_in}
 use Rattle.mq_link.specs.declared.answers.DropReason.{DropReason}
 use Rattle.mq_link.specs.Changing.{acts_as}
 use Rattle.mq_link.specs.Configuration.{Configuration}
@@ -17,6 +18,11 @@ use Rattle.mq_link.specs.State.{Groups, LinkState, group_at, sources_of}
 use Rattle.mq_link.specs.Tick.{tick_of}
 use Rattle.mq_link.specs.Record.{Statement, RecordOf, OlderJoin, OlderLeave, Setting, Seen, Entrance, Stops, GoesOn, entrance, is_muted, is_repeated, seen_after, judged}
 use Rattle.mq_link.specs.Receive.{Envelope, pseudo_of, read_of, drop_reason, setting_of}
+
+-- A tick looks at the earliest moment of each group that has one at or before its own, and at one more, where there is
+-- another group.
+abbrev pub least_ticked : (now : ℕ) → Groups → ℕ
+least_ticked now groups = min (due_in now groups + 1) (map.len groups)
 
 -- A group is looked for by one comparison at least, where any is held.
 abbrev pub least_search : Groups → ℕ

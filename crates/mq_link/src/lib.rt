@@ -12,7 +12,8 @@
 //! - why a datagram is dropped: `dropping`;
 //! - what goes out: the `Outlet` that takes datagrams;
 //! - what is counted: `Counts`;
-//! - the whole, over all of these: `Link`;
+//! - the whole, over all of these: `Link`, and what it hands out of its groups: `HeldEntries`, `HeldGroup`, with the types of
+//!   their parts;
 //! - and a run of it over any events: `run`.
 #![tactic(auto)]
 
@@ -48,4 +49,6 @@ pub use family::Family;
 pub use igmp::{Igmp, IgmpEnvelope};
 pub use link::Link;
 pub use mld::{Mld, MldEnvelope};
+pub use mq_held::{HeldEntries, HeldGroup};
+pub use mq_table::{FilterMode, Source, SourceTimer};
 pub use outlet::Outlet;

@@ -10,7 +10,7 @@ ghost use Rattle.mq_sched.specs.StoredElection.{IsOtherOf};
 ghost use Rattle.mq_held.specs.Groups.{group_at, sources_of, sources_in};
 ghost use Rattle.mq_held.specs.Places.{HasPlace};
 ghost use Rattle.mq_link.specs.Cost.{cost_of};
-ghost use Rattle.mq_link.specs.LeastCost.{least_received};
+ghost use Rattle.mq_link.specs.LeastCost.{least_received, least_ticked};
 ghost use Rattle.mq_link.specs.Link.{HasTicked, HasReceived};
 ghost use Rattle.mq_link.specs.State as state;
 ghost use Rattle.mq_link.specs.State.{held_of, link_at, IsWellFormed};
@@ -24,7 +24,7 @@ use crate::outlet::Outlet;
 use crate::router::Router;
 use crate::sending::{QueryTerms, Sender};
 use mq_count::{Meter, Moment};
-use mq_held::HeldGroup;
+use mq_held::{HeldEntries, HeldGroup};
 use mq_sched::OtherQuerier;
 use mq_sets::Memory;
 use mq_table::Timing;
@@ -68,20 +68,26 @@ impl<F: Family> Link<F> {
 
     /// Does what is due at or before `now`; a moment before the last one counts as the last one. In this order: timers end;
     /// the other querier's deadline ends; the general query is sent, if it is due; then what is due for the groups (RFC 3376
-    /// sections 6.5, 6.6.2 and 6.6.3, RFC 3810 sections 7.5, 7.6.2 and 7.6.3). However late it is called, each goes once. At
-    /// most four comparisons for each source, 27 for each group and three more; before the next moment, three at most.
+    /// sections 6.5, 6.6.2 and 6.6.3, RFC 3810 sections 7.5, 7.6.2 and 7.6.3). However late it is called, each goes once.
+    /// Behind it the next moment is later than `now`. At least one comparison for each group that has something to do, and two
+    /// more; at most four for each source, 27 for each group and three more; before the next moment, three at most.
     pub fn tick<O: Outlet<F::Address>>(&mut self, now: Moment, outlet: &mut O)
         requires in_range { now ≤ 2 ^ 53 }
         ensures config { self.new.config ≡ self.old.config }
         ensures ticks { HasTicked O.takes now self.old self.new outlet.old outlet.new }
+        ensures formed { IsWellFormed self.new.config self.new.state }
+        ensures later { now < next_of self.new.state }
         ensures spent { let groups = self.old.state.groups in
-            Spends 2 (4 * sources_in groups + 27 * map.len groups + 3) self.old.spent self.new.spent }
+            let least = least_ticked (moment_of self.old.state now) groups in
+            Spends (2 + least) (4 * sources_in groups + 27 * map.len groups + 3) self.old.spent self.new.spent }
         ensures bounded { Spends 0 (cost_of 0 (held_of self.old.state)) self.old.spent self.new.spent }
         ensures quiet { moment_of self.old.state now < next_of self.old.state → Spends 2 3 self.old.spent self.new.spent }
     {
+        self.is_well_formed();
         let mut terms = QueryTerms::of(self.router.config());
         let mut sender = Sender::new(&mut terms, outlet);
         self.router.tick(now, &mut sender);
+        self.is_well_formed();
     }
 
     /// Takes a datagram that came at `now`: first it does what a tick does then; then the datagram is read, and dropped, or
@@ -100,12 +106,15 @@ impl<F: Family> Link<F> {
         ensures config { self.new.config ≡ self.old.config }
         ensures receives { HasReceived O.takes (F.envelope_of envelope.now) body.now now result self.old self.new
             outlet.old outlet.new }
+        ensures formed { IsWellFormed self.new.config self.new.state }
         ensures spent { let least = least_received self.old.config (F.envelope_of envelope.now) body.now now self.old.state in
             Spends (2 + least) (cost_of (length body.now) (held_of self.old.state)) self.old.spent self.new.spent }
     {
         let mut terms = QueryTerms::of(self.router.config());
         let mut sender = Sender::new(&mut terms, outlet);
-        self.router.receive(envelope, body, now, &mut sender)
+        let answer = self.router.receive(envelope, body, now, &mut sender);
+        self.is_well_formed();
+        answer
     }
 
     /// What it is configured with.
@@ -165,6 +174,13 @@ impl<F: Family> Link<F> {
         ensures { result ≡ self.now.state.election.timing }
     {
         self.router.election().timing()
+    }
+
+    /// All groups that it holds, by ascending address, each as it stands in the storage.
+    pub fn entries(&self) -> HeldEntries<'_, F::Address>
+        ensures { result ≡ map.entries self.now.state.groups }
+    {
+        self.router.held().entries()
     }
 
     /// How many groups it holds.

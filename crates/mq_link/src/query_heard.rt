@@ -92,7 +92,7 @@ impl<K: WireKey> Storage<K> {
         let mut schedule = self.held.load(place, &mut self.work.group);
         if schedule.group_query().is_some() || schedule.sources_due().is_some() {
             schedule.clear(&mut self.work.group);
-            self.held.free_sources();
+            self.lemma_sources_fit();
             self.held
                 .put(place, &self.work.group, schedule, &mut self.work.meter);
         }
@@ -134,7 +134,7 @@ impl<K: WireKey> Storage<K> {
                 &at.timing,
                 &mut self.work.meter,
             );
-            self.held.free_sources();
+            self.lemma_sources_fit();
             self.held
                 .put(place, &self.work.group, schedule, &mut self.work.meter);
         }

@@ -115,6 +115,13 @@ impl<K: Key> Storage<K> {
         })
     }
 
+    /// The groups have no more sources than there may be. It does nothing: its contract is the fact.
+    pub(crate) fn lemma_sources_fit(&self)
+        ensures { sources_in self.now.held.groups ≤ self.now.held.source_room }
+    {
+        let _free = self.held.free_sources();
+    }
+
     /// Puts the group that was worked on back at its place, or takes it out where it is INCLUDE without sources and so no
     /// longer held; answers whether it was taken out. At most one comparison for each of its sources, four more, and one
     /// for each binary digit of how many other groups there are.

@@ -15,6 +15,7 @@ ghost use Rattle.mq_held.specs.Groups.{group_at, sources_of, sources_in, with_gr
 ghost use Rattle.mq_held.specs.Places.{HasPlace, has_due};
 ghost use Rattle.mq_wire.specs.Family.{Family};
 ghost use Rattle.mq_link.specs.Family as definitions;
+ghost use Rattle.mq_link.specs.LeastCost.{least_ticked};
 ghost use Rattle.mq_link.specs.Link.{HasTicked};
 ghost use Rattle.mq_link.specs.Router.{Leaves, link_of, state_of};
 ghost use Rattle.mq_link.specs.Sender.{TakesQuery, begun};
@@ -84,13 +85,14 @@ impl<K: WireKey> Storage<K> {
         let address = self.held.address(place);
         let mut schedule = self.held.load(place, &mut self.work.group);
         self.work.serve(address, &mut schedule, at, sink);
-        self.held.free_sources();
+        self.lemma_sources_fit();
         self.put_or_remove(place, schedule)
     }
 
     /// Ends what has run out of the groups, and sends what is due for them, by ascending group. Those that have no moment
-    /// at or before it are left alone. At most four comparisons for each source, 27 for each group and one more; where no
-    /// group has such a moment, one at most.
+    /// at or before it are left alone. At least one comparison for each group that has such a moment, and one more, where
+    /// there is another group; at most four for each source, 27 for each group and one more; where no group has such a
+    /// moment, one at most.
     fn tick_groups<S: Sink<K>>(&mut self, places: &mut [usize], at: &InForce, sink: &mut S)
         requires in_range { at.now.moment ≤ 2 ^ 53 }
         requires space { map.len self.old.held.groups ≤ length places.old }
@@ -100,7 +102,8 @@ impl<K: WireKey> Storage<K> {
             Sends S.takes sink.old (queries_due family at.now.timing at.now.moment (groups_expired at.now.moment self.old.held.groups)) sink.new }
         ensures rooms { KeepsRooms self.old self.new }
         ensures spent { let groups = self.old.held.groups in
-            Spends 0 (4 * sources_in groups + 27 * map.len groups + 1) self.old.work.meter self.new.work.meter }
+            let least = least_ticked at.now.moment groups in
+            Spends least (4 * sources_in groups + 27 * map.len groups + 1) self.old.work.meter self.new.work.meter }
         ensures quiet { let none_is_due =
             (address : ℕ) (e : ScheduledGroup) → map.get self.old.held.groups address ≡ Some e → has_due at.now.moment e ≡ false in
             none_is_due → Spends 0 1 self.old.work.meter self.new.work.meter }
@@ -133,8 +136,9 @@ fn send_general<F: Family, O: Outlet<F::Address>>(is_due: bool, sender: &mut Sen
 }
 
 /// Does what is due at or before `now`, in this order: the end of the other querier's deadline; the general query; the
-/// end of timers, and what is due for the groups. The sender begins anew, on the terms that are in force then. At most four
-/// comparisons for each source, 27 for each group and two more; where no group has such a moment, two at most.
+/// end of timers, and what is due for the groups. The sender begins anew, on the terms that are in force then. At least one
+/// comparison for each group that has such a moment, and one more; at most four for each source, 27 for each group and two
+/// more; where no group has such a moment, two at most.
 fn do_due<F: Family, O: Outlet<F::Address>>(
     status: &mut Status<F>,
     storage: &mut Storage<F::Address>,
@@ -156,7 +160,8 @@ fn do_due<F: Family, O: Outlet<F::Address>>(
         sender.new }
     ensures rooms { KeepsRooms storage.old storage.new }
     ensures spent { let groups = storage.old.held.groups in
-        Spends 1 (4 * sources_in groups + 27 * map.len groups + 2) storage.old.work.meter storage.new.work.meter }
+        let least = least_ticked now groups in
+        Spends (1 + least) (4 * sources_in groups + 27 * map.len groups + 2) storage.old.work.meter storage.new.work.meter }
     ensures quiet { let is_quiet = (address : ℕ) (e : ScheduledGroup) → map.get storage.old.held.groups address ≡ Some e → has_due now e ≡ false in
         is_quiet → Spends 1 2 storage.old.work.meter storage.new.work.meter }
 {
@@ -169,15 +174,17 @@ fn do_due<F: Family, O: Outlet<F::Address>>(
 }
 
 impl<F: Family> Router<F> {
-    /// Does what is due at or before `now`; a moment before the last one counts as the last one. At most four comparisons
-    /// for each source, 27 for each group and three more; before the next moment, three at most.
+    /// Does what is due at or before `now`; a moment before the last one counts as the last one. At least one comparison for
+    /// each group that has something to do, and two more; at most four for each source, 27 for each group and three more;
+    /// before the next moment, three at most.
     pub(crate) fn come_to<O: Outlet<F::Address>>(&mut self, now: Moment, sender: &mut Sender<F, O>)
         requires in_range { now ≤ 2 ^ 53 }
         ensures leaves { Leaves (tick_of self.old.at.config now (state_of self.old)).state self.old self.new }
         ensures sent { let step = tick_of self.old.at.config now (state_of self.old) in
             Sends (TakesQuery O.takes F.FAMILY) (begun self.old.at.config step.timing sender.old) step.queries sender.new }
         ensures spent { let groups = self.old.groups in
-            Spends 2 (4 * sources_in groups + 27 * map.len groups + 3) self.old.spent self.new.spent }
+            let least = least_ticked (moment_of (state_of self.old) now) groups in
+            Spends (2 + least) (4 * sources_in groups + 27 * map.len groups + 3) self.old.spent self.new.spent }
         ensures quiet { let state = state_of self.old in
             moment_of state now < next_of state → Spends 2 3 self.old.spent self.new.spent }
     {
@@ -199,7 +206,8 @@ impl<F: Family> Router<F> {
         ensures ticks { HasTicked O.takes now (link_of self.old) (link_of self.new) sender.old.outlet.now sender.new.outlet.now }
         ensures same_outlet { sender.new.outlet.ghost_name ≡ sender.old.outlet.ghost_name }
         ensures spent { let groups = self.old.groups in
-            Spends 2 (4 * sources_in groups + 27 * map.len groups + 3) self.old.spent self.new.spent }
+            let least = least_ticked (moment_of (state_of self.old) now) groups in
+            Spends (2 + least) (4 * sources_in groups + 27 * map.len groups + 3) self.old.spent self.new.spent }
         ensures quiet { let state = state_of self.old in
             moment_of state now < next_of state → Spends 2 3 self.old.spent self.new.spent }
     {

@@ -10,9 +10,7 @@ use crate::spelling::bytes_of;
 use crate::tally::Tally;
 use crate::written::Written;
 use mq_count::{Meter, Moment};
-use mq_held::HeldGroup;
-use mq_link::{Config, ConfigFault, Link, MessageKind};
-use mq_table::{FilterMode, Source, SourceTimer};
+use mq_link::{Config, ConfigFault, FilterMode, HeldGroup, Link, MessageKind, Source, SourceTimer};
 use std::alloc::Global;
 use std::process::Abort;
 use std::str::Lines;
@@ -73,16 +71,16 @@ fn put_source<F: Written>(line: &mut Bytes, source: &Source<F::Address>) {
 
 /// Puts the line of a group, as the program's text of a run has it.
 fn put_group<F: Written>(line: &mut Bytes, group: &HeldGroup<'_, F::Address>) {
-    F::put_address(line, group.address);
-    match group.mode {
+    F::put_address(line, group.group());
+    match group.mode() {
         FilterMode::Include => line.put(b" include"),
         FilterMode::Exclude(deadline) => put_timer(line, b" exclude ", Some(deadline)),
     }
-    for source in group.sources {
+    for source in group.sources() {
         put_source::<F>(line, source);
     }
-    put_timer(line, b" v1 ", group.v1);
-    put_timer(line, b" v2 ", group.v2);
+    put_timer(line, b" v1 ", group.v1());
+    put_timer(line, b" v2 ", group.v2());
 }
 
 /// The one's complement sum of 0x1600 and 0xef00 (RFC 1071).
@@ -225,11 +223,13 @@ impl<F: Written> Play<F> {
     /// These groups are held.
     fn holds(&self, groups: &str) -> Option<&'static str> {
         let mut held = Bytes::none();
-        for place in 0..self.link.len() {
-            if place > 0 {
+        let mut is_first = true;
+        for group in self.link.entries() {
+            if !is_first {
                 held.put(b"; ");
             }
-            put_group::<F>(&mut held, &self.link.entry(place));
+            put_group::<F>(&mut held, &group);
+            is_first = false;
         }
         unless(
             held.is_whole() && held.as_slice() == groups.as_bytes(),

@@ -9,7 +9,7 @@ ghost use Rattle.mq_sets.specs.Ascending.{IsAscending};
 ghost use Rattle.mq_sets.specs.Merging.{merged_lists, pair_of};
 ghost use Rattle.mq_sets.specs.Search.{IsPlaceFor, bitlen};
 ghost use Rattle.mq_table.specs.Stored.{number_in};
-ghost use Rattle.mq_table.specs.MergedRecord.{source_made, source_asked, item_is_stopped, LeavesAlone};
+ghost use Rattle.mq_table.specs.MergedRecord.{source_made, source_asked, item_is_stopped, keeps_unnamed, LeavesAlone, LooksByHalves};
 
 use crate::kind::Kind;
 use crate::merged_records::{push_changes, push_if_some, source_asked, source_made};
@@ -59,7 +59,8 @@ fn any_is_stopped<K: Key>(row: &[Source<K>]) -> bool
 
 /// Whether a record leaves each of some sources as it is where it doesn't name it, and asks for none of these.
 fn leaves_alone<K: Key>(rule: &Rule, held: &[Source<K>]) -> bool
-    ensures { result ≡ true → LeavesAlone rule.now held.now }
+    ensures told { result ≡ keeps_unnamed rule.now.kind rule.now.mode held.now }
+    ensures alone { result ≡ true → LeavesAlone rule.now held.now }
 {
     match rule.kind {
         Kind::IsEx | Kind::ToEx | Kind::ToIn => false,
@@ -176,7 +177,8 @@ fn push_around<K: Key>(
     }
 }
 
-/// Pushes what `push_changes` pushes, to lists that have room for both sides.
+/// Pushes what `push_changes` pushes, to lists that have room for both sides. Where the record names one source and leaves
+/// the others alone, at most one comparison for each binary digit of how many the group has.
 pub(crate) fn push_within<K: Key>(
     rule: &Rule,
     held: &[Source<K>],
@@ -194,6 +196,7 @@ pub(crate) fn push_within<K: Key>(
     ensures sources { sources.new.items ≡ filter_map (source_made rule.now) (merged_lists (number_in K.number) K.number held.now named.now) }
     ensures asked { asked.new.items ≡ filter_map (source_asked rule.now) (merged_lists (number_in K.number) K.number held.now named.now) }
     ensures compares { Spends (min (length held.now) (length named.now)) (length held.now + length named.now) m.old m.new }
+    ensures by_halves { LooksByHalves rule.now.kind rule.now.mode held.now (length named.now) m.old m.new }
     ensures sources_room { vec_capacity sources.old ≤ vec_capacity sources.new }
     ensures asked_room { vec_capacity asked.old ≤ vec_capacity asked.new }
 {

@@ -4,6 +4,7 @@ ghost use Rattle.std.specs.Prelude.{◌≡◌, ℕ, ◌+◌, ◌^◌, ◌≤◌,
 ghost use Rattle.mq_count.specs.Spending.{Spends};
 ghost use Rattle.mq_sets.specs.Ascending.{IsAscending, set_of};
 ghost use Rattle.mq_table.specs.Group.{timer_at};
+ghost use Rattle.mq_table.specs.MergedRecord.{LooksByHalves};
 ghost use Rattle.mq_table.specs.Table.{change_of};
 ghost use Rattle.mq_table.specs.Stored.{named_in, number_in, size_of, state_of, timers_in};
 
@@ -55,8 +56,10 @@ impl<K: Key> Group<K> {
         ensures room { self.old.room ≤ self.new.room }
         ensures asked_room { vec_capacity asked.old ≤ vec_capacity asked.new }
 
-        // At least one comparison for each source of the shorter side, at most one for each of both.
+        // At least one comparison for each source of the shorter side, at most one for each of both; where one source is
+        // named and the others stay as they are, at most one for each binary digit of how many the group has.
         ensures spent { Spends (min (length row.now) (length named.now.members)) (length row.now + length named.now.members) m.old m.new }
+        ensures by_halves { LooksByHalves kind head.now.mode row.now (length named.now.members) m.old m.new }
     {
         let rule = Rule {
             kind,

@@ -3,6 +3,7 @@ use Rattle.std.specs.FinMap as map
 use Rattle.mq_count.specs.Spending.{Spends}
 use Rattle.mq_count.proofs.Spent.{Spends-join_within}
 use Rattle.mq_sched.specs.Sink.{Sends}
+use Rattle.mq_link.specs.LeastCost.{least_ticked}
 use Rattle.mq_link.specs.Router.{Leaves, RouterValue, state_of}
 use Rattle.mq_link.specs.Sender.{TakesQuery, begun}
 use Rattle.mq_link.specs.State.{sources_in}
@@ -71,8 +72,13 @@ returns-clause-sent g c =
 
 pub returns-clause-spent : goal.returns-clause-spent
 returns-clause-spent g c =
-    let spent = Spends-join_within 2 (4 * sources_in c.self.inside.storage.held.groups + 27 * map.len c.self.inside.storage.held.groups + 3) c.later-now.ensures.spent c.do_due.ensures.spent (omega arith) (omega arith) in
-    subst (λ (r : RouterValue). Spends 2 (4 * sources_in r.groups + 27 * map.len r.groups + 3) r.spent c.do_due.new.storage.work.meter) c.self.view_is spent
+    let inside = c.self.inside in
+    let groups = inside.storage.held.groups in
+    let most = 4 * sources_in groups + 27 * map.len groups + 3 in
+    let is_moment : c.later-now.result ≡ max inside.status.now c.args.now = c.later-now.ensures.later ∙ ap (λ n. max n c.args.now) c.moment.ensures in
+    let spent = Spends-join_within (2 + least_ticked c.later-now.result groups) most c.later-now.ensures.spent c.do_due.ensures.spent (omega arith) (omega arith) in
+    let at_moment = subst (λ m. Spends (2 + least_ticked m groups) most inside.storage.work.meter c.do_due.new.storage.work.meter) is_moment spent in
+    subst (λ (r : RouterValue). Spends (2 + least_ticked (moment_of (state_of r) c.args.now) r.groups) (4 * sources_in r.groups + 27 * map.len r.groups + 3) r.spent c.do_due.new.storage.work.meter) c.self.view_is at_moment
 
 pub returns-clause-quiet : goal.returns-clause-quiet
 returns-clause-quiet g c before =

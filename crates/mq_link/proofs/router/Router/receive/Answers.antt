@@ -1,5 +1,6 @@
-use Rattle.std.proofs.Common.{◌≡◌, ◌+◌, max, length, refl, ap, ◌∙◌, sym, subst}
+use Rattle.std.proofs.Common.{◌≡◌, ◌+◌, max, length, refl, ap, ◌∙◌, sym, subst, arith}
 use Rattle.mq_count.specs.Spending.{Spends}
+use Rattle.mq_count.proofs.Spent.{Spends-within}
 use Rattle.mq_sched.specs.Election.{ticked}
 use Rattle.mq_link.specs.Cost.{cost_of}
 use Rattle.mq_link.specs.LeastCost.{least_after}
@@ -40,7 +41,7 @@ returns-clause-spent g c =
     let envelope = g.F.Family.envelope_of c.args.envelope.now in
     let moment = max before.at.now c.args.now in
     let leaves = c.come_to.ensures.leaves in
-    let spent = received_within (ticked config.timing moment before.at.election).timing moment before.groups between.groups (length c.args.body.now) _ _ _ _ (ap (λ (s : LinkState). s.groups) leaves.state_is) c.come_to.ensures.spent c.take_in-received.ensures.spent in
+    let spent = received_within (ticked config.timing moment before.at.election).timing moment before.groups between.groups (length c.args.body.now) _ _ _ _ (ap (λ (s : LinkState). s.groups) leaves.state_is) (Spends-within _ _ c.come_to.ensures.spent (omega arith) (omega arith)) c.take_in-received.ensures.spent in
     let least = (λ i. let at : Setting = record { config = leaves.config i; election = between.at.election; now = between.at.now } in least_after at envelope (read_in family envelope c.args.body.now) between.groups)
     ∙ least_after_tick family config envelope c.args.body.now c.args.now moment (state_of before) (state_of between) c.lemma_is_stored.ensures.family refl leaves.state_is
     in

@@ -18,7 +18,7 @@ put-requires-clause-fits g c address has =
     let before : ScheduledGroup = record { group = c.load-schedule.new.into.state; schedule = c.load-schedule.result } in
     let left : ScheduledGroup = record { group = c.clear.new.group.state; schedule = c.clear.new.self } in
     let loaded = ap sources_of (c.load-schedule.ensures.group address has) in
-    omega (arith, cleared_size left before c.clear.ensures.cleared, loaded, c.free_sources.ensures)
+    omega (arith, cleared_size left before c.clear.ensures.cleared, loaded, c.lemma_sources_fit.ensures)
 
 pub returns-then-is_some-clause-spent : goal.returns-then-is_some-clause-spent
 returns-then-is_some-clause-spent g c address has =

@@ -39,7 +39,7 @@ put-requires-clause-fits g c address has =
     let left : ScheduledGroup = record { group = c.lower.new.group.state; schedule = c.load-schedule.result } in
     let is : left ≡ group_lowered c.args.at.now.timing c.args.at.now.moment version before = λ i. record { group = c.lower.ensures.state i; schedule = c.load-schedule.result } in
     let loaded = ap sources_of (c.load-schedule.ensures.group address has) in
-    omega (arith, one_lowered_size c.args.at.now.timing c.args.at.now.moment version left before is, loaded, c.free_sources.ensures)
+    omega (arith, one_lowered_size c.args.at.now.timing c.args.at.now.moment version left before is, loaded, c.lemma_sources_fit.ensures)
 
 pub returns-in-Ok-clause-groups : goal.returns-in-Ok-clause-groups
 returns-in-Ok-clause-groups g c =

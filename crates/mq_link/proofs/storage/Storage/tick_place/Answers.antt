@@ -20,7 +20,7 @@ put_or_remove-requires-clause-fits g c address has =
     let left = ap sources_of c.serve.ensures.left in
     let loaded = ap sources_of (c.load-schedule.ensures.group address has) in
     let fewer = served_size c.args.at.now.timing c.args.at.now.moment (record { group = c.load-schedule.new.into.state; schedule = c.load-schedule.result }) in
-    omega (arith, left, loaded, fewer, c.free_sources.ensures)
+    omega (arith, left, loaded, fewer, c.lemma_sources_fit.ensures)
 
 pub returns-clause-gone : goal.returns-clause-gone
 returns-clause-gone g c address has =

@@ -4,7 +4,7 @@ use Rattle.mq_sets.specs.Ascending.{IsAscending}
 use Rattle.mq_sets.specs.Merging.{merged_lists}
 use Rattle.mq_table.specs.Timing.{membership_interval}
 use Rattle.mq_table.specs.Stored.{number_in, named_in, state_of, timers_in}
-use Rattle.mq_table.specs.MergedRecord.{source_made, source_asked}
+use Rattle.mq_table.specs.MergedRecord.{source_made, source_asked, LooksByHalves}
 use Rattle.mq_table.specs.Group.{GroupState, timer_at}
 use Rattle.mq_table.proofs.TableRows.{asked_is_held}
 use Rattle.mq_table.proofs.Changed.{made_ascends, asked_ascends, recorded_group, recorded_query, recorded_query_group}
@@ -60,6 +60,10 @@ returns-clause-query_group g c =
 
 pub returns-clause-spent : goal.returns-clause-spent
 returns-clause-spent g c = rw c.as_slice.ensures.members at c.push_within.ensures.compares
+
+pub returns-clause-by_halves : goal.returns-clause-by_halves
+unfolding LooksByHalves
+returns-clause-by_halves g c = λ one kept. c.push_within.ensures.by_halves (ap length c.as_slice.ensures.members ∙ one) kept
 
 pub returns-clause-held : goal.returns-clause-held
 returns-clause-held g c s is_asked =
