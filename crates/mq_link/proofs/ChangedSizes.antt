@@ -21,8 +21,8 @@ use Rattle.mq_table.specs.Stored.{size_of, named_in}
 use Rattle.mq_table.specs.Table.{NamedSources, GroupChange, change_of}
 use Rattle.mq_table.specs.OlderHosts.{hosts_of, translated, older_host}
 use Rattle.mq_table.proofs.Maps.{find-entries_by, get-by_rule}
-use Rattle.mq_link.specs.declared.statements.Said.{Said}
-use Rattle.mq_link.specs.declared.statements.Said.TheVariants.{Record, OlderJoin, OlderLeave}
+use Rattle.mq_link.specs.declared.statement.StatementKind.{StatementKind}
+use Rattle.mq_link.specs.declared.statement.StatementKind.TheVariants.{Record, OlderJoin, OlderLeave}
 use Rattle.mq_link.specs.Changing.{statement_of}
 use Rattle.mq_link.proofs.TranslatedRecords.{of_translated}
 use Rattle.mq_link.specs.Record.{OlderJoin as StatesJoin, OlderLeave as StatesLeave, asking_nothing, change_stated}
@@ -82,7 +82,7 @@ host_few : (version : OlderVersion) (timing : Timing) (now : ℕ) (g : GroupStat
 host_few V1 timing now g = refl
 host_few V2 timing now g = refl
 
-pub stated_few : {K : Type 0} (number : K → ℕ) (mutes muted : Bool) (timing : Timing) (now : ℕ) (said : Said) (addresses : List K) (g : GroupState) → IfSome (change_stated mutes muted timing now (statement_of said (named_in number addresses)) g) (λ c. size_of c.group ≤ size_of g + length addresses)
+pub stated_few : {K : Type 0} (number : K → ℕ) (mutes muted : Bool) (timing : Timing) (now : ℕ) (said : StatementKind) (addresses : List K) (g : GroupState) → IfSome (change_stated mutes muted timing now (statement_of said (named_in number addresses)) g) (λ c. size_of c.group ≤ size_of g + length addresses)
 stated_few number mutes muted timing now (Record kind) addresses g =
     subst (λ n. IfSome (change_stated mutes muted timing now (statement_of (Record kind) (named_in number addresses)) g) (λ c. size_of c.group ≤ size_of g + n))
     (length-map addresses number)

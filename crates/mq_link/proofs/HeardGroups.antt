@@ -25,7 +25,9 @@ use Rattle.mq_held.proofs.Sorted.{tied, ties}
 use Rattle.mq_held.proofs.Places.{goes-absent}
 use Rattle.mq_link.specs.State.{Groups}
 use Rattle.mq_link.specs.Heard.{suppresses, asked_by, groups_cleared, group_lowered, groups_lowered}
+use Rattle.mq_link.specs.declared.storage.Storage.{Storage}
 use Rattle.mq_link.specs.Serving.{IsServed, AreServed}
+use Rattle.mq_link.specs.Storage.{IsReady, KeepsRooms}
 use Rattle.mq_link.proofs.Bounds.{cleared_no_more, lowered_no_more}
 use Rattle.mq_link.proofs.Entries.{total-kept, len-kept}
 use Rattle.mq_link.proofs.HeldAs.{all-kept}
@@ -110,6 +112,13 @@ cleared_small most groups address few = subst (λ (e : Option ScheduledGroup). s
     by_group : (e : Option ScheduledGroup) → sources_of (unwrap_or e unheld) ≤ most → sources_of (unwrap_or (option_and_then (λ e. Some (cleared e)) e) unheld) ≤ most
     by_group None few = few
     by_group (Some e) few = let fewer = (cleared_no_more e).sources in omega arith
+
+-- and they are fit to be worked on still
+pub cleared_ready : {K : Type 0} (s t : Storage K) → IsReady s → t.held.groups ≡ groups_cleared s.held.groups → KeepsRooms s t → IsReady t
+cleared_ready s t ready is kept = record {
+  few = let n = ap map.len is in omega (arith, n, cleared_len s.held.groups, ready.few);
+  served = subst (AreServed t.work.group.room) (sym is) (cleared_served s.work.group.room t.work.group.room s.held.groups kept.work.group ready.served);
+}
 
 -- what lowering so many sources takes in a group that has few
 pub spent_lowering : (sources digits : ℕ) → digits ≤ 11 → sources * (digits + 1) + 1 ≤ 12 * sources + 1

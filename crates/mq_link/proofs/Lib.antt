@@ -48,3 +48,6 @@ pub mod SpelledMessages
 pub mod LeastLengths
 pub mod TickedSizes
 pub mod LeastCosts
+pub mod Rooms
+pub mod StatusSteps
+pub mod RouterSteps

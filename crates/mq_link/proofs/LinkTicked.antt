@@ -1,52 +1,68 @@
--- What a tick makes of a link.
-use Rattle.std.proofs.Common.{◌≡◌, ℕ, Bool, max, List, ◌++◌, sym, ap, subst}
+-- What a tick makes of a router.
+use Rattle.std.proofs.Common.{◌≡◌, ℕ, Bool, max, List, ◌++◌, sym, ap, ◌∙◌, subst}
 use Rattle.mq_wire.specs.Family.{Family}
-use Rattle.mq_held.specs.Held.{HeldState}
+use Rattle.mq_table.specs.Variables.{AreInRange}
 use Rattle.mq_sched.specs.Election.{ticked, general_messages}
-use Rattle.mq_sched.specs.Rounds.{AllFit}
 use Rattle.mq_sched.specs.Sink.{Sends}
-use Rattle.mq_sched.specs.StoredElection.{RouterElection}
 use Rattle.mq_link.specs.declared.sending.Sender.{Sender}
-use Rattle.mq_link.specs.Configuration.{Configuration}
 use Rattle.mq_link.specs.Counters.{Counters}
-use Rattle.mq_link.specs.Family.{per_query}
-use Rattle.mq_link.specs.Link.{HasTicked, state_in}
+use Rattle.mq_link.specs.Link.{HasTicked}
+use Rattle.mq_link.specs.Record.{Setting}
+use Rattle.mq_link.specs.Router.{Leaves, RouterValue, link_of, state_of}
 use Rattle.mq_link.specs.Sender.{TakesQuery, begun}
+use Rattle.mq_link.specs.Sound.{AreSound}
 use Rattle.mq_link.specs.State.{LinkState}
 use Rattle.mq_link.specs.Tick.{Step, groups_expired, queries_due, groups_after_round, tick_at, tick_of}
 use Rattle.mq_link.proofs.AllFits.{fits-tick_of}
-use Rattle.mq_link.proofs.HandedOut.{IsHanded, is_handed, with_answers}
-
--- each query of a step fits one message
-abbrev AllFits : Configuration → Step → Type 0
-AllFits config step = AllFit (per_query config.family) step.queries
+use Rattle.mq_link.proofs.HandedOut.{is_handed, with_answers}
+use Rattle.mq_link.proofs.LinkStored.{well_formed_at}
+use Rattle.mq_link.proofs.Receipts.{sound_in}
+use Rattle.mq_link.proofs.Ticked.{IsWellFormed-tick_at}
 
 -- what the work of a moment leaves, and what the sender has taken by it
-pub record HasDone {F O K E : Type 0} (takes : O → ℕ → List ℕ → Bool → O → Type 0) (family : Family) (config : Configuration) (now : ℕ) (held : HeldState) (election : RouterElection) (next : HeldState) (next_election : RouterElection) (old new : Sender F O K E) : Type 0 where
-  pub election_is : next_election ≡ record election { state = ticked config.timing now election.state }
-  pub groups : next.groups ≡ groups_after_round (ticked config.timing now election.state).timing now (groups_expired now held.groups)
-  pub sent : Sends (TakesQuery takes family) (begun config (ticked config.timing now election.state).timing old) (general_messages config.timing now election.state ++ queries_due family (ticked config.timing now election.state).timing now (groups_expired now held.groups)) new
+pub record HasDone {F O K E : Type 0} (takes : O → ℕ → List ℕ → Bool → O → Type 0) (family : Family) (moment : ℕ) (before after : RouterValue) (old new : Sender F O K E) : Type 0 where
+  pub status_is : after.at ≡ record before.at { election = ticked before.at.config.timing moment before.at.election; now = moment }
+  pub groups_are : after.groups ≡ groups_after_round (ticked before.at.config.timing moment before.at.election).timing moment (groups_expired moment before.groups)
+  pub counters_are : after.counters ≡ before.counters
+  pub sent : Sends (TakesQuery takes family) (begun before.at.config (ticked before.at.config.timing moment before.at.election).timing old) (general_messages before.at.config.timing moment before.at.election ++ queries_due family (ticked before.at.config.timing moment before.at.election).timing moment (groups_expired moment before.groups)) new
 
--- the sender has taken what the tick of that moment sends
-pub sent_by_tick : {F O K E : Type 0} (takes : O → ℕ → List ℕ → Bool → O → Type 0) (family : Family) (config : Configuration) (moment : ℕ) (held : HeldState) (election : RouterElection) (last : ℕ) (counters : Counters) (next : HeldState) (next_election : RouterElection) (old new : Sender F O K E)
-    → config.family ≡ family → HasDone takes family config moment held election next next_election old new
-    → (let step = tick_at config moment (state_in held election last counters) in Sends (TakesQuery takes family) (begun config step.timing old) step.queries new)
-sent_by_tick takes family config moment held election last counters next next_election old new is_family done =
-    subst (λ f. Sends (TakesQuery takes family) (begun config (ticked config.timing moment election.state).timing old) (general_messages config.timing moment election.state ++ queries_due f (ticked config.timing moment election.state).timing moment (groups_expired moment held.groups)) new) (sym is_family) done.sent
+module _ {F O K E : Type 0} (takes : O → ℕ → List ℕ → Bool → O → Type 0) (family : Family) (now moment : ℕ) (before after : RouterValue) (old new : Sender F O K E) (is_family : before.at.config.family ≡ family) (is_moment : moment ≡ max before.at.now now) (done : HasDone takes family moment before after old new) where
+  -- it is the tick of that moment
+  pub leaves_tick : Leaves (tick_of before.at.config now (state_of before)).state before after
+  leaves_tick = record {
+    config = ap (λ (s : Setting). s.config) done.status_is;
+    state_is =
+        (λ i. record { groups = done.groups_are i; election = ap (λ (s : Setting). s.election) done.status_is i; last = ap (λ (s : Setting). s.now) done.status_is i; counters = done.counters_are i })
+        ∙ ap (λ m. (tick_at before.at.config m (state_of before)).state) is_moment;
+  }
 
-pub has_ticked : {F O K E : Type 0} (takes : O → ℕ → List ℕ → Bool → O → Type 0) (family : Family) (config : Configuration) (held : HeldState) (election : RouterElection) (last now : ℕ) (counters : Counters) (spent : ℕ) (next : HeldState) (next_election : RouterElection) (moment : ℕ) (next_counters : Counters) (next_spent : ℕ) (old new : Sender F O K E)
-    → config.family ≡ family → moment ≡ max last now
-    → HasDone takes family config moment held election next next_election old new
-    → next_counters ≡ with_answers counters new.sent new.unsent
-    → HasTicked takes now (record { config = config; state = state_in held election last counters; spent = spent }) (record { config = config; state = state_in next next_election moment next_counters; spent = next_spent }) old.outlet.now new.outlet.now
-has_ticked takes family config held election last now counters spent next next_election moment next_counters next_spent old new is_family is_moment done counted =
-    let before : LinkState = state_in held election last counters in
-    let after : LinkState = state_in next next_election moment next_counters in
-    let at : Step = tick_at config moment before in
-    let leaves : after ≡ record at.state { counters = with_answers counters new.sent new.unsent } =
-    λ i. record { groups = done.groups i; election = ap (λ (e : RouterElection). e.state) done.election_is i; last = moment; counters = counted i }
-    in
-    let fit = subst (λ m. AllFits config (tick_at config m before)) (sym is_moment) (fits-tick_of config now before) in
-    let handed = is_handed takes family config at after old new is_family fit (sent_by_tick takes family config moment held election last counters next next_election old new is_family done) leaves in
-    let there : IsHanded takes config (tick_of config now before) after old.outlet.now new.outlet.now = subst (λ m. IsHanded takes config (tick_at config m before) after old.outlet.now new.outlet.now) is_moment handed in
-    record { messages = there.messages; answers = there.answers; ticks = there.hands_out; handed = there.handed }
+  pub sent_by_tick : (let step = tick_of before.at.config now (state_of before) in Sends (TakesQuery takes family) (begun before.at.config step.timing old) step.queries new)
+  sent_by_tick =
+      let config = before.at.config in
+      let in_force = (ticked config.timing moment before.at.election).timing in
+      let at_moment = subst (λ f. Sends (TakesQuery takes family) (begun config in_force old) (general_messages config.timing moment before.at.election ++ queries_due f in_force moment (groups_expired moment before.groups)) new) (sym is_family) done.sent in
+      subst (λ m. Sends (TakesQuery takes family) (begun config (tick_at config m (state_of before)).timing old) (tick_at config m (state_of before)).queries new) is_moment at_moment
+
+  -- the groups are sound still
+  pub sound_after_tick : AreInRange before.at.config.timing → AreInRange before.at.election.timing → AreSound before.at before.groups → AreSound after.at after.groups
+  sound_after_tick own in_force sound =
+      let at = tick_at before.at.config moment (state_of before) in
+      let left : Setting = record before.at { election = at.state.election; now = moment } in
+      let there : AreSound left at.state.groups = sound_in before.at.config at.state (IsWellFormed-tick_at before.at.config moment (state_of before) own (well_formed_at before sound in_force)) in
+      subst (λ (s : Setting). AreSound s after.groups) (sym done.status_is) (subst (AreSound left) (sym done.groups_are) there)
+
+-- the state once the outlet's answers are counted
+abbrev pub with_answers_in : (sent unsent : ℕ) → LinkState → LinkState
+with_answers_in sent unsent s = record s { counters = with_answers s.counters sent unsent }
+
+-- with the answers counted, it is a tick of the link
+pub has_ticked : {F O K E : Type 0} (takes : O → ℕ → List ℕ → Bool → O → Type 0) (family : Family) (now : ℕ) (before between after : RouterValue) (old new : Sender F O K E)
+    → before.at.config.family ≡ family → Leaves (tick_of before.at.config now (state_of before)).state before between
+    → (let step = tick_of before.at.config now (state_of before) in Sends (TakesQuery takes family) (begun before.at.config step.timing old) step.queries new)
+    → after ≡ record between { counters = with_answers between.counters new.sent new.unsent }
+    → HasTicked takes now (link_of before) (link_of after) old.outlet.now new.outlet.now
+has_ticked takes family now before between after old new is_family leaves sent counted =
+    let step = tick_of before.at.config now (state_of before) in
+    let state_is : state_of after ≡ with_answers_in new.sent new.unsent step.state = ap state_of counted ∙ ap (with_answers_in new.sent new.unsent) leaves.state_is in
+    let handed = is_handed takes family before.at.config step (state_of after) old new is_family (fits-tick_of before.at.config now (state_of before)) sent state_is in
+    record { messages = handed.messages; answers = handed.answers; ticks = handed.hands_out; handed = handed.handed }

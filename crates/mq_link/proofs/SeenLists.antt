@@ -21,29 +21,29 @@ use Rattle.mq_table.proofs.Groups.{same_sources}
 use Rattle.mq_held.proofs.Entries.{find-set, find-insert, find-place, find-goes}
 use Rattle.mq_held.proofs.HeldMoments.{entries-from_entries}
 use Rattle.mq_held.proofs.Sorted.{both, key_of}
-use Rattle.mq_link.specs.declared.seen.Met.{Met}
+use Rattle.mq_link.specs.declared.met.MetGroup.{MetGroup}
 use Rattle.mq_link.specs.Record.{met}
 use Rattle.mq_link.specs.Seen.{counts_in, met_number}
 
 module _ {K : Type 0} (number : K → ℕ) where
-  abbrev entry_of : Met K → ℕ × ℕ
+  abbrev entry_of : MetGroup K → ℕ × ℕ
   entry_of x = (number x.group, x.records)
 
-  abbrev entries_in : List (Met K) → List (ℕ × ℕ)
+  abbrev entries_in : List (MetGroup K) → List (ℕ × ℕ)
   entries_in xs = list_map entry_of xs
 
-  below_entries : (n : ℕ) (xs : List (Met K)) → All (λ x. n < met_number number x) xs → T (below_all nat_cmp n (entries_in xs))
+  below_entries : (n : ℕ) (xs : List (MetGroup K)) → All (λ x. n < met_number number x) xs → T (below_all nat_cmp n (entries_in xs))
   below_entries n [] above = tt
   below_entries n (x ∷ xs) above =
-      let P : Met K → Type 0 = λ x. n < met_number number x in
+      let P : MetGroup K → Type 0 = λ x. n < met_number number x in
       let first : n < number x.group = All-head P x xs above in
       rw (lt-ltb n (number x.group) first) (below_entries n xs (All-tail P x xs above))
 
-  sorted_entries : (xs : List (Met K)) → IsAscending (met_number number) xs → T (is_sorted nat_cmp (entries_in xs))
+  sorted_entries : (xs : List (MetGroup K)) → IsAscending (met_number number) xs → T (is_sorted nat_cmp (entries_in xs))
   sorted_entries [] up = tt
   sorted_entries (x ∷ xs) up = both (below_all nat_cmp (number x.group) (entries_in xs)) (is_sorted nat_cmp (entries_in xs)) (below_entries (number x.group) xs (IsAscending-head (met_number number) x xs up)) (sorted_entries xs (IsAscending-tail (met_number number) x xs up))
 
-  module _ (xs : List (Met K)) (up : IsAscending (met_number number) xs) where
+  module _ (xs : List (MetGroup K)) (up : IsAscending (met_number number) xs) where
     pub len-counts : map.len (counts_in number xs) ≡ length xs
     len-counts = map.len-entries (counts_in number xs) ∙ ap length (entries-from_entries (entries_in xs) (sorted_entries xs up)) ∙ length-map xs entry_of
 
@@ -57,16 +57,16 @@ module _ {K : Type 0} (number : K → ℕ) where
           ∙ ap (option_map (λ (e : ℕ × ℕ). e.0)) (slice_get-map entry_of xs i ∙ ap (option_map entry_of) (slice_get-get_or xs i (any xs within) within))
           ∙ ap Some (here (any xs within))
         where
-          any : (ys : List (Met K)) → i < length ys → Met K
+          any : (ys : List (MetGroup K)) → i < length ys → MetGroup K
           any [] in_list = absurd (omega arith)
           any (y ∷ ys) in_list = y
 
-      pub met-here : (d : Met K) → met (counts_in number xs) k ≡ (get_or xs i d).records
+      pub met-here : (d : MetGroup K) → met (counts_in number xs) k ≡ (get_or xs i d).records
       met-here d =
           ap (λ x. unwrap_or x 0) (get-counts k ∙ find-place k (entries_in xs) i (entry_of d) (sorted_entries xs up) key_here)
           ∙ ap (λ (e : ℕ × ℕ). e.1) (get_or-map entry_of xs i d (entry_of d) within)
 
-      pub counted-again : (y : Met K) → met_number number y ≡ k → counts_in number (set xs i y) ≡ map.insert (counts_in number xs) k y.records
+      pub counted-again : (y : MetGroup K) → met_number number y ≡ k → counts_in number (set xs i y) ≡ map.insert (counts_in number xs) k y.records
       counted-again y same = same_sources _ _ (λ q.
           map.get-from_entries nat_cmp_total (entries_in (set xs i y)) q
           ∙ ap (find nat_cmp q) (map-set entry_of xs i y ∙ ap (λ n. set (entries_in xs) i (n, y.records)) same)
@@ -87,7 +87,7 @@ module _ {K : Type 0} (number : K → ℕ) where
           cases_in : (j : ℕ) → Unit {0}
           cases_in j = tt
 
-          any : (j : ℕ) (ys : List (Met K)) → j < length ys → Met K
+          any : (j : ℕ) (ys : List (MetGroup K)) → j < length ys → MetGroup K
           any j [] in_list = absurd (omega arith)
           any j (y ∷ ys) in_list = y
 
@@ -108,7 +108,7 @@ module _ {K : Type 0} (number : K → ℕ) where
       pub absent-contained : map.contains_key (counts_in number xs) k ≡ false
       absent-contained = ap is_some absent-get
 
-      pub counted-first : (y : Met K) → met_number number y ≡ k → counts_in number (insert xs i y) ≡ map.insert (counts_in number xs) k y.records
+      pub counted-first : (y : MetGroup K) → met_number number y ≡ k → counts_in number (insert xs i y) ≡ map.insert (counts_in number xs) k y.records
       counted-first y same = same_sources _ _ (λ q.
           map.get-from_entries nat_cmp_total (entries_in (insert xs i y)) q
           ∙ ap (find nat_cmp q) (map-insert entry_of xs i y ∙ ap (λ n. insert (entries_in xs) i (n, y.records)) same)

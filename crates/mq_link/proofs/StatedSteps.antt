@@ -14,7 +14,7 @@ use Rattle.mq_sched.specs.Schedule.{ScheduleState, ScheduledGroup, settled}
 use Rattle.mq_sched.specs.Election.{is_querier}
 use Rattle.mq_sched.specs.Sending.{after_change, after_round}
 use Rattle.mq_link.specs.declared.answers.Refusal.{Refusal}
-use Rattle.mq_link.specs.declared.statements.Said.{Said}
+use Rattle.mq_link.specs.declared.statement.StatementKind.{StatementKind}
 use Rattle.mq_link.specs.Changing.{statement_of, change_written}
 use Rattle.mq_link.specs.Counters.{Ignored}
 use Rattle.mq_link.specs.Family.{is_admitted, v1_mutes_leave}
@@ -111,7 +111,7 @@ pub record AreFew (old new after named : ℕ) : Type 0 where
   pub changed : new ≤ old + named
   pub asked : after ≤ new
 
-pub made_few : {K : Type 0} (number : K → ℕ) (mutes muted : Bool) (timing : Timing) (now : ℕ) (said : Said) (addresses : List K) (before : ScheduledGroup) (into : GroupState) (items : List K) (asks : Option Bool) (asks_group : Bool) (q : Bool) (asked : ScheduledGroup)
+pub made_few : {K : Type 0} (number : K → ℕ) (mutes muted : Bool) (timing : Timing) (now : ℕ) (said : StatementKind) (addresses : List K) (before : ScheduledGroup) (into : GroupState) (items : List K) (asks : Option Bool) (asks_group : Bool) (q : Bool) (asked : ScheduledGroup)
     → change_stated mutes muted timing now (statement_of said (named_in number addresses)) before.group ≡ change_written number into items asks → asks ≡ Some asks_group
     → asked ≡ after_change q timing now (record { group = into; query = set_of number items; query_group = asks_group }) before.schedule
     → AreFew (size_of before.group) (size_of into) (size_of asked.group) (length addresses)

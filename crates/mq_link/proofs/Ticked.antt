@@ -11,7 +11,7 @@ use Rattle.mq_sched.specs.Schedule.{ScheduledGroup, cleared}
 use Rattle.mq_sched.specs.Sending.{after_round}
 use Rattle.mq_sched.specs.declared.announced.Announced.{Announced}
 use Rattle.mq_sched.specs.Announcement.{IsCarried}
-use Rattle.mq_sched.specs.Election.{Role, Querier, Other, ElectionState, is_querier, deadline_ended, returned, general_is_due, after_general, ticked, heard_or, adopted, loses_role}
+use Rattle.mq_sched.specs.Election.{Role, Querier, Other, ElectionState, is_querier, deadline_ended, returned, general_is_due, after_general, ticked, heard_or, adopted, heard, loses_role}
 use Rattle.mq_wire.specs.declared.query.Query.{Query}
 use Rattle.mq_link.specs.Configuration.{Configuration}
 use Rattle.mq_link.specs.State.{Groups, LinkState, IsHeldAs, IsSilent, AreWithin, IsWellFormed}
@@ -127,6 +127,11 @@ adopted_timing configured is_other (Some said) timing own carried in_force = rec
     by_test true = heard_in_range configured.query_seconds said.query_seconds 31744 own.query_seconds carried.query_seconds
     by_test false = in_force.query_seconds
 
+-- the timing that is in force after a query
+pub heard_timing : (configured : Timing) (own now source : ℕ) (announced : Option Announced) (e : ElectionState) → AreInRange configured → IsCarriedBy announced → AreInRange e.timing → AreInRange (heard configured own now source announced e).timing
+heard_timing configured own now source announced e in_range carried in_force =
+    adopted_timing configured (ltb source own || not (is_querier e.role)) announced e.timing in_range carried in_force
+
 pub held-groups_cleared : (config : Configuration) (groups : Groups) → All (IsHeldAs config) groups → All (IsHeldAs config) (groups_cleared groups)
 unfolding groups_cleared
 held-groups_cleared config groups all = all-kept (IsHeldAs config) (λ _ e. Some (cleared e)) groups (held_after_loss config) all
@@ -179,7 +184,7 @@ pub IsWellFormed-query_heard : (config : Configuration) (now source : ℕ) (quer
 IsWellFormed-query_heard config now source query state own carried h = record {
   groups = held-groups_lowered config election.timing now query groups_left (held_left loses);
   within = within-groups_lowered config election.timing now query groups_left (within_left loses);
-  timing = adopted_timing config.timing (lower || not (is_querier state.election.role)) (announced_by query.version) state.election.timing own carried h.timing;
+  timing = heard_timing config.timing config.own now source (announced_by query.version) state.election own carried h.timing;
   silent = λ other. silent-groups_lowered election.timing now query groups_left (by_role lower (is_querier state.election.role) refl refl other);
 }
   where

@@ -3,7 +3,7 @@
 use Rattle.std.proofs.Common.{◌≡◌, ℕ, ◌+◌, ◌*◌, ◌≤◌, List, Option, None, Some, IfSome, sym, ap, ◌∙◌, subst, arith}
 use Rattle.std.specs.FinMap as map
 use Rattle.mq_count.specs.Spending.{Spends}
-use Rattle.mq_count.proofs.Spent.{Spends-join, Spends-join_within}
+use Rattle.mq_count.proofs.Spent.{Spends-join_within}
 use Rattle.mq_table.specs.declared.timing.Timing.{Timing}
 use Rattle.mq_table.specs.Maps.{kept}
 use Rattle.mq_sched.specs.Schedule.{ScheduledGroup}
@@ -44,15 +44,14 @@ module _ (timing : Timing) (now : ℕ) (groups : Groups) where
       let sent = len-kept (λ group e. Some (after_round timing now e)) (groups_expired now groups) in
       omega (arith, expired, sent)
 
-  pub received_within : (after : Groups) (length least old at_now ticked new : ℕ) → after ≡ left
-      → Spends 1 1 old at_now
-      → Spends 1 (4 * sources_in groups + 27 * map.len groups + 2) at_now ticked
+  pub received_within : (after : Groups) (length least old ticked new : ℕ) → after ≡ left
+      → Spends 2 (4 * sources_in groups + 27 * map.len groups + 3) old ticked
       → Spends least (24 * sources_in after + 20 * map.len after + 64 * length) ticked new
       → Spends (2 + least) (cost_of length (map.len groups + sources_in groups)) old new
-  received_within after length least old at_now ticked new is later due taken =
+  received_within after length least old ticked new is due taken =
       let fewer : sources_in after ≤ sources_in groups = subst (λ g. sources_in g ≤ sources_in groups) (sym is) sources_left in
       let fewer_groups : map.len after ≤ map.len groups = subst (λ (g : Groups). map.len g ≤ map.len groups) (sym is) groups_left in
-      Spends-join_within (2 + least) _ (Spends-join later due) taken (omega arith) (omega (arith, fewer, fewer_groups))
+      Spends-join_within (2 + least) _ due taken (omega arith) (omega (arith, fewer, fewer_groups))
 
 -- what a datagram spends at least on what the tick leaves
 pub least_after_tick : (family : Family) (config : Configuration) (envelope : Envelope) (bytes : List ℕ) (now moment : ℕ) (before after : LinkState)

@@ -9,12 +9,12 @@ use Rattle.mq_table.specs.declared.older_hosts.Hosts.{Hosts}
 use Rattle.mq_table.specs.Group.{GroupState}
 use Rattle.mq_table.specs.Table.{NamedSources, GroupChange}
 use Rattle.mq_table.specs.OlderHosts.{translated}
-use Rattle.mq_link.specs.declared.statements.Said.{Said}
-use Rattle.mq_link.specs.declared.statements.Said.TheVariants.{Record, OlderJoin as SaidJoin, OlderLeave as SaidLeave}
+use Rattle.mq_link.specs.declared.statement.StatementKind.{StatementKind}
+use Rattle.mq_link.specs.declared.statement.StatementKind.TheVariants.{Record, OlderJoin as SaidJoin, OlderLeave as SaidLeave}
 use Rattle.mq_link.specs.Record.{Statement, RecordOf, OlderJoin, OlderLeave}
 
 -- the statement, with the sources that are named apart from it
-abbrev pub statement_of : Said → NamedSources → Statement
+abbrev pub statement_of : StatementKind → NamedSources → Statement
 statement_of (Record kind) named = RecordOf kind named
 statement_of (SaidJoin version) named = OlderJoin version
 statement_of SaidLeave named = OlderLeave

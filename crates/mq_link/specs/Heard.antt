@@ -54,8 +54,13 @@ election_after config now source version election =
 
 -- In this order: who is querier, and the timing in force; what a router drops that loses the role; then what is lowered,
 -- by the timing that is in force then.
+abbrev pub groups_heard : Configuration → ℕ → (source : ℕ) → Query ℕ → ElectionState → Groups → Groups
+groups_heard config now source query election groups =
+    let left = if loses_role config.own source election.role then groups_cleared groups else groups in
+    groups_lowered (election_after config now source query.version election).timing now query left
+
 abbrev pub query_heard : Configuration → ℕ → (source : ℕ) → Query ℕ → LinkState → LinkState
-query_heard config now source query state =
-    let election = election_after config now source query.version state.election in
-    let groups = if loses_role config.own source state.election.role then groups_cleared state.groups else state.groups in
-    record state { groups = groups_lowered election.timing now query groups; election = election }
+query_heard config now source query state = record state {
+  groups = groups_heard config now source query state.election state.groups;
+  election = election_after config now source query.version state.election;
+}

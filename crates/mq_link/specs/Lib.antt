@@ -14,10 +14,11 @@ pub mod LeastCost
 pub mod Changing
 pub mod Judging
 pub mod Entering
-pub mod Scratch
+pub mod Status
+pub mod Storage
+pub mod Limits
 pub mod Seen
 pub mod Serving
-pub mod Hearing
 pub mod Reading
 pub mod Defaults
 pub mod Configured
@@ -25,6 +26,7 @@ pub mod Handing
 pub mod Sender
 pub mod Counted
 pub mod Link
+pub mod Router
 pub mod LinkCode
 pub mod Sound
 pub mod Events

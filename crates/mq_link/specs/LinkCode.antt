@@ -15,6 +15,8 @@ use Rattle.mq_link.specs.Configuration.{Configuration}
 use Rattle.mq_link.specs.Counted.{counters_code}
 use Rattle.mq_link.specs.Counters.{Counters}
 use Rattle.mq_link.specs.Link.{LinkValue}
+use Rattle.mq_link.specs.Record.{Seen}
+use Rattle.mq_link.specs.Router.{RouterValue, link_of}
 
 abbrev pub is_mld : Family → Bool
 is_mld Igmp = false
@@ -87,5 +89,19 @@ link_code mode timer query =
         counters = p.1.1.0;
       };
       spent = p.1.1.1;
+    })
+    (λ _. refl)
+
+-- the inside of a link, as the link around it and the groups that were met
+abbrev pub router_code : Coded FilterMode → Coded SourceTimer → Coded QuerySchedule → Coded RouterValue
+router_code mode timer query =
+    code_by (LinkValue × Seen) (coded× (link_code mode timer query) (map.code coded_ℕ coded_ℕ))
+    (λ r. (link_of r, r.met))
+    (λ p. record {
+      at = record { config = p.0.config; election = p.0.state.election; now = p.0.state.last };
+      groups = p.0.state.groups;
+      counters = p.0.state.counters;
+      met = p.1;
+      spent = p.0.spent;
     })
     (λ _. refl)

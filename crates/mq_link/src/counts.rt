@@ -4,8 +4,10 @@ ghost use Rattle.std.specs.Prelude.{◌≡◌, ◌+◌, ◌<◌};
 ghost use Rattle.mq_count.specs.Streams.{counted_on};
 ghost use Rattle.mq_link.specs.Counters as spec;
 ghost use Rattle.mq_link.specs.Counters.{no_counts, counted_at, reason_number, refusal_number, kind_number, Applied, Ignored, Refused};
+ghost use Rattle.mq_link.specs.Judging.{verdict_of};
 
 use crate::answers::{DropReason, MessageKind, Refusal};
+use crate::statement::Verdict;
 use std::marker::Model;
 
 /// How many reasons there are for a datagram to be dropped.
@@ -144,21 +146,21 @@ impl Counts {
     }
 
     /// Counts a record that was applied.
-    pub(crate) fn count_applied(&mut self)
+    fn count_applied(&mut self)
         ensures { self.new ≡ spec.count_verdict Applied self.old }
     {
         self.applied = self.applied.saturating_add(1);
     }
 
     /// Counts a record that was ignored.
-    pub(crate) fn count_ignored(&mut self)
+    fn count_ignored(&mut self)
         ensures { self.new ≡ spec.count_verdict Ignored self.old }
     {
         self.ignored = self.ignored.saturating_add(1);
     }
 
     /// Counts a record that was refused.
-    pub(crate) fn count_refused(&mut self, name: Refusal)
+    fn count_refused(&mut self, name: Refusal)
         ensures { self.new ≡ spec.count_verdict (Refused name) self.old }
     {
         self.refused = self.refused.saturating_add(1);
@@ -171,6 +173,17 @@ impl Counts {
     {
         let place = refusal_place(name);
         self.refused_by[place] = self.refused_by[place].saturating_add(1);
+    }
+
+    /// Counts what became of a statement.
+    pub(crate) fn count_verdict(&mut self, verdict: Verdict)
+        ensures { self.new ≡ spec.count_verdict (verdict_of verdict) self.old }
+    {
+        match verdict {
+            Verdict::Applied => self.count_applied(),
+            Verdict::Ignored => self.count_ignored(),
+            Verdict::Refused(name) => self.count_refused(name),
+        }
     }
 
     /// Counts so many queries that were sent, and so many that were not.

@@ -18,34 +18,27 @@
 #![tactic(auto)]
 
 pub mod answers;
-mod asking;
-mod changing;
 pub mod config;
 pub mod configuration;
 pub mod counts;
+mod datagram;
 pub mod dropping;
-mod due;
 pub mod events;
 pub mod family;
-mod hearing;
 pub mod igmp;
-mod limiting;
+mod limits;
 pub mod link;
-mod lowering;
+mod met;
 pub mod mld;
-mod naming;
 pub mod outlet;
-mod receiving;
-mod recording;
-mod records;
-mod refusing;
-mod scratch;
-mod seen;
+mod query_heard;
+mod report;
+mod router;
 mod sending;
-mod serving;
-mod statements;
-mod storing;
-mod ticking;
+mod statement;
+mod status;
+mod storage;
+mod tick;
 
 pub use answers::{DropReason, MessageKind, Received, Refusal};
 pub use config::Config;

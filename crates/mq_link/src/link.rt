@@ -19,54 +19,38 @@ ghost use Rattle.mq_link.specs.Tick.{moment_of, tick_of, next_of};
 use crate::answers::Received;
 use crate::config::Config;
 use crate::counts::Counts;
-use crate::due::{do_due, later};
 use crate::family::Family;
 use crate::outlet::Outlet;
-use crate::receiving::take_in;
-use crate::scratch::Scratch;
-use crate::seen::SeenGroups;
+use crate::router::Router;
 use crate::sending::{QueryTerms, Sender};
 use mq_count::{Meter, Moment};
-use mq_held::{HeldEntries, HeldGroup, HeldGroups};
-use mq_sched::{Election, OtherQuerier};
+use mq_held::{HeldEntries, HeldGroup};
+use mq_sched::OtherQuerier;
 use mq_sets::Memory;
 use mq_table::Timing;
 use std::alloc::Global;
 use std::marker::Model;
 
-/// As many records as a Report may have, whose number is told in 16 bits (RFC 3376 section 4.2.3, RFC 3810 section
-/// 5.2.3).
-const MOST_RECORDS: usize = 65535;
-
 /// One link of a multicast router, as the definitions have it: its configuration, its state, and how many comparisons it
 /// has made. All storage is taken by `new`, and no other call takes any.
 #[derive(Drop)]
 pub struct Link<F: Family> {
-    config: Config<F>,
-    held: HeldGroups<F::Address>,
-    election: Election<F::Address>,
-    last: Moment,
-    counts: Counts,
-    meter: Meter,
-    scratch: Scratch<F::Address>,
-    seen: SeenGroups<F::Address>,
-    places: Vec<usize>,
+    router: Router<F>,
 }
 
 impl<F: Family> Model for Link<F> {
     ghost use Rattle.mq_table.specs.contracts.timers.FilterMode as filter_mode;
     ghost use Rattle.mq_table.specs.contracts.timers.SourceTimer as source_timer;
     ghost use Rattle.mq_sched.specs.contracts.queries.QuerySchedule as query_schedule;
-    ghost use Rattle.mq_link.specs.Link.{LinkValue, IsLinkStored, state_in};
+    ghost use Rattle.mq_link.specs.Link.{LinkValue};
     ghost use Rattle.mq_link.specs.LinkCode.{link_code};
+    ghost use Rattle.mq_link.specs.Router.{link_of};
 
     ghost Value = { LinkValue };
 
     ghost coded = { link_code filter_mode.the_row.coded source_timer.the_row.coded query_schedule.the_row.coded };
 
-    ghost view = { λ l. record { config = l.config; state = state_in l.held l.election l.last l.counts; spent = l.meter } };
-
-    ghost invariant = { λ l. IsLinkStored l.config l.held l.election l.last l.counts l.scratch l.seen l.places.items };
+    ghost view = { λ l. link_of l.router };
 }
 
 impl<F: Family> Link<F> {
@@ -77,24 +61,8 @@ impl<F: Family> Link<F> {
         requires in_range { start ≤ 2 ^ 53 }
         ensures { IfOk result (λ link. link ≡ record { config = config; state = link_at config start; spent = 0 }) }
     {
-        config.is_faultless();
-        let limits = config.limits();
-        let groups = limits.groups as usize;
-        let held = HeldGroups::with_room(alloc, groups, limits.sources as usize)?;
-        let scratch = Scratch::with_room(alloc, limits.group_sources as usize)?;
-        let seen = SeenGroups::with_room(alloc, MOST_RECORDS)?;
-        let places = vec![in alloc; 0; groups]?;
-        let election = Election::new(config.own(), config.timing(), start);
         Ok(Link {
-            config,
-            held,
-            election,
-            last: start,
-            counts: Counts::none(),
-            meter: Meter::new(),
-            scratch,
-            seen,
-            places,
+            router: Router::new(alloc, config, start)?,
         })
     }
 
@@ -116,9 +84,9 @@ impl<F: Family> Link<F> {
         ensures quiet { moment_of self.old.state now < next_of self.old.state → Spends 2 3 self.old.spent self.new.spent }
     {
         self.is_well_formed();
-        let mut terms = QueryTerms::of(&self.config);
+        let mut terms = QueryTerms::of(self.router.config());
         let mut sender = Sender::new(&mut terms, outlet);
-        self.tick_by(now, &mut sender);
+        self.router.tick(now, &mut sender);
         self.is_well_formed();
     }
 
@@ -142,91 +110,18 @@ impl<F: Family> Link<F> {
         ensures spent { let least = least_received self.old.config (F.envelope_of envelope.now) body.now now self.old.state in
             Spends (2 + least) (cost_of (length body.now) (held_of self.old.state)) self.old.spent self.new.spent }
     {
-        let mut terms = QueryTerms::of(&self.config);
+        let mut terms = QueryTerms::of(self.router.config());
         let mut sender = Sender::new(&mut terms, outlet);
-        let answer = self.receive_by(envelope, body, now, &mut sender);
+        let answer = self.router.receive(envelope, body, now, &mut sender);
         self.is_well_formed();
         answer
-    }
-
-    /// A tick, with the sender that hands its queries to an outlet.
-    fn tick_by<O: Outlet<F::Address>>(&mut self, now: Moment, sender: &mut Sender<F, O>)
-        requires in_range { now ≤ 2 ^ 53 }
-        ensures config { self.new.config ≡ self.old.config }
-        ensures ticks { HasTicked O.takes now self.old self.new sender.old.outlet.now sender.new.outlet.now }
-        ensures same_outlet { sender.new.outlet.ghost_name ≡ sender.old.outlet.ghost_name }
-        ensures spent { let groups = self.old.state.groups in
-            let least = least_ticked (moment_of self.old.state now) groups in
-            Spends (2 + least) (4 * sources_in groups + 27 * map.len groups + 3) self.old.spent self.new.spent }
-        ensures quiet { moment_of self.old.state now < next_of self.old.state → Spends 2 3 self.old.spent self.new.spent }
-    {
-        self.config.is_faultless();
-        let now = later(self.last, now, &mut self.meter);
-        do_due(
-            &self.config,
-            &mut self.held,
-            &mut self.election,
-            &mut self.scratch.group,
-            &mut self.places,
-            now,
-            &mut self.meter,
-            sender,
-        );
-        self.counts.count_answers(sender.sent(), sender.unsent());
-        self.last = now;
-    }
-
-    /// A datagram, with that sender.
-    fn receive_by<O: Outlet<F::Address>>(
-        &mut self,
-        envelope: &F::Envelope,
-        body: &[u8],
-        now: Moment,
-        sender: &mut Sender<F, O>,
-    ) -> Received
-        requires in_range { now ≤ 2 ^ 53 }
-        ensures config { self.new.config ≡ self.old.config }
-        ensures receives { HasReceived O.takes (F.envelope_of envelope.now) body.now now result self.old self.new
-            sender.old.outlet.now sender.new.outlet.now }
-        ensures same_outlet { sender.new.outlet.ghost_name ≡ sender.old.outlet.ghost_name }
-        ensures spent { let least = least_received self.old.config (F.envelope_of envelope.now) body.now now self.old.state in
-            Spends (2 + least) (cost_of (length body.now) (held_of self.old.state)) self.old.spent self.new.spent }
-    {
-        self.config.is_faultless();
-        let now = later(self.last, now, &mut self.meter);
-        do_due(
-            &self.config,
-            &mut self.held,
-            &mut self.election,
-            &mut self.scratch.group,
-            &mut self.places,
-            now,
-            &mut self.meter,
-            sender,
-        );
-        let received = take_in(
-            &self.config,
-            &mut self.held,
-            &mut self.election,
-            &mut self.counts,
-            &mut self.scratch,
-            &mut self.seen,
-            now,
-            envelope,
-            body,
-            &mut self.meter,
-            sender,
-        );
-        self.counts.count_answers(sender.sent(), sender.unsent());
-        self.last = now;
-        received
     }
 
     /// What it is configured with.
     pub fn config(&self) -> &Config<F>
         ensures { result.now ≡ self.now.config }
     {
-        &self.config
+        self.router.config()
     }
 
     /// Its state is one that a link may be in, and after a tick its next moment will be later than that of the tick. It does
@@ -235,43 +130,42 @@ impl<F: Family> Link<F> {
         ensures formed { IsWellFormed self.now.config self.now.state }
         ensures later { (now : ℕ) → now < next_of (tick_of self.now.config now self.now.state).state }
     {
-        self.config.is_faultless();
-        let _last = self.last;
+        self.router.lemma_is_stored();
     }
 
     /// What it has counted, where it is no longer needed.
     pub fn into_counts(self) -> Counts
         ensures { result ≡ self.state.counters }
     {
-        self.counts
+        self.router.into_counts()
     }
 
     /// What it has counted.
     pub fn counts(&self) -> &Counts
         ensures { result.now ≡ self.now.state.counters }
     {
-        &self.counts
+        self.router.counts()
     }
 
     /// How many comparisons its calls have made. It stays at the greatest u64.
     pub fn spent(&self) -> u64
         ensures { result ≡ self.now.spent }
     {
-        self.meter.spent()
+        self.router.spent()
     }
 
     /// Whether it is querier (RFC 3376 section 6.6.2, RFC 3810 section 7.6.2).
     pub fn is_querier(&self) -> bool
         ensures { result ≡ is_querier self.now.state.election.role }
     {
-        self.election.is_querier()
+        self.router.election().is_querier()
     }
 
     /// The other router that is querier, or None where this one is.
     pub fn other_querier(&self) -> Option<OtherQuerier<F::Address>>
         ensures { IsOtherOf F.Address.number self.now.state.election.role result }
     {
-        self.election.other_querier()
+        self.router.election().other_querier()
     }
 
     /// The timing in force: the configured one, but for what was taken over from the queries of other routers (RFC 3376
@@ -279,21 +173,21 @@ impl<F: Family> Link<F> {
     pub fn timing(&self) -> Timing
         ensures { result ≡ self.now.state.election.timing }
     {
-        self.election.timing()
+        self.router.election().timing()
     }
 
     /// All groups that it holds, by ascending address, each as it stands in the storage.
     pub fn entries(&self) -> HeldEntries<'_, F::Address>
         ensures { result ≡ map.entries self.now.state.groups }
     {
-        self.held.entries()
+        self.router.held().entries()
     }
 
     /// How many groups it holds.
     pub fn len(&self) -> usize
         ensures { result ≡ map.len self.now.state.groups }
     {
-        self.held.len()
+        self.router.held().len()
     }
 
     /// The group at a place, its rank in the ascending list of the addresses of all groups, counted from 0, as it stands in
@@ -307,7 +201,7 @@ impl<F: Family> Link<F> {
         ensures len { (address : ℕ) → HasPlace self.now.state.groups address place →
             length result.sources.now ≡ sources_of (group_at self.now.state.groups address) }
     {
-        self.held.entry(place)
+        self.router.held().entry(place)
     }
 
     /// When a tick has something to do next: the earliest of all deadlines and due moments. It compares two moments on a
@@ -315,8 +209,8 @@ impl<F: Family> Link<F> {
     pub fn next_deadline(&self) -> Moment
         ensures { result ≡ next_of self.now.state }
     {
-        let next = self.election.next_moment();
-        match self.held.earliest() {
+        let next = self.router.election().next_moment();
+        match self.router.held().earliest() {
             None => next,
             Some(earliest) => Meter::new().earlier(next, earliest),
         }
@@ -329,8 +223,9 @@ impl<F: Family> Link<F> {
         ensures { result ≡ state.forwards self.now.state (F.Address.number group) (F.Address.number source) }
     {
         let mut m = Meter::new();
-        match self.held.find(group, &mut m) {
-            Ok(place) => self.held.entry(place).forwards(source, &mut m),
+        let held = self.router.held();
+        match held.find(group, &mut m) {
+            Ok(place) => held.entry(place).forwards(source, &mut m),
             Err(_) => false,
         }
     }
