@@ -1,0 +1,5 @@
+pub mod Filled
+pub mod NextBlocks
+pub mod Options
+pub mod Powers
+pub mod TagWalk
