@@ -8,8 +8,8 @@ use Rattle.mq_pcap.specs.Tests.{first_that_holds}
 use Rattle.mq_convert.specs.declared.frames.Frame.{Frame}
 use Rattle.mq_convert.specs.declared.frames.Frame.TheVariants as frame
 
--- an Ethernet frame: the addresses of its destination and its source, its type, and what it carries; or what is
--- left of one that ends before its type is known
+-- an Ethernet frame: the addresses of its destination and its source, its type, and what it carries; or what there
+-- is of one that ends before its type is known
 pub data Framed : Type 0 where
   Whole : (addresses : List ℕ) (kind : ℕ) (payload : List ℕ) → Framed
   Cut : (bytes : List ℕ) → Framed
@@ -36,10 +36,6 @@ no_address = 0 ∷ 0 ∷ 0 ∷ 0 ∷ 0 ∷ 0 ∷ []
 abbrev pub no_addresses : List ℕ
 no_addresses = 0 ∷ 0 ∷ 0 ∷ 0 ∷ 0 ∷ 0 ∷ 0 ∷ 0 ∷ 0 ∷ 0 ∷ 0 ∷ 0 ∷ []
 
--- the first of these bytes, too few to be a frame with a type
-abbrev pub cut_short : List ℕ → Framed
-cut_short bytes = Cut (take (min 13 (length bytes)) bytes)
-
 -- link type 1
 unfoldable pub of_ethernet : List ℕ → Framed
 of_ethernet bytes =
@@ -62,14 +58,14 @@ sent_by size address = no_address ++ (if size == 6 then address else no_address)
 unfoldable pub of_cooked : List ℕ → Framed
 of_cooked bytes =
     if nat_lt (length bytes) 16
-    then cut_short bytes
+    then Cut bytes
     else Whole (sent_by (field Big 4 2 bytes) (slice_range bytes 6 12)) (field Big 14 2 bytes) (drop 16 bytes)
 
 -- link type 276, its second version: the type at 0, the size of the sender's address at 11, and the address at 12
 unfoldable pub of_cooked_2 : List ℕ → Framed
 of_cooked_2 bytes =
     if nat_lt (length bytes) 20
-    then cut_short bytes
+    then Cut bytes
     else Whole (sent_by (slice_index bytes 11) (slice_range bytes 12 18)) (field Big 0 2 bytes) (drop 20 bytes)
 
 -- the type of a packet by its family, which BSD loopback has in the byte order of the machine that captured: 2 is
@@ -128,7 +124,19 @@ abbrev pub frame_length : Framed → ℕ
 frame_length (Whole addresses kind payload) = 14 + length payload
 frame_length (Cut bytes) = length bytes
 
--- its bytes, as many as a classic capture may have
+-- what is written of a frame that is cut: at most 13 bytes, so that no type is read of it
+abbrev pub before_type : List ℕ → List ℕ
+before_type bytes = take (min (length bytes) 13) bytes
+
+-- what is written of what a frame carries: a record has as many bytes as a classic capture may have
+abbrev pub carried_of : List ℕ → List ℕ
+carried_of payload = take (min (length payload) (most_bytes - 14)) payload
+
+-- the bytes that are written of a frame, and how many they are; addresses have 12
 abbrev pub frame_bytes : Framed → List ℕ
-frame_bytes (Whole addresses kind payload) = addresses ++ big_bytes 2 kind ++ take (min (most_bytes - 14) (length payload)) payload
-frame_bytes (Cut bytes) = bytes
+frame_bytes (Whole addresses kind payload) = addresses ++ big_bytes 2 kind ++ carried_of payload
+frame_bytes (Cut bytes) = before_type bytes
+
+abbrev pub frame_size : Framed → ℕ
+frame_size (Whole addresses kind payload) = 14 + length (carried_of payload)
+frame_size (Cut bytes) = length (before_type bytes)

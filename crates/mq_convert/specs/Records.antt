@@ -5,7 +5,7 @@ use Rattle.byteorder.specs.Endian.{little_bytes}
 use Rattle.mq_pcap.specs.Capture.{most_bytes}
 use Rattle.mq_convert.specs.declared.choice.Choice.{Choice}
 use Rattle.mq_convert.specs.Blocks.{Captured}
-use Rattle.mq_convert.specs.Frames.{Framed, frame_of, is_read_link, tag_of, untagged, frame_length, frame_bytes}
+use Rattle.mq_convert.specs.Frames.{Framed, frame_of, is_read_link, tag_of, untagged, frame_length, frame_bytes, frame_size}
 use Rattle.mq_convert.specs.Moments.{second}
 
 -- magic number, version 2.4, two fields that are 0, the most bytes that are captured, and the link type
@@ -29,14 +29,14 @@ abbrev pub original_of : (original captured size : ℕ) → ℕ
 original_of original captured size = min ((original + size) - captured) (2 ^ 32 - 1)
 
 -- the header of a record: seconds, nanoseconds, how many bytes follow, and how many there were
-abbrev pub record_header : (moment captured original : ℕ) → List ℕ
+unfoldable pub record_header : (moment captured original : ℕ) → List ℕ
 record_header moment captured original =
     little_bytes 4 (moment / second) ++ little_bytes 4 (moment % second) ++ little_bytes 4 captured ++ little_bytes 4 original
 
 -- the record of a frame that was made of so many captured bytes
 abbrev pub record_with : (moment original captured : ℕ) → Framed → List ℕ
 record_with moment original captured frame =
-    record_header moment (length (frame_bytes frame)) (original_of original captured (frame_length frame))
+    record_header moment (frame_size frame) (original_of original captured (frame_length frame))
     ++ frame_bytes frame
 
 -- the record of a packet, if it is to be written: its frame without tags

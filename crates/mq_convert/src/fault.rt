@@ -1,5 +1,9 @@
 //! Why a capture is not converted to its end.
 
+ghost use Rattle.std.specs.Prelude.{◌≡◌};
+ghost use Rattle.mq_convert.specs.declared.fault.ConvertFault.TheVariants.{Write};
+
+use mq_replay::LineFault;
 use thiserror::Error;
 
 /// Why a block of a capture can't be read. Of several that hold the first is told, in the order in which the
@@ -56,4 +60,12 @@ pub enum ConvertFault {
         /// What is wrong with it.
         fault: BlockFault,
     },
+}
+
+impl From<LineFault> for ConvertFault {
+    ghost from_gives = { λ _ it. it ≡ Write };
+
+    fn from(_fault: LineFault) -> ConvertFault {
+        ConvertFault::Write
+    }
 }

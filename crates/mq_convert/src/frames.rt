@@ -18,7 +18,7 @@ pub(crate) enum Frame<'a> {
         /// What it carries.
         payload: &'a [u8],
     },
-    /// One that ends before its type is known: what there is of it, fewer than 14 bytes.
+    /// One that ends before its type is known: what there is of it.
     Cut(&'a [u8]),
 }
 
@@ -116,19 +116,12 @@ fn sent_by(size: u16, address: &[u8]) -> [u8; 12]
     addresses
 }
 
-/// The first bytes of a header that is cut.
-fn cut_short(bytes: &[u8]) -> Frame<'_>
-    ensures { framed result ≡ spec.cut_short bytes.now }
-{
-    Frame::Cut(&bytes[..bytes.len().min(13)])
-}
-
 #[tactic(auto, unfolding(crate::specs::Frames::of_cooked))]
 fn of_cooked(bytes: &[u8]) -> Frame<'_>
     ensures { framed result ≡ spec.of_cooked bytes.now }
 {
     if bytes.len() < 16 {
-        return cut_short(bytes);
+        return Frame::Cut(bytes);
     }
     Frame::Whole {
         addresses: sent_by(Endian::Big.word(bytes, 4), &bytes[6..12]),
@@ -142,7 +135,7 @@ fn of_cooked_2(bytes: &[u8]) -> Frame<'_>
     ensures { framed result ≡ spec.of_cooked_2 bytes.now }
 {
     if bytes.len() < 20 {
-        return cut_short(bytes);
+        return Frame::Cut(bytes);
     }
     Frame::Whole {
         addresses: sent_by(u16::from(bytes[11]), &bytes[12..18]),
