@@ -186,6 +186,14 @@ pub record Performs (request : Request) (input : Input) (output errors : Output)
       × (failure : Failure) × IsRefused request failure × Told errors failure
   pub unread : IsOfMessage request → input.new ≡ input.old
 
+-- A conversion was done, or broke off, which was told.
+pub record PerformsConversion (interface vlan : Option ℕ) (input : Input) (output errors : Output) (status : ℕ) : Type 0 where
+  pub at_most_one : status ≤ 1
+  pub done : status ≡ 0 → (output.new.failed ≡ output.old.failed) × (unread : Unread)
+      × WritesConversion interface vlan input output (Ok unread) × TellsUnread errors unread
+  pub faulty : status ≡ 1 → (failure : Failure)
+      × IsConversionBroken (WritesConversion interface vlan input output) input output failure × Told errors failure
+
 -- standard error was told some text, which is a line at least
 abbrev pub TellsLines : (errors : Output) → Type 0
 TellsLines errors = (text : List ℕ) × IsTold errors (text ++ codes "\n")

@@ -154,18 +154,17 @@ fn put_conversion(line: &mut Text, number: u64, fault: BlockFault)
     ensures text { line.new.items ≡ line.old.items ++ (conversion_text fault ++ decimal number) }
     ensures room { array_vec_len line.new ≤ 60 }
 {
-    let said: &[u8] = match fault {
-        BlockFault::NoCapture => b"conversion fault 2 at block ",
-        BlockFault::Version => b"conversion fault 3 at block ",
-        BlockFault::Order => b"conversion fault 4 at block ",
-        BlockFault::Length => b"conversion fault 5 at block ",
-        BlockFault::Interface => b"conversion fault 6 at block ",
-        BlockFault::Interfaces => b"conversion fault 7 at block ",
-        BlockFault::Moment => b"conversion fault 8 at block ",
-        BlockFault::Cut => b"conversion fault 9 at block ",
-        BlockFault::Endless => b"conversion fault 10 at block ",
-    };
-    put_record(line, said, number);
+    match fault {
+        BlockFault::NoCapture => put_record(line, b"conversion fault 2 at block ", number),
+        BlockFault::Version => put_record(line, b"conversion fault 3 at block ", number),
+        BlockFault::Order => put_record(line, b"conversion fault 4 at block ", number),
+        BlockFault::Length => put_record(line, b"conversion fault 5 at block ", number),
+        BlockFault::Interface => put_record(line, b"conversion fault 6 at block ", number),
+        BlockFault::Interfaces => put_record(line, b"conversion fault 7 at block ", number),
+        BlockFault::Moment => put_record(line, b"conversion fault 8 at block ", number),
+        BlockFault::Cut => put_record(line, b"conversion fault 9 at block ", number),
+        BlockFault::Endless => put_record(line, b"conversion fault 10 at block ", number),
+    }
 }
 
 /// What standard error is told of packets whose link type isn't read.

@@ -1,12 +1,11 @@
 //! What the program does with its words and streams.
 
-ghost use Rattle.std.specs.Prelude.{◌≡◌, ◌≤◌, ◌||◌, ◌++◌, ℕ, List, Bor, Option, codes, is_err};
-ghost use Rattle.mq_command.specs.declared.Request.TheVariants.{Convert};
+ghost use Rattle.std.specs.Prelude.{◌≡◌, ◌≤◌, ◌||◌, ◌++◌, codes, is_err};
 ghost use Rattle.mq_count.specs.Streams.{inner_of, has_failed};
 ghost use Rattle.mq_replay.specs.Printing.{Prints};
 ghost use Rattle.mquerier.specs.Changes.{input_by, output_by};
 ghost use Rattle.mquerier.specs.Failures.{status_of};
-ghost use Rattle.mquerier.specs.Status.{IsConversion, IsOfMessage, IsWordless, TellsLines, TellsUnread, Told, Performs, Runs};
+ghost use Rattle.mquerier.specs.Status.{IsConversion, IsOfMessage, IsWordless, TellsLines, TellsUnread, Told, Performs, PerformsConversion, Runs};
 
 use crate::converting::convert_capture;
 use crate::failure::{DONE, FAULTY, Failure, REFUSED, line_of, status_of_failure, unread_line_of};
@@ -138,12 +137,11 @@ fn perform_conversion<R: Read, W: Write, E: Write>(
     output: &mut Watched<W>,
     errors: &mut Watched<E>,
 ) -> u8
-    ensures performs { (file : Option (Bor (List ℕ))) → Performs (Convert choice.interface choice.vlan file)
+    ensures { PerformsConversion choice.interface choice.vlan
         (input_by R.remaining input.old input.new)
         (output_by W.contents output.old output.new)
         (output_by E.contents errors.old errors.new)
         result }
-    ensures accepted { result ≡ 2 → ⊥ }
 {
     match convert_capture(alloc, choice, input, output) {
         Ok(unread) => {

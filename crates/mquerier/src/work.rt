@@ -4,12 +4,11 @@ ghost use Rattle.std.specs.Prelude.{◌≡◌, ◌||◌, true, false, IfErr, Mat
 ghost use Rattle.std.specs.Option.{option_copied};
 ghost use Rattle.std.specs.Io.KnownBytes.{Keeps};
 ghost use Rattle.hex.specs.Hex.{decode_of};
-ghost use Rattle.mq_command.specs.declared.Request.TheVariants.{Show};
 ghost use Rattle.mq_command.specs.declared.Protocol.TheVariants.{Igmp, Mld};
 ghost use Rattle.mq_count.specs.Streams.{inner_of, has_failed};
 ghost use Rattle.mquerier.specs.Changes.{input_by, output_by};
 ghost use Rattle.mquerier.specs.Status.{IsConversion, IsNoAddress, IsOfMessage};
-ghost use Rattle.mquerier.specs.Working.{IsRefusal, IsUndecoded, IsUnwritten, Works, WorksOnMessage};
+ghost use Rattle.mquerier.specs.Working.{IsRefusal, IsUndecoded, IsUnwritten, Works, WorksOnListing, WorksOnMessage};
 
 use crate::failure::Failure;
 use crate::replaying::replay_capture;
@@ -162,7 +161,7 @@ fn listing<R: Read, W: Write>(
     input: &mut Watched<R>,
     output: &mut Watched<W>,
 ) -> Result<bool, Failure>
-    ensures works { (file : Option (Bor (List ℕ))) → Works (Show file)
+    ensures works { WorksOnListing
         (input_by R.remaining input.old input.new)
         (output_by W.contents output.old output.new)
         result }
