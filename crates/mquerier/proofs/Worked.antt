@@ -31,7 +31,7 @@ undecoded from to hex front back output NotAnAddress source destination first se
 undecoded from to hex front back output NotHex source destination first second spelled spelled' same why =
     rw (first, second) (λ e. (λ missing. elim missing [ inl h ↦ absurd (cc h) | inr h ↦ absurd (cc h) ], λ none. none source spelled, λ none. none destination spelled', why), λ e. absurd (omega (arith, e)))
 undecoded from to hex front back output UntilTooLarge source destination first second spelled spelled' same why = absurd why
-undecoded from to hex front back output (Configuration f) source destination first second spelled spelled' same why = absurd why
+undecoded from to hex front back output (Configuration f query_seconds response_interval) source destination first second spelled spelled' same why = absurd why
 undecoded from to hex front back output (Gap number) source destination first second spelled spelled' same why = absurd why
 undecoded from to hex front back output (Conversion number f) source destination first second spelled spelled' same why = absurd why
 undecoded from to hex front back output ConversionRead source destination first second spelled spelled' same why = absurd why

@@ -1,10 +1,12 @@
 -- The failures of the program: their statuses, and what standard error is told.
-use Rattle.std.specs.Prelude.{ℕ, List, ◌++◌, codes}
+use Rattle.std.specs.Prelude.{ℕ, List, [], ◌++◌, codes}
 use Rattle.std.specs.Fmt.{decimal}
 use Rattle.mq_convert.specs.declared.fault.BlockFault.{BlockFault}
 use Rattle.mq_convert.specs.declared.fault.BlockFault.TheVariants as block
 use Rattle.mq_link.specs.declared.configuration.ConfigFault.{ConfigFault}
 use Rattle.mq_link.specs.declared.configuration.ConfigFault.TheVariants as config
+use Rattle.mq_link.specs.declared.configuration.LimitName.{LimitName}
+use Rattle.mq_link.specs.declared.configuration.LimitName.TheVariants as limit
 use Rattle.mq_pcap.specs.declared.fault.PcapFault.{PcapFault}
 use Rattle.mq_pcap.specs.declared.fault.PcapFault.TheVariants as fault
 use Rattle.mquerier.specs.declared.failure.Failure.{Failure}
@@ -16,7 +18,7 @@ status_of NoAddresses = 2
 status_of NotAnAddress = 2
 status_of NotHex = 2
 status_of UntilTooLarge = 2
-status_of (Configuration f) = 2
+status_of (Configuration f query_seconds response_interval) = 2
 status_of (Capture f) = 1
 status_of (Gap number) = 1
 status_of (Conversion number f) = 1
@@ -69,7 +71,7 @@ failure_text NoAddresses = codes "--from and --to are needed for mld"
 failure_text NotAnAddress = codes "not an address"
 failure_text NotHex = codes "not hex"
 failure_text UntilTooLarge = codes "until is too large"
-failure_text (Configuration f) = configuration_text f
+failure_text (Configuration f query_seconds response_interval) = configuration_text f
 failure_text (Capture f) = capture_text f
 failure_text (Gap number) = codes "gap before record " ++ decimal number
 failure_text (Conversion number f) = conversion_text f ++ decimal number
@@ -78,5 +80,45 @@ failure_text NotOpened = codes "the file can't be opened"
 failure_text Memory = codes "out of memory"
 failure_text Write = codes "write failed"
 
+-- what the number of a fault of a configuration means, and for which of its two intervals, on a line of its own
+abbrev pub limit_words : LimitName → List ℕ
+limit_words limit.Groups = codes "  --groups has to be 1 to 65535\n"
+limit_words limit.GroupSources = codes "  --group-sources has to be 1 to 1024\n"
+limit_words limit.Sources = codes "  --sources has to be 1 to 65535\n"
+limit_words limit.Scheduled = codes "  --scheduled has to be 1 to 65535\n"
+
+abbrev pub interval_words : (query_seconds response_interval : ℕ) → List ℕ
+interval_words query_seconds response_interval =
+    codes "  --qri is " ++ decimal response_interval ++ codes " ms, and --qi " ++ decimal query_seconds
+    ++ codes " s: --qri has to be below --qi, and for igmp 100 to 3174400, for mld 1 to 8387584\n"
+
+abbrev pub configuration_words : ConfigFault → (query_seconds response_interval : ℕ) → List ℕ
+configuration_words config.Robustness query_seconds response_interval = codes "  --rv has to be 1 to 7\n"
+configuration_words config.QueryInterval query_seconds response_interval = codes "  --qi has to be 1 to 31744\n"
+configuration_words config.ResponseInterval query_seconds response_interval = interval_words query_seconds response_interval
+configuration_words config.LastMember query_seconds response_interval =
+    codes "  --lmqi has to be 100 to 3174400 for igmp, 1 to 8387584 for mld\n"
+configuration_words (config.Limit which) query_seconds response_interval = limit_words which
+configuration_words config.OwnAddress query_seconds response_interval =
+    codes "  --own has to be an address of a router: for igmp not 0.0.0.0 and below 224.0.0.0, for mld in fe80::/10\n"
+
+-- what the number of a fault of a capture means
+abbrev pub capture_words : PcapFault → List ℕ
+capture_words fault.Read = codes "  a read of the capture failed\n"
+capture_words fault.Magic = codes "  it is no classic capture file; mquerier convert makes one of a pcapng file\n"
+capture_words fault.Version = codes "  the version of the file is not 2.4\n"
+capture_words fault.LinkType = codes "  the link type is neither Ethernet nor raw IP; mquerier convert makes a file of Ethernet\n"
+capture_words (fault.CutHeader number) = codes "  the file ends within a header\n"
+capture_words (fault.CutData number) = codes "  the file ends within a packet\n"
+capture_words (fault.TooLong number) = codes "  the packet has more than 262144 bytes\n"
+capture_words fault.Endless = codes "  the file has more than 4294967295 packets\n"
+
+-- the words behind the line of a failure, where that has a number and no more
+abbrev pub failure_words : Failure → List ℕ
+failure_words (Configuration f query_seconds response_interval) = configuration_words f query_seconds response_interval
+failure_words (Capture f) = capture_words f
+failure_words (Gap number) = codes "  more than a day lies between the packet before and this one, or the end; groups and totals are not printed\n"
+failure_words failure = []
+
 abbrev pub failure_line : Failure → List ℕ
-failure_line failure = codes "mquerier: " ++ failure_text failure ++ codes "\n"
+failure_line failure = codes "mquerier: " ++ failure_text failure ++ codes "\n" ++ failure_words failure

@@ -3,6 +3,7 @@ use Rattle.std.specs.Prelude.{◌≡◌, ℕ, ◌^◌, nat_lt, Bool, true, false
 use Rattle.mq_command.specs.declared.Protocol.{Protocol}
 use Rattle.mq_command.specs.declared.Protocol.TheVariants.{Igmp, Mld}
 use Rattle.mq_command.specs.declared.replay.Settings.{Settings}
+use Rattle.mq_link.specs.declared.configuration.ConfigFault.{ConfigFault}
 use Rattle.mq_link.specs.declared.configuration.Limits.{Limits}
 use Rattle.mq_link.specs.Configuration.{Configuration, configuration_fault, IsFaultless}
 use Rattle.mq_link.specs.Configured.{variables, configured}
@@ -45,6 +46,11 @@ asked_configuration family own s =
     in
     configured family timing (asked_limits d.limits s) own s.source_specific
 
+-- a configuration has this fault, and these two intervals
+abbrev pub HasFault : Configuration → ConfigFault → (query_seconds response_interval : ℕ) → Type 0
+HasFault asked f query_seconds response_interval =
+    (configuration_fault asked ≡ Some f) × (query_seconds ≡ asked.timing.query_seconds) × (response_interval ≡ asked.timing.response_interval)
+
 -- the moment up to which a replay is to run is above the greatest moment
 abbrev pub is_too_large : (until : Option ℕ) → Bool
 is_too_large until = nat_lt (2 ^ 53) (unwrap_or until 0)
@@ -52,8 +58,8 @@ is_too_large until = nat_lt (2 ^ 53) (unwrap_or until 0)
 -- why a replay by a querier of this address is refused: the first of these that holds
 abbrev pub IsRefusedAt : Family → (own : ℕ) → Settings → (until : Option ℕ) → Failure → Type 0
 IsRefusedAt family own settings until failure.UntilTooLarge = is_too_large until ≡ true
-IsRefusedAt family own settings until (failure.Configuration f) =
-    (is_too_large until ≡ false) × (configuration_fault (asked_configuration family own settings) ≡ Some f)
+IsRefusedAt family own settings until (failure.Configuration f query_seconds response_interval) =
+    (is_too_large until ≡ false) × HasFault (asked_configuration family own settings) f query_seconds response_interval
 IsRefusedAt family own settings until failure = ⊥
 
 -- a request that isn't refused

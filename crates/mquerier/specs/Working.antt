@@ -5,7 +5,7 @@ use Rattle.mq_command.specs.declared.Protocol.{Protocol}
 use Rattle.mq_command.specs.declared.Request.{Request}
 use Rattle.mq_command.specs.declared.replay.Settings.{Settings}
 use Rattle.mq_convert.specs.declared.unread.Unread.{Unread}
-use Rattle.mq_link.specs.Configuration.{Configuration, configuration_fault, IsFaultless}
+use Rattle.mq_link.specs.Configuration.{Configuration, IsFaultless}
 use Rattle.mq_wire.specs.Family.{Family}
 use Rattle.mquerier.specs.declared.failure.Failure.{Failure}
 use Rattle.mquerier.specs.declared.failure.Failure.TheVariants.{NotHex, Memory}
@@ -13,7 +13,7 @@ use Rattle.mquerier.specs.declared.failure.Failure.TheVariants as failure
 use Rattle.mquerier.specs.Breaking.{IsBrokenOff, IsConversionBroken}
 use Rattle.mquerier.specs.Changes.{Input, Output}
 use Rattle.mquerier.specs.Failures.{status_of}
-use Rattle.mquerier.specs.Replays.{IsRefusedAt, IsDoneAt, IsBrokenAt}
+use Rattle.mquerier.specs.Replays.{HasFault, IsRefusedAt, IsDoneAt, IsBrokenAt}
 use Rattle.mquerier.specs.Status.{IsDone, IsRefused, IsRefusedMessage, IsRefusedReplay, IsBroken, IsBrokenMessage, IsBrokenReplay, WritesConversion, WritesListing, WritesMessage, WritesReport}
 
 -- an answer with a failure of the request
@@ -77,5 +77,6 @@ IsUndecoded hex failure = ⊥
 -- the configuration that is asked for was made, or its fault is the failure
 abbrev pub IsConfigured : (asked : Configuration) → Result Configuration Failure → Type 0
 IsConfigured asked (Ok config) = IsFaultless asked × (config ≡ asked)
-IsConfigured asked (Err (failure.Configuration f)) = configuration_fault asked ≡ Some f
+IsConfigured asked (Err (failure.Configuration f query_seconds response_interval)) =
+    HasFault asked f query_seconds response_interval
 IsConfigured asked (Err failure) = ⊥

@@ -3,10 +3,10 @@
 ghost use Rattle.std.specs.Prelude.{◌≡◌, ◌≤◌, ◌++◌, codes, length};
 ghost use Rattle.std.specs.Fmt.{decimal};
 ghost use Rattle.arrayvec.specs.ArrayVec.{array_vec_len};
-ghost use Rattle.mquerier.specs.Failures.{status_of, failure_line, failure_text, configuration_text, conversion_text, capture_text, unread_line};
+ghost use Rattle.mquerier.specs.Failures.{status_of, failure_line, failure_text, failure_words, configuration_text, configuration_words, conversion_text, capture_text, capture_words, interval_words, limit_words, unread_line};
 
 use mq_convert::BlockFault;
-use mq_link::ConfigFault;
+use mq_link::{ConfigFault, LimitName};
 use mq_pcap::PcapFault;
 use mq_text::{Text, put, put_decimal};
 
@@ -26,10 +26,17 @@ pub enum Failure {
     NotAnAddress,
     /// HEX isn't hexadecimal.
     NotHex,
-    /// The moment up to which a replay is to run is none: it is above 2^53.
+    /// The moment up to which a replay is to run is above 2^53.
     UntilTooLarge,
     /// The querier of a replay can't be configured so.
-    Configuration(ConfigFault),
+    Configuration {
+        /// Why not.
+        fault: ConfigFault,
+        /// Its query interval in seconds.
+        query_seconds: u32,
+        /// Its query response interval in milliseconds.
+        response_interval: u32,
+    },
     /// The capture has a fault, or a read of it failed.
     Capture(PcapFault),
     /// A replay came to a packet, or to its end, that lies more than a day behind the packet before.
@@ -54,7 +61,7 @@ pub enum Failure {
     Write,
 }
 
-/// What standard error is told of a failure.
+/// The line of a failure on standard error, with a second one in words behind a number.
 pub fn line_of(failure: Failure) -> Text
     ensures { result.items ≡ failure_line failure }
 {
@@ -62,7 +69,107 @@ pub fn line_of(failure: Failure) -> Text
     put(&mut line, b"mquerier: ");
     put_failure(&mut line, failure);
     put(&mut line, b"\n");
+    put_words(&mut line, failure);
     line
+}
+
+/// Puts what the number of a failure means.
+fn put_words(line: &mut Text, failure: Failure)
+    requires { array_vec_len line.old ≤ 61 }
+    ensures { line.new.items ≡ line.old.items ++ failure_words failure }
+{
+    match failure {
+        Failure::Configuration {
+            fault,
+            query_seconds,
+            response_interval,
+        } => put_configuration_words(line, fault, query_seconds, response_interval),
+        Failure::Capture(fault) => put_capture_words(line, fault),
+        Failure::Gap { .. } => put(
+            line,
+            b"  more than a day lies between the packet before and this one, or the end; groups and totals are not printed\n",
+        ),
+        _ => {}
+    }
+}
+
+fn put_configuration_words(
+    line: &mut Text,
+    fault: ConfigFault,
+    query_seconds: u32,
+    response_interval: u32,
+)
+    requires { array_vec_len line.old ≤ 61 }
+    ensures { line.new.items ≡ line.old.items ++ configuration_words fault query_seconds response_interval }
+{
+    match fault {
+        ConfigFault::Robustness => put(line, b"  --rv has to be 1 to 7\n"),
+        ConfigFault::QueryInterval => put(line, b"  --qi has to be 1 to 31744\n"),
+        ConfigFault::ResponseInterval => {
+            let words = intervals_of(query_seconds, response_interval);
+            put(line, words.as_slice());
+        }
+        ConfigFault::LastMember => put(
+            line,
+            b"  --lmqi has to be 100 to 3174400 for igmp, 1 to 8387584 for mld\n",
+        ),
+        ConfigFault::Limit { which } => put_limit_words(line, which),
+        ConfigFault::OwnAddress => put(
+            line,
+            b"  --own has to be an address of a router: for igmp not 0.0.0.0 and below 224.0.0.0, for mld in fe80::/10\n",
+        ),
+    }
+}
+
+/// What is wrong with the two intervals of a querier: one isn't below the other, or no code says it.
+fn intervals_of(query_seconds: u32, response_interval: u32) -> Text
+    ensures text { result.items ≡ interval_words query_seconds response_interval }
+    ensures room { array_vec_len result ≤ 200 }
+{
+    let mut line = Text::new();
+    put(&mut line, b"  --qri is ");
+    put_decimal(&mut line, u64::from(response_interval));
+    put(&mut line, b" ms, and --qi ");
+    put_decimal(&mut line, u64::from(query_seconds));
+    put(
+        &mut line,
+        b" s: --qri has to be below --qi, and for igmp 100 to 3174400, for mld 1 to 8387584\n",
+    );
+    line
+}
+
+fn put_limit_words(line: &mut Text, which: LimitName)
+    requires { array_vec_len line.old ≤ 61 }
+    ensures { line.new.items ≡ line.old.items ++ limit_words which }
+{
+    match which {
+        LimitName::Groups => put(line, b"  --groups has to be 1 to 65535\n"),
+        LimitName::GroupSources => put(line, b"  --group-sources has to be 1 to 1024\n"),
+        LimitName::Sources => put(line, b"  --sources has to be 1 to 65535\n"),
+        LimitName::Scheduled => put(line, b"  --scheduled has to be 1 to 65535\n"),
+    }
+}
+
+fn put_capture_words(line: &mut Text, fault: PcapFault)
+    requires { array_vec_len line.old ≤ 61 }
+    ensures { line.new.items ≡ line.old.items ++ capture_words fault }
+{
+    match fault {
+        PcapFault::Read => put(line, b"  a read of the capture failed\n"),
+        PcapFault::Magic => put(
+            line,
+            b"  it is no classic capture file; mquerier convert makes one of a pcapng file\n",
+        ),
+        PcapFault::Version => put(line, b"  the version of the file is not 2.4\n"),
+        PcapFault::LinkType => put(
+            line,
+            b"  the link type is neither Ethernet nor raw IP; mquerier convert makes a file of Ethernet\n",
+        ),
+        PcapFault::CutHeader { .. } => put(line, b"  the file ends within a header\n"),
+        PcapFault::CutData { .. } => put(line, b"  the file ends within a packet\n"),
+        PcapFault::TooLong { .. } => put(line, b"  the packet has more than 262144 bytes\n"),
+        PcapFault::Endless => put(line, b"  the file has more than 4294967295 packets\n"),
+    }
 }
 
 /// The status that a failure ends with.
@@ -74,7 +181,7 @@ pub fn status_of_failure(failure: Failure) -> u8
         | Failure::NotAnAddress
         | Failure::NotHex
         | Failure::UntilTooLarge
-        | Failure::Configuration(_) => REFUSED,
+        | Failure::Configuration { .. } => REFUSED,
         Failure::Capture(_)
         | Failure::Gap { .. }
         | Failure::Conversion { .. }
@@ -95,7 +202,7 @@ fn put_failure(line: &mut Text, failure: Failure)
         Failure::NotAnAddress => put(line, b"not an address"),
         Failure::NotHex => put(line, b"not hex"),
         Failure::UntilTooLarge => put(line, b"until is too large"),
-        Failure::Configuration(fault) => put_configuration(line, fault),
+        Failure::Configuration { fault, .. } => put_configuration(line, fault),
         Failure::Capture(fault) => put_capture(line, fault),
         Failure::Gap { number } => put_record(line, b"gap before record ", number),
         Failure::Conversion { number, fault } => put_conversion(line, number, fault),

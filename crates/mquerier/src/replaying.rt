@@ -107,12 +107,14 @@ where
     ensures { IsConfigured (asked_configuration F.FAMILY (F.Address.number own) settings.now) result }
 {
     let defaults = F::defaults();
+    let query_seconds = settings.query_seconds.unwrap_or(defaults.query_seconds);
+    let response_interval = settings
+        .response_interval
+        .unwrap_or(defaults.response_interval);
     let made = Config::new(
         settings.robustness.unwrap_or(defaults.robustness),
-        settings.query_seconds.unwrap_or(defaults.query_seconds),
-        settings
-            .response_interval
-            .unwrap_or(defaults.response_interval),
+        query_seconds,
+        response_interval,
         settings
             .last_member_interval
             .unwrap_or(defaults.last_member_interval),
@@ -122,7 +124,11 @@ where
     );
     match made {
         Ok(config) => Ok(config),
-        Err(fault) => Err(Failure::Configuration(fault)),
+        Err(fault) => Err(Failure::Configuration {
+            fault,
+            query_seconds,
+            response_interval,
+        }),
     }
 }
 
