@@ -1,9 +1,8 @@
 -- What reading the next block comes to, step by step.
-use Rattle.std.proofs.Common.{◌≡◌, ℕ, ◌+◌, ◌<◌, ◌≤◌, ◌||◌, Bool, true, false, List, [], ◌∷◌, ◌++◌, length, take, Option, Some, None, Result, Ok, Err, is_err, refl, ap, sym, ◌∙◌, inl, inr, arith, append-nil, length-append}
+use Rattle.std.proofs.Common.{◌≡◌, ℕ, ◌<◌, ◌≤◌, ◌||◌, Bool, true, false, List, [], ◌∷◌, ◌++◌, length, take, Some, None, Result, Ok, Err, refl, ap, sym, ◌∙◌, inl, inr, arith, append-nil, length-append}
 use Rattle.std.specs.Prelude.{nat_lt, not, ◌&&◌}
-use Rattle.std.specs.Io.KnownBytes.{IsAtEnd}
-use Rattle.std.proofs.lemmas.Bool.{lt-ltb, le-ltb, ltb-false}
-use Rattle.std.proofs.lemmas.List.{take_all, take-append-le, length-take-le}
+use Rattle.std.proofs.lemmas.Bool.{lt-ltb, le-ltb}
+use Rattle.std.proofs.lemmas.List.{take_all, take-append-le}
 use Rattle.std.proofs.Math.Bool.{or-false, or-true}
 use Rattle.mq_pcap.specs.Filling.{InputState, Takes}
 use Rattle.mq_pcap.proofs.Filled.{Takes-trans}
@@ -16,8 +15,8 @@ use Rattle.mq_convert.specs.declared.fault.ConvertFault.TheVariants as answer
 use Rattle.mq_convert.specs.Files.{endless, outer_fault, size_fault}
 use Rattle.mq_convert.specs.Filling.{FillsFrom}
 use Rattle.mq_convert.specs.Faults.{is_cut}
-use Rattle.mq_convert.specs.Reading.{IsKnownThere, NextBlock}
-use Rattle.mq_convert.specs.Sizes.{IsWhole, head_size, is_start, least_size, size_in, size_of, greatest_block}
+use Rattle.mq_convert.specs.Reading.{NextBlock}
+use Rattle.mq_convert.specs.Sizes.{head_size, is_start, least_size, size_in, size_of}
 
 pub some_head : (kind : Kind) → 0 < head_size kind
 some_head Start = omega arith

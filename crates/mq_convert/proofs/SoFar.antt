@@ -1,17 +1,15 @@
 -- What is known of a file of which some blocks were read, and whose packets were put.
-use Rattle.std.proofs.Common.{◌≡◌, ℕ, ◌+◌, ◌<◌, ◌≤◌, ◌||◌, Bool, true, false, List, [], ◌∷◌, ◌++◌, length, take, Option, Some, None, Result, Ok, Err, refl, ap, sym, subst, ◌∙◌, inl, inr, arith, append-nil, append_assoc, length-append}
-use Rattle.std.specs.Prelude.{nat_lt, option_to_list}
+use Rattle.std.proofs.Common.{◌≡◌, ℕ, ◌+◌, ◌≤◌, List, [], ◌∷◌, ◌++◌, length, take, Option, Some, None, Result, Ok, Err, refl, ap, sym, subst, ◌∙◌, inl, inr, arith, append-nil, append_assoc, length-append}
+use Rattle.std.specs.Prelude.{option_to_list}
 use Rattle.std.specs.List.{flat_map}
-use Rattle.std.specs.Io.KnownBytes.{IsAtEnd}
 use Rattle.std.proofs.lemmas.Grind.{flat_map-append}
 use Rattle.std.proofs.Math.Bool.{or-false, or-true}
 use Rattle.mq_pcap.specs.Filling.{InputState, Takes}
 use Rattle.mq_pcap.proofs.Filled.{Takes-nil, Takes-trans}
-use Rattle.mq_replay.specs.Printing.{GrowsByBeginning, Passes, Puts}
+use Rattle.mq_replay.specs.Printing.{Passes, Puts}
 use Rattle.mq_replay.proofs.Passing.{both_passed, broken_behind}
 use Rattle.mq_convert.specs.declared.choice.Choice.{Choice}
 use Rattle.mq_convert.specs.declared.fault.BlockFault.{BlockFault}
-use Rattle.mq_convert.specs.declared.fault.BlockFault.TheVariants as fault
 use Rattle.mq_convert.specs.declared.fault.ConvertFault.{ConvertFault}
 use Rattle.mq_convert.specs.declared.fault.ConvertFault.TheVariants as answer
 use Rattle.mq_convert.specs.declared.packet.Packet.{Packet}
@@ -19,9 +17,9 @@ use Rattle.mq_convert.specs.declared.unread.Unread.{Unread}
 use Rattle.mq_convert.specs.Blocks.{Captured, block_in}
 use Rattle.mq_convert.specs.Contexts.{ContextState, at_start}
 use Rattle.mq_convert.specs.Converting.{IsEndedBy}
-use Rattle.mq_convert.specs.Files.{AreBlocks, Captures, EndsBy, endless}
+use Rattle.mq_convert.specs.Files.{AreBlocks, EndsBy, endless}
 use Rattle.mq_convert.specs.Putting.{IsPut, PutsCapture, ReadsBlock, block_text, held_of}
-use Rattle.mq_convert.specs.Reading.{IsKnownThere, NextBlock}
+use Rattle.mq_convert.specs.Reading.{NextBlock}
 use Rattle.mq_convert.specs.Records.{converted, file_header, packets_of, record_of, unread_link, unread_links}
 use Rattle.mq_convert.specs.Sizes.{IsWhole}
 use Rattle.mq_convert.specs.Tallies.{Tallies}

@@ -1,9 +1,9 @@
 -- Walking over tags: one step of the walk takes one tag off.
-use Rattle.std.proofs.Common.{◌≡◌, ◌≤◌, ◌<◌, ◌+◌, ◌-◌, ◌*◌, ℕ, true, false, List, [], ◌∷◌, length, take, drop, refl, arith}
+use Rattle.std.proofs.Common.{◌≡◌, ◌≤◌, ◌<◌, ◌-◌, ℕ, true, false, List, [], ◌∷◌, length, take, drop, refl, arith}
 use Rattle.mq_pcap.specs.declared.form.Endian.TheVariants.{Big}
 use Rattle.mq_pcap.specs.Capture.{field}
 use Rattle.mq_pcap.proofs.Walk.{from_place}
-use Rattle.mq_convert.specs.Frames.{Framed, Whole, Cut, is_tag, behind_tags}
+use Rattle.mq_convert.specs.Frames.{Whole, Cut, is_tag, behind_tags}
 
 -- a tag and what stands behind it
 pub tag_off : (addresses : List ℕ) (kind : ℕ) (payload : List ℕ) → is_tag kind ≡ true → 4 ≤ length payload

@@ -1,5 +1,5 @@
 -- What a whole block holds, and what it changes for those behind it.
-use Rattle.std.specs.Prelude.{◌≡◌, ℕ, ◌+◌, ◌-◌, ◌*◌, ◌%◌, ◌^◌, ◌≤◌, min, nat_lt, Bool, not, ◌&&◌, ◌||◌, ◌==◌, if◌then◌else◌, List, [], ◌∷◌, ◌++◌, length, slice_get, slice_range, Option, None, Some, Result, Ok, Err}
+use Rattle.std.specs.Prelude.{ℕ, ◌+◌, ◌-◌, ◌*◌, ◌%◌, ◌^◌, ◌≤◌, min, nat_lt, Bool, not, ◌&&◌, ◌||◌, ◌==◌, if◌then◌else◌, List, [], ◌∷◌, ◌++◌, length, slice_get, slice_range, Option, None, Some, Result, Ok, Err}
 use Rattle.mq_count.specs.Streams.{counted_on}
 use Rattle.mq_pcap.specs.declared.form.Endian.{Endian}
 use Rattle.mq_pcap.specs.declared.form.Endian.TheVariants.{Big}
@@ -16,7 +16,7 @@ use Rattle.mq_convert.specs.declared.packet.Said.{Said}
 use Rattle.mq_convert.specs.Contexts.{ContextState}
 use Rattle.mq_convert.specs.Interfaces.{interface_in}
 use Rattle.mq_convert.specs.Moments.{classic_moment, moment_of}
-use Rattle.mq_convert.specs.Sizes.{section_type, head_size, form_in, order_in, size_in}
+use Rattle.mq_convert.specs.Sizes.{section_type, form_in, order_in}
 
 -- a packet: the number of its interface among all that the file describes, what that interface's frames begin
 -- with, the moment in nanoseconds, how many bytes the packet had, and those that were captured

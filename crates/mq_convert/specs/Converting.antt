@@ -1,9 +1,8 @@
 -- What is written of a file: the classic capture of its packets.
-use Rattle.std.specs.Prelude.{◌≡◌, ◌||◌, ℕ, Bool, true, List, [], ◌++◌, length, Option, None, Some, Result, Ok, Err, option_to_list}
-use Rattle.std.specs.List.{flat_map}
+use Rattle.std.specs.Prelude.{◌≡◌, ℕ, true, List, [], length, Option, None, Some, Result, Ok, Err}
 use Rattle.std.specs.Io.KnownBytes.{Appends, IsAtEnd}
 use Rattle.mq_pcap.specs.Filling.{InputState, Takes}
-use Rattle.mq_replay.specs.Printing.{GrowsByBeginning, Passes}
+use Rattle.mq_replay.specs.Printing.{GrowsByBeginning}
 use Rattle.mq_convert.specs.declared.choice.Choice.{Choice}
 use Rattle.mq_convert.specs.declared.fault.BlockFault.{BlockFault}
 use Rattle.mq_convert.specs.declared.fault.ConvertFault.{ConvertFault}

@@ -1,5 +1,5 @@
 -- The description of an interface: its link type, the most bytes that are captured of a packet, and options.
-use Rattle.std.specs.Prelude.{ℕ, zero, suc, ◌+◌, ◌*◌, ◌/◌, min, nat_lt, Bool, ◌==◌, ◌&&◌, ◌||◌, if◌then◌else◌, List, [], ◌∷◌, length, drop, slice_index, slice_range}
+use Rattle.std.specs.Prelude.{ℕ, zero, suc, ◌+◌, ◌*◌, ◌/◌, min, nat_lt, ◌==◌, ◌&&◌, if◌then◌else◌, List, [], ◌∷◌, length, drop, slice_index, slice_range}
 use Rattle.mq_pcap.specs.declared.form.Endian.{Endian}
 use Rattle.mq_pcap.specs.Capture.{field, number_in}
 use Rattle.mq_convert.specs.declared.context.Interface.{Interface}

@@ -1,5 +1,5 @@
 -- What the parts of a conversion come to that go to a writer by way of a buffer.
-use Rattle.std.specs.Prelude.{◌≡◌, ℕ, ◌≤◌, Bool, false, List, ◌++◌, length, Option, None, Some, Result, Ok, Err, option_to_list}
+use Rattle.std.specs.Prelude.{◌≡◌, ℕ, false, List, ◌++◌, Option, None, Some, Result, Ok, Err, option_to_list}
 use Rattle.std.specs.List.{flat_map}
 use Rattle.mq_pcap.specs.Filling.{InputState, Takes}
 use Rattle.mq_replay.specs.Printing.{GrowsByBeginning, Passes}

@@ -1,10 +1,9 @@
 -- What reading the next block of a file comes to.
-use Rattle.std.specs.Prelude.{◌≡◌, ◌⊎◌, ℕ, ◌<◌, ◌≤◌, ◌||◌, Bool, true, false, List, [], length, take, Option, None, Some, Result, Ok, Err}
+use Rattle.std.specs.Prelude.{◌≡◌, ◌⊎◌, ℕ, ◌<◌, ◌≤◌, ◌||◌, true, false, List, [], length, take, Option, None, Some, Result, Ok, Err}
 use Rattle.std.specs.Io.KnownBytes.{IsAtEnd}
 use Rattle.mq_pcap.specs.Filling.{InputState, Takes}
 use Rattle.mq_convert.specs.declared.context.Kind.{Kind}
 use Rattle.mq_convert.specs.declared.fault.BlockFault.{BlockFault}
-use Rattle.mq_convert.specs.declared.fault.BlockFault.TheVariants as fault
 use Rattle.mq_convert.specs.declared.fault.ConvertFault.{ConvertFault}
 use Rattle.mq_convert.specs.declared.fault.ConvertFault.TheVariants as answer
 use Rattle.mq_convert.specs.Faults.{is_cut, is_failed_read}

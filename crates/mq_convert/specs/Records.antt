@@ -2,7 +2,6 @@
 use Rattle.std.specs.Prelude.{ℕ, ◌+◌, ◌-◌, ◌/◌, ◌%◌, ◌^◌, min, Bool, true, false, not, ◌&&◌, ◌==◌, if◌then◌else◌, List, [], ◌∷◌, ◌++◌, length, Option, None, Some, option_to_list}
 use Rattle.std.specs.List.{flat_map}
 use Rattle.byteorder.specs.Endian.{little_bytes}
-use Rattle.mq_pcap.specs.Capture.{most_bytes}
 use Rattle.mq_convert.specs.declared.choice.Choice.{Choice}
 use Rattle.mq_convert.specs.Blocks.{Captured}
 use Rattle.mq_convert.specs.Frames.{Framed, frame_of, is_read_link, tag_of, untagged, frame_length, frame_bytes, frame_size}

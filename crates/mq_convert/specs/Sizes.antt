@@ -1,5 +1,5 @@
 -- How many bytes a block has, by its first ones. A classic capture's blocks are its header and its records.
-use Rattle.std.specs.Prelude.{◌≡◌, ℕ, ◌+◌, ◌%◌, nat_lt, Bool, true, false, not, ◌||◌, ◌==◌, if◌then◌else◌, List, [], ◌∷◌, length, take, ◌≤◌, Option, None, Some, Result, Ok, Err}
+use Rattle.std.specs.Prelude.{◌≡◌, ℕ, ◌+◌, ◌%◌, nat_lt, Bool, true, false, not, ◌==◌, if◌then◌else◌, List, [], ◌∷◌, length, take, ◌≤◌, Option, None, Some, Result, Ok, Err}
 use Rattle.mq_pcap.specs.declared.form.Endian.{Endian}
 use Rattle.mq_pcap.specs.declared.form.Endian.TheVariants.{Big, Little}
 use Rattle.mq_pcap.specs.declared.form.Fraction.{Fraction}

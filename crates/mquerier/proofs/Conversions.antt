@@ -1,5 +1,5 @@
 -- What a conversion comes to, as a request that is performed.
-use Rattle.std.proofs.Common.{◌≡◌, ℕ, Bor, List, Option, arith, inr}
+use Rattle.std.proofs.Common.{ℕ, Bor, List, Option, arith, inr}
 use Rattle.mq_command.specs.declared.Request.TheVariants.{Convert}
 use Rattle.mquerier.specs.Changes.{Input, Output}
 use Rattle.mquerier.specs.Status.{Performs, PerformsConversion}

@@ -4,7 +4,7 @@ use Rattle.std.proofs.Math.Bool.{or-false, or-true}
 use Rattle.mq_replay.specs.Printing.{Prints}
 use Rattle.mquerier.specs.declared.failure.Failure.{Failure}
 use Rattle.mquerier.specs.Changes.{Output}
-use Rattle.mquerier.specs.Failures.{failure_text}
+use Rattle.mquerier.specs.Failures.{failure_text, failure_words}
 use Rattle.mquerier.specs.Status.{IsTold, Told, TellsLines}
 
 pub told_by_printing : {T E : Type 0} (old new : Option (List ℕ)) (text line : List ℕ) (before after : Bool) (r : Result T E) → Prints old new text r → after ≡ (before || is_err r) → text ≡ line
@@ -16,5 +16,4 @@ told_by_printing old new text line before after (Err e) printed failed is = inr 
 pub failure_told : (errors : Output) (failure : Failure) → Told errors failure → TellsLines errors
 failure_told errors failure told =
     let front = codes "mquerier: " in
-    let text = failure_text failure in
-    (front ++ text, rw (append_assoc front text (codes "\n")) told)
+    (front ++ failure_text failure ++ failure_words failure, told)

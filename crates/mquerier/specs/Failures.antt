@@ -82,43 +82,43 @@ failure_text Write = codes "write failed"
 
 -- what the number of a fault of a configuration means, and for which of its two intervals, on a line of its own
 abbrev pub limit_words : LimitName → List ℕ
-limit_words limit.Groups = codes "  --groups has to be 1 to 65535\n"
-limit_words limit.GroupSources = codes "  --group-sources has to be 1 to 1024\n"
-limit_words limit.Sources = codes "  --sources has to be 1 to 65535\n"
-limit_words limit.Scheduled = codes "  --scheduled has to be 1 to 65535\n"
+limit_words limit.Groups = codes "\n  --groups has to be 1 to 65535"
+limit_words limit.GroupSources = codes "\n  --group-sources has to be 1 to 1024"
+limit_words limit.Sources = codes "\n  --sources has to be 1 to 65535"
+limit_words limit.Scheduled = codes "\n  --scheduled has to be 1 to 65535"
 
 abbrev pub interval_words : (query_seconds response_interval : ℕ) → List ℕ
 interval_words query_seconds response_interval =
-    codes "  --qri is " ++ decimal response_interval ++ codes " ms, and --qi " ++ decimal query_seconds
-    ++ codes " s: --qri has to be below --qi, and for igmp 100 to 3174400, for mld 1 to 8387584\n"
+    codes "\n  --qri is " ++ decimal response_interval ++ codes " ms, and --qi " ++ decimal query_seconds
+    ++ codes " s: --qri has to be below --qi, and for igmp 100 to 3174400, for mld 1 to 8387584"
 
 abbrev pub configuration_words : ConfigFault → (query_seconds response_interval : ℕ) → List ℕ
-configuration_words config.Robustness query_seconds response_interval = codes "  --rv has to be 1 to 7\n"
-configuration_words config.QueryInterval query_seconds response_interval = codes "  --qi has to be 1 to 31744\n"
+configuration_words config.Robustness query_seconds response_interval = codes "\n  --rv has to be 1 to 7"
+configuration_words config.QueryInterval query_seconds response_interval = codes "\n  --qi has to be 1 to 31744"
 configuration_words config.ResponseInterval query_seconds response_interval = interval_words query_seconds response_interval
 configuration_words config.LastMember query_seconds response_interval =
-    codes "  --lmqi has to be 100 to 3174400 for igmp, 1 to 8387584 for mld\n"
+    codes "\n  --lmqi has to be 100 to 3174400 for igmp, 1 to 8387584 for mld"
 configuration_words (config.Limit which) query_seconds response_interval = limit_words which
 configuration_words config.OwnAddress query_seconds response_interval =
-    codes "  --own has to be an address of a router: for igmp not 0.0.0.0 and below 224.0.0.0, for mld in fe80::/10\n"
+    codes "\n  --own has to be an address of a router: for igmp not 0.0.0.0 and below 224.0.0.0, for mld in fe80::/10"
 
 -- what the number of a fault of a capture means
 abbrev pub capture_words : PcapFault → List ℕ
-capture_words fault.Read = codes "  a read of the capture failed\n"
-capture_words fault.Magic = codes "  it is no classic capture file; mquerier convert makes one of a pcapng file\n"
-capture_words fault.Version = codes "  the version of the file is not 2.4\n"
-capture_words fault.LinkType = codes "  the link type is neither Ethernet nor raw IP; mquerier convert makes a file of Ethernet\n"
-capture_words (fault.CutHeader number) = codes "  the file ends within a header\n"
-capture_words (fault.CutData number) = codes "  the file ends within a packet\n"
-capture_words (fault.TooLong number) = codes "  the packet has more than 262144 bytes\n"
-capture_words fault.Endless = codes "  the file has more than 4294967295 packets\n"
+capture_words fault.Read = codes "\n  a read of the capture failed"
+capture_words fault.Magic = codes "\n  it is no classic capture file; mquerier convert makes one of a pcapng file"
+capture_words fault.Version = codes "\n  the version of the file is not 2.4"
+capture_words fault.LinkType = codes "\n  the link type is neither Ethernet nor raw IP; mquerier convert makes a file of Ethernet"
+capture_words (fault.CutHeader number) = codes "\n  the file ends within a header"
+capture_words (fault.CutData number) = codes "\n  the file ends within a packet"
+capture_words (fault.TooLong number) = codes "\n  the packet has more than 262144 bytes"
+capture_words fault.Endless = codes "\n  the file has more than 4294967295 packets"
 
 -- the words behind the line of a failure, where that has a number and no more
 abbrev pub failure_words : Failure → List ℕ
 failure_words (Configuration f query_seconds response_interval) = configuration_words f query_seconds response_interval
 failure_words (Capture f) = capture_words f
-failure_words (Gap number) = codes "  more than a day lies between the packet before and this one, or the end; groups and totals are not printed\n"
+failure_words (Gap number) = codes "\n  more than a day lies between the packet before and this one, or the end; groups and totals are not printed"
 failure_words failure = []
 
 abbrev pub failure_line : Failure → List ℕ
-failure_line failure = codes "mquerier: " ++ failure_text failure ++ codes "\n" ++ failure_words failure
+failure_line failure = codes "mquerier: " ++ failure_text failure ++ failure_words failure ++ codes "\n"

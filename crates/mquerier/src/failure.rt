@@ -68,15 +68,16 @@ pub fn line_of(failure: Failure) -> Text
     let mut line = Text::new();
     put(&mut line, b"mquerier: ");
     put_failure(&mut line, failure);
-    put(&mut line, b"\n");
     put_words(&mut line, failure);
+    put(&mut line, b"\n");
     line
 }
 
 /// Puts what the number of a failure means.
 fn put_words(line: &mut Text, failure: Failure)
-    requires { array_vec_len line.old ≤ 61 }
-    ensures { line.new.items ≡ line.old.items ++ failure_words failure }
+    requires { array_vec_len line.old ≤ 60 }
+    ensures text { line.new.items ≡ line.old.items ++ failure_words failure }
+    ensures room { array_vec_len line.new ≤ 300 }
 {
     match failure {
         Failure::Configuration {
@@ -87,7 +88,7 @@ fn put_words(line: &mut Text, failure: Failure)
         Failure::Capture(fault) => put_capture_words(line, fault),
         Failure::Gap { .. } => put(
             line,
-            b"  more than a day lies between the packet before and this one, or the end; groups and totals are not printed\n",
+            b"\n  more than a day lies between the packet before and this one, or the end; groups and totals are not printed",
         ),
         _ => {}
     }
@@ -99,24 +100,25 @@ fn put_configuration_words(
     query_seconds: u32,
     response_interval: u32,
 )
-    requires { array_vec_len line.old ≤ 61 }
-    ensures { line.new.items ≡ line.old.items ++ configuration_words fault query_seconds response_interval }
+    requires { array_vec_len line.old ≤ 60 }
+    ensures text { line.new.items ≡ line.old.items ++ configuration_words fault query_seconds response_interval }
+    ensures room { array_vec_len line.new ≤ 300 }
 {
     match fault {
-        ConfigFault::Robustness => put(line, b"  --rv has to be 1 to 7\n"),
-        ConfigFault::QueryInterval => put(line, b"  --qi has to be 1 to 31744\n"),
+        ConfigFault::Robustness => put(line, b"\n  --rv has to be 1 to 7"),
+        ConfigFault::QueryInterval => put(line, b"\n  --qi has to be 1 to 31744"),
         ConfigFault::ResponseInterval => {
             let words = intervals_of(query_seconds, response_interval);
             put(line, words.as_slice());
         }
         ConfigFault::LastMember => put(
             line,
-            b"  --lmqi has to be 100 to 3174400 for igmp, 1 to 8387584 for mld\n",
+            b"\n  --lmqi has to be 100 to 3174400 for igmp, 1 to 8387584 for mld",
         ),
         ConfigFault::Limit { which } => put_limit_words(line, which),
         ConfigFault::OwnAddress => put(
             line,
-            b"  --own has to be an address of a router: for igmp not 0.0.0.0 and below 224.0.0.0, for mld in fe80::/10\n",
+            b"\n  --own has to be an address of a router: for igmp not 0.0.0.0 and below 224.0.0.0, for mld in fe80::/10",
         ),
     }
 }
@@ -127,48 +129,50 @@ fn intervals_of(query_seconds: u32, response_interval: u32) -> Text
     ensures room { array_vec_len result ≤ 200 }
 {
     let mut line = Text::new();
-    put(&mut line, b"  --qri is ");
+    put(&mut line, b"\n  --qri is ");
     put_decimal(&mut line, u64::from(response_interval));
     put(&mut line, b" ms, and --qi ");
     put_decimal(&mut line, u64::from(query_seconds));
     put(
         &mut line,
-        b" s: --qri has to be below --qi, and for igmp 100 to 3174400, for mld 1 to 8387584\n",
+        b" s: --qri has to be below --qi, and for igmp 100 to 3174400, for mld 1 to 8387584",
     );
     line
 }
 
 fn put_limit_words(line: &mut Text, which: LimitName)
-    requires { array_vec_len line.old ≤ 61 }
-    ensures { line.new.items ≡ line.old.items ++ limit_words which }
+    requires { array_vec_len line.old ≤ 60 }
+    ensures text { line.new.items ≡ line.old.items ++ limit_words which }
+    ensures room { array_vec_len line.new ≤ 300 }
 {
     match which {
-        LimitName::Groups => put(line, b"  --groups has to be 1 to 65535\n"),
-        LimitName::GroupSources => put(line, b"  --group-sources has to be 1 to 1024\n"),
-        LimitName::Sources => put(line, b"  --sources has to be 1 to 65535\n"),
-        LimitName::Scheduled => put(line, b"  --scheduled has to be 1 to 65535\n"),
+        LimitName::Groups => put(line, b"\n  --groups has to be 1 to 65535"),
+        LimitName::GroupSources => put(line, b"\n  --group-sources has to be 1 to 1024"),
+        LimitName::Sources => put(line, b"\n  --sources has to be 1 to 65535"),
+        LimitName::Scheduled => put(line, b"\n  --scheduled has to be 1 to 65535"),
     }
 }
 
 fn put_capture_words(line: &mut Text, fault: PcapFault)
-    requires { array_vec_len line.old ≤ 61 }
-    ensures { line.new.items ≡ line.old.items ++ capture_words fault }
+    requires { array_vec_len line.old ≤ 60 }
+    ensures text { line.new.items ≡ line.old.items ++ capture_words fault }
+    ensures room { array_vec_len line.new ≤ 300 }
 {
     match fault {
-        PcapFault::Read => put(line, b"  a read of the capture failed\n"),
+        PcapFault::Read => put(line, b"\n  a read of the capture failed"),
         PcapFault::Magic => put(
             line,
-            b"  it is no classic capture file; mquerier convert makes one of a pcapng file\n",
+            b"\n  it is no classic capture file; mquerier convert makes one of a pcapng file",
         ),
-        PcapFault::Version => put(line, b"  the version of the file is not 2.4\n"),
+        PcapFault::Version => put(line, b"\n  the version of the file is not 2.4"),
         PcapFault::LinkType => put(
             line,
-            b"  the link type is neither Ethernet nor raw IP; mquerier convert makes a file of Ethernet\n",
+            b"\n  the link type is neither Ethernet nor raw IP; mquerier convert makes a file of Ethernet",
         ),
-        PcapFault::CutHeader { .. } => put(line, b"  the file ends within a header\n"),
-        PcapFault::CutData { .. } => put(line, b"  the file ends within a packet\n"),
-        PcapFault::TooLong { .. } => put(line, b"  the packet has more than 262144 bytes\n"),
-        PcapFault::Endless => put(line, b"  the file has more than 4294967295 packets\n"),
+        PcapFault::CutHeader { .. } => put(line, b"\n  the file ends within a header"),
+        PcapFault::CutData { .. } => put(line, b"\n  the file ends within a packet"),
+        PcapFault::TooLong { .. } => put(line, b"\n  the packet has more than 262144 bytes"),
+        PcapFault::Endless => put(line, b"\n  the file has more than 4294967295 packets"),
     }
 }
 

@@ -1,4 +1,4 @@
-use Rattle.std.proofs.Common.{◌∙◌, ◌≡◌, ◌≤◌, arith, sym}
+use Rattle.std.proofs.Common.{◌∙◌, arith}
 use Rattle.mq_convert.proofs.Options.{first_option_is}
 use Rattle.mq_convert.proofs.interfaces.first_option.Goals as goal
 

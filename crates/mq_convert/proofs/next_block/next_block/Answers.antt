@@ -1,4 +1,4 @@
-use Rattle.std.proofs.Common.{◌≡◌, ℕ, true, false, arith}
+use Rattle.std.proofs.Common.{◌≡◌, true, arith}
 use Rattle.std.proofs.lemmas.Result.{err_from_is_err_and}
 use Rattle.mq_convert.specs.Sizes.{is_start}
 use Rattle.mq_convert.proofs.NextBlocks.{endless_next, head_cut, head_there, size_faulty, body_failed, body_cut}
