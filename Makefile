@@ -57,6 +57,7 @@ live-test: live
 # (bench/README.md). It proves nothing.
 bench: bin/mquerier
 	@bench/show
+	@bench/convert
 	@bench/replay
 	@bench/hostile
 	@bench/spent

@@ -86,6 +86,14 @@ class Edit:
                 goals |= {name} if at[1] == self.file and int(at[2]) in self.lines else set()
         return goals, path
 
+    def is_told_refused(self, said):
+        """Whether a goal of the edit's function is told as unproved, also one that is new by its name alone."""
+        for at in filter(None, map(NOTE.match, said)):
+            is_here = at[1] == self.file and int(at[2]) in self.lines and at[3].startswith("it is not proved")
+            if not NAMES.search(at[3]) and (is_here or self.is_of_its_proof(at[1]) and at[3].startswith("error")):
+                return True
+        return False
+
     def is_refused(self, said, goals_of):
         """Whether a goal of the edit's function is refused, by the lines of a check. Where an answer lost its goal, one that is
         new by its name tells nothing: `goals_of` answers which the function has as it stands. Nor does any where a loop's

@@ -1,6 +1,7 @@
 //! The command line of `mquerier`, by `clap`: what it asks for, and its help.
 #![tactic(auto)]
 
+mod convert;
 mod replay;
 
 use clap::builder::ValueParser;
@@ -24,9 +25,21 @@ pub enum Request<'a> {
         /// The destination of the packet, where it is given.
         to: Option<&'a str>,
     },
-    /// The listing of the capture on standard input.
-    Show,
-    /// What a querier makes of the capture on standard input.
+    /// The capture as a classic one of Ethernet, as `show` and `replay` read it.
+    Convert {
+        /// The number of the interface whose packets are written, where one is given; else all are.
+        interface: Option<u64>,
+        /// The network that the outermost tag of the packets that are written names, where one is given.
+        vlan: Option<u64>,
+        /// The file that the capture is in.
+        file: Option<&'a str>,
+    },
+    /// The listing of the capture.
+    Show {
+        /// The file that the capture is in.
+        file: Option<&'a str>,
+    },
+    /// What a querier makes of the capture.
     Replay {
         /// The querier's protocol.
         protocol: Protocol,
@@ -36,7 +49,24 @@ pub enum Request<'a> {
         settings: Settings,
         /// The moment up to which it runs at least, in milliseconds from the first packet, where it is given.
         until: Option<u64>,
+        /// The file that the capture is in.
+        file: Option<&'a str>,
     },
+}
+
+impl<'a> Request<'a> {
+    /// The name of the file that is asked for in place of standard input.
+    pub fn file(&self) -> Option<&'a str> {
+        let file = match self {
+            Request::Message { .. } => None,
+            Request::Convert { file, .. } | Request::Show { file } | Request::Replay { file, .. } =>
+                { *file }
+        };
+        match file {
+            Some("-") | None => None,
+            Some(name) => Some(name),
+        }
+    }
 }
 
 /// A protocol of messages.
@@ -65,7 +95,10 @@ fn asked<'a, S: AsStr>(command: &mut Command<'a>, words: &'a [S]) -> Result<Requ
 fn request_in<'a>(matches: &ArgMatches<'a>) -> Option<Request<'a>> {
     match matches.subcommand()? {
         ("message", words) => message_in(words),
-        ("show", _) => Some(Request::Show),
+        ("convert", words) => Some(convert::request_in(words)),
+        ("show", words) => Some(Request::Show {
+            file: words.get_str("FILE"),
+        }),
         (_, words) => replay::request_in(words),
     }
 }
@@ -97,6 +130,8 @@ Examples:
       prints a line for each packet of the capture
   mquerier replay igmp --own 10.0.0.9 < capture.pcap
       prints what a querier at 10.0.0.9 sends and learns, had it been there
+  mquerier convert capture.pcapng | mquerier show
+      the same of a capture in another form, as Wireshark and tcpdump -i any save them
 
 Status: 0 where all is done, 1 where the input is faulty, the output fails or memory runs out, 2
 where the command line is faulty or help is asked for.";
@@ -108,7 +143,8 @@ fn command<'a>(alloc: Global) -> Result<Command<'a>, AllocError> {
         .subcommand_required(true)
         .arg_required_else_help(true)
         .subcommand(message(alloc)?)?
-        .subcommand(show(alloc))?
+        .subcommand(convert::command(alloc)?)?
+        .subcommand(show(alloc)?)?
         .subcommand(replay::command(alloc)?)
 }
 
@@ -163,7 +199,7 @@ fn hex<'a>(alloc: Global) -> Arg<'a> {
         .help("The message in hexadecimal, without the IP header")
 }
 
-const SHOW_ABOUT: &str = "Prints a line for each packet of the capture on standard input";
+const SHOW_ABOUT: &str = "Prints a line for each packet of a capture";
 
 const SHOW_AFTER_HELP: &str = "\
 Example:
@@ -176,16 +212,21 @@ for a packet of something else; cut, where the capture has less of it than it sa
 
 To get a capture:
   tcpdump -i INTERFACE -w capture.pcap 'igmp or icmp6 or (ip6 and ip6[6] = 0)'
-It has to be a classic capture file of Ethernet or raw IP. To make one of another kind of file:
-  editcap -F pcap FILE capture.pcap
+It has to be a classic capture file of Ethernet or raw IP. mquerier convert makes one of other kinds.
 
 Where the capture has a fault, the lines of all packets before it are printed, standard error says the
 fault, and the status is 1. The fault is one of: 1 a read failed; 2 no capture; 3 another version than
 2.4; 4 another link type; 5 a header is cut; 6 data are cut; 7 a packet of more than 262144 bytes; 8 too
 many packets.";
 
-fn show<'a>(alloc: Global) -> Command<'a> {
+fn show<'a>(alloc: Global) -> Result<Command<'a>, AllocError> {
     Command::new(alloc, "show")
         .about(SHOW_ABOUT)
         .after_help(SHOW_AFTER_HELP)
+        .arg(file(alloc))
+}
+
+/// The file that a capture is in.
+fn file<'a>(alloc: Global) -> Arg<'a> {
+    Arg::new(alloc, "FILE").help("The capture; - or none is standard input")
 }

@@ -1,6 +1,6 @@
 //! The command `replay`: its options, and what it asks for.
 
-use crate::{Request, address, family, protocol_named};
+use crate::{Request, address, family, file, protocol_named};
 use clap::{Arg, ArgAction, ArgMatches, Command, value_parser};
 use std::alloc::{AllocError, Global};
 
@@ -34,6 +34,7 @@ pub(crate) fn request_in<'a>(words: &ArgMatches<'a>) -> Option<Request<'a>> {
         own: words.get_str("own")?,
         settings: settings_in(words),
         until: words.get_one::<u64>("until"),
+        file: words.get_str("FILE"),
     })
 }
 
@@ -51,7 +52,7 @@ fn settings_in(words: &ArgMatches<'_>) -> Settings {
     }
 }
 
-const ABOUT: &str = "Runs a querier over the capture on standard input, and prints what it does";
+const ABOUT: &str = "Runs a querier over a capture, and prints what it does";
 
 const AFTER_HELP: &str = "\
 Example:
@@ -92,8 +93,7 @@ and above; for mld one outside of fe80::/10.
 
 To get a capture:
   tcpdump -i INTERFACE -w capture.pcap 'igmp or icmp6 or (ip6 and ip6[6] = 0)'
-It has to be a classic capture file of Ethernet or raw IP. To make one of another kind of file:
-  editcap -F pcap FILE capture.pcap
+It has to be a classic capture file of Ethernet or raw IP. mquerier convert makes one of other kinds.
 
 Where the capture has a fault, or a packet or the end comes more than a day behind the packet before it, the
 lines of all packets before it are printed, standard error says which it is, and the status is 1. The
@@ -106,6 +106,7 @@ pub(crate) fn command<'a>(alloc: Global) -> Result<Command<'a>, AllocError> {
         .about(ABOUT)
         .after_help(AFTER_HELP)
         .arg(family(alloc).help("The querier's protocol"))?
+        .arg(file(alloc))?
         .arg(own(alloc))?;
     with_limits(alloc, with_variables(alloc, command)?)?
         .arg(ssm(alloc))?

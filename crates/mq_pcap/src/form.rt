@@ -40,7 +40,7 @@ const NANOSECONDS: u32 = 0xa1b2_3c4d;
 
 impl Endian {
     /// The 16 bits at a place.
-    pub(crate) fn word(self, bytes: &[u8], place: usize) -> u16
+    pub fn word(self, bytes: &[u8], place: usize) -> u16
         requires { place + 2 ≤ length bytes.now }
         ensures { result ≡ field self place 2 bytes.now }
     {
@@ -51,7 +51,7 @@ impl Endian {
     }
 
     /// The 32 bits at a place.
-    pub(crate) fn double_word(self, bytes: &[u8], place: usize) -> u32
+    pub fn double_word(self, bytes: &[u8], place: usize) -> u32
         requires { place + 4 ≤ length bytes.now }
         ensures { result ≡ field self place 4 bytes.now }
     {

@@ -17,7 +17,7 @@ const PIECE: usize = 256;
 pub(crate) type Buffer = Text;
 
 /// Writes what the buffer holds, where it hasn't room for a piece.
-pub(crate) fn make_room<O: Output>(buffer: &mut Buffer, writer: &mut O) -> Result<(), LineFault>
+pub fn make_room<O: Output>(buffer: &mut Buffer, writer: &mut O) -> Result<(), LineFault>
     ensures text { Puts
         (O.held writer.old) (O.held writer.new)
         buffer.old.items buffer.new.items [] result }
@@ -32,7 +32,7 @@ pub(crate) fn make_room<O: Output>(buffer: &mut Buffer, writer: &mut O) -> Resul
 }
 
 /// Writes what the buffer holds.
-pub(crate) fn flush<O: Output>(buffer: &mut Buffer, writer: &mut O) -> Result<(), LineFault>
+pub fn flush<O: Output>(buffer: &mut Buffer, writer: &mut O) -> Result<(), LineFault>
     ensures text { Puts
         (O.held writer.old) (O.held writer.new)
         buffer.old.items buffer.new.items [] result }

@@ -8,7 +8,8 @@
 //!
 //! - Lines: `igmp_line`, `mld_line`, and what they are written to: an `Output`.
 //! - The listing of a capture: `show`, and its replay on a link: `replay`; and `ReplayFault`, which says why one ended early.
-//! - Printing on a watched writer: `print`, and `LineFault`, which says that a write failed.
+//! - Printing on a watched writer: `print`, and `LineFault`, which says that a write failed; `make_room` and `flush`, for
+//!   text that is put together first.
 #![tactic(auto)]
 
 mod buffer;
@@ -32,6 +33,7 @@ mod sent_queries;
 mod stamps;
 mod ticks;
 
+pub use buffer::{flush, make_room};
 pub use captured_family::{CapturedDatagram, CapturedFamily};
 pub use line_key::LineKey;
 pub use lines::{igmp_line, mld_line};

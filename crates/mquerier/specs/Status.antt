@@ -5,8 +5,11 @@ use Rattle.hex.specs.Hex.{decode_of}
 use Rattle.mq_command.specs.declared.Protocol.{Protocol}
 use Rattle.mq_command.specs.declared.Protocol.TheVariants.{Igmp, Mld}
 use Rattle.mq_command.specs.declared.Request.{Request}
-use Rattle.mq_command.specs.declared.Request.TheVariants.{Message, Show, Replay}
+use Rattle.mq_command.specs.declared.Request.TheVariants.{Message, Convert, Show, Replay}
 use Rattle.mq_command.specs.declared.replay.Settings.{Settings}
+use Rattle.mq_convert.specs.declared.fault.ConvertFault.{ConvertFault}
+use Rattle.mq_convert.specs.declared.unread.Unread.{Unread}
+use Rattle.mq_convert.specs.Converting.{Converts}
 use Rattle.mq_replay.specs.declared.replay_fault.ReplayFault.{ReplayFault}
 use Rattle.mq_replay.specs.Listing.{Shows}
 use Rattle.mq_text.specs.Reading.{SpellsV6}
@@ -14,9 +17,9 @@ use Rattle.mq_wire.specs.Family as family
 use Rattle.mq_wire.specs.PseudoHeader.{pseudo_header}
 use Rattle.mquerier.specs.declared.failure.Failure.{Failure}
 use Rattle.mquerier.specs.declared.failure.Failure.TheVariants.{NoAddresses, NotAnAddress, NotHex, Memory, Write}
-use Rattle.mquerier.specs.Breaking.{IsBrokenOff}
+use Rattle.mquerier.specs.Breaking.{IsBrokenOff, IsConversionBroken}
 use Rattle.mquerier.specs.Changes.{Input, Output, Writes, BreaksOff}
-use Rattle.mquerier.specs.Failures.{failure_line}
+use Rattle.mquerier.specs.Failures.{failure_line, unread_line}
 use Rattle.mquerier.specs.HexLine.{IsHexLine}
 use Rattle.mquerier.specs.Replays.{SpellsAddress, IsRefusedAt, IsDoneAt, IsBrokenAt, family_of}
 
@@ -58,8 +61,9 @@ IsRefusedReplay protocol own settings until failure =
 abbrev pub IsRefused : Request → Failure → Type 0
 IsRefused (Message protocol hex from to) failure =
     IsRefusedMessage protocol (option_copied from) (option_copied to) hex.now failure
-IsRefused Show failure = ⊥
-IsRefused (Replay protocol own settings until) failure = IsRefusedReplay protocol own.now settings until failure
+IsRefused (Convert interface vlan file) failure = ⊥
+IsRefused (Show file) failure = ⊥
+IsRefused (Replay protocol own settings until file) failure = IsRefusedReplay protocol own.now settings until failure
 
 -- a text that is given spells this IPv6 address
 abbrev pub IsAddress : Option (List ℕ) → ℕ → Type 0
@@ -84,6 +88,11 @@ WritesMessage protocol from to hex output flag =
 abbrev pub WritesListing : Input → Output → Result ℕ ReplayFault → Type 0
 WritesListing input output answer = Shows input.old input.new output.old.held output.new.held answer
 
+-- a capture was converted, with this answer; these packets were chosen
+abbrev pub WritesConversion : (interface vlan : Option ℕ) → Input → Output → Result Unread ConvertFault → Type 0
+WritesConversion interface vlan input output answer =
+    Converts (record { interface = interface; vlan = vlan }) input.old input.new output.old.held output.new.held answer
+
 -- a capture was replayed to its end
 abbrev pub WritesReport : Protocol → (own : List ℕ) → Settings → (until : Option ℕ) → Input → Output → (flag : Bool) → Type 0
 WritesReport protocol own settings until input output flag =
@@ -95,9 +104,12 @@ WritesReport protocol own settings until input output flag =
 abbrev pub IsDone : Request → Input → Output → (flag : Bool) → Type 0
 IsDone (Message protocol hex from to) input output flag =
     WritesMessage protocol (option_copied from) (option_copied to) hex.now output flag
-IsDone Show input output flag =
+IsDone (Convert interface vlan file) input output flag =
+    (flag ≡ true) × (output.new.failed ≡ output.old.failed) × (unread : Unread)
+    × WritesConversion interface vlan input output (Ok unread)
+IsDone (Show file) input output flag =
     (flag ≡ true) × (output.new.failed ≡ output.old.failed) × (count : ℕ) × WritesListing input output (Ok count)
-IsDone (Replay protocol own settings until) input output flag =
+IsDone (Replay protocol own settings until file) input output flag =
     WritesReport protocol own.now settings until input output flag
 
 -- Why a message's line was not written: memory ran out, before any of it was, or the output failed behind a
@@ -118,8 +130,10 @@ IsBrokenReplay protocol own settings until input output failure =
 abbrev pub IsBroken : Request → Input → Output → Failure → Type 0
 IsBroken (Message protocol hex from to) input output failure =
     IsBrokenMessage protocol (option_copied from) (option_copied to) hex.now output failure
-IsBroken Show input output failure = IsBrokenOff (WritesListing input output) input output failure
-IsBroken (Replay protocol own settings until) input output failure =
+IsBroken (Convert interface vlan file) input output failure =
+    IsConversionBroken (WritesConversion interface vlan input output) input output failure
+IsBroken (Show file) input output failure = IsBrokenOff (WritesListing input output) input output failure
+IsBroken (Replay protocol own settings until file) input output failure =
     IsBrokenReplay protocol own.now settings until input output failure
 
 -- a message's fault was written and standard error told nothing, or the work broke off and that was told
@@ -131,18 +145,54 @@ IsFaulty request input output errors =
 -- a request for a message, which doesn't read the input
 abbrev pub IsOfMessage : Request → Type 0
 IsOfMessage (Message protocol hex from to) = Unit {0}
-IsOfMessage Show = ⊥
-IsOfMessage (Replay protocol own settings until) = ⊥
+IsOfMessage (Convert interface vlan file) = ⊥
+IsOfMessage (Show file) = ⊥
+IsOfMessage (Replay protocol own settings until file) = ⊥
+
+-- a request for a conversion
+abbrev pub IsConversion : Request → Type 0
+IsConversion (Message protocol hex from to) = ⊥
+IsConversion (Convert interface vlan file) = Unit {0}
+IsConversion (Show file) = ⊥
+IsConversion (Replay protocol own settings until file) = ⊥
+
+-- standard error was told of packets whose link type isn't read, if some were written
+abbrev pub TellsFirst : (errors : Output) → (count : ℕ) → (first : Option ℕ) → Type 0
+TellsFirst errors count None = errors.new ≡ errors.old
+TellsFirst errors count (Some link) = IsTold errors (unread_line count link)
+
+abbrev pub TellsUnread : (errors : Output) → Unread → Type 0
+TellsUnread errors unread = TellsFirst errors unread.count unread.first
+
+-- What is asked for was done, and standard error told nothing but, of a conversion, of packets whose link type isn't
+-- read.
+abbrev pub IsDoneTelling : Request → Input → (output errors : Output) → Type 0
+IsDoneTelling (Message protocol hex from to) input output errors =
+    IsDone (Message protocol hex from to) input output true × (errors.new ≡ errors.old)
+IsDoneTelling (Convert interface vlan file) input output errors =
+    (output.new.failed ≡ output.old.failed) × (unread : Unread)
+    × WritesConversion interface vlan input output (Ok unread) × TellsUnread errors unread
+IsDoneTelling (Show file) input output errors = IsDone (Show file) input output true × (errors.new ≡ errors.old)
+IsDoneTelling (Replay protocol own settings until file) input output errors =
+    IsDone (Replay protocol own settings until file) input output true × (errors.new ≡ errors.old)
 
 -- What is asked for was done, or not, and this is the status.
 pub record Performs (request : Request) (input : Input) (output errors : Output) (status : ℕ) : Type 0 where
   pub at_most_two : status ≤ 2
-  pub done : status ≡ 0 → IsDone request input output true × (errors.new ≡ errors.old)
+  pub done : status ≡ 0 → IsDoneTelling request input output errors
   pub faulty : status ≡ 1 → IsFaulty request input output errors
   -- only a faulty request is refused, and that is told
   pub refused : status ≡ 2 → (input.new ≡ input.old) × (output.new ≡ output.old)
       × (failure : Failure) × IsRefused request failure × Told errors failure
   pub unread : IsOfMessage request → input.new ≡ input.old
+
+-- A conversion was done, or broke off, which was told.
+pub record PerformsConversion (interface vlan : Option ℕ) (input : Input) (output errors : Output) (status : ℕ) : Type 0 where
+  pub at_most_one : status ≤ 1
+  pub done : status ≡ 0 → (output.new.failed ≡ output.old.failed) × (unread : Unread)
+      × WritesConversion interface vlan input output (Ok unread) × TellsUnread errors unread
+  pub faulty : status ≡ 1 → (failure : Failure)
+      × IsConversionBroken (WritesConversion interface vlan input output) input output failure × Told errors failure
 
 -- standard error was told some text, which is a line at least
 abbrev pub TellsLines : (errors : Output) → Type 0

@@ -1,18 +1,20 @@
 -- What the work on a request comes to.
-use Rattle.std.specs.Prelude.{◌≡◌, Bool, List, ℕ, Option, Some, Result, Ok, Err, IsErr}
+use Rattle.std.specs.Prelude.{◌≡◌, Bool, true, List, ℕ, Option, Some, Result, Ok, Err, IsErr}
 use Rattle.hex.specs.Hex.{decode_of}
 use Rattle.mq_command.specs.declared.Protocol.{Protocol}
 use Rattle.mq_command.specs.declared.Request.{Request}
 use Rattle.mq_command.specs.declared.replay.Settings.{Settings}
+use Rattle.mq_convert.specs.declared.unread.Unread.{Unread}
 use Rattle.mq_link.specs.Configuration.{Configuration, configuration_fault, IsFaultless}
 use Rattle.mq_wire.specs.Family.{Family}
 use Rattle.mquerier.specs.declared.failure.Failure.{Failure}
 use Rattle.mquerier.specs.declared.failure.Failure.TheVariants.{NotHex, Memory}
 use Rattle.mquerier.specs.declared.failure.Failure.TheVariants as failure
+use Rattle.mquerier.specs.Breaking.{IsBrokenOff, IsConversionBroken}
 use Rattle.mquerier.specs.Changes.{Input, Output}
 use Rattle.mquerier.specs.Failures.{status_of}
 use Rattle.mquerier.specs.Replays.{IsRefusedAt, IsDoneAt, IsBrokenAt}
-use Rattle.mquerier.specs.Status.{IsDone, IsRefused, IsRefusedMessage, IsRefusedReplay, IsBroken, IsBrokenMessage, IsBrokenReplay, WritesMessage, WritesReport}
+use Rattle.mquerier.specs.Status.{IsDone, IsRefused, IsRefusedMessage, IsRefusedReplay, IsBroken, IsBrokenMessage, IsBrokenReplay, WritesConversion, WritesListing, WritesMessage, WritesReport}
 
 -- an answer with a failure of the request
 abbrev pub IsRefusal : {X : Type 0} → Result X Failure → Type 0
@@ -30,6 +32,20 @@ abbrev pub Works : Request → Input → Output → Result Bool Failure → Type
 Works request input output (Ok flag) = IsDone request input output flag
 Works request input output (Err failure) =
     (status_of failure ≡ 2 → IsRefused request failure) × (status_of failure ≡ 1 → IsBroken request input output failure)
+
+-- the same of a listing, which no request is refused for
+abbrev pub WorksOnListing : Input → Output → Result Bool Failure → Type 0
+WorksOnListing input output (Ok flag) =
+    (flag ≡ true) × (output.new.failed ≡ output.old.failed) × (count : ℕ) × WritesListing input output (Ok count)
+WorksOnListing input output (Err failure) =
+    (status_of failure ≡ 2 → ⊥) × (status_of failure ≡ 1 → IsBrokenOff (WritesListing input output) input output failure)
+
+-- the same of a conversion, which no request is refused for
+abbrev pub WorksOnConversion : (interface vlan : Option ℕ) → Input → Output → Result Unread Failure → Type 0
+WorksOnConversion interface vlan input output (Ok unread) =
+    (output.new.failed ≡ output.old.failed) × WritesConversion interface vlan input output (Ok unread)
+WorksOnConversion interface vlan input output (Err failure) =
+    IsConversionBroken (WritesConversion interface vlan input output) input output failure
 
 -- the same of a replay
 abbrev pub WorksOnReplay : Protocol → (own : List ℕ) → Settings → (until : Option ℕ) → Input → Output → Result Bool Failure → Type 0

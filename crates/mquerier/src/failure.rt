@@ -3,8 +3,9 @@
 ghost use Rattle.std.specs.Prelude.{◌≡◌, ◌≤◌, ◌++◌, codes, length};
 ghost use Rattle.std.specs.Fmt.{decimal};
 ghost use Rattle.arrayvec.specs.ArrayVec.{array_vec_len};
-ghost use Rattle.mquerier.specs.Failures.{status_of, failure_line, failure_text, configuration_text, capture_text};
+ghost use Rattle.mquerier.specs.Failures.{status_of, failure_line, failure_text, configuration_text, conversion_text, capture_text, unread_line};
 
+use mq_convert::BlockFault;
 use mq_link::ConfigFault;
 use mq_pcap::PcapFault;
 use mq_text::{Text, put, put_decimal};
@@ -36,6 +37,17 @@ pub enum Failure {
         /// The number of that packet, or of the one that would follow the last.
         number: u64,
     },
+    /// A block of a capture that is converted has a fault.
+    Conversion {
+        /// The block's number.
+        number: u64,
+        /// What is wrong with it.
+        fault: BlockFault,
+    },
+    /// A read of a capture that is converted failed.
+    ConversionRead,
+    /// The file that is named can't be opened.
+    NotOpened,
     /// A growth was refused.
     Memory,
     /// A write to the output failed, or took nothing.
@@ -63,7 +75,13 @@ pub fn status_of_failure(failure: Failure) -> u8
         | Failure::NotHex
         | Failure::UntilTooLarge
         | Failure::Configuration(_) => REFUSED,
-        Failure::Capture(_) | Failure::Gap { .. } | Failure::Memory | Failure::Write => FAULTY,
+        Failure::Capture(_)
+        | Failure::Gap { .. }
+        | Failure::Conversion { .. }
+        | Failure::ConversionRead
+        | Failure::NotOpened
+        | Failure::Memory
+        | Failure::Write => FAULTY,
     }
 }
 
@@ -80,6 +98,9 @@ fn put_failure(line: &mut Text, failure: Failure)
         Failure::Configuration(fault) => put_configuration(line, fault),
         Failure::Capture(fault) => put_capture(line, fault),
         Failure::Gap { number } => put_record(line, b"gap before record ", number),
+        Failure::Conversion { number, fault } => put_conversion(line, number, fault),
+        Failure::ConversionRead => put(line, b"conversion fault 1"),
+        Failure::NotOpened => put(line, b"the file can't be opened"),
         Failure::Memory => put(line, b"out of memory"),
         Failure::Write => put(line, b"write failed"),
     }
@@ -126,4 +147,38 @@ fn put_record(line: &mut Text, said: &[u8], number: u64)
 {
     put(line, said);
     put_decimal(line, number);
+}
+
+fn put_conversion(line: &mut Text, number: u64, fault: BlockFault)
+    requires { array_vec_len line.old ≡ 10 }
+    ensures text { line.new.items ≡ line.old.items ++ (conversion_text fault ++ decimal number) }
+    ensures room { array_vec_len line.new ≤ 60 }
+{
+    match fault {
+        BlockFault::NoCapture => put_record(line, b"conversion fault 2 at block ", number),
+        BlockFault::Version => put_record(line, b"conversion fault 3 at block ", number),
+        BlockFault::Order => put_record(line, b"conversion fault 4 at block ", number),
+        BlockFault::Length => put_record(line, b"conversion fault 5 at block ", number),
+        BlockFault::Interface => put_record(line, b"conversion fault 6 at block ", number),
+        BlockFault::Interfaces => put_record(line, b"conversion fault 7 at block ", number),
+        BlockFault::Moment => put_record(line, b"conversion fault 8 at block ", number),
+        BlockFault::Cut => put_record(line, b"conversion fault 9 at block ", number),
+        BlockFault::Endless => put_record(line, b"conversion fault 10 at block ", number),
+    }
+}
+
+/// What standard error is told of packets whose link type isn't read.
+pub fn unread_line_of(count: u64, first: u16) -> Text
+    ensures { result.items ≡ unread_line count first }
+{
+    let mut line = Text::new();
+    put(&mut line, b"mquerier: ");
+    put_decimal(&mut line, count);
+    put(
+        &mut line,
+        b" packets of link types that aren't read, the first of ",
+    );
+    put_decimal(&mut line, u64::from(first));
+    put(&mut line, b"\n");
+    line
 }

@@ -9,13 +9,17 @@
 //! and streams.
 #![tactic(auto)]
 
+mod converting;
 mod failure;
 mod program;
 mod replaying;
 mod work;
 
+use clap::Error;
+use mq_command::{Request, request_of};
 use mq_count::Watched;
-pub use program::{perform, run};
+pub use program::{perform, refuse_file, run};
+use std::fs::File;
 use std::io::{BufReader, ErrorKind, Write};
 use std::process::ExitCode;
 use std::{env, io};
@@ -44,8 +48,24 @@ fn run_on_host(rt: &HostRuntime) -> io::Result<u8> {
     for word in env::args(rt)? {
         words.push(word)?;
     }
-    let mut input = Watched::new(BufReader::with_capacity(alloc, INPUT, rt.stdin())?);
     let mut output = Watched::new(rt.stdout());
     let mut errors = Watched::new(rt.stderr());
-    Ok(run(alloc, &words, &mut input, &mut output, &mut errors))
+    let asked = request_of(alloc, &words);
+    let Some(name) = named_file(&asked) else {
+        let mut input = Watched::new(BufReader::with_capacity(alloc, INPUT, rt.stdin())?);
+        return Ok(run(alloc, asked, &mut input, &mut output, &mut errors));
+    };
+    let Ok(file) = File::open(rt, name) else {
+        return Ok(refuse_file(&mut errors));
+    };
+    let mut input = Watched::new(BufReader::with_capacity(alloc, INPUT, file)?);
+    Ok(run(alloc, asked, &mut input, &mut output, &mut errors))
+}
+
+/// The file that is asked for in place of standard input.
+fn named_file<'a>(asked: &Result<Request<'a>, Error>) -> Option<&'a str> {
+    match asked {
+        Ok(request) => request.file(),
+        Err(_) => None,
+    }
 }

@@ -4,12 +4,11 @@ ghost use Rattle.std.specs.Prelude.{◌≡◌, ◌||◌, true, false, IfErr, Mat
 ghost use Rattle.std.specs.Option.{option_copied};
 ghost use Rattle.std.specs.Io.KnownBytes.{Keeps};
 ghost use Rattle.hex.specs.Hex.{decode_of};
-ghost use Rattle.mq_command.specs.declared.Request.TheVariants.{Show};
 ghost use Rattle.mq_command.specs.declared.Protocol.TheVariants.{Igmp, Mld};
 ghost use Rattle.mq_count.specs.Streams.{inner_of, has_failed};
 ghost use Rattle.mquerier.specs.Changes.{input_by, output_by};
-ghost use Rattle.mquerier.specs.Status.{IsNoAddress, IsOfMessage};
-ghost use Rattle.mquerier.specs.Working.{IsRefusal, IsUndecoded, IsUnwritten, Works, WorksOnMessage};
+ghost use Rattle.mquerier.specs.Status.{IsConversion, IsNoAddress, IsOfMessage};
+ghost use Rattle.mquerier.specs.Working.{IsRefusal, IsUndecoded, IsUnwritten, Works, WorksOnListing, WorksOnMessage};
 
 use crate::failure::Failure;
 use crate::replaying::replay_capture;
@@ -21,13 +20,14 @@ use mq_text::{read_v4, read_v6};
 use std::alloc::Global;
 use std::io::{Read, Write};
 
-/// Does what is asked for. Of a message it answers whether the line is that of a message, or of a fault.
+/// Does what is asked for, which isn't a conversion. Of a message it answers whether the line is that of a message, or of a fault.
 pub fn work<R: Read, W: Write>(
     alloc: Global,
     request: &Request<'_>,
     input: &mut Watched<R>,
     output: &mut Watched<W>,
 ) -> Result<bool, Failure>
+    requires { IsConversion request.now → ⊥ }
     ensures works { Works request.now
         (input_by R.remaining input.old input.new)
         (output_by W.contents output.old output.new)
@@ -43,12 +43,15 @@ pub fn work<R: Read, W: Write>(
             from,
             to,
         } => message(alloc, *protocol, hex, *from, *to, output),
-        Request::Show => listing(alloc, input, output),
+        // The caller makes conversions itself, since they tell standard error of what they can't read.
+        Request::Convert { .. } => unreachable!(),
+        Request::Show { .. } => listing(alloc, input, output),
         Request::Replay {
             protocol,
             own,
             settings,
             until,
+            ..
         } => replay_capture(alloc, *protocol, own, settings, *until, input, output),
     }
 }
@@ -158,7 +161,7 @@ fn listing<R: Read, W: Write>(
     input: &mut Watched<R>,
     output: &mut Watched<W>,
 ) -> Result<bool, Failure>
-    ensures works { Works Show
+    ensures works { WorksOnListing
         (input_by R.remaining input.old input.new)
         (output_by W.contents output.old output.new)
         result }

@@ -1,0 +1,9 @@
+pub mod Begun
+pub mod Converted
+pub mod Filled
+pub mod NextBlocks
+pub mod Options
+pub mod Powers
+pub mod Printed
+pub mod SoFar
+pub mod TagWalk

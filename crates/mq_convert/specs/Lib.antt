@@ -1,0 +1,14 @@
+pub mod Blocks
+pub mod Contexts
+pub mod Converting
+pub mod Faults
+pub mod Files
+pub mod Filling
+pub mod Frames
+pub mod Interfaces
+pub mod Moments
+pub mod Putting
+pub mod Reading
+pub mod Records
+pub mod Sizes
+pub mod Tallies
