@@ -1,5 +1,5 @@
 -- What becomes of one record, by what it enters with.
-use Rattle.std.proofs.Common.{◌≡◌, ℕ, ◌≤◌, Bool, true, false, cond, not, ◌&&◌, refl, length, Option, None, Some, ap, ◌∙◌, ltb}
+use Rattle.std.proofs.Common.{◌≡◌, ℕ, ◌≤◌, Bool, true, false, cond, not, refl, length, Option, None, Some, ap, ◌∙◌, ltb}
 use Rattle.std.proofs.lemmas.Bool.{ltb-false}
 use Rattle.std.specs.FinSet as set
 use Rattle.mq_wire.specs.declared.records.RecordView.{RecordView}
