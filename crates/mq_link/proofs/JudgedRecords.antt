@@ -1,5 +1,5 @@
 -- What becomes of one record, by what it enters with.
-use Rattle.std.proofs.Common.{◌≡◌, ℕ, ◌≤◌, Bool, true, false, cond, not, ◌&&◌, refl, length, Option, None, Some, ap, ◌∙◌, ltb}
+use Rattle.std.proofs.Common.{◌≡◌, ℕ, ◌≤◌, Bool, true, false, cond, not, refl, length, Option, None, Some, ap, ◌∙◌, ltb}
 use Rattle.std.proofs.lemmas.Bool.{ltb-false}
 use Rattle.std.specs.FinSet as set
 use Rattle.mq_wire.specs.declared.records.RecordView.{RecordView}
@@ -40,16 +40,3 @@ short_enough config r so is = by_kind (kind_named r.kind) is
     by_kind : (kind : Option Kind) → entrance_as config r kind ≡ GoesOn so → length r.sources ≤ config.limits.group_sources
     by_kind None h = cc
     by_kind (Some kind) h = ltb-false config.limits.group_sources (length r.sources) (by_tests (is_admitted config.family r.group) (ltb config.limits.group_sources (length r.sources)) kind h)
-
--- tests of both, of which one or none holds
-pub both_hold : (a b : Bool) → a ≡ true → b ≡ true → (a && b) ≡ true
-both_hold true b h k = k
-both_hold false b h k = h
-
-pub first_fails : (a b : Bool) → a ≡ false → (a && b) ≡ false
-first_fails true b h = cc
-first_fails false b h = refl
-
-pub second_fails : (a b : Bool) → b ≡ false → (a && b) ≡ false
-second_fails true b h = h
-second_fails false b h = refl

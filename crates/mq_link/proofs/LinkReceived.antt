@@ -1,5 +1,5 @@
 -- What a datagram makes of a link.
-use Rattle.std.proofs.Common.{◌≡◌, ℕ, Bool, max, refl, List, [], ◌++◌, append-nil, Option, None, Some, Result, Ok, Err, sym, ap, ◌∙◌, subst}
+use Rattle.std.proofs.Common.{◌≡◌, ℕ, Bool, refl, List, [], ◌++◌, append-nil, Option, None, Some, Result, Ok, Err, sym, ap, ◌∙◌, subst}
 use Rattle.mq_wire.specs.Family.{Family}
 use Rattle.mq_wire.specs.declared.message.Message.{Message}
 use Rattle.mq_wire.specs.declared.message.Message.TheVariants.{Query as QueryMessage, OldReport, Leave as LeaveMessage, Report as ReportMessage}

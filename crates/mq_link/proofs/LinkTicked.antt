@@ -5,14 +5,13 @@ use Rattle.mq_table.specs.Variables.{AreInRange}
 use Rattle.mq_sched.specs.Election.{ticked, general_messages}
 use Rattle.mq_sched.specs.Sink.{Sends}
 use Rattle.mq_link.specs.declared.sending.Sender.{Sender}
-use Rattle.mq_link.specs.Counters.{Counters}
 use Rattle.mq_link.specs.Link.{HasTicked}
 use Rattle.mq_link.specs.Record.{Setting}
 use Rattle.mq_link.specs.Router.{Leaves, RouterValue, link_of, state_of}
 use Rattle.mq_link.specs.Sender.{TakesQuery, begun}
 use Rattle.mq_link.specs.Sound.{AreSound}
 use Rattle.mq_link.specs.State.{LinkState}
-use Rattle.mq_link.specs.Tick.{Step, groups_expired, queries_due, groups_after_round, tick_at, tick_of}
+use Rattle.mq_link.specs.Tick.{groups_expired, queries_due, groups_after_round, tick_at, tick_of}
 use Rattle.mq_link.proofs.AllFits.{fits-tick_of}
 use Rattle.mq_link.proofs.HandedOut.{is_handed, with_answers}
 use Rattle.mq_link.proofs.LinkStored.{well_formed_at}

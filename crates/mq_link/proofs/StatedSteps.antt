@@ -37,21 +37,6 @@ pub held_by_place : (groups : Groups) (group : ℕ) (found : Result ℕ ℕ) →
 held_by_place groups group (Ok place) h = place-contained groups group place h
 held_by_place groups group (Err place) h = ap is_some (absent groups group place h)
 
--- by what the calls answer
-pub is_changed : {K : Type 0} (number : K → ℕ) (at : Setting) (group : ℕ) (st : Statement) (groups : Groups) (into : GroupState) (items : List K) (asks : Option Bool) (asks_group : Bool) (before asked : ScheduledGroup) (passed : Option Refusal) (mutes muted querier : Bool) (timing : Timing)
-    → mutes ≡ v1_mutes_leave at.config.family → muted ≡ is_muted at.config group st → querier ≡ is_querier at.election.role → timing ≡ at.election.timing
-    → before ≡ group_at groups group
-    → change_stated mutes muted timing at.now st before.group ≡ change_written number into items asks → asks ≡ Some asks_group
-    → asked ≡ after_change querier timing at.now (record { group = into; query = set_of number items; query_group = asks_group }) before.schedule
-    → passed ≡ limit_passed at.config.limits (with_group groups group (after_round at.election.timing at.now asked)) (after_round at.election.timing at.now asked)
-    → IsChanged at group st groups before (record { group = into; query = set_of number items; query_group = asks_group }) asked passed
-is_changed number at group st groups into items asks asks_group before asked passed mutes muted querier timing m u q t before_is changes some asked_is passed_is = record {
-  before_is = before_is;
-  change_is = (λ i. change_stated (sym m i) (sym u i) (sym t i) at.now st before.group) ∙ changes ∙ ap (change_written number into items) some;
-  asked_is = asked_is ∙ (λ i. after_change (q i) (t i) at.now (record { group = into; query = set_of number items; query_group = asks_group }) before.schedule);
-  passed_is = passed_is;
-}
-
 pub stated_ignored : (at : Setting) (group : ℕ) (st : Statement) (groups : Groups) (before : ScheduledGroup) → before ≡ group_at groups group
     → change_stated (v1_mutes_leave at.config.family) (is_muted at.config group st) at.election.timing at.now st before.group ≡ None
     → stated at group st groups ≡ leaving groups Ignored

@@ -1,6 +1,5 @@
 -- What a contract sees of the inside of a link, and what a step makes of it.
 use Rattle.std.specs.Prelude.{◌≡◌, ℕ, ◌≤◌, List, [], length}
-use Rattle.mq_wire.specs.Family.{Family}
 use Rattle.mq_link.specs.declared.storage.Storage.{Storage}
 use Rattle.mq_link.specs.Counters.{Counters, count_verdicts}
 use Rattle.mq_link.specs.Link.{LinkValue}

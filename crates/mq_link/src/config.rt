@@ -1,12 +1,13 @@
 //! Configurations.
 
-ghost use Rattle.std.specs.Prelude.{◌≡◌, ℕ, Bool, true, false};
+ghost use Rattle.std.specs.Prelude.{◌≡◌, ℕ, Bool, true, false, not, [], ◌∷◌};
 ghost use Rattle.mq_wire.specs.Family.{Family};
 ghost use Rattle.mq_link.specs.Configuration as spec;
-ghost use Rattle.mq_link.specs.Configuration.{is_outside, IsFaultless};
+ghost use Rattle.mq_link.specs.Configuration.{is_outside, as_fault, else_fault, IsFaultless};
 ghost use Rattle.mq_link.specs.Configured.{variables, configured, IsGivenOrFaulty};
 ghost use Rattle.mq_link.specs.Defaults.{configured_by_default};
 ghost use Rattle.mq_link.specs.Family.{is_router_address};
+ghost use Rattle.mq_link.specs.Tests.{first_named};
 
 use crate::configuration::{ConfigFault, LimitName, Limits};
 use crate::family::Family;
@@ -57,14 +58,15 @@ impl<F: Family> Config<F> {
         ensures { let timing = variables robustness query_seconds response_interval last_member_interval in
             IsGivenOrFaulty (configured F.FAMILY timing limits (F.Address.number own) source_specific) result }
     {
-        if let Some(fault) = configuration_fault::<F>(
+        if let Some(fault) = timing_fault::<F>(
             robustness,
             query_seconds,
             response_interval,
             last_member_interval,
-            &limits,
-            own,
         ) {
+            return Err(fault);
+        }
+        if let Some(fault) = limits_or_own_fault::<F>(&limits, own) {
             return Err(fault);
         }
         let Some(timing) = Timing::new(
@@ -197,27 +199,11 @@ fn limit_fault(limits: &Limits) -> Option<LimitName>
     None
 }
 
-/// The first fault: of the variables, then of the limits, then of the router's own address.
-fn configuration_fault<F: Family>(
-    robustness: u32,
-    query_seconds: u32,
-    response_interval: u32,
-    last_member_interval: u32,
-    limits: &Limits,
-    own: F::Address,
-) -> Option<ConfigFault>
-    ensures { let timing = variables robustness query_seconds response_interval last_member_interval in
-        result ≡ spec.configuration_fault (configured F.FAMILY timing limits.now (F.Address.number own) false) }
+/// The first fault beside those of the variables: of the limits, then of the router's own address.
+fn limits_or_own_fault<F: Family>(limits: &Limits, own: F::Address) -> Option<ConfigFault>
+    ensures { let own_is_none = not (is_router_address F.FAMILY (F.Address.number own)) in
+        result ≡ else_fault (as_fault (spec.limit_fault limits.now)) (first_named ((ConfigFault.OwnAddress, own_is_none) ∷ [])) }
 {
-    let of_timing = timing_fault::<F>(
-        robustness,
-        query_seconds,
-        response_interval,
-        last_member_interval,
-    );
-    if of_timing.is_some() {
-        return of_timing;
-    }
     if let Some(which) = limit_fault(limits) {
         return Some(ConfigFault::Limit { which });
     }

@@ -1,14 +1,16 @@
-use Rattle.std.proofs.Common.{◌≡◌, ◌+◌, ◌*◌, None, Some, Ok, length, refl, sym, ap, ◌∙◌, subst, arith}
+use Rattle.std.proofs.Common.{◌≡◌, ◌+◌, ◌*◌, ℕ, List, None, Some, Result, Ok, refl, sym, ap, ◌∙◌, subst, arith}
 use Rattle.std.specs.FinMap as map
 use Rattle.mq_count.specs.Spending.{Spends}
 use Rattle.mq_count.proofs.Spent.{Spends-within, Spends-none}
 use Rattle.mq_sched.specs.Sink.{Sends}
+use Rattle.mq_wire.specs.declared.message.Message.{Message}
+use Rattle.mq_wire.specs.declared.message.WireFault.{WireFault}
 use Rattle.mq_wire.specs.Numbered.{numbered_message}
 use Rattle.mq_link.specs.declared.answers.Received.TheVariants.{Dropped}
 use Rattle.mq_link.specs.Cost.{least_length}
 use Rattle.mq_link.specs.LeastCost.{least_of, least_unless, least_after}
 use Rattle.mq_link.specs.Reading.{numbered_read}
-use Rattle.mq_link.specs.Receive.{Receipt, count_read, pseudo_of, read_of, receipt_after, drop_reason, taken_or_dropped}
+use Rattle.mq_link.specs.Receive.{Envelope, Receipt, taken_in, count_read, pseudo_of, read_of, receipt_after, drop_reason, taken_or_dropped}
 use Rattle.mq_link.specs.Router.{Leaves, RouterValue, silent_step, state_of}
 use Rattle.mq_link.specs.Sender.{TakesQuery}
 use Rattle.mq_link.specs.State.{sources_in}
@@ -16,159 +18,111 @@ use Rattle.mq_link.proofs.LeastLengths.{long_where_read}
 use Rattle.mq_link.proofs.LinkReceived.{Comes, is_dropped, is_taken}
 use Rattle.mq_link.proofs.Receipts.{IsCarriedWhere, carried_where_read}
 use Rattle.mq_link.proofs.RecordsRead.{few_where_read}
+use Rattle.mq_link.proofs.router.Router.take_in.Given.{Over}
 use Rattle.mq_link.proofs.router.Router.take_in.Goals as goal
+use Rattle.mq_link.proofs.router.Router.take_in.Goals.{After-take_message, After-count_dropped}
+
+-- what the datagram is read as, and before what
+abbrev bytes_read : (g : Over) → Envelope → List ℕ → Result (Message ℕ) WireFault
+bytes_read g around bytes = read_of g.F.Family.FAMILY (pseudo_of g.F.Family.FAMILY around bytes) bytes
+
+abbrev whole : (g : Over) → Envelope → List ℕ → RouterValue → Receipt
+whole g around bytes before = receipt_after before.at.config around (bytes_read g around bytes) (silent_step (state_of before))
 
 pub take_message-requires-clause-kept : goal.take_message-requires-clause-kept
 take_message-requires-clause-kept g c =
-    let family = g.F.Family.FAMILY in
     let number = g.F.Address.Key.number in
     let around = g.F.Family.envelope_of c.args.envelope.now in
-    let pseudo = pseudo_of family around c.args.body.now in
     (λ i. drop_reason (sym c.config.ensures i) around (numbered_read number (sym c.in-Ok.is i))) ∙ sym c.drop_reason.ensures ∙ c.in_default.is
 
 pub take_message-requires-clause-carried : goal.take_message-requires-clause-carried
 take_message-requires-clause-carried g c =
     let family = g.F.Family.FAMILY in
-    let number = g.F.Address.Key.number in
-    let around = g.F.Family.envelope_of c.args.envelope.now in
-    let pseudo = pseudo_of family around c.args.body.now in
-    let read : read_of family pseudo c.args.body.now ≡ Ok (numbered_message number c.in-Ok.message) = sym c.read-read.ensures ∙ ap (numbered_read number) c.in-Ok.is in
-    subst IsCarriedWhere read (carried_where_read family pseudo c.args.body.now)
+    let pseudo = pseudo_of family (g.F.Family.envelope_of c.args.envelope.now) c.args.body.now in
+    subst IsCarriedWhere (sym c.read-read.ensures ∙ ap (numbered_read g.F.Address.Key.number) c.in-Ok.is) (carried_where_read family pseudo c.args.body.now)
 
 pub take_message-requires-clause-counted : goal.take_message-requires-clause-counted
 take_message-requires-clause-counted g c =
     let family = g.F.Family.FAMILY in
-    let number = g.F.Address.Key.number in
+    let pseudo = pseudo_of family (g.F.Family.envelope_of c.args.envelope.now) c.args.body.now in
+    few_where_read family pseudo c.args.body.now _ (λ i. let b = c.type_inv.body i in omega (arith, b)) (sym c.read-read.ensures ∙ ap (numbered_read g.F.Address.Key.number) c.in-Ok.is)
+
+-- a datagram that is dropped comes to its reason
+dropped : (g : Over) (c : After-count_dropped g) → (let around = g.F.Family.envelope_of c.args.envelope.now in
+    (drop_reason c.args.self.now.at.config around (numbered_read g.F.Address.Key.number c.read-read.result) ≡ Some c.in-Some.reason)
+    × Comes (whole g around c.args.body.now c.args.self.now) c.args.self.now c.count_dropped.new.self (Dropped c.in-Some.reason))
+dropped g c =
+    let read = numbered_read g.F.Address.Key.number c.read-read.result in
     let around = g.F.Family.envelope_of c.args.envelope.now in
-    let pseudo = pseudo_of family around c.args.body.now in
-    let read : read_of family pseudo c.args.body.now ≡ Ok (numbered_message number c.in-Ok.message) = sym c.read-read.ensures ∙ ap (numbered_read number) c.in-Ok.is in
-    few_where_read family pseudo c.args.body.now (numbered_message number c.in-Ok.message) (λ i. let b = c.type_inv.body i in omega (arith, b)) read
+    let before = c.args.self.now in
+    let is : drop_reason before.at.config around read ≡ Some c.in-Some.reason =
+    ap (λ k. drop_reason k around read) (ap (λ (r : RouterValue). r.at.config) (sym c.count_read.ensures) ∙ sym c.config.ensures) ∙ sym c.drop_reason.ensures ∙ c.in-Some.is
+    in
+    let comes = is_dropped around read c.in-Some.reason before c.count_read.new.self c.count_dropped.new.self is c.count_read.ensures c.count_dropped.ensures in
+    (is, subst (λ x. Comes (receipt_after before.at.config around x (silent_step (state_of before))) before c.count_dropped.new.self (Dropped c.in-Some.reason)) c.read-read.ensures comes)
 
 pub returns-in-Some-clause-leaves : goal.returns-in-Some-clause-leaves
-returns-in-Some-clause-leaves g c =
-    let family = g.F.Family.FAMILY in
-    let number = g.F.Address.Key.number in
-    let around = g.F.Family.envelope_of c.args.envelope.now in
-    let pseudo = pseudo_of family around c.args.body.now in
-    let is : drop_reason c.args.self.now.at.config around (numbered_read number c.read-read.result) ≡ Some c.in-Some.reason =
-    ap (λ k. drop_reason k around (numbered_read number c.read-read.result)) (ap (λ (r : RouterValue). r.at.config) (sym c.count_read.ensures) ∙ sym c.config.ensures) ∙ sym c.drop_reason.ensures ∙ c.in-Some.is
-    in
-    let dropped = is_dropped around (numbered_read number c.read-read.result) c.in-Some.reason c.args.self.now c.count_read.new.self c.count_dropped.new.self is c.count_read.ensures c.count_dropped.ensures in
-    let there = subst (λ x. Comes (receipt_after c.args.self.now.at.config around x (silent_step (state_of c.args.self.now))) c.args.self.now c.count_dropped.new.self (Dropped c.in-Some.reason)) c.read-read.ensures dropped in
-    there.leaves
+returns-in-Some-clause-leaves g c = (dropped g c).1.leaves
 
 pub returns-in-Some-clause-answer : goal.returns-in-Some-clause-answer
-returns-in-Some-clause-answer g c =
-    let family = g.F.Family.FAMILY in
-    let number = g.F.Address.Key.number in
-    let around = g.F.Family.envelope_of c.args.envelope.now in
-    let pseudo = pseudo_of family around c.args.body.now in
-    let is : drop_reason c.args.self.now.at.config around (numbered_read number c.read-read.result) ≡ Some c.in-Some.reason =
-    ap (λ k. drop_reason k around (numbered_read number c.read-read.result)) (ap (λ (r : RouterValue). r.at.config) (sym c.count_read.ensures) ∙ sym c.config.ensures) ∙ sym c.drop_reason.ensures ∙ c.in-Some.is
-    in
-    let dropped = is_dropped around (numbered_read number c.read-read.result) c.in-Some.reason c.args.self.now c.count_read.new.self c.count_dropped.new.self is c.count_read.ensures c.count_dropped.ensures in
-    let there = subst (λ x. Comes (receipt_after c.args.self.now.at.config around x (silent_step (state_of c.args.self.now))) c.args.self.now c.count_dropped.new.self (Dropped c.in-Some.reason)) c.read-read.ensures dropped in
-    there.answer_is
+returns-in-Some-clause-answer g c = (dropped g c).1.answer_is
 
 pub returns-in-Some-clause-sent : goal.returns-in-Some-clause-sent
 returns-in-Some-clause-sent g c =
-    let family = g.F.Family.FAMILY in
-    let number = g.F.Address.Key.number in
     let around = g.F.Family.envelope_of c.args.envelope.now in
-    let pseudo = pseudo_of family around c.args.body.now in
-    let is : drop_reason c.args.self.now.at.config around (numbered_read number c.read-read.result) ≡ Some c.in-Some.reason =
-    ap (λ k. drop_reason k around (numbered_read number c.read-read.result)) (ap (λ (r : RouterValue). r.at.config) (sym c.count_read.ensures) ∙ sym c.config.ensures) ∙ sym c.drop_reason.ensures ∙ c.in-Some.is
-    in
-    let dropped = is_dropped around (numbered_read number c.read-read.result) c.in-Some.reason c.args.self.now c.count_read.new.self c.count_dropped.new.self is c.count_read.ensures c.count_dropped.ensures in
-    let there = subst (λ x. Comes (receipt_after c.args.self.now.at.config around x (silent_step (state_of c.args.self.now))) c.args.self.now c.count_dropped.new.self (Dropped c.in-Some.reason)) c.read-read.ensures dropped in
-    let none = ap (λ x. (taken_or_dropped c.args.self.now.at.config around (silent_step (state_of c.args.self.now)) (numbered_read number c.read-read.result) x).step.queries) (sym is) ∙ ap (λ x. (receipt_after c.args.self.now.at.config around x (silent_step (state_of c.args.self.now))).step.queries) c.read-read.ensures in
-    subst (λ qs. Sends (TakesQuery g.O.Outlet.takes family) c.args.sender.now qs c.args.sender.now) none refl
+    let step = silent_step (state_of c.args.self.now) in
+    let config = c.args.self.now.at.config in
+    let none = ap (λ x. (taken_or_dropped config around step (numbered_read g.F.Address.Key.number c.read-read.result) x).step.queries) (sym (dropped g c).0) ∙ ap (λ x. (receipt_after config around x step).step.queries) c.read-read.ensures in
+    subst (λ qs. Sends (TakesQuery g.O.Outlet.takes g.F.Family.FAMILY) c.args.sender.now qs c.args.sender.now) none refl
 
 pub returns-in-Some-clause-spent : goal.returns-in-Some-clause-spent
 returns-in-Some-clause-spent g c =
-    let family = g.F.Family.FAMILY in
-    let number = g.F.Address.Key.number in
     let around = g.F.Family.envelope_of c.args.envelope.now in
-    let pseudo = pseudo_of family around c.args.body.now in
-    let is : drop_reason c.args.self.now.at.config around (numbered_read number c.read-read.result) ≡ Some c.in-Some.reason =
-    ap (λ k. drop_reason k around (numbered_read number c.read-read.result)) (ap (λ (r : RouterValue). r.at.config) (sym c.count_read.ensures) ∙ sym c.config.ensures) ∙ sym c.drop_reason.ensures ∙ c.in-Some.is
-    in
-    let dropped = is_dropped around (numbered_read number c.read-read.result) c.in-Some.reason c.args.self.now c.count_read.new.self c.count_dropped.new.self is c.count_read.ensures c.count_dropped.ensures in
-    let there = subst (λ x. Comes (receipt_after c.args.self.now.at.config around x (silent_step (state_of c.args.self.now))) c.args.self.now c.count_dropped.new.self (Dropped c.in-Some.reason)) c.read-read.ensures dropped in
     let before = c.args.self.now in
-    let least = ap (λ x. least_unless before.at (numbered_read number c.read-read.result) x before.groups) (sym is) ∙ ap (λ x. least_after before.at around x before.groups) c.read-read.ensures in
+    let least = ap (λ x. least_unless before.at (numbered_read g.F.Address.Key.number c.read-read.result) x before.groups) (sym (dropped g c).0) ∙ ap (λ x. least_after before.at around x before.groups) c.read-read.ensures in
     let same = ap (λ (r : RouterValue). r.spent) c.count_dropped.ensures ∙ ap (λ (r : RouterValue). r.spent) c.count_read.ensures in
     subst (Spends _ _ before.spent) (sym same) (Spends-within _ _ (Spends-none before.spent) (omega (arith, least)) (omega arith))
 
-pub returns-clause-leaves : goal.returns-clause-leaves
-returns-clause-leaves g c =
-    let family = g.F.Family.FAMILY in
+-- any other is read as its message, and comes to what that comes to
+taken : (g : Over) (c : After-take_message g) → (let around = g.F.Family.envelope_of c.args.envelope.now in let said = numbered_message g.F.Address.Key.number c.in-Ok.message in
+    (bytes_read g around c.args.body.now ≡ Ok said)
+    × (drop_reason c.args.self.now.at.config around (Ok said) ≡ None)
+    × (whole g around c.args.body.now c.args.self.now ≡ taken_in c.count_read.new.self.at.config around said (silent_step (state_of c.count_read.new.self))))
+taken g c =
     let number = g.F.Address.Key.number in
     let around = g.F.Family.envelope_of c.args.envelope.now in
-    let pseudo = pseudo_of family around c.args.body.now in
-    let read : read_of family pseudo c.args.body.now ≡ Ok (numbered_message number c.in-Ok.message) = sym c.read-read.ensures ∙ ap (numbered_read number) c.in-Ok.is in
-    let none : drop_reason c.args.self.now.at.config around (Ok (numbered_message number c.in-Ok.message)) ≡ None =
+    let before = c.args.self.now in
+    let said = numbered_message number c.in-Ok.message in
+    let read : bytes_read g around c.args.body.now ≡ Ok said = sym c.read-read.ensures ∙ ap (numbered_read number) c.in-Ok.is in
+    let none : drop_reason before.at.config around (Ok said) ≡ None =
     (λ i. drop_reason ((ap (λ (r : RouterValue). r.at.config) (sym c.count_read.ensures) ∙ sym c.config.ensures) i) around (numbered_read number (sym c.in-Ok.is i))) ∙ sym c.drop_reason.ensures ∙ c.in_default.is
     in
-    let counted : c.count_read.new.self ≡ record c.args.self.now { counters = count_read (Ok (numbered_message number c.in-Ok.message)) c.args.self.now.counters } =
-    c.count_read.ensures ∙ ap (λ x. let after : RouterValue = record c.args.self.now { counters = count_read (numbered_read number x) c.args.self.now.counters } in after) c.in-Ok.is
+    let counted : c.count_read.new.self ≡ record before { counters = count_read (Ok said) before.counters } =
+    c.count_read.ensures ∙ ap (λ x. let after : RouterValue = record before { counters = count_read (numbered_read number x) before.counters } in after) c.in-Ok.is
     in
-    let receipt_is = ap (λ x. receipt_after c.args.self.now.at.config around x (silent_step (state_of c.args.self.now))) read ∙ is_taken around (numbered_message number c.in-Ok.message) c.args.self.now c.count_read.new.self none counted in
+    (read, none, ap (λ x. receipt_after before.at.config around x (silent_step (state_of before))) read ∙ is_taken around said before c.count_read.new.self none counted)
+
+pub returns-clause-leaves : goal.returns-clause-leaves
+returns-clause-leaves g c =
     let left = c.take_message.ensures.leaves in
-    subst (λ (x : Receipt). Leaves x.step.state c.args.self.now c.take_message.new.self) (sym receipt_is)
+    subst (λ (x : Receipt). Leaves x.step.state c.args.self.now c.take_message.new.self) (sym (taken g c).2)
     (record { config = left.config ∙ ap (λ (r : RouterValue). r.at.config) c.count_read.ensures; state_is = left.state_is })
 
 pub returns-clause-answer : goal.returns-clause-answer
-returns-clause-answer g c =
-    let family = g.F.Family.FAMILY in
-    let number = g.F.Address.Key.number in
-    let around = g.F.Family.envelope_of c.args.envelope.now in
-    let pseudo = pseudo_of family around c.args.body.now in
-    let read : read_of family pseudo c.args.body.now ≡ Ok (numbered_message number c.in-Ok.message) = sym c.read-read.ensures ∙ ap (numbered_read number) c.in-Ok.is in
-    let none : drop_reason c.args.self.now.at.config around (Ok (numbered_message number c.in-Ok.message)) ≡ None =
-    (λ i. drop_reason ((ap (λ (r : RouterValue). r.at.config) (sym c.count_read.ensures) ∙ sym c.config.ensures) i) around (numbered_read number (sym c.in-Ok.is i))) ∙ sym c.drop_reason.ensures ∙ c.in_default.is
-    in
-    let counted : c.count_read.new.self ≡ record c.args.self.now { counters = count_read (Ok (numbered_message number c.in-Ok.message)) c.args.self.now.counters } =
-    c.count_read.ensures ∙ ap (λ x. let after : RouterValue = record c.args.self.now { counters = count_read (numbered_read number x) c.args.self.now.counters } in after) c.in-Ok.is
-    in
-    let receipt_is = ap (λ x. receipt_after c.args.self.now.at.config around x (silent_step (state_of c.args.self.now))) read ∙ is_taken around (numbered_message number c.in-Ok.message) c.args.self.now c.count_read.new.self none counted in
-    c.take_message.ensures.answer ∙ ap (λ (x : Receipt). x.answer) (sym receipt_is)
+returns-clause-answer g c = c.take_message.ensures.answer ∙ ap (λ (x : Receipt). x.answer) (sym (taken g c).2)
 
 pub returns-clause-sent : goal.returns-clause-sent
 returns-clause-sent g c =
-    let family = g.F.Family.FAMILY in
-    let number = g.F.Address.Key.number in
-    let around = g.F.Family.envelope_of c.args.envelope.now in
-    let pseudo = pseudo_of family around c.args.body.now in
-    let read : read_of family pseudo c.args.body.now ≡ Ok (numbered_message number c.in-Ok.message) = sym c.read-read.ensures ∙ ap (numbered_read number) c.in-Ok.is in
-    let none : drop_reason c.args.self.now.at.config around (Ok (numbered_message number c.in-Ok.message)) ≡ None =
-    (λ i. drop_reason ((ap (λ (r : RouterValue). r.at.config) (sym c.count_read.ensures) ∙ sym c.config.ensures) i) around (numbered_read number (sym c.in-Ok.is i))) ∙ sym c.drop_reason.ensures ∙ c.in_default.is
-    in
-    let counted : c.count_read.new.self ≡ record c.args.self.now { counters = count_read (Ok (numbered_message number c.in-Ok.message)) c.args.self.now.counters } =
-    c.count_read.ensures ∙ ap (λ x. let after : RouterValue = record c.args.self.now { counters = count_read (numbered_read number x) c.args.self.now.counters } in after) c.in-Ok.is
-    in
-    let receipt_is = ap (λ x. receipt_after c.args.self.now.at.config around x (silent_step (state_of c.args.self.now))) read ∙ is_taken around (numbered_message number c.in-Ok.message) c.args.self.now c.count_read.new.self none counted in
-    subst (λ (x : Receipt). Sends (TakesQuery g.O.Outlet.takes family) c.args.sender.now x.step.queries c.take_message.new.sender) (sym receipt_is) c.take_message.ensures.sent
+    subst (λ (x : Receipt). Sends (TakesQuery g.O.Outlet.takes g.F.Family.FAMILY) c.args.sender.now x.step.queries c.take_message.new.sender) (sym (taken g c).2) c.take_message.ensures.sent
 
 pub returns-clause-spent : goal.returns-clause-spent
 returns-clause-spent g c =
-    let family = g.F.Family.FAMILY in
-    let number = g.F.Address.Key.number in
     let around = g.F.Family.envelope_of c.args.envelope.now in
-    let pseudo = pseudo_of family around c.args.body.now in
-    let read : read_of family pseudo c.args.body.now ≡ Ok (numbered_message number c.in-Ok.message) = sym c.read-read.ensures ∙ ap (numbered_read number) c.in-Ok.is in
-    let none : drop_reason c.args.self.now.at.config around (Ok (numbered_message number c.in-Ok.message)) ≡ None =
-    (λ i. drop_reason ((ap (λ (r : RouterValue). r.at.config) (sym c.count_read.ensures) ∙ sym c.config.ensures) i) around (numbered_read number (sym c.in-Ok.is i))) ∙ sym c.drop_reason.ensures ∙ c.in_default.is
-    in
-    let counted : c.count_read.new.self ≡ record c.args.self.now { counters = count_read (Ok (numbered_message number c.in-Ok.message)) c.args.self.now.counters } =
-    c.count_read.ensures ∙ ap (λ x. let after : RouterValue = record c.args.self.now { counters = count_read (numbered_read number x) c.args.self.now.counters } in after) c.in-Ok.is
-    in
-    let receipt_is = ap (λ x. receipt_after c.args.self.now.at.config around x (silent_step (state_of c.args.self.now))) read ∙ is_taken around (numbered_message number c.in-Ok.message) c.args.self.now c.count_read.new.self none counted in
     let before = c.args.self.now in
-    let said = numbered_message number c.in-Ok.message in
-    let long = long_where_read family pseudo c.args.body.now said read in
-    let least : least_of before.at said before.groups ≡ least_after before.at around (read_of family pseudo c.args.body.now) before.groups =
-    ap (λ x. least_unless before.at (Ok said) x before.groups) (sym none) ∙ ap (λ x. least_after before.at around x before.groups) (sym read)
+    let said = numbered_message g.F.Address.Key.number c.in-Ok.message in
+    let long = long_where_read g.F.Family.FAMILY (pseudo_of g.F.Family.FAMILY around c.args.body.now) c.args.body.now said (taken g c).0 in
+    let least : least_of before.at said before.groups ≡ least_after before.at around (bytes_read g around c.args.body.now) before.groups =
+    ap (λ x. least_unless before.at (Ok said) x before.groups) (sym (taken g c).1) ∙ ap (λ x. least_after before.at around x before.groups) (sym (taken g c).0)
     in
     let spent = subst (λ (r : RouterValue). Spends (least_of r.at said r.groups) (24 * sources_in r.groups + 20 * map.len r.groups + 64 * least_length said) r.spent c.take_message.new.self.spent) c.count_read.ensures c.take_message.ensures.spent in
     Spends-within _ _ spent (omega (arith, least)) (omega (arith, long))

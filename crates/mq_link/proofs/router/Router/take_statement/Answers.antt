@@ -1,12 +1,9 @@
-use Rattle.std.proofs.Common.{◌≡◌, ◌+◌, [], ◌∷◌, ap, ◌∙◌, sym, subst, arith}
-use Rattle.std.specs.FinSet as set
+use Rattle.std.proofs.Common.{◌≡◌, [], ◌∷◌, ap, ◌∙◌, sym, subst, arith}
 use Rattle.std.specs.List.{count_by}
 use Rattle.mq_count.specs.Spending.{Spends}
 use Rattle.mq_link.specs.declared.answers.Received.TheVariants.{Taken}
-use Rattle.mq_link.specs.Changing.{statement_of}
 use Rattle.mq_link.specs.Counters.{count_verdict, is_applied, is_ignored, is_refused}
 use Rattle.mq_link.specs.Judging.{verdict_of}
-use Rattle.mq_link.specs.Record.{stated}
 use Rattle.mq_link.specs.Router.{RouterValue, state_of}
 use Rattle.mq_link.proofs.router.Router.take_statement.Goals as goal
 

@@ -1,5 +1,4 @@
-use Rattle.std.proofs.Common.{◌≡◌, ◌+◌, ◌*◌, ap, ◌∙◌, sym, subst}
-use Rattle.std.specs.FinMap as map
+use Rattle.std.proofs.Common.{◌≡◌, ap, ◌∙◌, sym, subst}
 use Rattle.mq_count.specs.Spending.{Spends}
 use Rattle.mq_link.specs.Router.{RouterValue}
 use Rattle.mq_link.proofs.HandedOut.{with_answers}

@@ -1,128 +1,133 @@
-use Rattle.std.proofs.Common.{◌≡◌, ◌≤◌, ◌+◌, ◌*◌, length, refl, sym, ap, ◌∙◌, subst, arith}
+use Rattle.std.proofs.Common.{◌≡◌, ◌≤◌, ◌+◌, ◌*◌, ℕ, Bool, None, length, refl, sym, ap, ◌∙◌, subst, arith}
 use Rattle.std.specs.FinMap as map
 use Rattle.mq_count.specs.Spending.{Spends}
 use Rattle.mq_count.proofs.Spent.{Spends-within, Spends-join_within}
 use Rattle.mq_sets.specs.Search.{bitlen}
 use Rattle.mq_sets.specs.Ascending.{set_of}
-use Rattle.mq_table.specs.Stored.{named_in, size_of}
 use Rattle.mq_table.specs.OlderHosts.{hosts_of}
+use Rattle.mq_table.specs.Stored.{named_in, size_of}
 use Rattle.mq_table.specs.Table.{GroupChange}
-use Rattle.mq_sched.specs.Schedule.{ScheduledGroup}
+use Rattle.mq_sched.specs.Schedule.{ScheduleState, ScheduledGroup}
 use Rattle.mq_sched.specs.Sending.{messages_due, after_change, after_round}
 use Rattle.mq_sched.specs.Election.{is_querier}
 use Rattle.mq_sched.specs.Sink.{Sends}
+use Rattle.mq_held.specs.declared.held_group.HeldGroup.{HeldGroup}
 use Rattle.mq_held.specs.Groups.{group_at, sources_in, sources_of, with_group}
 use Rattle.mq_link.specs.declared.status.InForce.{InForce}
 use Rattle.mq_link.specs.declared.storage.Storage.{Storage}
+use Rattle.mq_link.specs.declared.storage.Workspace.{Workspace}
 use Rattle.mq_link.specs.Changing.{acts_as, statement_of, change_written}
 use Rattle.mq_link.specs.Configuration.{Configuration}
+use Rattle.mq_link.specs.Counters.{Ignored}
 use Rattle.mq_link.specs.Family.{v1_mutes_leave, per_query}
 use Rattle.mq_link.specs.LeastCost.{least_merge, least_work}
-use Rattle.mq_link.specs.Record.{Setting, Outcome, change_stated, limit_passed, unless_passed, after_sending, sent_at_once}
+use Rattle.mq_link.specs.Record.{Outcome, change_stated, is_muted, leaving, limit_passed, stated, unless_passed, after_sending, sent_at_once}
 use Rattle.mq_link.specs.Storage.{group_stored, IsSought}
 use Rattle.mq_link.proofs.Faultless.{few_sources}
 use Rattle.mq_link.proofs.LeastCosts.{worked}
 use Rattle.mq_link.proofs.MadeEntries.{round_keeps_size}
-use Rattle.mq_link.proofs.StatedSteps.{is_changed, held_by_place, stated_ignored, stated_judged, kept_is_held, left_has_place, left_has_room, made_few}
+use Rattle.mq_link.proofs.StatedSteps.{AreFew, IsChanged, held_by_place, stated_ignored, stated_judged, kept_is_held, left_has_place, left_has_room, made_few}
+use Rattle.mq_link.proofs.status.Status.apply.Given.{Over}
 use Rattle.mq_link.proofs.status.Status.apply.Goals as goal
+use Rattle.mq_link.proofs.status.Status.apply.Goals.{After-change, After-ask, After-refusal}
+
+abbrev stored_as : {K : Type 0} → (K → ℕ) → HeldGroup K → ScheduledGroup
+stored_as number stored = record { group = group_stored number stored; schedule = stored.schedule }
+
+abbrev change_as : {K : Type 0} → (K → ℕ) → Workspace K → (asks_group : Bool) → GroupChange
+change_as number work asks_group = record { group = work.group.state; query = set_of number work.asked.items; query_group = asks_group }
+
+abbrev asked_as : {K : Type 0} → Workspace K → ScheduleState → ScheduledGroup
+asked_as work schedule = record { group = work.group.state; schedule = schedule }
+
+-- what is written is the change of the statement, in its setting
+written : (g : Over) (c : After-change g) → (let number = g.F.Address.Key.number in let at = c.args.self.now in
+    change_stated (v1_mutes_leave at.config.family) (is_muted at.config (number c.args.sought.address) (statement_of c.args.said (named_in number c.args.storage.now.work.named.members))) at.election.timing at.now (statement_of c.args.said (named_in number c.args.storage.now.work.named.members)) (group_stored number c.look-stored.result)
+    ≡ change_written number c.change.new.self.group.state c.change.new.self.asked.items c.change.result)
+written g c =
+    let number = g.F.Address.Key.number in
+    let names = named_in number c.args.storage.now.work.named.members in
+    let mutes = c.V1_MUTES_LEAVE.ensures ∙ g.met.F.Family.v1_mutes_leave ∙ ap v1_mutes_leave (sym c.lemma_is_sound.ensures.family) in
+    let in_force = sym c.in_force-at.ensures.in_force in
+    (λ i. change_stated (sym mutes i) (sym (c.is_muted.ensures names) i) (in_force i).timing (in_force i).moment (statement_of c.args.said names) (group_stored number c.look-stored.result)) ∙ c.change.ensures.changes
+
+-- what the change has spent is at least the work on the group
+spent_changing : (g : Over) (c : After-change g) → (let number = g.F.Address.Key.number in let members = c.args.storage.now.work.named.members in
+    Spends (least_work c.args.self.now (number c.args.sought.address) (statement_of c.args.said (named_in number members)) c.args.storage.now.held.groups) (size_of (group_stored number c.look-stored.result) + length members + 2) c.args.storage.now.work.meter c.change.new.self.meter)
+spent_changing g c =
+    let number = g.F.Address.Key.number in
+    let members = c.args.storage.now.work.named.members in
+    let st = statement_of c.args.said (named_in number members) in
+    let before = stored_as number c.look-stored.result in
+    let mutes = c.V1_MUTES_LEAVE.ensures ∙ g.met.F.Family.v1_mutes_leave ∙ ap v1_mutes_leave (sym c.lemma_is_sound.ensures.family) in
+    let moment = ap (λ (f : InForce). f.moment) c.in_force-at.ensures.in_force in
+    let so_far = subst (λ n. Spends (least_merge (size_of before.group) (acts_as c.V1_MUTES_LEAVE.result c.is_muted.result (hosts_of before.group n) st)) (size_of before.group + length members + 2) c.args.storage.now.work.meter c.change.new.self.meter) moment c.change.ensures.spent in
+    worked c.args.self.now (number c.args.sought.address) st c.args.storage.now.held.groups before c.V1_MUTES_LEAVE.result c.is_muted.result _ _ _ mutes (c.is_muted.ensures (named_in number members)) c.look-stored.ensures.group so_far
+
+-- what is asked for is that of the change
+asked_so : (g : Over) (c : After-ask g) → (let number = g.F.Address.Key.number in let at = c.args.self.now in
+    asked_as c.ask.new.self c.ask.new.schedule ≡ after_change (is_querier at.election.role) at.election.timing at.now (change_as number c.change.new.self c.in-Some.asks_group) c.look-stored.result.schedule)
+asked_so g c =
+    let number = g.F.Address.Key.number in
+    let in_force = c.in_force-at.ensures.in_force in
+    c.ask.ensures.asked ∙ (λ i. after_change (in_force i).is_querier (in_force i).timing (in_force i).moment (change_as number c.change.new.self c.in-Some.asks_group) c.look-stored.result.schedule)
+
+few_so : (g : Over) (c : After-ask g) → (let number = g.F.Address.Key.number in
+    AreFew (size_of (group_stored number c.look-stored.result)) (size_of c.change.new.self.group.state) (size_of c.ask.new.self.group.state) (length c.args.storage.now.work.named.members))
+few_so g c =
+    let number = g.F.Address.Key.number in
+    let at = c.args.self.now in
+    made_few number (v1_mutes_leave at.config.family) _ at.election.timing at.now c.args.said c.args.storage.now.work.named.members (stored_as number c.look-stored.result) c.change.new.self.group.state c.change.new.self.asked.items c.change.result c.in-Some.asks_group (is_querier at.election.role) (asked_as c.ask.new.self c.ask.new.schedule) (written g c.before.before.before.before.before.before) c.in-Some.is (asked_so g c)
+
+-- the change of this group, and which limit it passes
+changed : (g : Over) (c : After-refusal g) → (let number = g.F.Address.Key.number in
+    IsChanged c.args.self.now (number c.args.sought.address) (statement_of c.args.said (named_in number c.args.storage.now.work.named.members)) c.args.storage.now.held.groups (stored_as number c.look-stored.result) (change_as number c.change.new.self c.in-Some.asks_group) (asked_as c.ask.new.self c.ask.new.schedule) c.refusal.result)
+changed g c =
+    let number = g.F.Address.Key.number in
+    let at = c.args.self.now in
+    let address = number c.args.sought.address in
+    let groups = c.args.storage.now.held.groups in
+    let asked = asked_as c.ask.new.self c.ask.new.schedule in
+    let moment = ap (λ (f : InForce). f.moment) c.in_force-at.ensures.in_force in
+    let limits = c.limits-limits.ensures ∙ ap (λ (k : Configuration). k.limits) c.config.ensures in
+    let name = c.refusal.ensures.name at.election.timing address (record { is_held = held_by_place groups address c.args.sought.place c.requires.sought ∙ sym c.is_ok.ensures.value; sources = sym c.look-stored.ensures.len; schedule = ap (λ (e : ScheduledGroup). e.schedule) (sym c.look-stored.ensures.group) }) in
+    record {
+      before_is = c.look-stored.ensures.group;
+      change_is = written g c.before.before.before.before.before.before.before.before.before.before.before.before.before.before ∙ ap (change_written number c.change.new.self.group.state c.change.new.self.asked.items) c.in-Some.is;
+      asked_is = asked_so g c.before.before.before.before.before.before.before.before;
+      passed_is = name ∙ (λ i. limit_passed (limits i) (with_group groups address (after_round at.election.timing (moment i) asked)) (after_round at.election.timing (moment i) asked));
+    }
+
+judged : (g : Over) (c : After-refusal g) → (let number = g.F.Address.Key.number in let at = c.args.self.now in let address = number c.args.sought.address in let groups = c.args.storage.now.held.groups in let asked = asked_as c.ask.new.self c.ask.new.schedule in
+    stated at address (statement_of c.args.said (named_in number c.args.storage.now.work.named.members)) groups ≡ unless_passed c.refusal.result groups (with_group groups address (after_sending at asked)) (sent_at_once at address asked))
+judged g c = stated_judged _ _ _ _ _ _ _ _ (changed g c)
+
+-- a statement that is muted is ignored
+ignored : (g : Over) (c : After-change g) → c.change.result ≡ None → (let number = g.F.Address.Key.number in
+    stated c.args.self.now (number c.args.sought.address) (statement_of c.args.said (named_in number c.args.storage.now.work.named.members)) c.args.storage.now.held.groups ≡ leaving c.args.storage.now.held.groups Ignored)
+ignored g c none =
+    let number = g.F.Address.Key.number in
+    stated_ignored _ _ _ _ (stored_as number c.look-stored.result) c.look-stored.ensures.group (written g c ∙ ap (change_written number c.change.new.self.group.state c.change.new.self.asked.items) none)
 
 pub returns-in_default-clause-verdict : goal.returns-in_default-clause-verdict
 returns-in_default-clause-verdict g c =
-    let at : Setting = c.args.self.now in
-    let number = g.F.Address.Key.number in
-    let address = number c.args.sought.address in
-    let groups = c.args.storage.now.held.groups in
-    let st = statement_of c.args.said (named_in number c.args.storage.now.work.named.members) in
-    let stored = c.look-stored.result in
-    let before : ScheduledGroup = record { group = group_stored number stored; schedule = stored.schedule } in
-    let family_is = c.lemma_is_sound.ensures.family in
-    let mutes = c.V1_MUTES_LEAVE.ensures ∙ g.met.F.Family.v1_mutes_leave ∙ ap v1_mutes_leave (sym family_is) in
-    let muted = c.is_muted.ensures (named_in number c.args.storage.now.work.named.members) in
-    let in_force = c.in_force-at.ensures.in_force in
-    let timing = ap (λ (f : InForce). f.timing) in_force in
-    let moment = ap (λ (f : InForce). f.moment) in_force in
-    let written = c.change in
-    let changed : change_stated c.V1_MUTES_LEAVE.result c.is_muted.result at.election.timing at.now st before.group ≡ change_written number written.new.self.group.state written.new.self.asked.items written.result =
-    (λ i. change_stated c.V1_MUTES_LEAVE.result c.is_muted.result (sym timing i) (sym moment i) st before.group) ∙ written.ensures.changes
-    in
-    let none = changed ∙ ap (change_written number written.new.self.group.state written.new.self.asked.items) c.in_default.is in
-    let is = stated_ignored at address st groups before c.look-stored.ensures.group ((λ i. change_stated (sym mutes i) (sym muted i) at.election.timing at.now st before.group) ∙ none) in
-    ap (λ (o : Outcome). o.verdict) (sym is)
+    ap (λ (o : Outcome). o.verdict) (sym (ignored g c.before c.in_default.is))
 
 pub returns-in_default-clause-groups : goal.returns-in_default-clause-groups
 returns-in_default-clause-groups g c =
-    let at : Setting = c.args.self.now in
-    let number = g.F.Address.Key.number in
-    let address = number c.args.sought.address in
-    let groups = c.args.storage.now.held.groups in
-    let st = statement_of c.args.said (named_in number c.args.storage.now.work.named.members) in
-    let stored = c.look-stored.result in
-    let before : ScheduledGroup = record { group = group_stored number stored; schedule = stored.schedule } in
-    let family_is = c.lemma_is_sound.ensures.family in
-    let mutes = c.V1_MUTES_LEAVE.ensures ∙ g.met.F.Family.v1_mutes_leave ∙ ap v1_mutes_leave (sym family_is) in
-    let muted = c.is_muted.ensures (named_in number c.args.storage.now.work.named.members) in
-    let in_force = c.in_force-at.ensures.in_force in
-    let timing = ap (λ (f : InForce). f.timing) in_force in
-    let moment = ap (λ (f : InForce). f.moment) in_force in
-    let written = c.change in
-    let changed : change_stated c.V1_MUTES_LEAVE.result c.is_muted.result at.election.timing at.now st before.group ≡ change_written number written.new.self.group.state written.new.self.asked.items written.result =
-    (λ i. change_stated c.V1_MUTES_LEAVE.result c.is_muted.result (sym timing i) (sym moment i) st before.group) ∙ written.ensures.changes
-    in
-    let none = changed ∙ ap (change_written number written.new.self.group.state written.new.self.asked.items) c.in_default.is in
-    let is = stated_ignored at address st groups before c.look-stored.ensures.group ((λ i. change_stated (sym mutes i) (sym muted i) at.election.timing at.now st before.group) ∙ none) in
-    ap (λ (o : Outcome). o.groups) (sym is)
+    ap (λ (o : Outcome). o.groups) (sym (ignored g c.before c.in_default.is))
 
 pub returns-in_default-clause-sent : goal.returns-in_default-clause-sent
 returns-in_default-clause-sent g c =
-    let at : Setting = c.args.self.now in
-    let number = g.F.Address.Key.number in
-    let address = number c.args.sought.address in
-    let groups = c.args.storage.now.held.groups in
-    let st = statement_of c.args.said (named_in number c.args.storage.now.work.named.members) in
-    let stored = c.look-stored.result in
-    let before : ScheduledGroup = record { group = group_stored number stored; schedule = stored.schedule } in
-    let family_is = c.lemma_is_sound.ensures.family in
-    let mutes = c.V1_MUTES_LEAVE.ensures ∙ g.met.F.Family.v1_mutes_leave ∙ ap v1_mutes_leave (sym family_is) in
-    let muted = c.is_muted.ensures (named_in number c.args.storage.now.work.named.members) in
-    let in_force = c.in_force-at.ensures.in_force in
-    let timing = ap (λ (f : InForce). f.timing) in_force in
-    let moment = ap (λ (f : InForce). f.moment) in_force in
-    let written = c.change in
-    let changed : change_stated c.V1_MUTES_LEAVE.result c.is_muted.result at.election.timing at.now st before.group ≡ change_written number written.new.self.group.state written.new.self.asked.items written.result =
-    (λ i. change_stated c.V1_MUTES_LEAVE.result c.is_muted.result (sym timing i) (sym moment i) st before.group) ∙ written.ensures.changes
-    in
-    let none = changed ∙ ap (change_written number written.new.self.group.state written.new.self.asked.items) c.in_default.is in
-    let is = stated_ignored at address st groups before c.look-stored.ensures.group ((λ i. change_stated (sym mutes i) (sym muted i) at.election.timing at.now st before.group) ∙ none) in
-    subst (λ (o : Outcome). Sends g.S.Sink.takes c.args.sink.now o.queries c.args.sink.now) (sym is) refl
+    subst (λ (o : Outcome). Sends g.S.Sink.takes c.args.sink.now o.queries c.args.sink.now) (sym (ignored g c.before c.in_default.is)) refl
 
 pub returns-in_default-clause-spent : goal.returns-in_default-clause-spent
 returns-in_default-clause-spent g c =
-    let at : Setting = c.args.self.now in
-    let number = g.F.Address.Key.number in
-    let address = number c.args.sought.address in
-    let groups = c.args.storage.now.held.groups in
-    let st = statement_of c.args.said (named_in number c.args.storage.now.work.named.members) in
-    let stored = c.look-stored.result in
-    let before : ScheduledGroup = record { group = group_stored number stored; schedule = stored.schedule } in
-    let family_is = c.lemma_is_sound.ensures.family in
-    let mutes = c.V1_MUTES_LEAVE.ensures ∙ g.met.F.Family.v1_mutes_leave ∙ ap v1_mutes_leave (sym family_is) in
-    let muted = c.is_muted.ensures (named_in number c.args.storage.now.work.named.members) in
-    let in_force = c.in_force-at.ensures.in_force in
-    let timing = ap (λ (f : InForce). f.timing) in_force in
-    let moment = ap (λ (f : InForce). f.moment) in_force in
-    let written = c.change in
-    let changed : change_stated c.V1_MUTES_LEAVE.result c.is_muted.result at.election.timing at.now st before.group ≡ change_written number written.new.self.group.state written.new.self.asked.items written.result =
-    (λ i. change_stated c.V1_MUTES_LEAVE.result c.is_muted.result (sym timing i) (sym moment i) st before.group) ∙ written.ensures.changes
-    in
     let size_before = ap (λ (e : ScheduledGroup). size_of e.group) c.look-stored.ensures.group in
-    let work = least_work at address st groups in
-    let so_far = subst (λ n. Spends (least_merge (size_of before.group) (acts_as c.V1_MUTES_LEAVE.result c.is_muted.result (hosts_of before.group n) st)) (size_of before.group + length c.args.storage.now.work.named.members + 2) c.args.storage.now.work.meter written.new.self.meter) moment written.ensures.spent in
-    let spent = worked at address st groups before c.V1_MUTES_LEAVE.result c.is_muted.result _ _ _ mutes muted c.look-stored.ensures.group so_far in
-    Spends-within work _ spent (omega arith) (omega (arith, size_before))
+    Spends-within _ _ (spent_changing g c.before) (omega arith) (omega (arith, size_before))
 
 pub change-requires-clause-room : goal.change-requires-clause-room
 change-requires-clause-room g c =
-    let at : Setting = c.args.self.now in
     let within = c.requires.sound.within.group_sources (g.F.Address.Key.number c.args.sought.address) in
     let named = c.requires.named in
     let room = c.requires.room.group in
@@ -132,33 +137,12 @@ change-requires-clause-room g c =
 
 pub refusal-requires-clause-few : goal.refusal-requires-clause-few
 refusal-requires-clause-few g c =
-    let at : Setting = c.args.self.now in
-    let number = g.F.Address.Key.number in
-    let address = number c.args.sought.address in
-    let groups = c.args.storage.now.held.groups in
-    let st = statement_of c.args.said (named_in number c.args.storage.now.work.named.members) in
-    let stored = c.look-stored.result in
-    let before : ScheduledGroup = record { group = group_stored number stored; schedule = stored.schedule } in
-    let family_is = c.lemma_is_sound.ensures.family in
-    let mutes = c.V1_MUTES_LEAVE.ensures ∙ g.met.F.Family.v1_mutes_leave ∙ ap v1_mutes_leave (sym family_is) in
-    let muted = c.is_muted.ensures (named_in number c.args.storage.now.work.named.members) in
-    let in_force = c.in_force-at.ensures.in_force in
-    let timing = ap (λ (f : InForce). f.timing) in_force in
-    let moment = ap (λ (f : InForce). f.moment) in_force in
-    let written = c.change in
-    let changed : change_stated c.V1_MUTES_LEAVE.result c.is_muted.result at.election.timing at.now st before.group ≡ change_written number written.new.self.group.state written.new.self.asked.items written.result =
-    (λ i. change_stated c.V1_MUTES_LEAVE.result c.is_muted.result (sym timing i) (sym moment i) st before.group) ∙ written.ensures.changes
-    in
-    let asked : ScheduledGroup = record { group = c.ask.new.self.group.state; schedule = c.ask.new.schedule } in
-    let change : GroupChange = record { group = written.new.self.group.state; query = set_of number written.new.self.asked.items; query_group = c.in-Some.asks_group } in
-    let role = ap (λ (f : InForce). f.is_querier) in_force in
-    let asked_is : asked ≡ after_change (is_querier at.election.role) at.election.timing at.now change before.schedule = c.ask.ensures.asked ∙ (λ i. after_change (role i) (timing i) (moment i) change before.schedule) in
-    let few = made_few number c.V1_MUTES_LEAVE.result c.is_muted.result at.election.timing at.now c.args.said c.args.storage.now.work.named.members before written.new.self.group.state written.new.self.asked.items written.result c.in-Some.asks_group (is_querier at.election.role) asked changed c.in-Some.is asked_is in
+    let few = few_so g c.before.before.before.before.before.before.before in
     let a = few.changed in
     let b = few.asked in
     let size_before = ap (λ (e : ScheduledGroup). size_of e.group) c.look-stored.ensures.group in
-    let most = few_sources at.config c.lemma_is_sound.ensures.faultless in
-    let within = c.requires.sound.within.group_sources address in
+    let most = few_sources c.args.self.now.config c.lemma_is_sound.ensures.faultless in
+    let within = c.requires.sound.within.group_sources (g.F.Address.Key.number c.args.sought.address) in
     let named = c.requires.named in
     omega (arith, most, within, named, size_before, a, b)
 
@@ -169,127 +153,43 @@ refusal-requires-clause-change g c =
 
 pub returns-in-Some-refusal-clause-verdict : goal.returns-in-Some-refusal-clause-verdict
 returns-in-Some-refusal-clause-verdict g c =
-    let at : Setting = c.args.self.now in
     let number = g.F.Address.Key.number in
     let address = number c.args.sought.address in
     let groups = c.args.storage.now.held.groups in
-    let st = statement_of c.args.said (named_in number c.args.storage.now.work.named.members) in
-    let stored = c.look-stored.result in
-    let before : ScheduledGroup = record { group = group_stored number stored; schedule = stored.schedule } in
-    let family_is = c.lemma_is_sound.ensures.family in
-    let mutes = c.V1_MUTES_LEAVE.ensures ∙ g.met.F.Family.v1_mutes_leave ∙ ap v1_mutes_leave (sym family_is) in
-    let muted = c.is_muted.ensures (named_in number c.args.storage.now.work.named.members) in
-    let in_force = c.in_force-at.ensures.in_force in
-    let timing = ap (λ (f : InForce). f.timing) in_force in
-    let moment = ap (λ (f : InForce). f.moment) in_force in
-    let written = c.change in
-    let changed : change_stated c.V1_MUTES_LEAVE.result c.is_muted.result at.election.timing at.now st before.group ≡ change_written number written.new.self.group.state written.new.self.asked.items written.result =
-    (λ i. change_stated c.V1_MUTES_LEAVE.result c.is_muted.result (sym timing i) (sym moment i) st before.group) ∙ written.ensures.changes
-    in
-    let asked : ScheduledGroup = record { group = c.ask.new.self.group.state; schedule = c.ask.new.schedule } in
-    let change : GroupChange = record { group = written.new.self.group.state; query = set_of number written.new.self.asked.items; query_group = c.in-Some.asks_group } in
-    let role = ap (λ (f : InForce). f.is_querier) in_force in
-    let asked_is : asked ≡ after_change (is_querier at.election.role) at.election.timing at.now change before.schedule = c.ask.ensures.asked ∙ (λ i. after_change (role i) (timing i) (moment i) change before.schedule) in
-    let name = c.refusal.ensures.name at.election.timing address (record { is_held = held_by_place groups address c.args.sought.place c.requires.sought ∙ sym c.is_ok.ensures.value; sources = sym c.look-stored.ensures.len; schedule = ap (λ (e : ScheduledGroup). e.schedule) (sym c.look-stored.ensures.group) }) in
-    let limits = c.limits-limits.ensures ∙ ap (λ (k : Configuration). k.limits) c.config.ensures in
-    let passed_is = name ∙ (λ i. limit_passed (limits i) (with_group groups address (after_round at.election.timing (moment i) asked)) (after_round at.election.timing (moment i) asked)) in
-    let did = is_changed number at address st groups written.new.self.group.state written.new.self.asked.items written.result c.in-Some.asks_group before asked c.refusal.result c.V1_MUTES_LEAVE.result c.is_muted.result (is_querier at.election.role) at.election.timing mutes muted refl refl c.look-stored.ensures.group changed c.in-Some.is asked_is passed_is in
-    let is = stated_judged at address st groups before change asked c.refusal.result did ∙ ap (λ p. unless_passed p groups (with_group groups address (after_sending at asked)) (sent_at_once at address asked)) c.in-Some-refusal.is in
+    let is = judged g c.before ∙ ap (λ p. unless_passed p groups (with_group groups address (after_sending c.args.self.now (asked_as c.ask.new.self c.ask.new.schedule))) (sent_at_once c.args.self.now address (asked_as c.ask.new.self c.ask.new.schedule))) c.in-Some-refusal.is in
     ap (λ (o : Outcome). o.verdict) (sym is)
 
 pub returns-in-Some-refusal-clause-groups : goal.returns-in-Some-refusal-clause-groups
 returns-in-Some-refusal-clause-groups g c =
-    let at : Setting = c.args.self.now in
     let number = g.F.Address.Key.number in
     let address = number c.args.sought.address in
     let groups = c.args.storage.now.held.groups in
-    let st = statement_of c.args.said (named_in number c.args.storage.now.work.named.members) in
-    let stored = c.look-stored.result in
-    let before : ScheduledGroup = record { group = group_stored number stored; schedule = stored.schedule } in
-    let family_is = c.lemma_is_sound.ensures.family in
-    let mutes = c.V1_MUTES_LEAVE.ensures ∙ g.met.F.Family.v1_mutes_leave ∙ ap v1_mutes_leave (sym family_is) in
-    let muted = c.is_muted.ensures (named_in number c.args.storage.now.work.named.members) in
-    let in_force = c.in_force-at.ensures.in_force in
-    let timing = ap (λ (f : InForce). f.timing) in_force in
-    let moment = ap (λ (f : InForce). f.moment) in_force in
-    let written = c.change in
-    let changed : change_stated c.V1_MUTES_LEAVE.result c.is_muted.result at.election.timing at.now st before.group ≡ change_written number written.new.self.group.state written.new.self.asked.items written.result =
-    (λ i. change_stated c.V1_MUTES_LEAVE.result c.is_muted.result (sym timing i) (sym moment i) st before.group) ∙ written.ensures.changes
-    in
-    let asked : ScheduledGroup = record { group = c.ask.new.self.group.state; schedule = c.ask.new.schedule } in
-    let change : GroupChange = record { group = written.new.self.group.state; query = set_of number written.new.self.asked.items; query_group = c.in-Some.asks_group } in
-    let role = ap (λ (f : InForce). f.is_querier) in_force in
-    let asked_is : asked ≡ after_change (is_querier at.election.role) at.election.timing at.now change before.schedule = c.ask.ensures.asked ∙ (λ i. after_change (role i) (timing i) (moment i) change before.schedule) in
-    let name = c.refusal.ensures.name at.election.timing address (record { is_held = held_by_place groups address c.args.sought.place c.requires.sought ∙ sym c.is_ok.ensures.value; sources = sym c.look-stored.ensures.len; schedule = ap (λ (e : ScheduledGroup). e.schedule) (sym c.look-stored.ensures.group) }) in
-    let limits = c.limits-limits.ensures ∙ ap (λ (k : Configuration). k.limits) c.config.ensures in
-    let passed_is = name ∙ (λ i. limit_passed (limits i) (with_group groups address (after_round at.election.timing (moment i) asked)) (after_round at.election.timing (moment i) asked)) in
-    let did = is_changed number at address st groups written.new.self.group.state written.new.self.asked.items written.result c.in-Some.asks_group before asked c.refusal.result c.V1_MUTES_LEAVE.result c.is_muted.result (is_querier at.election.role) at.election.timing mutes muted refl refl c.look-stored.ensures.group changed c.in-Some.is asked_is passed_is in
-    let is = stated_judged at address st groups before change asked c.refusal.result did ∙ ap (λ p. unless_passed p groups (with_group groups address (after_sending at asked)) (sent_at_once at address asked)) c.in-Some-refusal.is in
+    let is = judged g c.before ∙ ap (λ p. unless_passed p groups (with_group groups address (after_sending c.args.self.now (asked_as c.ask.new.self c.ask.new.schedule))) (sent_at_once c.args.self.now address (asked_as c.ask.new.self c.ask.new.schedule))) c.in-Some-refusal.is in
     ap (λ (s : Storage _). s.held.groups) c.refusal.ensures.left ∙ ap (λ (o : Outcome). o.groups) (sym is)
 
 pub returns-in-Some-refusal-clause-sent : goal.returns-in-Some-refusal-clause-sent
 returns-in-Some-refusal-clause-sent g c =
-    let at : Setting = c.args.self.now in
     let number = g.F.Address.Key.number in
     let address = number c.args.sought.address in
     let groups = c.args.storage.now.held.groups in
-    let st = statement_of c.args.said (named_in number c.args.storage.now.work.named.members) in
-    let stored = c.look-stored.result in
-    let before : ScheduledGroup = record { group = group_stored number stored; schedule = stored.schedule } in
-    let family_is = c.lemma_is_sound.ensures.family in
-    let mutes = c.V1_MUTES_LEAVE.ensures ∙ g.met.F.Family.v1_mutes_leave ∙ ap v1_mutes_leave (sym family_is) in
-    let muted = c.is_muted.ensures (named_in number c.args.storage.now.work.named.members) in
-    let in_force = c.in_force-at.ensures.in_force in
-    let timing = ap (λ (f : InForce). f.timing) in_force in
-    let moment = ap (λ (f : InForce). f.moment) in_force in
-    let written = c.change in
-    let changed : change_stated c.V1_MUTES_LEAVE.result c.is_muted.result at.election.timing at.now st before.group ≡ change_written number written.new.self.group.state written.new.self.asked.items written.result =
-    (λ i. change_stated c.V1_MUTES_LEAVE.result c.is_muted.result (sym timing i) (sym moment i) st before.group) ∙ written.ensures.changes
-    in
-    let asked : ScheduledGroup = record { group = c.ask.new.self.group.state; schedule = c.ask.new.schedule } in
-    let change : GroupChange = record { group = written.new.self.group.state; query = set_of number written.new.self.asked.items; query_group = c.in-Some.asks_group } in
-    let role = ap (λ (f : InForce). f.is_querier) in_force in
-    let asked_is : asked ≡ after_change (is_querier at.election.role) at.election.timing at.now change before.schedule = c.ask.ensures.asked ∙ (λ i. after_change (role i) (timing i) (moment i) change before.schedule) in
-    let name = c.refusal.ensures.name at.election.timing address (record { is_held = held_by_place groups address c.args.sought.place c.requires.sought ∙ sym c.is_ok.ensures.value; sources = sym c.look-stored.ensures.len; schedule = ap (λ (e : ScheduledGroup). e.schedule) (sym c.look-stored.ensures.group) }) in
-    let limits = c.limits-limits.ensures ∙ ap (λ (k : Configuration). k.limits) c.config.ensures in
-    let passed_is = name ∙ (λ i. limit_passed (limits i) (with_group groups address (after_round at.election.timing (moment i) asked)) (after_round at.election.timing (moment i) asked)) in
-    let did = is_changed number at address st groups written.new.self.group.state written.new.self.asked.items written.result c.in-Some.asks_group before asked c.refusal.result c.V1_MUTES_LEAVE.result c.is_muted.result (is_querier at.election.role) at.election.timing mutes muted refl refl c.look-stored.ensures.group changed c.in-Some.is asked_is passed_is in
-    let is = stated_judged at address st groups before change asked c.refusal.result did ∙ ap (λ p. unless_passed p groups (with_group groups address (after_sending at asked)) (sent_at_once at address asked)) c.in-Some-refusal.is in
+    let is = judged g c.before ∙ ap (λ p. unless_passed p groups (with_group groups address (after_sending c.args.self.now (asked_as c.ask.new.self c.ask.new.schedule))) (sent_at_once c.args.self.now address (asked_as c.ask.new.self c.ask.new.schedule))) c.in-Some-refusal.is in
     subst (λ (o : Outcome). Sends g.S.Sink.takes c.args.sink.now o.queries c.args.sink.now) (sym is) refl
+
+-- what it has spent until it is judged
+spent_judging : (g : Over) (c : After-refusal g) → (let number = g.F.Address.Key.number in let members = c.args.storage.now.work.named.members in
+    Spends (least_work c.args.self.now (number c.args.sought.address) (statement_of c.args.said (named_in number members)) c.args.storage.now.held.groups) (3 * (size_of (group_stored number c.look-stored.result) + length members) + 5) c.args.storage.now.work.meter c.refusal.new.self.work.meter)
+spent_judging g c =
+    let number = g.F.Address.Key.number in
+    let a = (few_so g c.before.before.before.before.before.before.before.before).changed in
+    let sizes = size_of (group_stored number c.look-stored.result) + length c.args.storage.now.work.named.members in
+    let work = least_work c.args.self.now (number c.args.sought.address) (statement_of c.args.said (named_in number c.args.storage.now.work.named.members)) c.args.storage.now.held.groups in
+    let changing = Spends-join_within work (3 * sizes + 3) (spent_changing g c.before.before.before.before.before.before.before.before.before.before.before.before.before.before) c.ask.ensures.spent (omega arith) (omega (arith, a)) in
+    Spends-join_within work _ changing c.refusal.ensures.spent (omega arith) (omega arith)
 
 pub returns-in-Some-refusal-clause-spent : goal.returns-in-Some-refusal-clause-spent
 returns-in-Some-refusal-clause-spent g c =
-    let at : Setting = c.args.self.now in
-    let number = g.F.Address.Key.number in
-    let address = number c.args.sought.address in
-    let groups = c.args.storage.now.held.groups in
-    let st = statement_of c.args.said (named_in number c.args.storage.now.work.named.members) in
-    let stored = c.look-stored.result in
-    let before : ScheduledGroup = record { group = group_stored number stored; schedule = stored.schedule } in
-    let family_is = c.lemma_is_sound.ensures.family in
-    let mutes = c.V1_MUTES_LEAVE.ensures ∙ g.met.F.Family.v1_mutes_leave ∙ ap v1_mutes_leave (sym family_is) in
-    let muted = c.is_muted.ensures (named_in number c.args.storage.now.work.named.members) in
-    let in_force = c.in_force-at.ensures.in_force in
-    let timing = ap (λ (f : InForce). f.timing) in_force in
-    let moment = ap (λ (f : InForce). f.moment) in_force in
-    let written = c.change in
-    let changed : change_stated c.V1_MUTES_LEAVE.result c.is_muted.result at.election.timing at.now st before.group ≡ change_written number written.new.self.group.state written.new.self.asked.items written.result =
-    (λ i. change_stated c.V1_MUTES_LEAVE.result c.is_muted.result (sym timing i) (sym moment i) st before.group) ∙ written.ensures.changes
-    in
-    let asked : ScheduledGroup = record { group = c.ask.new.self.group.state; schedule = c.ask.new.schedule } in
-    let change : GroupChange = record { group = written.new.self.group.state; query = set_of number written.new.self.asked.items; query_group = c.in-Some.asks_group } in
-    let role = ap (λ (f : InForce). f.is_querier) in_force in
-    let asked_is : asked ≡ after_change (is_querier at.election.role) at.election.timing at.now change before.schedule = c.ask.ensures.asked ∙ (λ i. after_change (role i) (timing i) (moment i) change before.schedule) in
-    let few = made_few number c.V1_MUTES_LEAVE.result c.is_muted.result at.election.timing at.now c.args.said c.args.storage.now.work.named.members before written.new.self.group.state written.new.self.asked.items written.result c.in-Some.asks_group (is_querier at.election.role) asked changed c.in-Some.is asked_is in
-    let a = few.changed in
-    let b = few.asked in
     let size_before = ap (λ (e : ScheduledGroup). size_of e.group) c.look-stored.ensures.group in
-    let work = least_work at address st groups in
-    let so_far = subst (λ n. Spends (least_merge (size_of before.group) (acts_as c.V1_MUTES_LEAVE.result c.is_muted.result (hosts_of before.group n) st)) (size_of before.group + length c.args.storage.now.work.named.members + 2) c.args.storage.now.work.meter written.new.self.meter) moment written.ensures.spent in
-    let spent = worked at address st groups before c.V1_MUTES_LEAVE.result c.is_muted.result _ _ _ mutes muted c.look-stored.ensures.group so_far in
-    let changing = Spends-join_within work (3 * (size_of before.group + length c.args.storage.now.work.named.members) + 3) spent c.ask.ensures.spent (omega arith) (omega (arith, a)) in
-    let judging = Spends-join_within work (3 * (size_of before.group + length c.args.storage.now.work.named.members) + 5) changing c.refusal.ensures.spent (omega arith) (omega arith) in
-    Spends-within work _ judging (omega arith) (omega (arith, size_before))
+    Spends-within _ _ (spent_judging g c.before) (omega arith) (omega (arith, size_before))
 
 pub keep-requires-clause-sought : goal.keep-requires-clause-sought
 keep-requires-clause-sought g c =
@@ -297,243 +197,96 @@ keep-requires-clause-sought g c =
 
 pub keep-requires-clause-held : goal.keep-requires-clause-held
 keep-requires-clause-held g c =
-    let at : Setting = c.args.self.now in
     let number = g.F.Address.Key.number in
     let address = number c.args.sought.address in
     let groups = c.args.storage.now.held.groups in
-    let st = statement_of c.args.said (named_in number c.args.storage.now.work.named.members) in
-    let stored = c.look-stored.result in
-    let before : ScheduledGroup = record { group = group_stored number stored; schedule = stored.schedule } in
-    let family_is = c.lemma_is_sound.ensures.family in
-    let mutes = c.V1_MUTES_LEAVE.ensures ∙ g.met.F.Family.v1_mutes_leave ∙ ap v1_mutes_leave (sym family_is) in
-    let muted = c.is_muted.ensures (named_in number c.args.storage.now.work.named.members) in
+    let at = c.args.self.now in
     let in_force = c.in_force-at.ensures.in_force in
-    let timing = ap (λ (f : InForce). f.timing) in_force in
-    let moment = ap (λ (f : InForce). f.moment) in_force in
-    let written = c.change in
-    let changed : change_stated c.V1_MUTES_LEAVE.result c.is_muted.result at.election.timing at.now st before.group ≡ change_written number written.new.self.group.state written.new.self.asked.items written.result =
-    (λ i. change_stated c.V1_MUTES_LEAVE.result c.is_muted.result (sym timing i) (sym moment i) st before.group) ∙ written.ensures.changes
-    in
-    let asked : ScheduledGroup = record { group = c.ask.new.self.group.state; schedule = c.ask.new.schedule } in
-    let change : GroupChange = record { group = written.new.self.group.state; query = set_of number written.new.self.asked.items; query_group = c.in-Some.asks_group } in
-    let role = ap (λ (f : InForce). f.is_querier) in_force in
-    let asked_is : asked ≡ after_change (is_querier at.election.role) at.election.timing at.now change before.schedule = c.ask.ensures.asked ∙ (λ i. after_change (role i) (timing i) (moment i) change before.schedule) in
-    let name = c.refusal.ensures.name at.election.timing address (record { is_held = held_by_place groups address c.args.sought.place c.requires.sought ∙ sym c.is_ok.ensures.value; sources = sym c.look-stored.ensures.len; schedule = ap (λ (e : ScheduledGroup). e.schedule) (sym c.look-stored.ensures.group) }) in
-    let limits = c.limits-limits.ensures ∙ ap (λ (k : Configuration). k.limits) c.config.ensures in
-    let passed_is = name ∙ (λ i. limit_passed (limits i) (with_group groups address (after_round at.election.timing (moment i) asked)) (after_round at.election.timing (moment i) asked)) in
-    let did = is_changed number at address st groups written.new.self.group.state written.new.self.asked.items written.result c.in-Some.asks_group before asked c.refusal.result c.V1_MUTES_LEAVE.result c.is_muted.result (is_querier at.election.role) at.election.timing mutes muted refl refl c.look-stored.ensures.group changed c.in-Some.is asked_is passed_is in
-    let kept = ap (λ (s : Storage _). s.work.group.state) c.refusal.ensures.left in
+    let kept = c.refusal.ensures.left in
     let left : ScheduledGroup = record { group = c.round.new.group.state; schedule = c.round.new.self } in
-    let left_is : left ≡ after_round at.election.timing at.now asked = c.round.ensures.after ∙ (λ i. let e : ScheduledGroup = record { group = kept i; schedule = c.ask.new.schedule } in after_round (timing i) (moment i) e) in
-    let positive = c.lemma_is_sound.ensures.positive in
-    kept_is_held at address st groups before change asked c.refusal.result did positive c.requires.admitted c.requires.sound left left_is
+    let left_is : left ≡ after_sending at (asked_as c.ask.new.self c.ask.new.schedule) = c.round.ensures.after ∙ (λ i. after_round (in_force i).timing (in_force i).moment (asked_as (kept i).work c.ask.new.schedule)) in
+    kept_is_held _ address _ groups _ _ _ _ (changed g c.before.before.before.before.before.before.before.before.before.before.before) c.lemma_is_sound.ensures.positive c.requires.admitted c.requires.sound left left_is
 
 pub keep-requires-clause-room : goal.keep-requires-clause-room
 keep-requires-clause-room g c =
-    let at : Setting = c.args.self.now in
     let number = g.F.Address.Key.number in
     let address = number c.args.sought.address in
     let groups = c.args.storage.now.held.groups in
-    let st = statement_of c.args.said (named_in number c.args.storage.now.work.named.members) in
-    let stored = c.look-stored.result in
-    let before : ScheduledGroup = record { group = group_stored number stored; schedule = stored.schedule } in
-    let family_is = c.lemma_is_sound.ensures.family in
-    let mutes = c.V1_MUTES_LEAVE.ensures ∙ g.met.F.Family.v1_mutes_leave ∙ ap v1_mutes_leave (sym family_is) in
-    let muted = c.is_muted.ensures (named_in number c.args.storage.now.work.named.members) in
+    let at = c.args.self.now in
     let in_force = c.in_force-at.ensures.in_force in
-    let timing = ap (λ (f : InForce). f.timing) in_force in
-    let moment = ap (λ (f : InForce). f.moment) in_force in
-    let written = c.change in
-    let changed : change_stated c.V1_MUTES_LEAVE.result c.is_muted.result at.election.timing at.now st before.group ≡ change_written number written.new.self.group.state written.new.self.asked.items written.result =
-    (λ i. change_stated c.V1_MUTES_LEAVE.result c.is_muted.result (sym timing i) (sym moment i) st before.group) ∙ written.ensures.changes
-    in
-    let asked : ScheduledGroup = record { group = c.ask.new.self.group.state; schedule = c.ask.new.schedule } in
-    let change : GroupChange = record { group = written.new.self.group.state; query = set_of number written.new.self.asked.items; query_group = c.in-Some.asks_group } in
-    let role = ap (λ (f : InForce). f.is_querier) in_force in
-    let asked_is : asked ≡ after_change (is_querier at.election.role) at.election.timing at.now change before.schedule = c.ask.ensures.asked ∙ (λ i. after_change (role i) (timing i) (moment i) change before.schedule) in
-    let name = c.refusal.ensures.name at.election.timing address (record { is_held = held_by_place groups address c.args.sought.place c.requires.sought ∙ sym c.is_ok.ensures.value; sources = sym c.look-stored.ensures.len; schedule = ap (λ (e : ScheduledGroup). e.schedule) (sym c.look-stored.ensures.group) }) in
-    let limits = c.limits-limits.ensures ∙ ap (λ (k : Configuration). k.limits) c.config.ensures in
-    let passed_is = name ∙ (λ i. limit_passed (limits i) (with_group groups address (after_round at.election.timing (moment i) asked)) (after_round at.election.timing (moment i) asked)) in
-    let did = is_changed number at address st groups written.new.self.group.state written.new.self.asked.items written.result c.in-Some.asks_group before asked c.refusal.result c.V1_MUTES_LEAVE.result c.is_muted.result (is_querier at.election.role) at.election.timing mutes muted refl refl c.look-stored.ensures.group changed c.in-Some.is asked_is passed_is in
-    let kept = ap (λ (s : Storage _). s.work.group.state) c.refusal.ensures.left in
+    let kept = c.refusal.ensures.left in
     let left : ScheduledGroup = record { group = c.round.new.group.state; schedule = c.round.new.self } in
-    let left_is : left ≡ after_round at.election.timing at.now asked = c.round.ensures.after ∙ (λ i. let e : ScheduledGroup = record { group = kept i; schedule = c.ask.new.schedule } in after_round (timing i) (moment i) e) in
-    let positive = c.lemma_is_sound.ensures.positive in
-    let most = left_has_place at address st groups before change asked c.refusal.result did positive c.requires.admitted c.requires.sound c.in_default-refusal.is in
-    let same = (λ i. map.len (with_group ((c.refusal.ensures.left i).held.groups) address left)) ∙ ap (λ e. map.len (with_group groups address e)) left_is in
-    let room = ap (λ (s : Storage _). s.held.group_room) c.refusal.ensures.left ∙ c.requires.group_room in
+    let left_is : left ≡ after_sending at (asked_as c.ask.new.self c.ask.new.schedule) = c.round.ensures.after ∙ (λ i. after_round (in_force i).timing (in_force i).moment (asked_as (kept i).work c.ask.new.schedule)) in
+    let most = left_has_place _ address _ groups _ _ _ _ (changed g c.before.before.before.before.before.before.before.before.before.before.before) c.lemma_is_sound.ensures.positive c.requires.admitted c.requires.sound c.in_default-refusal.is in
+    let same : map.len (with_group c.refusal.new.self.held.groups address left) ≡ map.len (with_group groups address (after_sending at (asked_as c.ask.new.self c.ask.new.schedule))) = λ i. map.len (with_group ((kept i).held.groups) address (left_is i)) in
+    let room = ap (λ (s : Storage _). s.held.group_room) kept ∙ c.requires.group_room in
     omega (arith, most, same, room)
 
 pub keep-requires-clause-fits : goal.keep-requires-clause-fits
 keep-requires-clause-fits g c =
-    let at : Setting = c.args.self.now in
     let number = g.F.Address.Key.number in
     let address = number c.args.sought.address in
     let groups = c.args.storage.now.held.groups in
-    let st = statement_of c.args.said (named_in number c.args.storage.now.work.named.members) in
-    let stored = c.look-stored.result in
-    let before : ScheduledGroup = record { group = group_stored number stored; schedule = stored.schedule } in
-    let family_is = c.lemma_is_sound.ensures.family in
-    let mutes = c.V1_MUTES_LEAVE.ensures ∙ g.met.F.Family.v1_mutes_leave ∙ ap v1_mutes_leave (sym family_is) in
-    let muted = c.is_muted.ensures (named_in number c.args.storage.now.work.named.members) in
+    let at = c.args.self.now in
     let in_force = c.in_force-at.ensures.in_force in
-    let timing = ap (λ (f : InForce). f.timing) in_force in
-    let moment = ap (λ (f : InForce). f.moment) in_force in
-    let written = c.change in
-    let changed : change_stated c.V1_MUTES_LEAVE.result c.is_muted.result at.election.timing at.now st before.group ≡ change_written number written.new.self.group.state written.new.self.asked.items written.result =
-    (λ i. change_stated c.V1_MUTES_LEAVE.result c.is_muted.result (sym timing i) (sym moment i) st before.group) ∙ written.ensures.changes
-    in
-    let asked : ScheduledGroup = record { group = c.ask.new.self.group.state; schedule = c.ask.new.schedule } in
-    let change : GroupChange = record { group = written.new.self.group.state; query = set_of number written.new.self.asked.items; query_group = c.in-Some.asks_group } in
-    let role = ap (λ (f : InForce). f.is_querier) in_force in
-    let asked_is : asked ≡ after_change (is_querier at.election.role) at.election.timing at.now change before.schedule = c.ask.ensures.asked ∙ (λ i. after_change (role i) (timing i) (moment i) change before.schedule) in
-    let name = c.refusal.ensures.name at.election.timing address (record { is_held = held_by_place groups address c.args.sought.place c.requires.sought ∙ sym c.is_ok.ensures.value; sources = sym c.look-stored.ensures.len; schedule = ap (λ (e : ScheduledGroup). e.schedule) (sym c.look-stored.ensures.group) }) in
-    let limits = c.limits-limits.ensures ∙ ap (λ (k : Configuration). k.limits) c.config.ensures in
-    let passed_is = name ∙ (λ i. limit_passed (limits i) (with_group groups address (after_round at.election.timing (moment i) asked)) (after_round at.election.timing (moment i) asked)) in
-    let did = is_changed number at address st groups written.new.self.group.state written.new.self.asked.items written.result c.in-Some.asks_group before asked c.refusal.result c.V1_MUTES_LEAVE.result c.is_muted.result (is_querier at.election.role) at.election.timing mutes muted refl refl c.look-stored.ensures.group changed c.in-Some.is asked_is passed_is in
-    let kept = ap (λ (s : Storage _). s.work.group.state) c.refusal.ensures.left in
+    let kept = c.refusal.ensures.left in
     let left : ScheduledGroup = record { group = c.round.new.group.state; schedule = c.round.new.self } in
-    let left_is : left ≡ after_round at.election.timing at.now asked = c.round.ensures.after ∙ (λ i. let e : ScheduledGroup = record { group = kept i; schedule = c.ask.new.schedule } in after_round (timing i) (moment i) e) in
-    let positive = c.lemma_is_sound.ensures.positive in
-    let most = left_has_room at address st groups before change asked c.refusal.result did positive c.requires.admitted c.requires.sound c.in_default-refusal.is in
+    let left_is : left ≡ after_sending at (asked_as c.ask.new.self c.ask.new.schedule) = c.round.ensures.after ∙ (λ i. after_round (in_force i).timing (in_force i).moment (asked_as (kept i).work c.ask.new.schedule)) in
+    let most = left_has_room _ address _ groups _ _ _ _ (changed g c.before.before.before.before.before.before.before.before.before.before.before) c.lemma_is_sound.ensures.positive c.requires.admitted c.requires.sound c.in_default-refusal.is in
     let same = ap (λ (e : ScheduledGroup). size_of e.group) left_is in
     let room = c.requires.source_room in
-    subst (λ (s : Storage _). sources_in s.held.groups + size_of left.group ≤ s.held.source_room + sources_of (group_at s.held.groups address)) (sym c.refusal.ensures.left) (omega (arith, most, same, room))
+    subst (λ (s : Storage _). sources_in s.held.groups + size_of left.group ≤ s.held.source_room + sources_of (group_at s.held.groups address)) (sym kept) (omega (arith, most, same, room))
 
 pub returns-clause-verdict : goal.returns-clause-verdict
 returns-clause-verdict g c =
-    let at : Setting = c.args.self.now in
     let number = g.F.Address.Key.number in
     let address = number c.args.sought.address in
     let groups = c.args.storage.now.held.groups in
-    let st = statement_of c.args.said (named_in number c.args.storage.now.work.named.members) in
-    let stored = c.look-stored.result in
-    let before : ScheduledGroup = record { group = group_stored number stored; schedule = stored.schedule } in
-    let family_is = c.lemma_is_sound.ensures.family in
-    let mutes = c.V1_MUTES_LEAVE.ensures ∙ g.met.F.Family.v1_mutes_leave ∙ ap v1_mutes_leave (sym family_is) in
-    let muted = c.is_muted.ensures (named_in number c.args.storage.now.work.named.members) in
-    let in_force = c.in_force-at.ensures.in_force in
-    let timing = ap (λ (f : InForce). f.timing) in_force in
-    let moment = ap (λ (f : InForce). f.moment) in_force in
-    let written = c.change in
-    let changed : change_stated c.V1_MUTES_LEAVE.result c.is_muted.result at.election.timing at.now st before.group ≡ change_written number written.new.self.group.state written.new.self.asked.items written.result =
-    (λ i. change_stated c.V1_MUTES_LEAVE.result c.is_muted.result (sym timing i) (sym moment i) st before.group) ∙ written.ensures.changes
-    in
-    let asked : ScheduledGroup = record { group = c.ask.new.self.group.state; schedule = c.ask.new.schedule } in
-    let change : GroupChange = record { group = written.new.self.group.state; query = set_of number written.new.self.asked.items; query_group = c.in-Some.asks_group } in
-    let role = ap (λ (f : InForce). f.is_querier) in_force in
-    let asked_is : asked ≡ after_change (is_querier at.election.role) at.election.timing at.now change before.schedule = c.ask.ensures.asked ∙ (λ i. after_change (role i) (timing i) (moment i) change before.schedule) in
-    let name = c.refusal.ensures.name at.election.timing address (record { is_held = held_by_place groups address c.args.sought.place c.requires.sought ∙ sym c.is_ok.ensures.value; sources = sym c.look-stored.ensures.len; schedule = ap (λ (e : ScheduledGroup). e.schedule) (sym c.look-stored.ensures.group) }) in
-    let limits = c.limits-limits.ensures ∙ ap (λ (k : Configuration). k.limits) c.config.ensures in
-    let passed_is = name ∙ (λ i. limit_passed (limits i) (with_group groups address (after_round at.election.timing (moment i) asked)) (after_round at.election.timing (moment i) asked)) in
-    let did = is_changed number at address st groups written.new.self.group.state written.new.self.asked.items written.result c.in-Some.asks_group before asked c.refusal.result c.V1_MUTES_LEAVE.result c.is_muted.result (is_querier at.election.role) at.election.timing mutes muted refl refl c.look-stored.ensures.group changed c.in-Some.is asked_is passed_is in
-    let is = stated_judged at address st groups before change asked c.refusal.result did ∙ ap (λ p. unless_passed p groups (with_group groups address (after_sending at asked)) (sent_at_once at address asked)) c.in_default-refusal.is in
+    let is = judged g c.before.before.before.before.before.before.before.before.before.before.before.before ∙ ap (λ p. unless_passed p groups (with_group groups address (after_sending c.args.self.now (asked_as c.ask.new.self c.ask.new.schedule))) (sent_at_once c.args.self.now address (asked_as c.ask.new.self c.ask.new.schedule))) c.in_default-refusal.is in
     ap (λ (o : Outcome). o.verdict) (sym is)
 
 pub returns-clause-groups : goal.returns-clause-groups
 returns-clause-groups g c =
-    let at : Setting = c.args.self.now in
     let number = g.F.Address.Key.number in
     let address = number c.args.sought.address in
     let groups = c.args.storage.now.held.groups in
-    let st = statement_of c.args.said (named_in number c.args.storage.now.work.named.members) in
-    let stored = c.look-stored.result in
-    let before : ScheduledGroup = record { group = group_stored number stored; schedule = stored.schedule } in
-    let family_is = c.lemma_is_sound.ensures.family in
-    let mutes = c.V1_MUTES_LEAVE.ensures ∙ g.met.F.Family.v1_mutes_leave ∙ ap v1_mutes_leave (sym family_is) in
-    let muted = c.is_muted.ensures (named_in number c.args.storage.now.work.named.members) in
+    let at = c.args.self.now in
     let in_force = c.in_force-at.ensures.in_force in
-    let timing = ap (λ (f : InForce). f.timing) in_force in
-    let moment = ap (λ (f : InForce). f.moment) in_force in
-    let written = c.change in
-    let changed : change_stated c.V1_MUTES_LEAVE.result c.is_muted.result at.election.timing at.now st before.group ≡ change_written number written.new.self.group.state written.new.self.asked.items written.result =
-    (λ i. change_stated c.V1_MUTES_LEAVE.result c.is_muted.result (sym timing i) (sym moment i) st before.group) ∙ written.ensures.changes
-    in
-    let asked : ScheduledGroup = record { group = c.ask.new.self.group.state; schedule = c.ask.new.schedule } in
-    let change : GroupChange = record { group = written.new.self.group.state; query = set_of number written.new.self.asked.items; query_group = c.in-Some.asks_group } in
-    let role = ap (λ (f : InForce). f.is_querier) in_force in
-    let asked_is : asked ≡ after_change (is_querier at.election.role) at.election.timing at.now change before.schedule = c.ask.ensures.asked ∙ (λ i. after_change (role i) (timing i) (moment i) change before.schedule) in
-    let name = c.refusal.ensures.name at.election.timing address (record { is_held = held_by_place groups address c.args.sought.place c.requires.sought ∙ sym c.is_ok.ensures.value; sources = sym c.look-stored.ensures.len; schedule = ap (λ (e : ScheduledGroup). e.schedule) (sym c.look-stored.ensures.group) }) in
-    let limits = c.limits-limits.ensures ∙ ap (λ (k : Configuration). k.limits) c.config.ensures in
-    let passed_is = name ∙ (λ i. limit_passed (limits i) (with_group groups address (after_round at.election.timing (moment i) asked)) (after_round at.election.timing (moment i) asked)) in
-    let did = is_changed number at address st groups written.new.self.group.state written.new.self.asked.items written.result c.in-Some.asks_group before asked c.refusal.result c.V1_MUTES_LEAVE.result c.is_muted.result (is_querier at.election.role) at.election.timing mutes muted refl refl c.look-stored.ensures.group changed c.in-Some.is asked_is passed_is in
-    let kept = ap (λ (s : Storage _). s.work.group.state) c.refusal.ensures.left in
+    let kept = c.refusal.ensures.left in
     let left : ScheduledGroup = record { group = c.round.new.group.state; schedule = c.round.new.self } in
-    let left_is : left ≡ after_round at.election.timing at.now asked = c.round.ensures.after ∙ (λ i. let e : ScheduledGroup = record { group = kept i; schedule = c.ask.new.schedule } in after_round (timing i) (moment i) e) in
-    let is = stated_judged at address st groups before change asked c.refusal.result did ∙ ap (λ p. unless_passed p groups (with_group groups address (after_sending at asked)) (sent_at_once at address asked)) c.in_default-refusal.is in
-    c.keep.ensures.groups ∙ (λ i. with_group ((c.refusal.ensures.left i).held.groups) address (left_is i)) ∙ ap (λ (o : Outcome). o.groups) (sym is)
+    let left_is : left ≡ after_sending at (asked_as c.ask.new.self c.ask.new.schedule) = c.round.ensures.after ∙ (λ i. after_round (in_force i).timing (in_force i).moment (asked_as (kept i).work c.ask.new.schedule)) in
+    let is = judged g c.before.before.before.before.before.before.before.before.before.before.before.before ∙ ap (λ p. unless_passed p groups (with_group groups address (after_sending c.args.self.now (asked_as c.ask.new.self c.ask.new.schedule))) (sent_at_once c.args.self.now address (asked_as c.ask.new.self c.ask.new.schedule))) c.in_default-refusal.is in
+    c.keep.ensures.groups ∙ (λ i. with_group ((kept i).held.groups) address (left_is i)) ∙ ap (λ (o : Outcome). o.groups) (sym is)
 
 pub returns-clause-sent : goal.returns-clause-sent
 returns-clause-sent g c =
-    let at : Setting = c.args.self.now in
     let number = g.F.Address.Key.number in
     let address = number c.args.sought.address in
     let groups = c.args.storage.now.held.groups in
-    let st = statement_of c.args.said (named_in number c.args.storage.now.work.named.members) in
-    let stored = c.look-stored.result in
-    let before : ScheduledGroup = record { group = group_stored number stored; schedule = stored.schedule } in
-    let family_is = c.lemma_is_sound.ensures.family in
-    let mutes = c.V1_MUTES_LEAVE.ensures ∙ g.met.F.Family.v1_mutes_leave ∙ ap v1_mutes_leave (sym family_is) in
-    let muted = c.is_muted.ensures (named_in number c.args.storage.now.work.named.members) in
+    let is = judged g c.before.before.before.before.before.before.before.before.before.before.before.before ∙ ap (λ p. unless_passed p groups (with_group groups address (after_sending c.args.self.now (asked_as c.ask.new.self c.ask.new.schedule))) (sent_at_once c.args.self.now address (asked_as c.ask.new.self c.ask.new.schedule))) c.in_default-refusal.is in
     let in_force = c.in_force-at.ensures.in_force in
-    let timing = ap (λ (f : InForce). f.timing) in_force in
-    let moment = ap (λ (f : InForce). f.moment) in_force in
-    let written = c.change in
-    let changed : change_stated c.V1_MUTES_LEAVE.result c.is_muted.result at.election.timing at.now st before.group ≡ change_written number written.new.self.group.state written.new.self.asked.items written.result =
-    (λ i. change_stated c.V1_MUTES_LEAVE.result c.is_muted.result (sym timing i) (sym moment i) st before.group) ∙ written.ensures.changes
-    in
-    let asked : ScheduledGroup = record { group = c.ask.new.self.group.state; schedule = c.ask.new.schedule } in
-    let change : GroupChange = record { group = written.new.self.group.state; query = set_of number written.new.self.asked.items; query_group = c.in-Some.asks_group } in
-    let role = ap (λ (f : InForce). f.is_querier) in_force in
-    let asked_is : asked ≡ after_change (is_querier at.election.role) at.election.timing at.now change before.schedule = c.ask.ensures.asked ∙ (λ i. after_change (role i) (timing i) (moment i) change before.schedule) in
-    let name = c.refusal.ensures.name at.election.timing address (record { is_held = held_by_place groups address c.args.sought.place c.requires.sought ∙ sym c.is_ok.ensures.value; sources = sym c.look-stored.ensures.len; schedule = ap (λ (e : ScheduledGroup). e.schedule) (sym c.look-stored.ensures.group) }) in
-    let limits = c.limits-limits.ensures ∙ ap (λ (k : Configuration). k.limits) c.config.ensures in
-    let passed_is = name ∙ (λ i. limit_passed (limits i) (with_group groups address (after_round at.election.timing (moment i) asked)) (after_round at.election.timing (moment i) asked)) in
-    let did = is_changed number at address st groups written.new.self.group.state written.new.self.asked.items written.result c.in-Some.asks_group before asked c.refusal.result c.V1_MUTES_LEAVE.result c.is_muted.result (is_querier at.election.role) at.election.timing mutes muted refl refl c.look-stored.ensures.group changed c.in-Some.is asked_is passed_is in
-    let kept = ap (λ (s : Storage _). s.work.group.state) c.refusal.ensures.left in
-    let is = stated_judged at address st groups before change asked c.refusal.result did ∙ ap (λ p. unless_passed p groups (with_group groups address (after_sending at asked)) (sent_at_once at address asked)) c.in_default-refusal.is in
-    let per = c.PER_QUERY.ensures ∙ g.met.F.Family.per_query ∙ ap per_query (sym family_is) in
-    let queries_are = (λ i. let e : ScheduledGroup = record { group = kept i; schedule = c.ask.new.schedule } in messages_due (per i) (timing i) (moment i) address e) ∙ ap (λ (o : Outcome). o.queries) (sym is) in
+    let per = c.PER_QUERY.ensures ∙ g.met.F.Family.per_query ∙ ap per_query (sym c.lemma_is_sound.ensures.family) in
+    let queries_are = (λ i. messages_due (per i) (in_force i).timing (in_force i).moment address (asked_as (c.refusal.ensures.left i).work c.ask.new.schedule)) ∙ ap (λ (o : Outcome). o.queries) (sym is) in
     subst (λ queries. Sends g.S.Sink.takes c.args.sink.now queries c.round.new.sink) queries_are c.round.ensures.sent
 
 pub returns-clause-spent : goal.returns-clause-spent
 returns-clause-spent g c =
-    let at : Setting = c.args.self.now in
     let number = g.F.Address.Key.number in
     let address = number c.args.sought.address in
     let groups = c.args.storage.now.held.groups in
-    let st = statement_of c.args.said (named_in number c.args.storage.now.work.named.members) in
-    let stored = c.look-stored.result in
-    let before : ScheduledGroup = record { group = group_stored number stored; schedule = stored.schedule } in
-    let family_is = c.lemma_is_sound.ensures.family in
-    let mutes = c.V1_MUTES_LEAVE.ensures ∙ g.met.F.Family.v1_mutes_leave ∙ ap v1_mutes_leave (sym family_is) in
-    let muted = c.is_muted.ensures (named_in number c.args.storage.now.work.named.members) in
+    let at = c.args.self.now in
     let in_force = c.in_force-at.ensures.in_force in
-    let timing = ap (λ (f : InForce). f.timing) in_force in
-    let moment = ap (λ (f : InForce). f.moment) in_force in
-    let written = c.change in
-    let changed : change_stated c.V1_MUTES_LEAVE.result c.is_muted.result at.election.timing at.now st before.group ≡ change_written number written.new.self.group.state written.new.self.asked.items written.result =
-    (λ i. change_stated c.V1_MUTES_LEAVE.result c.is_muted.result (sym timing i) (sym moment i) st before.group) ∙ written.ensures.changes
-    in
-    let asked : ScheduledGroup = record { group = c.ask.new.self.group.state; schedule = c.ask.new.schedule } in
-    let change : GroupChange = record { group = written.new.self.group.state; query = set_of number written.new.self.asked.items; query_group = c.in-Some.asks_group } in
-    let role = ap (λ (f : InForce). f.is_querier) in_force in
-    let asked_is : asked ≡ after_change (is_querier at.election.role) at.election.timing at.now change before.schedule = c.ask.ensures.asked ∙ (λ i. after_change (role i) (timing i) (moment i) change before.schedule) in
-    let few = made_few number c.V1_MUTES_LEAVE.result c.is_muted.result at.election.timing at.now c.args.said c.args.storage.now.work.named.members before written.new.self.group.state written.new.self.asked.items written.result c.in-Some.asks_group (is_querier at.election.role) asked changed c.in-Some.is asked_is in
+    let kept = c.refusal.ensures.left in
+    let left : ScheduledGroup = record { group = c.round.new.group.state; schedule = c.round.new.self } in
+    let left_is : left ≡ after_sending at (asked_as c.ask.new.self c.ask.new.schedule) = c.round.ensures.after ∙ (λ i. after_round (in_force i).timing (in_force i).moment (asked_as (kept i).work c.ask.new.schedule)) in
+    let few = few_so g c.before.before.before.before.before.before.before.before.before.before.before.before.before.before.before.before.before.before.before.before in
     let a = few.changed in
     let b = few.asked in
     let size_before = ap (λ (e : ScheduledGroup). size_of e.group) c.look-stored.ensures.group in
-    let kept = ap (λ (s : Storage _). s.work.group.state) c.refusal.ensures.left in
-    let left : ScheduledGroup = record { group = c.round.new.group.state; schedule = c.round.new.self } in
-    let left_is : left ≡ after_round at.election.timing at.now asked = c.round.ensures.after ∙ (λ i. let e : ScheduledGroup = record { group = kept i; schedule = c.ask.new.schedule } in after_round (timing i) (moment i) e) in
-    let work = least_work at address st groups in
-    let so_far = subst (λ n. Spends (least_merge (size_of before.group) (acts_as c.V1_MUTES_LEAVE.result c.is_muted.result (hosts_of before.group n) st)) (size_of before.group + length c.args.storage.now.work.named.members + 2) c.args.storage.now.work.meter written.new.self.meter) moment written.ensures.spent in
-    let spent = worked at address st groups before c.V1_MUTES_LEAVE.result c.is_muted.result _ _ _ mutes muted c.look-stored.ensures.group so_far in
-    let changing = Spends-join_within work (3 * (size_of before.group + length c.args.storage.now.work.named.members) + 3) spent c.ask.ensures.spent (omega arith) (omega (arith, a)) in
-    let judging = Spends-join_within work (3 * (size_of before.group + length c.args.storage.now.work.named.members) + 5) changing c.refusal.ensures.spent (omega arith) (omega arith) in
-    let meter = ap (λ (s : Storage _). size_of s.work.group.state) c.refusal.ensures.left in
-    let round = Spends-join_within work (5 * (size_of before.group + length c.args.storage.now.work.named.members) + 8) judging c.round.ensures.spent (omega arith) (omega (arith, a, b, meter)) in
-    let size_left = ap (λ (e : ScheduledGroup). size_of e.group) left_is ∙ round_keeps_size at.election.timing at.now asked in
-    let same = ap (λ (s : Storage _). map.len s.held.groups) c.refusal.ensures.left in
-    let digits = ap bitlen same in
+    let sizes = size_of (group_stored number c.look-stored.result) + length c.args.storage.now.work.named.members in
+    let size = ap (λ (s : Storage _). size_of s.work.group.state) kept in
+    let work = least_work at address (statement_of c.args.said (named_in number c.args.storage.now.work.named.members)) groups in
+    let round = Spends-join_within work (5 * sizes + 8) (spent_judging g c.before.before.before.before.before.before.before.before.before.before.before.before) c.round.ensures.spent (omega arith) (omega (arith, a, b, size)) in
+    let size_left = ap (λ (e : ScheduledGroup). size_of e.group) left_is ∙ round_keeps_size at.election.timing at.now (asked_as c.ask.new.self c.ask.new.schedule) in
+    let digits = ap (λ (s : Storage _). bitlen (map.len s.held.groups)) kept in
     Spends-join_within work _ round c.keep.ensures.spent (omega arith) (omega (arith, a, b, size_before, size_left, digits))
