@@ -5,7 +5,7 @@ ghost use Rattle.mq_c.specs.Milliseconds.{deadline_or_none};
 
 use mq_count::Moment;
 
-/// A deadline that there isn't.
+/// No deadline.
 pub(crate) const NONE: u64 = u64::MAX;
 
 /// The milliseconds of a moment, read from its digits: a moment hands out no number, so that within the router no two are

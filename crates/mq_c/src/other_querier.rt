@@ -1,4 +1,4 @@
-//! Another router that is querier, as C is told of it.
+//! The other querier, as C sees it.
 
 ghost use Rattle.std.specs.Prelude.{◌≡◌, ℕ, IsTrue};
 ghost use Rattle.mq_sched.specs.Election.{is_querier, Other};

@@ -79,7 +79,7 @@ fn earliest_with_row<K: Key>(
     }
 }
 
-/// The earliest of all moments of a group and its schedule, of which a group that is held has one. At
+/// The earliest of all moments of a group and its schedule. A group that is held has one. At
 /// most one comparison for each source, and four more.
 pub(crate) fn earliest_moment<K: Key>(group: &Group<K>, schedule: Schedule, m: &mut Meter) -> Moment
     requires held { group_of.IsWellFormed group.now.state }

@@ -23,11 +23,11 @@ pub enum Received {
 /// Why a datagram is dropped, in the order of their numbers, 1 to 10.
 #[derive(Clone, Copy, Debug, PartialEq, Eq)]
 pub enum DropReason {
-    /// A field isn't whole.
+    /// A field is cut.
     Truncated,
     /// The checksum is wrong.
     Checksum,
-    /// The type is none that is listed.
+    /// The type is unknown.
     UnknownType,
     /// A query has a length that no version has.
     QueryLength,
@@ -72,7 +72,7 @@ impl DropReason {
 pub enum Refusal {
     /// It names more sources than a group may have.
     Long,
-    /// Four records of its datagram have met its group, which is held.
+    /// It is the fifth record of its datagram for a group that is held, or a later one.
     Repeated,
     /// There would be more groups than the limit.
     Groups,

@@ -19,8 +19,7 @@ pub struct Limits {
     pub scheduled: u32,
 }
 
-/// What a link is configured with by default: the variables of RFC 3376 section 8 and RFC 3810 section 9, and the
-/// limits.
+/// The default configuration of a link: the variables of RFC 3376 section 8 and RFC 3810 section 9, and the limits.
 #[derive(Clone, Copy, Debug, PartialEq, Eq)]
 pub struct Defaults {
     /// The Robustness Variable.
@@ -85,7 +84,7 @@ impl fmt::Display for LimitName {
     }
 }
 
-/// Why a configuration may not be: the first of these that holds.
+/// A fault of a configuration: the first of these that holds.
 #[derive(Clone, Copy, Debug, PartialEq, Eq, Error)]
 pub enum ConfigFault {
     /// The robustness variable is outside of 1 to 7.
@@ -107,7 +106,7 @@ pub enum ConfigFault {
         /// The first such limit.
         which: LimitName,
     },
-    /// The router's own address is none that it may send queries from.
+    /// No router may send queries from the own address.
     #[error("the router's own address is none that it may send queries from")]
     OwnAddress,
 }

@@ -8,7 +8,7 @@ use crate::link::Link;
 use crate::outlet::Outlet;
 use mq_count::Moment;
 
-/// What a link is handed.
+/// An event of a link.
 pub enum Event<'a, F: Family> {
     /// A tick at a moment.
     Tick(Moment),

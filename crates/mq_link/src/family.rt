@@ -14,7 +14,7 @@ use crate::answers::DropReason;
 use crate::configuration::Defaults;
 use mq_wire::{Message, Query, QueryVersion, Small, WireFault, WireKey};
 
-/// IGMP or MLD. Its tests look at the octets of an address and are no counted comparisons.
+/// IGMP or MLD. Its tests look at the octets of an address, which isn't counted as a comparison.
 pub trait Family {
     /// The addresses of its packets.
     type Address: WireKey;

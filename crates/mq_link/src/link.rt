@@ -55,8 +55,8 @@ impl<F: Family> Model for Link<F> {
 
 impl<F: Family> Link<F> {
     /// A link that starts at `start`: nothing is held, and it is querier, with its first general query due (RFC 3376
-    /// section 8.7, RFC 3810 section 9.7). It takes the memory for all that its limits allow; or answers `Memory`, where
-    /// that was refused.
+    /// section 8.7, RFC 3810 section 9.7). It takes all memory that its limits allow, or answers `Memory` where that was
+    /// refused: only `new` can run out of memory.
     pub fn new(alloc: Global, config: Config<F>, start: Moment) -> Result<Link<F>, Memory>
         requires in_range { start ≤ 2 ^ 53 }
         ensures { IfOk result (λ link. link ≡ record { config = config; state = link_at config start; spent = 0 }) }
@@ -117,7 +117,7 @@ impl<F: Family> Link<F> {
         answer
     }
 
-    /// What it is configured with.
+    /// The link's configuration.
     pub fn config(&self) -> &Config<F>
         ensures { result.now ≡ self.now.config }
     {
@@ -133,21 +133,21 @@ impl<F: Family> Link<F> {
         self.router.lemma_is_stored();
     }
 
-    /// What it has counted, where it is no longer needed.
+    /// The link's counters; the link is given up.
     pub fn into_counts(self) -> Counts
         ensures { result ≡ self.state.counters }
     {
         self.router.into_counts()
     }
 
-    /// What it has counted.
+    /// The link's counters.
     pub fn counts(&self) -> &Counts
         ensures { result.now ≡ self.now.state.counters }
     {
         self.router.counts()
     }
 
-    /// How many comparisons its calls have made. It stays at the greatest u64.
+    /// How many comparisons `tick` and `receive` have made. It stays at the greatest u64.
     pub fn spent(&self) -> u64
         ensures { result ≡ self.now.spent }
     {
@@ -161,7 +161,7 @@ impl<F: Family> Link<F> {
         self.router.election().is_querier()
     }
 
-    /// The other router that is querier, or None where this one is.
+    /// The other router that is querier, or None where this one is: the router of a lower address whose query came last.
     pub fn other_querier(&self) -> Option<OtherQuerier<F::Address>>
         ensures { IsOtherOf F.Address.number self.now.state.election.role result }
     {
@@ -205,7 +205,7 @@ impl<F: Family> Link<F> {
     }
 
     /// When a tick has something to do next: the earliest of all deadlines and due moments. It compares two moments on a
-    /// meter of its own, which is not counted in `spent`, and of which no bound speaks.
+    /// meter of its own: neither `spent` nor the bound counts that.
     pub fn next_deadline(&self) -> Moment
         ensures { result ≡ next_of self.now.state }
     {
@@ -217,8 +217,7 @@ impl<F: Family> Link<F> {
     }
 
     /// Whether what a source sends to a group is forwarded, as of the last moment handed in (RFC 3376 section 6.3, RFC
-    /// 3810 section 7.3). It compares addresses on a meter of its own, which is not counted in `spent`, and of which no
-    /// bound speaks.
+    /// 3810 section 7.3). It compares addresses on a meter of its own: neither `spent` nor the bound counts that.
     pub fn forwards(&self, group: F::Address, source: F::Address) -> bool
         ensures { result ≡ state.forwards self.now.state (F.Address.number group) (F.Address.number source) }
     {

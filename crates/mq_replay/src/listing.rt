@@ -89,7 +89,7 @@ fn put_listing<R: Read, W: Write>(
     put_packets(&mut capture, packet, buffer, reader, writer)
 }
 
-/// Puts the lines of the packets of a capture of which none was read.
+/// Puts the lines of the packets of a capture before its first packet was read.
 fn put_packets<R: Read, W: Write>(
     capture: &mut PcapReader,
     packet: &mut [u8],

@@ -110,7 +110,7 @@ where
     put_packets(link, until, &mut capture, packet, buffer, reader, writer)
 }
 
-/// Puts the lines of the packets of a capture of which none was read, and of the end.
+/// Puts the lines of the packets of a capture before its first packet was read, and of the end.
 fn put_packets<F: CapturedFamily, R: Read, W: Write>(
     link: &mut Link<F>,
     until: Option<Moment>,

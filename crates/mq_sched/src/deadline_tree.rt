@@ -17,7 +17,7 @@ use std::marker::Model;
 /// Deadlines at the leaves of a binary tree. Of n deadlines the leaves have the numbers from n to 2n - 1, and the
 /// nodes above them those from 1 to n - 1: below node i stand the nodes 2i and 2i + 1, and it has the earlier of
 /// their deadlines. So the earliest of all is at node 1, and a deadline that changes is compared once on each level
-/// above it. A contract sees the deadlines of the nodes by their numbers, of which node 0 stands for none.
+/// above it. A contract sees the deadlines of the nodes by their numbers; node 0 is no node.
 /// `with_room` takes the memory, and no other call takes any.
 #[derive(Drop)]
 pub(crate) struct DeadlineTree {

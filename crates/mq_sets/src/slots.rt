@@ -9,7 +9,7 @@ use crate::memory::Memory;
 use std::alloc::Global;
 use std::marker::Model;
 
-/// A list of items that may be long, of which none is moved where one is made or taken out. A contract
+/// A list whose items stay where they are when one is made or taken out. A contract
 /// sees the list, and the room: how many items there may be. `with_room` reserves the memory for them,
 /// and no other call takes any.
 ///

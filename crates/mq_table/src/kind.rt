@@ -1,3 +1,5 @@
+//! The kinds of records (RFC 3376 section 4.2.12, RFC 3810 section 5.2.12).
+
 /// The type of a group record: what a host says of its filter for one group (RFC 3376 section
 /// 4.2.12, RFC 3810 section 5.2.12).
 #[derive(Clone, Copy, Debug, PartialEq, Eq)]

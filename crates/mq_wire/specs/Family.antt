@@ -11,7 +11,7 @@ address_width Igmp = 4
 address_width Mld = 16
 
 -- where the group of a query, of a Report of an older version, and of a Leave or Done begins (RFC 3376 section
--- 4.1, RFC 2236 section 2; RFC 3810 section 5.1, RFC 2710 section 3)
+-- 4.1, RFC 2236 sections 2.1 to 2.4; RFC 3810 section 5.1, RFC 2710 section 3)
 abbrev pub group_place : Family → ℕ
 group_place Igmp = 4
 group_place Mld = 8

@@ -1,4 +1,4 @@
--- What a query says (RFC 3376 section 4.1, RFC 2236 section 2; RFC 3810 section 5.1, RFC 2710 section 3).
+-- What a query says (RFC 3376 section 4.1, RFC 2236 sections 2.1 to 2.4; RFC 3810 section 5.1, RFC 2710 section 3).
 use Rattle.std.specs.Prelude.{◌≡◌, ℕ, ◌+◌, ◌*◌, ◌/◌, ◌%◌, ◌==◌, Bool, if◌then◌else◌, List, [], ◌∷◌, ◌++◌, length, slice_index, drop, replicate, None, Some, Result, Ok, Err}
 use Rattle.std.specs.Option.{option_map}
 use Rattle.mq_count.specs.declared.versions.OlderVersion.{OlderVersion}

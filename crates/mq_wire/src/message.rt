@@ -41,7 +41,7 @@ pub enum WireFault {
     },
     /// The checksum is wrong.
     Checksum,
-    /// The type is none that is listed.
+    /// The type is unknown.
     UnknownType,
     /// A query has a length that no version has.
     QueryLength,
