@@ -1,5 +1,5 @@
 -- What printing on standard error comes to.
-use Rattle.std.proofs.Common.{◌≡◌, ◌||◌, ◌++◌, codes, append_assoc, Bool, List, ℕ, Option, Result, Ok, Err, is_err, inl, inr, ◌∙◌}
+use Rattle.std.proofs.Common.{◌≡◌, ◌||◌, ◌++◌, codes, Bool, List, ℕ, Option, Result, Ok, Err, is_err, inl, inr, ◌∙◌}
 use Rattle.std.proofs.Math.Bool.{or-false, or-true}
 use Rattle.mq_replay.specs.Printing.{Prints}
 use Rattle.mquerier.specs.declared.failure.Failure.{Failure}

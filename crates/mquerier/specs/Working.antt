@@ -1,5 +1,5 @@
 -- What the work on a request comes to.
-use Rattle.std.specs.Prelude.{◌≡◌, Bool, true, List, ℕ, Option, Some, Result, Ok, Err, IsErr}
+use Rattle.std.specs.Prelude.{◌≡◌, Bool, true, List, ℕ, Option, Result, Ok, Err, IsErr}
 use Rattle.hex.specs.Hex.{decode_of}
 use Rattle.mq_command.specs.declared.Protocol.{Protocol}
 use Rattle.mq_command.specs.declared.Request.{Request}
