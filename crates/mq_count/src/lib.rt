@@ -15,6 +15,7 @@
 //! - Time: `Moment` and `Span`, in milliseconds, and `Timed` for what has a moment.
 //! - The meter: `Meter`. Its contracts say `Spends low high old new`, and the functions of
 //!   `metering` that do nothing state the laws of that word.
+//! - Moves: `Moves`, which counts the items that storage moves.
 //! - Streams: `Watched`, and for tests `Faulty`.
 //! - Text: `write_decimal`.
 //! - Words that the messages and the group tables share: `OlderVersion`.
@@ -27,6 +28,7 @@ pub mod faulty;
 pub mod keys;
 pub mod metering;
 pub mod moments;
+pub mod moving;
 pub mod streams;
 pub mod timed;
 pub mod versions;
@@ -38,6 +40,7 @@ pub use faulty::Faulty;
 pub use keys::Key;
 pub use metering::Meter;
 pub use moments::{Moment, Span};
+pub use moving::Moves;
 pub use streams::Watched;
 pub use timed::Timed;
 pub use versions::OlderVersion;
