@@ -75,7 +75,6 @@ record_read header bytes size all below =
     rw behind (take_all (length (header ++ bytes) - 16) bytes (omega (arith, size, length-append header bytes))) in
     rw (record_in, a, b, moment) (rw (c, captured) refl)
 
-
 -- its frame
 record IsKept (bytes : List ℕ) (frame : Framed) : Type 0 where
   is : frame_bytes frame ≡ bytes
