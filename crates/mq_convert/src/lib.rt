@@ -20,6 +20,7 @@ mod fault;
 mod filling;
 mod frames;
 mod interfaces;
+pub mod laws;
 mod moments;
 mod next_block;
 mod packet;
