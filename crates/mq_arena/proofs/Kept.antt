@@ -1,7 +1,7 @@
 -- The kinds of the parameters and of the result of `grow` and `shrink`, at their two lifetimes.
 use mathlib.Core.List.{List, [], ◌∷◌}
 use mathlib.Core.Path.{refl}
-use mir.Syntax.{w64, wrote}
+use mir.Syntax.{w64}
 use borrow.Fn.Kinds.{ParamKind, ResultKind, p_num}
 use borrow.Kind.ShrRefTo.{p_shr_to}
 use borrow.Kind.Value.{r_val}
@@ -37,11 +37,11 @@ answer = r_val (record {
   still = enum_laws.still (result.the_type RawPtr error.the_row) (result_laws.the_copy RawPtr error.the_row ptr_laws error_laws.the_row_laws ptr_copy error_laws.the_row_copy) yes;
   row = whole (enum.row (result.the_type RawPtr error.the_row));
   rd = λ x. x;
-  mk = λ x. x
+  mk = λ x. x;
 }) (λ M 𝓤 𝓛. record {
   copies = enum_laws.copy (result.the_type RawPtr error.the_row) (result_laws.the_copy RawPtr error.the_row ptr_laws error_laws.the_row_laws ptr_copy error_laws.the_row_copy) 𝓛;
   lawful = loose_lawful (result.the_type RawPtr error.the_row) (result_laws.the_loose RawPtr error.the_row ptr_laws error_laws.the_row_laws) tt 𝓛;
   makes = enum_laws.makes (result.the_type RawPtr error.the_row) (result_laws.the_plain RawPtr error.the_row RawPtr-plain error_laws.the_row_plain) 𝓛;
   in_mem = mem_whole 𝓛 (enum.row (result.the_type RawPtr error.the_row));
-  of_mem = whole_mem 𝓛 (enum.row (result.the_type RawPtr error.the_row))
+  of_mem = whole_mem 𝓛 (enum.row (result.the_type RawPtr error.the_row));
 })

@@ -11,7 +11,7 @@ use prog.Memory.{size, align, pad, up, end_of}
 use prog.Align.{Dv, dv→, dv_zero, dv_one, dv_mul, align_pos, align_w, align-bytes}
 use prog.Model.{rooms_at}
 use types.Logic.{Logic, sem}
-use types.Kit.{‵, raw, ◌⊛◌, some, ◌$◌, ◌∵◌, !, qed, by, move, keep, drop, use1, split, pick, done}
+use types.Kit.{‵, raw, ◌⊛◌, some, ◌$◌, ◌∵◌, !, qed, by, move, keep, drop, use1, split, pick}
 use denote.Builtin.{u128}
 use denote.Memory.{part_at}
 use denote.Index.{row}

@@ -1,16 +1,16 @@
 -- The two cases of what `Arena::take` gave: units of memory, or nothing. Assumes `Logic`.
-use Rattle.std.proofs.Common.{◌≡◌, ℕ, ◌*◌, ◌^◌, ◌<◌, ◌≤◌, List, [], ◌∷◌, ◌++◌, length, IfOk, Ok, Err, refl, ap, ◌∙◌}
+use Rattle.std.proofs.Common.{◌≡◌, ℕ, ◌*◌, ◌^◌, ◌<◌, ◌≤◌, List, [], ◌∷◌, ◌++◌, length, IfOk, Ok, Err, ap, ◌∙◌}
 use seplogic.Ra.Ura.{Ura}
 use base.Fraction.{full_share}
 use base.Fml.{froom, flft}
 use mir.Syntax.{static}
 use mir.Val.{Val, vstruct, vnil, of_list}
 use types.Logic.{Logic}
-use types.Kit.{Item, Goal, Soaks, Seq, ‵, ◌$◌, move, keep, drop, use0, use1, fsplit, fsplit3, fpick, feq_l}
+use types.Kit.{Item, Goal, Soaks, Seq, ‵, ◌$◌, move, drop, use0, use1, fsplit, fsplit3, fpick, feq_l}
 use types.Match.{live}
 use denote.RattleType.{RattleType}
 use denote.Builtin.{u128}
-use denote.Index.{row, opens_slice}
+use denote.Index.{opens_slice}
 use denote.Shadow.{pure_l}
 use denote.Slice.{MutSlice, slice_val, mut_slice_at}
 use denote.Steps.{only}

@@ -1,5 +1,5 @@
 -- Blocks of lent memory: what a request takes, and which requests are granted.
-use Rattle.std.specs.Prelude.{◌≡◌, ℕ, ◌+◌, ◌-◌, ◌*◌, ◌/◌, ◌≤◌, List, [], ◌∷◌, ⊤, ◌↔◌, All, sum, map}
+use Rattle.std.specs.Prelude.{ℕ, ◌+◌, ◌-◌, ◌*◌, ◌/◌, ◌≤◌, List, [], ◌∷◌, ⊤, ◌↔◌}
 
 -- the bytes of the block for a request of n bytes: whole units of 16
 abbrev pub size_of_block : ℕ → ℕ

@@ -1,5 +1,5 @@
 -- `allocate` hands out the units that it took as room for the type that was asked. Assumes `Logic`.
-use Rattle.std.proofs.Common.{◌≡◌, ◌*◌, true, false, List, [], ◌∷◌, ◌++◌, refl, sym, subst, ◌∙◌, lit<, w64, Ok, Err, arith}
+use Rattle.std.proofs.Common.{◌≡◌, true, false, List, [], ◌∷◌, ◌++◌, refl, sym, subst, ◌∙◌, lit<, w64, Ok, Err, arith}
 use mir.Syntax.{Ty, Fn}
 use mir.Val.{Val, vint, vptr}
 use base.Logic.{SProp, ent, id⊢}
