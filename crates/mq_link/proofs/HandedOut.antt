@@ -6,7 +6,7 @@ use Rattle.mq_count.specs.Streams.{counted_on}
 use Rattle.mq_wire.specs.Family.{Family}
 use Rattle.mq_sched.specs.Rounds.{AllFit}
 use Rattle.mq_sched.specs.Sink.{Sends}
-use Rattle.mq_link.specs.declared.sending.Sender.{Sender}
+use Rattle.mq_link.specs.declared.sender.Sender.{Sender}
 use Rattle.mq_link.specs.Configuration.{Configuration}
 use Rattle.mq_link.specs.Counters.{Counters}
 use Rattle.mq_link.specs.Family.{per_query}

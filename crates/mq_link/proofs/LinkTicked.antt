@@ -4,7 +4,7 @@ use Rattle.mq_wire.specs.Family.{Family}
 use Rattle.mq_table.specs.Variables.{AreInRange}
 use Rattle.mq_sched.specs.Election.{ticked, general_messages}
 use Rattle.mq_sched.specs.Sink.{Sends}
-use Rattle.mq_link.specs.declared.sending.Sender.{Sender}
+use Rattle.mq_link.specs.declared.sender.Sender.{Sender}
 use Rattle.mq_link.specs.Link.{HasTicked}
 use Rattle.mq_link.specs.Record.{Setting}
 use Rattle.mq_link.specs.Router.{HasStep, RouterValue, link_of, state_of}
@@ -34,7 +34,7 @@ module _ {F O K E : Type 0} (takes : O → ℕ → List ℕ → Bool → O → T
       subst (λ m. let step = tick_at config m (state_of before) in HasStep (TakesQuery takes family) step before after (begun config step.timing old) new) is_moment (record {
         leaves = record {
           config = ap (λ (s : Setting). s.config) done.status_is;
-          state_is = λ i. record { groups = done.groups_are i; election = ap (λ (s : Setting). s.election) done.status_is i; last = ap (λ (s : Setting). s.now) done.status_is i; counters = done.counters_are i };
+          state_is = λ i. record { groups = done.groups_are i; election = (done.status_is i).election; last = (done.status_is i).now; counters = done.counters_are i };
         };
         sent = subst (λ f. Sends (TakesQuery takes family) (begun config in_force old) (general_messages config.timing moment before.at.election ++ queries_due f in_force moment (groups_expired moment before.groups)) new) (sym is_family) done.sent;
       })

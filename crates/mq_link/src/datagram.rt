@@ -20,7 +20,7 @@ use crate::dropping::drop_reason;
 use crate::family::Family;
 use crate::outlet::Outlet;
 use crate::router::Router;
-use crate::sending::Sender;
+use crate::sender::Sender;
 use crate::statement::StatementKind;
 use mq_count::Moment;
 use mq_wire::{Message, QueryVersion, WireFault, WireKey};

@@ -25,7 +25,7 @@ ghost use Rattle.mq_link.specs.Tick.{group_expired, groups_expired, queries_due,
 use crate::family::Family;
 use crate::outlet::Outlet;
 use crate::router::Router;
-use crate::sending::Sender;
+use crate::sender::Sender;
 use crate::status::{InForce, Status};
 use crate::storage::{Storage, Workspace};
 use mq_count::{Meter, Moment};

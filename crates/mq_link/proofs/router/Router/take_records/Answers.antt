@@ -28,23 +28,10 @@ judge-verdict-requires-clause-few g c =
 
 pub judge-verdict-requires-clause-few_met : goal.judge-verdict-requires-clause-few_met
 judge-verdict-requires-clause-few_met g c =
-    let few = c.loop-record.invariant.0.few_seen in
-    omega (arith, few, ap length c.in-Some.ensures.steps, c.requires)
+    omega (arith, c.loop-record.invariant.0.few_seen, ap length c.in-Some.ensures.steps, c.requires)
 
-pub add-requires-clause-applied : goal.add-requires-clause-applied
-add-requires-clause-applied g c =
-    let few = c.loop-record.invariant.0.few_applied in
-    omega (arith, few, ap length c.in-Some.ensures.steps, c.requires)
-
-pub add-requires-clause-ignored : goal.add-requires-clause-ignored
-add-requires-clause-ignored g c =
-    let few = c.loop-record.invariant.0.few_ignored in
-    omega (arith, few, ap length c.in-Some.ensures.steps, c.requires)
-
-pub add-requires-clause-refused : goal.add-requires-clause-refused
-add-requires-clause-refused g c =
-    let few = c.loop-record.invariant.0.few_refused in
-    omega (arith, few, ap length c.in-Some.ensures.steps, c.requires)
+pub add-requires : goal.add-requires
+add-requires g c = record { few = omega (arith, c.loop-record.invariant.0.few_told, ap length c.in-Some.ensures.steps, c.requires) }
 
 pub loop-record-preserved : goal.loop-record-preserved
 loop-record-preserved g c =

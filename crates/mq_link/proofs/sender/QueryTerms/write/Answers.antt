@@ -5,7 +5,7 @@ use Rattle.mq_sched.specs.Sink.{query_of}
 use Rattle.mq_link.specs.Handing.{Terms, outgoing_on}
 use Rattle.mq_link.specs.Sent.{fields_sent}
 use Rattle.mq_link.proofs.Lengths.{within_longest}
-use Rattle.mq_link.proofs.sending.QueryTerms.write.Goals as goal
+use Rattle.mq_link.proofs.sender.QueryTerms.write.Goals as goal
 
 pub unreachable-requires : goal.unreachable-requires
 unreachable-requires g c =

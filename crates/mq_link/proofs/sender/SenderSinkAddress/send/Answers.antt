@@ -3,7 +3,7 @@ use Rattle.std.specs.Bool.{IsTrue}
 use Rattle.mq_sched.specs.Sink.{query_of}
 use Rattle.mq_link.specs.Handing.{outgoing_on}
 use Rattle.mq_link.proofs.Lengths.{written_back}
-use Rattle.mq_link.proofs.sending.SenderSinkAddress.send.Goals as goal
+use Rattle.mq_link.proofs.sender.SenderSinkAddress.send.Goals as goal
 
 not_both : (b : Bool) → b ≡ false → IsTrue b → ⊥
 not_both b is_false is_true = cc
