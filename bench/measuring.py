@@ -4,9 +4,9 @@ that which the environment names as MQUERIER."""
 import os
 import platform
 import re
+import resource
 import subprocess
 import sys
-import time
 
 import frames
 
@@ -40,27 +40,23 @@ def told(words, name):
     return ran.stderr
 
 
+def worked():
+    """The seconds that the processors worked on runs up to now, for the programs and for the system together."""
+    usage = resource.getrusage(resource.RUSAGE_CHILDREN)
+    return usage.ru_utime + usage.ru_stime
+
+
 def run(words, name):
-    """The seconds of a run, and the most memory that it had, in KiB."""
-    begun = time.monotonic()
+    """The seconds that the processors worked on a run, and the most memory that it had, in KiB."""
+    begun = worked()
     said = told(["/usr/bin/time", "-f", "%M", *words], name)
-    return time.monotonic() - begun, int(said.split()[-1])
+    return worked() - begun, int(said.split()[-1])
 
 
 def best(words, name):
     """The least seconds of three runs, and the most memory."""
     runs = [run(words, name) for _ in range(3)]
     return min(seconds for seconds, _ in runs), max(memory for _, memory in runs)
-
-
-def processor_seconds(words, name):
-    """The seconds that the processor worked on a run, for the program and for the system together."""
-    with open(name, "rb") as capture:
-        ran = subprocess.Popen(words, stdin=capture, stdout=subprocess.DEVNULL)
-        _, ran.returncode, usage = os.wait4(ran.pid, 0)
-    if ran.returncode != 0:
-        sys.exit(f"bench: {' '.join(words)}: status {ran.returncode}")
-    return usage.ru_utime + usage.ru_stime
 
 
 def counted(words, name):
