@@ -1,12 +1,11 @@
 -- Rows that are packed in the order in which a list names them.
-use Rattle.std.proofs.Common.{ℕ, zero, suc, ◌+◌, ◌<◌, ◌≤◌, ◌≡◌, ◌==◌, cond, arith, refl, List, [], ◌∷◌, ◌++◌, length, map, take, set, get_or, sym, ap, ◌∙◌, subst, ⊎_elim, inr, length-append}
+use Rattle.std.proofs.Common.{ℕ, suc, ◌+◌, ◌<◌, ◌≤◌, ◌≡◌, arith, refl, List, [], ◌∷◌, ◌++◌, length, map, take, set, get_or, sym, ap, ◌∙◌, subst, ⊎_elim, inr, length-append}
 use Rattle.std.specs.List.{All, sum_by}
-use Rattle.std.proofs.lemmas.Bool.{cases_lt, cases_eq, eq-eqb}
-use Rattle.std.proofs.lemmas.Bool.Decides.{eqb_tells}
+use Rattle.std.proofs.lemmas.Bool.{cases_lt, cases_eq}
 use Rattle.std.proofs.Math.Seq.{map-set_same}
-use Rattle.std.proofs.lemmas.List.{same_lists, get_or_default, get_or_past, get_or-map, get_or-set_same, get_or-set_other, length-set, length-map, take_more}
+use Rattle.std.proofs.lemmas.List.{same_lists, get_or_default, get_or_past, get_or-map, get_or-set_same, get_or-set_other, length-set, length-map}
 use Rattle.std.proofs.lemmas.List.Elements.{All-head, All-tail, All-set}
-use Rattle.std.proofs.lemmas.List.Sums.{sum_by-cons, sum_by-le, sum_by-set, sum_by_push, sum_by_more_le, sum_by-take-le}
+use Rattle.std.proofs.lemmas.List.Sums.{sum_by-cons, sum_by-le, sum_by-set, sum_by_push, sum_by_more_le}
 use Rattle.mq_sets.specs.Pools.{cells_of, rows_of, IsWithin, IsApart, AreApart, cells_said}
 use Rattle.mq_sets.specs.Slots.{times}
 use Rattle.mq_sets.specs.NumberedRows.{NamesRows, IsPlaced}

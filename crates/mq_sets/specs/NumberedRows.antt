@@ -1,5 +1,5 @@
 -- Rows that are kept by number, and what keeping them moves.
-use Rattle.std.specs.Prelude.{ℕ, ◌+◌, ◌-◌, ◌/◌, ◌<◌, ◌≤◌, ◌≡◌, Bool, if◌then◌else◌, List, [], length, slice_index, slice_index_or, slice_set, nat_lt, nat_le}
+use Rattle.std.specs.Prelude.{ℕ, ◌+◌, ◌-◌, ◌/◌, ◌<◌, ◌≤◌, ◌≡◌, if◌then◌else◌, List, [], length, slice_index, slice_index_or, slice_set, nat_le}
 use Rattle.std.specs.List.{All}
 use Rattle.mq_sets.specs.Pools.{cells_in}
 use Rattle.mq_sets.specs.Slots.{times}

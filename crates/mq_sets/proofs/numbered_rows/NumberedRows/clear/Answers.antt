@@ -1,4 +1,4 @@
-use Rattle.std.proofs.Common.{◌<◌, ◌≡◌, ◌∙◌, ap, arith, length, set, []}
+use Rattle.std.proofs.Common.{◌<◌, ◌∙◌, ap, arith, length, set, []}
 use Rattle.std.proofs.lemmas.List.{length-map, length-set}
 use Rattle.mq_sets.specs.Pools.{cells_of}
 use Rattle.mq_sets.specs.NumberedRows.{NumberedRowsState}
