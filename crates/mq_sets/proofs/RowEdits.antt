@@ -1,15 +1,15 @@
 -- Rows that are kept by number: what an edit leaves.
-use Rattle.std.proofs.Common.{ℕ, zero, suc, ◌+◌, ◌-◌, ◌<◌, ◌≤◌, ◌≡◌, arith, refl, List, [], ◌∷◌, length, map, set, get_or, ap, ◌∙◌, ⊎_elim}
+use Rattle.std.proofs.Common.{ℕ, zero, suc, ◌+◌, ◌-◌, ◌*◌, ◌/◌, ◌<◌, ◌≤◌, ◌≡◌, arith, refl, List, [], ◌∷◌, length, map, set, get_or, ap, ◌∙◌, ⊎_elim, ◌⊎◌, inl, inr, min}
 use Rattle.std.specs.Prelude.{replicate, nat_le, if◌then◌else◌}
 use Rattle.std.specs.List.{All}
-use Rattle.std.proofs.lemmas.Bool.{cases_eq}
+use Rattle.std.proofs.lemmas.Bool.{cases_eq, cases_lt, le-leb, lt-leb}
 use Rattle.std.proofs.lemmas.Bool.Decides.{nat_tests}
 use Rattle.std.proofs.lemmas.List.{get_or-replicate, length-replicate, get_or-set_same, get_or-set_other, map-set, length-set, length-map}
 use Rattle.std.proofs.lemmas.List.Elements.{All-head, All-tail, All-set}
 use Rattle.std.proofs.lemmas.List.Folds.{sum_by-replicate}
 use Rattle.std.proofs.lemmas.List.Sums.{sum_by-set}
-use Rattle.mq_sets.specs.Pools.{cells_of, rows_of, cells_said, IsWithin, AreApart, IsStored}
-use Rattle.mq_sets.specs.NumberedRows.{NumberedRowsState, NamesRows, IsPlaced}
+use Rattle.mq_sets.specs.Pools.{cells_of, rows_of, cells_in, cells_said, IsWithin, AreApart, IsStored}
+use Rattle.mq_sets.specs.NumberedRows.{NumberedRowsState, NamesRows, IsPlaced, MovesArePaid, size_at}
 use Rattle.mq_sets.specs.declared.extents.Extent.{Extent}
 use Rattle.mq_sets.proofs.Apart.{apart-none, apart-set}
 use Rattle.mq_sets.proofs.PackedRows.{none, AreApart-from_pairs}
@@ -106,3 +106,28 @@ module _ (old_size row_size size cells_size ahead others : ℕ) (longer : old_si
 
   pub moved-written : (named all : ℕ) → others + old_size ≡ all → (if nat_le (cells_size + row_size) size then 0 else others + named) + row_size ≡ (if nat_le row_size old_size then row_size else if nat_le row_size ahead then row_size else row_size + (all - old_size + named))
   moved-written named all all_is = grind (arith, nat_tests)
+
+-- what is moved is paid: by numbers alone
+paid : (old_size row_size rows limit ahead cells named all : ℕ) → named ≤ rows → cells ≤ limit → all + old_size ≡ cells + row_size → all ≤ limit
+    → (if nat_le row_size old_size then row_size else if nat_le row_size ahead then row_size else row_size + (cells - old_size + named))
+    + min (4 * (limit / 4 + rows - (if nat_le row_size old_size then ahead else if nat_le row_size ahead then ahead - row_size else limit + limit / 4 + rows - all))) (all + named)
+    ≤ min (4 * (limit / 4 + rows - ahead)) (cells + named) + 5 * row_size
+paid old_size row_size rows limit ahead cells named all few within sums fits =
+    ⊎_elim
+    (λ (shorter : row_size ≤ old_size). rw (le-leb row_size old_size shorter) (omega arith))
+    (λ (longer : old_size < row_size).
+    ⊎_elim
+    (λ (behind : row_size ≤ ahead). rw (lt-leb row_size old_size longer, le-leb row_size ahead behind) (omega arith))
+    (λ (past : ahead < row_size). rw (lt-leb row_size old_size longer, lt-leb row_size ahead past) (omega arith))
+    (cases_lt_or ahead row_size))
+    (cases_lt_or old_size row_size)
+  where
+    cases_lt_or : (a b : ℕ) → (b ≤ a) ⊎ (a < b)
+    cases_lt_or a b = ⊎_elim (λ (below : a < b). inr below) (λ (from : b ≤ a). inl from) (cases_lt a b)
+
+pub moves-paid : {T : Type 0} → MovesArePaid T
+moves-paid state number row named in_list few within fits =
+    let sums = sum_by-set length state.rows number row [] in_list in
+    let same = length-set state.rows number row in
+    rw same
+    (paid (size_at state number) (length row) (length state.rows) state.cell_limit state.ahead (cells_in state.rows) named (cells_in (set state.rows number row)) few within (omega (arith, sums)) (omega (arith, sums, fits)))

@@ -1,5 +1,5 @@
 -- Rows that are kept by number, and what keeping them moves.
-use Rattle.std.specs.Prelude.{ℕ, ◌+◌, ◌-◌, ◌/◌, ◌<◌, ◌≤◌, ◌≡◌, if◌then◌else◌, List, [], length, slice_index, slice_index_or, slice_set, nat_le}
+use Rattle.std.specs.Prelude.{ℕ, ◌+◌, ◌-◌, ◌*◌, min, ◌/◌, ◌<◌, ◌≤◌, ◌≡◌, if◌then◌else◌, List, [], length, slice_index, slice_index_or, slice_set, nat_le}
 use Rattle.std.specs.List.{All}
 use Rattle.mq_sets.specs.Pools.{cells_in}
 use Rattle.mq_sets.specs.Slots.{times}
@@ -49,3 +49,15 @@ with_row state number row = record { rows = slice_set state.rows number row; cel
 -- a row of no cells begins at the first
 abbrev pub IsPlaced : Extent → Type 0
 IsPlaced extent = extent.length ≡ 0 → extent.start ≡ 0
+
+-- What is put by for the rows to be packed again: four for each cell that was written behind the last one since they were, but no
+-- more than packing moves; `named` rows are named.
+abbrev pub put_by : {T : Type 0} → NumberedRowsState T → ℕ → ℕ
+put_by state named = let slack = state.cell_limit / 4 + length state.rows in
+    min (4 * (slack - state.ahead)) (cells_in state.rows + named)
+
+-- Each row that is put in the place of another pays for what is moved, with five for each of its cells and what is put by. So
+-- what many of them move is at most five for each of their cells, and what was put by before: no more than what was there then.
+abbrev pub MovesArePaid : Type 0 → Type 0
+MovesArePaid T = (state : NumberedRowsState T) (number : ℕ) (row : List T) (named : ℕ) → number < length state.rows → named ≤ length state.rows → cells_in state.rows ≤ state.cell_limit → cells_in state.rows + length row ≤ state.cell_limit + size_at state number
+    → moved_for state number row named + put_by (with_row state number row) named ≤ put_by state named + 5 * length row

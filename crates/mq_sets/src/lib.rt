@@ -22,7 +22,8 @@
 //! - Ascending slices of whatever carries a key: `Keyed`, `find`, and `merge` with `Merge::next`,
 //!   which hands out `Merged`.
 //! - Laws for the crates above, functions that do nothing: `numbers_find_items`,
-//!   `sets_are_known_by_their_members`, `binary_digits_bound_a_number`, `rules_act_at_each_key`.
+//!   `sets_are_known_by_their_members`, `binary_digits_bound_a_number`, `rules_act_at_each_key`,
+//!   `moves_are_paid`.
 #![tactic(auto)]
 
 mod extents;
@@ -43,7 +44,7 @@ pub use items::{Keyed, numbers_find_items};
 pub use memory::Memory;
 pub use merge_state::{Merge, Merged};
 pub use merging::{merge, rules_act_at_each_key};
-pub use numbered_rows::NumberedRows;
+pub use numbered_rows::{NumberedRows, moves_are_paid};
 pub use pools::Pool;
 pub use searching::{binary_digits_bound_a_number, find};
 pub use slots::SlotList;

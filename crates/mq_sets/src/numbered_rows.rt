@@ -3,7 +3,7 @@
 ghost use Rattle.std.specs.Prelude.{◌≡◌, ◌+◌, ◌^◌, ◌<◌, ◌≤◌, [], length, map, replicate, slice_index_or, slice_set, IfOk};
 ghost use Rattle.mq_count.specs.Spending.{Spends};
 ghost use Rattle.mq_sets.specs.Pools.{cells_in};
-ghost use Rattle.mq_sets.specs.NumberedRows.{NumberedRowsState, NamesRows, cells_reserved, moved_for, size_at, with_row};
+ghost use Rattle.mq_sets.specs.NumberedRows.{NumberedRowsState, NamesRows, MovesArePaid, cells_reserved, moved_for, size_at, with_row};
 
 use crate::extents::{Extent, extent_at, write_over};
 use crate::memory::Memory;
@@ -158,3 +158,8 @@ impl<T: Copy> NumberedRows<T> {
         moves.count(row.len());
     }
 }
+
+/// The law `MovesArePaid`: what rows move that are put in the place of others is in proportion to their own cells.
+pub fn moves_are_paid<T>()
+    ensures { MovesArePaid T }
+{}
