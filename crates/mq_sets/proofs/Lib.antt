@@ -8,7 +8,9 @@ pub mod KnownBySet
 pub mod MergeCount
 pub mod Merges
 pub mod Narrowing
+pub mod PackedRows
 pub mod Placing
+pub mod RowEdits
 pub mod Rules
 pub mod Stored
 pub mod WholeMerge
