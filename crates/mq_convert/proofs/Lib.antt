@@ -13,3 +13,5 @@ pub mod Powers
 pub mod Printed
 pub mod SoFar
 pub mod TagWalk
+pub mod Tallied
+pub mod WholeFiles

@@ -1,9 +1,16 @@
 -- The laws of conversions.
-use Rattle.std.specs.Prelude.{◌≡◌, ℕ, ◌<◌, false, List, ◌++◌, drop, Option, None, Some, Ok}
+use Rattle.std.specs.Prelude.{◌≡◌, ℕ, ◌<◌, false, List, ◌++◌, drop, Option, None, Some, Result, Ok, Err, IsOk}
+use Rattle.std.specs.Io.KnownBytes.{Appends}
 use Rattle.std.specs.List.{All}
 use Rattle.mq_pcap.specs.Capture as pcap
+use Rattle.mq_pcap.specs.Filling.{InputState}
+use Rattle.mq_convert.specs.declared.choice.Choice.{Choice}
 use Rattle.mq_convert.specs.declared.fault.BlockFault.{BlockFault}
+use Rattle.mq_convert.specs.declared.fault.ConvertFault.{ConvertFault}
+use Rattle.mq_convert.specs.declared.fault.ConvertFault.TheVariants as answer
+use Rattle.mq_convert.specs.declared.unread.Unread.{Unread}
 use Rattle.mq_convert.specs.Blocks.{Captured}
+use Rattle.mq_convert.specs.Converting.{Converts}
 use Rattle.mq_convert.specs.Faults.{is_cut}
 use Rattle.mq_convert.specs.Files.{Captures}
 use Rattle.mq_convert.specs.Plain.{ArePlain, everything, looked_at, plain}
@@ -29,3 +36,29 @@ AsItWas =
     → All (λ byte. byte < 256) bytes → (is : pcap.Captures bytes (Ok plain) packets None) → ArePlain 1 (drop 24 bytes) packets is.1
     → Captures bytes blocks end
     → (end ≡ None) × (converted everything (packets_of blocks) ≡ looked_at bytes ++ drop 24 bytes)
+
+-- an answer that tells what the file is: it was converted to its end, or a block has a fault
+abbrev pub TellsOfFile : Result Unread ConvertFault → Type 0
+TellsOfFile (Ok unread) = Unit {0}
+TellsOfFile (Err (answer.Block number f)) = Unit {0}
+TellsOfFile (Err answer.Read) = ⊥
+TellsOfFile (Err answer.Write) = ⊥
+TellsOfFile (Err answer.Memory) = ⊥
+
+-- two conversions of a file find the same packets, and the same end
+abbrev pub OneConversion : Type 0
+OneConversion =
+    (choice choice' : Choice) (old new old' new' : InputState) (before after before' after' : Option (List ℕ))
+    (r r' : Result Unread ConvertFault) (file : List ℕ)
+    → old.ahead ≡ Some file → old'.ahead ≡ Some file → TellsOfFile r → TellsOfFile r'
+    → (c : Converts choice old new before after r) → (d : Converts choice' old' new' before' after' r')
+    → (c.blocks ≡ d.blocks) × (c.end ≡ d.end)
+
+-- so a file that is written as it was is converted to its end, and these bytes are written of it
+abbrev pub WrittenAsItWas : Type 0
+WrittenAsItWas =
+    (bytes : List ℕ) (packets : List pcap.Captured) (old new : InputState) (before after : Option (List ℕ))
+    (r : Result Unread ConvertFault)
+    → All (λ byte. byte < 256) bytes → (is : pcap.Captures bytes (Ok plain) packets None) → ArePlain 1 (drop 24 bytes) packets is.1
+    → old.ahead ≡ Some bytes → Converts everything old new before after r → TellsOfFile r
+    → IsOk r × Appends before after (looked_at bytes ++ drop 24 bytes)

@@ -35,4 +35,4 @@ pub use choice::Choice;
 pub use context::{Context, GREATEST_BLOCK, Interface, Kind, MOST_INTERFACES};
 pub use converting::convert;
 pub use fault::{BlockFault, ConvertFault};
-pub use unread::Unread;
+pub use unread::{LinkCount, MOST_LINKS, Unread};
