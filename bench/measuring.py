@@ -53,10 +53,11 @@ def run(words, name):
     return worked() - begun, int(said.split()[-1])
 
 
-def best(words, name):
-    """The least seconds of three runs, and the most memory."""
-    runs = [run(words, name) for _ in range(3)]
-    return min(seconds for seconds, _ in runs), max(memory for _, memory in runs)
+def best(*runs):
+    """Of some runs, each words and a capture, the least seconds of three times, and the most memory. They are made by turns, so that
+    the machine is the same for all."""
+    rounds = [[run(*it) for it in runs] for _ in range(3)]
+    return [(min(seconds for seconds, _ in them), max(memory for _, memory in them)) for them in zip(*rounds)]
 
 
 def counted(words, name):
