@@ -22,7 +22,7 @@ use Rattle.mq_link.specs.Family.{v1_mutes_leave, per_query}
 use Rattle.mq_link.specs.LeastCost.{least_merge, least_work}
 use Rattle.mq_link.specs.Record.{change_stated, is_muted, limit_passed, stated, unless_passed, after_sending, sent_at_once}
 use Rattle.mq_link.specs.Storage.{group_stored, IsSought, KeepsRoom, KeepsRooms}
-use Rattle.mq_link.proofs.Faultless.{few_groups, few_sources}
+use Rattle.mq_link.proofs.Faultless.{few_groups, few_in_all, few_sources}
 use Rattle.mq_link.proofs.LeastCosts.{worked}
 use Rattle.mq_link.proofs.MadeEntries.{round_keeps_size}
 use Rattle.mq_link.proofs.Rooms.{room_on, rooms_counted, rooms_on}
@@ -136,6 +136,12 @@ ask-requires-clause-held g c = rw c.in-Some.is at c.change.ensures.held
 
 pub refusal-requires-clause-groups : goal.refusal-requires-clause-groups
 refusal-requires-clause-groups g c = omega (arith, c.requires.sound.within.group_count, few_groups c.args.self.now.config c.lemma_is_sound.ensures.faultless)
+
+pub refusal-requires-clause-sources : goal.refusal-requires-clause-sources
+refusal-requires-clause-sources g c = omega (arith, c.requires.sound.within.sources, (few_in_all c.args.self.now.config c.lemma_is_sound.ensures.faultless).0)
+
+pub refusal-requires-clause-scheduled : goal.refusal-requires-clause-scheduled
+refusal-requires-clause-scheduled g c = omega (arith, c.requires.sound.within.scheduled, (few_in_all c.args.self.now.config c.lemma_is_sound.ensures.faultless).1)
 
 pub refusal-requires-clause-few : goal.refusal-requires-clause-few
 refusal-requires-clause-few g c =
