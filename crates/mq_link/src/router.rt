@@ -73,9 +73,9 @@ impl<F: Family> Router<F> {
         config.is_faultless();
         let limits = config.limits();
         let groups = limits.groups as usize;
-        let storage = Storage::with_room(alloc, &limits)?;
-        let met = MetGroups::with_room(alloc, MOST_RECORDS)?;
         let places = vec![in alloc; 0; groups]?;
+        let met = MetGroups::with_room(alloc, MOST_RECORDS)?;
+        let storage = Storage::with_room(alloc, &limits)?;
         Ok(Router {
             status: Status::new(config, start),
             storage,

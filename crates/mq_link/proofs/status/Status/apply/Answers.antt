@@ -21,10 +21,11 @@ use Rattle.mq_link.specs.Configuration.{Configuration}
 use Rattle.mq_link.specs.Family.{v1_mutes_leave, per_query}
 use Rattle.mq_link.specs.LeastCost.{least_merge, least_work}
 use Rattle.mq_link.specs.Record.{change_stated, is_muted, limit_passed, stated, unless_passed, after_sending, sent_at_once}
-use Rattle.mq_link.specs.Storage.{group_stored, IsSought}
-use Rattle.mq_link.proofs.Faultless.{few_sources}
+use Rattle.mq_link.specs.Storage.{group_stored, IsSought, KeepsRoom, KeepsRooms}
+use Rattle.mq_link.proofs.Faultless.{few_groups, few_in_all, few_sources}
 use Rattle.mq_link.proofs.LeastCosts.{worked}
 use Rattle.mq_link.proofs.MadeEntries.{round_keeps_size}
+use Rattle.mq_link.proofs.Rooms.{room_on, rooms_counted, rooms_on}
 use Rattle.mq_link.proofs.StatedSteps.{AreFew, IsChanged, held_by_place, stated_ignored, stated_judged, kept_is_held, left_has_place, left_has_room, made_few}
 use Rattle.mq_link.proofs.status.Status.apply.Given.{Over}
 use Rattle.mq_link.proofs.status.Status.apply.Goals as goal
@@ -115,6 +116,9 @@ returns-in_default-clause-spent g c =
     let size_before = ap (λ (e : ScheduledGroup). size_of e.group) c.look-stored.ensures.group in
     Spends-within _ _ (spent_changing g c.before) (omega arith) (omega (arith, size_before))
 
+pub returns-in_default-clause-rooms : goal.returns-in_default-clause-rooms
+returns-in_default-clause-rooms g c = record { groups = refl; sources = refl; work = c.change.ensures.kept }
+
 pub change-requires-clause-room : goal.change-requires-clause-room
 change-requires-clause-room g c =
     let within = c.requires.sound.within.group_sources (g.F.Address.Key.number c.args.sought.address) in
@@ -123,6 +127,21 @@ change-requires-clause-room g c =
     let asked = c.requires.room.asked in
     let len = c.look-stored.ensures.len in
     record { group = omega arith; asked = omega arith }
+
+pub ask-requires-clause-ascending : goal.ask-requires-clause-ascending
+ask-requires-clause-ascending g c = rw c.in-Some.is at c.change.ensures.ascending
+
+pub ask-requires-clause-held : goal.ask-requires-clause-held
+ask-requires-clause-held g c = rw c.in-Some.is at c.change.ensures.held
+
+pub refusal-requires-clause-groups : goal.refusal-requires-clause-groups
+refusal-requires-clause-groups g c = omega (arith, c.requires.sound.within.group_count, few_groups c.args.self.now.config c.lemma_is_sound.ensures.faultless)
+
+pub refusal-requires-clause-sources : goal.refusal-requires-clause-sources
+refusal-requires-clause-sources g c = omega (arith, c.requires.sound.within.sources, (few_in_all c.args.self.now.config c.lemma_is_sound.ensures.faultless).0)
+
+pub refusal-requires-clause-scheduled : goal.refusal-requires-clause-scheduled
+refusal-requires-clause-scheduled g c = omega (arith, c.requires.sound.within.scheduled, (few_in_all c.args.self.now.config c.lemma_is_sound.ensures.faultless).1)
 
 pub refusal-requires-clause-few : goal.refusal-requires-clause-few
 refusal-requires-clause-few g c =
@@ -139,6 +158,16 @@ pub refusal-requires-clause-change : goal.refusal-requires-clause-change
 refusal-requires-clause-change g c =
     let address = g.F.Address.Key.number c.args.sought.address in
     (address, record { is_held = held_by_place c.args.storage.now.held.groups address c.args.sought.place c.requires.sought ∙ sym c.is_ok.ensures.value; sources = sym c.look-stored.ensures.len; schedule = ap (λ (e : ScheduledGroup). e.schedule) (sym c.look-stored.ensures.group) })
+
+-- there is as much room as before
+rooms_so : (g : Over) (c : After-refusal g) → KeepsRooms c.args.storage.now c.refusal.new.self
+rooms_so g c =
+    let between : Storage _ = record c.args.storage.now { work = c.ask.new.self } in
+    let asked : KeepsRooms c.args.storage.now between = record { groups = refl; sources = refl; work = room_on c.change.ensures.kept c.ask.ensures.kept } in
+    subst (KeepsRooms c.args.storage.now) (sym c.refusal.ensures.left) (rooms_on asked (rooms_counted between c.refusal.new.self.work.meter))
+
+pub returns-in-Some-refusal-clause-rooms : goal.returns-in-Some-refusal-clause-rooms
+returns-in-Some-refusal-clause-rooms g c = rooms_so g c.before
 
 pub returns-in-Some-refusal-clause-outcome : goal.returns-in-Some-refusal-clause-outcome
 returns-in-Some-refusal-clause-outcome g c =
@@ -190,6 +219,14 @@ keep-requires-clause-fits g c =
     let same = ap (λ (e : ScheduledGroup). size_of e.group) (left_is g c.before) in
     let room = c.requires.source_room in
     subst (λ (s : Storage _). sources_in s.held.groups + size_of c.round.new.group.state ≤ s.held.source_room + sources_of (group_at s.held.groups address)) (sym c.refusal.ensures.left) (omega (arith, most, same, room))
+
+pub returns-clause-rooms : goal.returns-clause-rooms
+returns-clause-rooms g c =
+    let work : Workspace _ = record c.refusal.new.self.work { group = c.round.new.group; meter = c.round.new.m } in
+    let room = c.round.ensures.room in
+    let sent : KeepsRoom c.refusal.new.self.work work = record { group = omega arith; named = refl; asked = omega arith } in
+    let done : KeepsRooms c.refusal.new.self (record c.refusal.new.self { work = work }) = record { groups = refl; sources = refl; work = sent } in
+    rooms_on (rooms_on (rooms_so g c.before.before.before.before.before.before.before.before.before.before.before.before) done) c.keep.ensures.rooms
 
 pub returns-clause-outcome : goal.returns-clause-outcome
 returns-clause-outcome g c =
