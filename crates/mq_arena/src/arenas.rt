@@ -22,6 +22,15 @@ impl Arena {
         }
     }
 
+    /// An allocator that lies in its own memory, as the first unit, so that what has no end can name it; or an error, where
+    /// there is no unit.
+    pub fn in_its_memory(memory: &'static mut [u128]) -> Result<&'static Arena, AllocError> {
+        let units = memory.len().min(1);
+        let (own, rest) = memory.split_at_mut(units);
+        let arena = Box::new(Arena::new(own), Arena::new(rest))?;
+        Ok(Box::leak(arena))
+    }
+
     // The cell holds no memory only while `take` of `Unused` runs, which calls nothing that could come back here.
     fn take(&self, size: usize, align: usize) -> Result<&'static mut [u128], AllocError>
         ensures { IfOk result (λ block. size ≤ 16 * length block.now) }

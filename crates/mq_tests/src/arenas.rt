@@ -117,6 +117,26 @@ fn a_vector_holds_its_arena(rt: HostRuntime) {
     expect_that(&rt, words.as_slice() == [9, 9].as_slice(), "two words");
 }
 
+/// An arena that lies in its memory, of so many units.
+fn arena_in(alloc: Global, units: usize) -> Result<&'static Arena, AllocError> {
+    Arena::in_its_memory(Vec::from_elem(alloc, 0, units)?.leak())
+}
+
+#[test]
+fn an_arena_takes_the_first_unit_of_its_memory(rt: HostRuntime) {
+    expect_that(&rt, arena_in(rt.alloc(), 0).is_err(), "no unit to lie in");
+    let arena = arena_in(rt.alloc(), 3).expect(&rt, "memory to lend");
+    let first = numbers(arena, 1, 4).expect(&rt, "the second unit");
+    let second = numbers(arena, 9, 4).expect(&rt, "the third unit");
+    expect_that(&rt, numbers(arena, 0, 1).is_err(), "no more");
+    expect_that(&rt, are_counted(&first, 1, 4), "the first vector's numbers");
+    expect_that(
+        &rt,
+        are_counted(&second, 9, 4),
+        "the second vector's numbers",
+    );
+}
+
 #[test]
 fn as_many_bytes_as_the_blocks_suffice(rt: HostRuntime) {
     let total = block_size(0) + block_size(1) + block_size(16) + block_size(17);
