@@ -18,10 +18,10 @@ map-agree f g (x ∷ xs) same =
     rw (All-head (λ y. f y ≡ g y) x xs same, map-agree f g xs (All-tail (λ y. f y ≡ g y) x xs same)) refl
 
 -- whether an element of a list of cells is this cell
-abbrev is_cell : ℕ → ℕ → ℕ
+abbrev pub is_cell : ℕ → ℕ → ℕ
 is_cell cell other = cond (other == cell) 1 0
 
-is_cell-same : (cell other : ℕ) → other ≡ cell → is_cell cell other ≡ 1
+pub is_cell-same : (cell other : ℕ) → other ≡ cell → is_cell cell other ≡ 1
 is_cell-same cell other same = rw (eq-eqb other cell same) refl
 
 is_cell-other : (cell other : ℕ) → (other ≡ cell → ⊥) → is_cell cell other ≡ 0
@@ -29,7 +29,7 @@ is_cell-other cell other differs =
     ⊎_elim (λ same. absurd (differs same.1)) (λ told. ap (λ (b : Bool). cond b 1 0) told.0) (eqb_tells other cell)
 
 -- a cell that stands in a list of cells is counted, and one past all of them is not
-times-some : (cells : List ℕ) (cell k d : ℕ) → k < length cells → get_or cells k d ≡ cell → 1 ≤ times cell cells
+pub times-some : (cells : List ℕ) (cell k d : ℕ) → k < length cells → get_or cells k d ≡ cell → 1 ≤ times cell cells
 times-some cells cell k d in_list same =
     let part = get_or-le-sum_by (is_cell cell) cells k d in_list in
     omega (arith, part, is_cell-same cell (get_or cells k d) same)

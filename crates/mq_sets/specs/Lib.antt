@@ -1,5 +1,6 @@
 pub mod Ascending
 pub mod Merging
+pub mod NumberedKeys
 pub mod Pools
 pub mod Rules
 pub mod Search
