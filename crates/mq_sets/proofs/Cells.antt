@@ -29,7 +29,7 @@ is_cell-other cell other differs =
     ⊎_elim (λ same. absurd (differs same.1)) (λ told. ap (λ (b : Bool). cond b 1 0) told.0) (eqb_tells other cell)
 
 -- a cell that stands in a list of cells is counted, and one past all of them is not
-times-some : (cells : List ℕ) (cell k d : ℕ) → k < length cells → get_or cells k d ≡ cell → 1 ≤ times cell cells
+pub times-some : (cells : List ℕ) (cell k d : ℕ) → k < length cells → get_or cells k d ≡ cell → 1 ≤ times cell cells
 times-some cells cell k d in_list same =
     let part = get_or-le-sum_by (is_cell cell) cells k d in_list in
     omega (arith, part, is_cell-same cell (get_or cells k d) same)

@@ -110,7 +110,7 @@ impl<T: Copy> SlotList<T> {
 
 /// Writes an item into a free cell, or where none is free into a new one behind the last, and answers
 /// which cell.
-fn fill_cell<T: Copy>(cells: &mut Vec<T>, free: &mut Vec<u16>, item: T) -> u16
+pub(crate) fn fill_cell<T: Copy>(cells: &mut Vec<T>, free: &mut Vec<u16>, item: T) -> u16
     requires within { All (IsCell cells.old.items) free.old.items }
     requires numbered { length free.old.items ≡ 0 → length cells.old.items < 2 ^ 16 }
     requires space { length free.old.items ≡ 0 → length cells.old.items < vec_capacity cells.old }
