@@ -68,7 +68,8 @@ impl NumberedMoments {
 
     /// How many numbers are there.
     pub fn len(&self) -> usize
-        ensures { result ≡ map.len self.now.moments }
+        ensures len { result ≡ map.len self.now.moments }
+        ensures within { result ≤ self.now.room }
     {
         self.numbers.len() / 2
     }
