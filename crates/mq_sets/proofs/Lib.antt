@@ -13,6 +13,7 @@ pub mod NumberedItems
 pub mod NumbersGiven
 pub mod PageSizes
 pub mod PagedNumbers
+pub mod PagesJoined
 pub mod Placing
 pub mod Rules
 pub mod SearchCosts
