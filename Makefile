@@ -54,13 +54,13 @@ live-test: live
 	@examples/live/test
 
 # How fast captures are listed and replayed, what hostile hosts cost, and how near datagrams come to the sum bound
-# (bench/README.md). It proves nothing.
+# (bench/README.md). It proves nothing. `make bench WRITE=--write` puts the tables into that page.
 bench: bin/mquerier
-	@bench/show
-	@bench/convert
-	@bench/replay
-	@bench/hostile
-	@bench/spent
+	@bench/show $(WRITE)
+	@bench/convert $(WRITE)
+	@bench/replay $(WRITE)
+	@bench/hostile --instructions $(WRITE)
+	@bench/spent $(WRITE)
 
 # The program, the library for C with its header and what pkg-config has to know of it, and the manual pages.
 install: bin/mquerier lib/libmquerier.a

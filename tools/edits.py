@@ -4,7 +4,7 @@ import glob
 import os
 import re
 
-from repository import TOP, text_of
+from repository import TOP, put, text_of
 
 FUNCTION = re.compile(r"\bfn (\w+)")
 NOTE = re.compile(r"(?:note: )?(?:\./)?((?:src|proofs)/\S+?):(\d+):\d+: (.*)")
@@ -63,8 +63,7 @@ class Edit:
         text = text_of(f"{folder}/{self.file}")
         for old, new in self.pairs:
             text = text.replace(old, new)
-        with open(f"{folder}/{self.file}", "w", encoding="utf-8") as it:
-            it.write(text)
+        put(f"{folder}/{self.file}", text)
 
     def is_of_its_proof(self, file):
         return file.startswith("proofs/") and file.split("/")[-2].lstrip("+") == self.function

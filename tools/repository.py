@@ -1,5 +1,7 @@
-"""What the tools share: the crates of the repository, how they stand on one another, and what changed since a commit."""
+"""What the tools share: files and commands, the crates of the repository, how they stand on one another, and what changed since a
+commit."""
 
+import concurrent.futures
 import glob
 import os
 import re
@@ -13,6 +15,24 @@ PARTS = ("src", "specs", "proofs")
 def text_of(file):
     with open(file, encoding="utf-8") as it:
         return it.read()
+
+
+def put(file, text):
+    os.makedirs(os.path.dirname(file), exist_ok=True)
+    with open(file, "w", encoding="utf-8") as it:
+        it.write(text)
+
+
+def said_by(folder, *words):
+    """The status of a command that runs in a folder, and all that it says."""
+    how = {"stdin": subprocess.DEVNULL, "stdout": subprocess.PIPE, "stderr": subprocess.STDOUT}
+    ran = subprocess.run(words, cwd=folder, encoding="utf-8", errors="replace", check=False, **how)
+    return ran.returncode, ran.stdout
+
+
+def on_all_cores(work, items):
+    with concurrent.futures.ThreadPoolExecutor(os.cpu_count() or 1) as pool:
+        return list(pool.map(work, items))
 
 
 def rows_of(text):

@@ -95,10 +95,11 @@ To get a capture:
   tcpdump -i INTERFACE -w capture.pcap 'igmp or icmp6 or (ip6 and ip6[6] = 0)'
 It has to be a classic capture file of Ethernet or raw IP. mquerier convert makes one of other kinds.
 
-Where the capture has a fault, or a packet or the end comes more than a day behind the packet before it, the
-lines of all packets before it are printed, standard error says which it is, and the status is 1. The
-capture's fault is one of: 1 a read failed; 2 no capture; 3 another version than 2.4; 4 another link type; 5 a
-header is cut; 6 data are cut; 7 a packet of more than 262144 bytes; 8 too many packets.";
+Where the capture has a fault, the lines of all packets before it are printed, without groups and totals,
+standard error says the fault, and the status is 1. The fault is one of: 1 a read failed; 2 no capture; 3
+another version than 2.4; 4 another link type; 5 a header is cut; 6 data are cut; 7 a packet of more than
+262144 bytes; 8 too many packets. So it is with a gap: a packet, or the end, more than a day behind the packet
+before it. Cut a capture with a gap in two.";
 
 /// The command with its options.
 pub(crate) fn command<'a>(alloc: Global) -> Result<Command<'a>, AllocError> {
@@ -132,8 +133,9 @@ const RV_HELP: &str = "Robustness Variable, 1 to 7 [default: 2]";
 const QI_HELP: &str = "Query Interval in seconds, 1 to 31744 [default: 125]";
 
 const QRI_HELP: &str = "\
-Query Response Interval in milliseconds, less than the Query Interval; 100
-to 3174400 for igmp, 1 to 8387584 for mld [default: 10000]";
+Query Response Interval in milliseconds, below --qi; with --qi of 10 or less
+give --qri too; 100 to 3174400 for igmp, 1 to 8387584 for mld
+[default: 10000]";
 
 const LMQI_HELP: &str = "\
 Last Member (mld: Last Listener) Query Interval in milliseconds; 100 to

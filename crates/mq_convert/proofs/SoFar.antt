@@ -154,12 +154,12 @@ ended_within choice old mid new before after held left context now number size u
     (refl, reads.0 ∙ r.count, λ cut. absurd (cc (cut, reads.2)), next.failed ∙ or-false mid.failed ∙ same) passed
 
 -- the next block was read, and what it holds put
-pub next_put : (E : Type 0) (choice : Choice) (old mid new : InputState) (before now after : Option (List ℕ)) (held more left : List ℕ) (context behind : ContextState) (number size : ℕ) (unread tally : Unread) (buffer : List ℕ) (packet : Option Packet)
+pub next_put : (T E : Type 0) (choice : Choice) (old mid new : InputState) (before now after : Option (List ℕ)) (held more left : List ℕ) (context behind : ContextState) (number size : ℕ) (unread tally : Unread) (buffer : List ℕ) (packet : Option Packet) (it : T)
     → (r : IsReadTo choice old mid context number unread) → Passes before now held more (converted choice (packets_of r.blocks)) → NextBlock context.kind number mid new buffer (Ok (Some size))
-    → ReadsBlock number context behind (take size buffer) (Ok packet) → Puts {T = Unread} {E = E} now after more left (block_text choice (held_of (take size buffer) packet)) (Ok tally)
+    → ReadsBlock number context behind (take size buffer) (Ok packet) → Puts {T = T} {E = E} now after more left (block_text choice (held_of (take size buffer) packet)) (Ok it)
     → ((links : List ℕ) → Tallies links unread → Tallies (links ++ unread_links choice (option_to_list (held_of (take size buffer) packet))) tally)
     → (s : IsReadTo choice old new behind (number + 1) tally) × Passes before after held left (converted choice (packets_of s.blocks))
-next_put E choice old mid new before now after held more left context behind number size unread tally buffer packet r passed next reads put counted =
+next_put T E choice old mid new before now after held more left context behind number size unread tally buffer packet it r passed next reads put counted =
     let found = held_of (take size buffer) packet in
     let s = next_read choice old mid new context behind number size unread tally buffer found r next reads.0 counted in
     let both = both_passed before now after held more left (converted choice (packets_of r.blocks)) (block_text choice found) passed put in

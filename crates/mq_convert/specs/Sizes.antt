@@ -13,7 +13,7 @@ use Rattle.mq_convert.specs.declared.fault.BlockFault.TheVariants as fault
 
 -- the most bytes that a block may have
 abbrev pub greatest_block : ℕ
-greatest_block = 1048576
+greatest_block = 294912
 
 -- the type of a section header, which reads the same in both byte orders
 abbrev pub section_type : ℕ

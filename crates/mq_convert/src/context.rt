@@ -7,7 +7,7 @@ use mq_pcap::{Endian, Fraction};
 pub const MOST_INTERFACES: usize = 1024;
 
 /// The most bytes that a block may have, of a classic capture a record with its header.
-pub const GREATEST_BLOCK: usize = 1_048_576;
+pub const GREATEST_BLOCK: usize = 294_912;
 
 /// What kind of block comes next.
 #[derive(Clone, Copy)]

@@ -104,7 +104,7 @@ fn put_capture<R: Read, W: Write>(
     while let Some(size) = next_block(context.kind, number, reader, block)? {
         let read = &block[..size];
         let held = read_block(&mut context, number, read)?;
-        unread = put_held(choice, held, read, unread, buffer, writer)?;
+        put_held(choice, held, read, &mut unread, buffer, writer)?;
         number += 1;
     }
     Ok(unread)
@@ -132,21 +132,22 @@ fn put_held<W: Write>(
     choice: Choice,
     held: Option<Packet>,
     block: &[u8],
-    unread: Unread,
+    unread: &mut Unread,
     buffer: &mut Text,
     writer: &mut Watched<W>,
-) -> Result<Unread, LineFault>
+) -> Result<(), LineFault>
     requires { IsHeldWithin block.now (Ok held) }
     ensures text { Puts
         (W.contents (inner_of writer.old)) (W.contents (inner_of writer.new))
         buffer.old.items buffer.new.items (block_text choice (held_of block.now held)) result }
-    ensures tally { IfOk result (λ after. (links : List ℕ) → Tallies links unread
-        → Tallies (links ++ unread_links choice (option_to_list (held_of block.now held))) after) }
+    ensures tally { IfOk result (λ _. (links : List ℕ) → Tallies links unread.old
+        → Tallies (links ++ unread_links choice (option_to_list (held_of block.now held))) unread.new) }
     ensures failed { has_failed writer.new ≡ has_failed writer.old || is_err result }
 {
     let Some(packet) = held else {
-        return Ok(unread);
+        return Ok(());
     };
     put_record(choice, packet, block, buffer, writer)?;
-    Ok(unread.with(choice, packet))
+    unread.add(choice, packet);
+    Ok(())
 }

@@ -33,9 +33,6 @@ fit_append n (GroupQuery g f ∷ xs) ys a b = fit_append n xs ys a b
 fit_append n (SourcesQuery g f ss ∷ xs) ys a b = (a.0, fit_append n xs ys a.1 b)
 
 -- what is due for a group
-pub fits-messages_due : (n : ℕ) (timing : Timing) (now group : ℕ) (e : ScheduledGroup) → AllFit n (messages_due n timing now group e)
-fits-messages_due n timing now group e = all_fit n timing now group e
-
 fits_if : (n : ℕ) (b : Bool) → AllFit n (cond b (GeneralQuery ∷ []) [])
 fits_if n true = tt
 fits_if n false = tt
@@ -47,7 +44,7 @@ fits-general_messages n configured now e = fits_if n (general_is_due now (return
 fits_each : (n : ℕ) (timing : Timing) (now : ℕ) (es : List (ℕ × ScheduledGroup)) → AllFit n (flat_map (λ (e : ℕ × ScheduledGroup). messages_due n timing now e.0 e.1) es)
 fits_each n timing now [] = tt
 fits_each n timing now (e ∷ es) =
-    fit_append n (messages_due n timing now e.0 e.1) (flat_map (λ (e : ℕ × ScheduledGroup). messages_due n timing now e.0 e.1) es) (fits-messages_due n timing now e.0 e.1) (fits_each n timing now es)
+    fit_append n (messages_due n timing now e.0 e.1) (flat_map (λ (e : ℕ × ScheduledGroup). messages_due n timing now e.0 e.1) es) (all_fit n timing now e.0 e.1) (fits_each n timing now es)
 
 pub fits-queries_due : (family : Family) (timing : Timing) (now : ℕ) (groups : Groups) → AllFit (per_query family) (queries_due family timing now groups)
 unfolding queries_due
@@ -72,7 +69,7 @@ fits_changed at group groups (Some change) =
     let e = changed_by at group groups change in
     let after = with_group groups group (after_sending at e) in
     unless_refused (per_query at.config.family) (limit_passed at.config.limits after (after_sending at e)) groups after (sent_at_once at group e)
-    (fits-messages_due (per_query at.config.family) at.election.timing at.now group e)
+    (all_fit (per_query at.config.family) at.election.timing at.now group e)
 
 pub fits-stated : (at : Setting) (group : ℕ) (statement : Statement) (groups : Groups) → AllFit (per_query at.config.family) (stated at group statement groups).queries
 unfolding stated

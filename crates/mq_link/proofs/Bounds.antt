@@ -18,7 +18,7 @@ use Rattle.mq_sched.specs.declared.queries.QuerySchedule.{QuerySchedule}
 use Rattle.mq_sched.specs.Schedule.{ScheduleState, ScheduledGroup, settled, cleared}
 use Rattle.mq_sched.specs.Sending.{is_due, sources_due_next, group_counted, after_round}
 use Rattle.mq_link.specs.declared.configuration.Limits.{Limits}
-use Rattle.mq_link.specs.State.{Groups, unheld, sources_of, one_if, schedules_of, AreWithin}
+use Rattle.mq_link.specs.State.{Groups, unheld, sources_of, one_if, schedules_of, AreWithin, sources_in}
 use Rattle.mq_link.specs.Tick.{group_expired, if_held}
 use Rattle.mq_link.proofs.Entries.{total-kept, len-kept}
 
@@ -113,19 +113,22 @@ lowered_no_more timing now s asked e = record { sources = lowered_size timing no
 pub same_no_more : (e : ScheduledGroup) → NoMore e e
 same_no_more e = record { sources = omega arith; schedules = omega arith }
 
+pub sources_kept : (f : ℕ → ScheduledGroup → Option ScheduledGroup) (groups : Groups) → ((k : ℕ) (e : ScheduledGroup) → IfSome (f k e) (NoMore e)) → sources_in (kept f groups) ≤ sources_in groups
+sources_kept f groups no_more = total-kept sources_of f groups (λ k e. of_one (f k e) e (no_more k e))
+  where
+    of_one : (after : Option ScheduledGroup) (e : ScheduledGroup) → IfSome after (NoMore e) → IfSome after (λ a. sources_of a ≤ sources_of e)
+    of_one None e h = tt
+    of_one (Some a) e h = h.sources
+
 -- Groups each of which has no more than before are within the limits that they were in.
 pub within-kept : (limits : Limits) (f : ℕ → ScheduledGroup → Option ScheduledGroup) (groups : Groups) → ((k : ℕ) (e : ScheduledGroup) → IfSome (f k e) (NoMore e)) → AreWithin limits groups → AreWithin limits (kept f groups)
 within-kept limits f groups no_more within = record {
   group_count = let a = len-kept f groups in let b = within.group_count in omega arith;
   group_sources = λ group. subst (λ x. sources_of (unwrap_or x unheld) ≤ limits.group_sources) (sym (get-kept f groups group)) (by_group group (map.get groups group) (within.group_sources group));
-  sources = let a = total-kept sources_of f groups (λ k e. sources_at (f k e) e (no_more k e)) in let b = within.sources in omega arith;
+  sources = let a = sources_kept f groups no_more in let b = within.sources in omega arith;
   scheduled = let a = total-kept schedules_of f groups (λ k e. schedules_at (f k e) e (no_more k e)) in let b = within.scheduled in omega arith;
 }
   where
-    sources_at : (after : Option ScheduledGroup) (e : ScheduledGroup) → IfSome after (NoMore e) → IfSome after (λ a. sources_of a ≤ sources_of e)
-    sources_at None e h = tt
-    sources_at (Some a) e h = h.sources
-
     schedules_at : (after : Option ScheduledGroup) (e : ScheduledGroup) → IfSome after (NoMore e) → IfSome after (λ a. schedules_of a ≤ schedules_of e)
     schedules_at None e h = tt
     schedules_at (Some a) e h = h.schedules

@@ -1,7 +1,6 @@
 -- How many sources a statement leaves a group at most.
 use Rattle.std.proofs.Common.{◌≡◌, ℕ, ◌+◌, ◌≤◌, Bool, true, false, cond, ◌||◌, List, [], ◌∷◌, ◌++◌, Option, None, Some, IfSome, length, refl, sym, ap, ◌∙◌, subst, arith, length-append}
 use Rattle.std.specs.Prelude.{map as list_map}
-use Rattle.std.specs.List.{list_any}
 use Rattle.std.specs.Option.{option_map}
 use Rattle.std.specs.Ordering.{nat_cmp, eq_by_cmp}
 use Rattle.std.specs.Cmp.{nat_cmp_total}
@@ -9,6 +8,7 @@ use Rattle.std.specs.FinMap as map
 use Rattle.std.specs.FinMap.{FinMap}
 use Rattle.std.specs.FinSet as set
 use Rattle.std.proofs.lemmas.List.{length-map}
+use Rattle.std.proofs.lemmas.List.Folds.{list_any-append}
 use Rattle.mq_count.specs.declared.versions.OlderVersion.{OlderVersion}
 use Rattle.mq_count.specs.declared.versions.OlderVersion.TheVariants.{V1, V2}
 use Rattle.mq_table.specs.declared.kind.Kind.{Kind}
@@ -45,15 +45,11 @@ few_by {X} rule (k ∷ ks) = with_one (rule k) (few_by rule ks)
     with_one None rest = omega arith
     with_one (Some x) rest = omega arith
 
-any-append : (p : ℕ → Bool) (xs ys : List ℕ) → list_any p (xs ++ ys) ≡ (list_any p xs || list_any p ys)
-any-append p [] ys = refl
-any-append p (x ∷ xs) ys = elim (p x) as (λ b. (b || list_any p (xs ++ ys)) ≡ ((b || list_any p xs) || list_any p ys)) [ true ↦ refl | false ↦ any-append p xs ys ]
-
 by_list : {X : Type 0} (old : FinMap nat_cmp X) (xs : List ℕ) (rule : ℕ → Option X) → by_rule old (set.from_list xs) rule ≡ map.from_entries (entries_by rule (map.keys old ++ xs))
 by_list old xs rule = map.same_map nat_cmp_total map.nat_cmp-IsAntisymmetric _ _ (λ q.
     get-by_rule old (set.from_list xs) rule q
     ∙ (λ i. cond (map.contains_key-keys old q i || set.contains-from_list nat_cmp_total xs q i) (rule q) None)
-    ∙ sym (ap (λ b. cond b (rule q) None) (any-append (eq_by_cmp nat_cmp q) (map.keys old) xs))
+    ∙ sym (ap (λ b. cond b (rule q) None) (list_any-append (eq_by_cmp nat_cmp q) (map.keys old) xs))
     ∙ sym (find-entries_by rule (map.keys old ++ xs) q)
     ∙ sym (map.get-from_entries nat_cmp_total (entries_by rule (map.keys old ++ xs)) q))
 

@@ -25,13 +25,13 @@ at_name row place one other value is some within counted false apart =
     let elsewhere : other - 1 ≢ place = λ here. other_than other one apart (omega (arith, here)) in
     get_or-set_other row place (other - 1) value 0 elsewhere
 
-row_counted : {X : Type 0} (number : X → ℕ) (positive : (x : X) → 0 < number x) (row : List ℕ) (place : ℕ) (name : X) (value : ℕ) → place + 1 ≡ number name → place < length row → value ≡ counted_on (get_or row place 0) 1
+pub row_counted : {X : Type 0} (number : X → ℕ) (positive : (x : X) → 0 < number x) (row : List ℕ) (place : ℕ) (name : X) (value : ℕ) → place + 1 ≡ number name → place < length row → value ≡ counted_on (get_or row place 0) 1
     → count_in number (set row place value) ≡ counted_at number name 1 (count_in number row)
 row_counted number positive row place name value is within counted =
     let each = λ (other : _). at_name row place (number name) (number other) value is (positive other) within counted (number other == number name) (λ i. number other == number name) in
     λ i other. each other i
 
-reason_positive : (reason : DropReason) → 0 < reason_number reason
+pub reason_positive : (reason : DropReason) → 0 < reason_number reason
 reason_positive Truncated = omega arith
 reason_positive Checksum = omega arith
 reason_positive UnknownType = omega arith
@@ -43,7 +43,7 @@ reason_positive OwnOrZero = omega arith
 reason_positive OlderQuery = omega arith
 reason_positive BadGroup = omega arith
 
-refusal_positive : (name : Refusal) → 0 < refusal_number name
+pub refusal_positive : (name : Refusal) → 0 < refusal_number name
 refusal_positive Long = omega arith
 refusal_positive Repeated = omega arith
 refusal_positive Groups = omega arith
@@ -51,11 +51,3 @@ refusal_positive GroupSources = omega arith
 refusal_positive Sources = omega arith
 refusal_positive Scheduled = omega arith
 refusal_positive Memory = omega arith
-
-pub reason_counted : (row : List ℕ) (place : ℕ) (reason : DropReason) (value : ℕ) → place + 1 ≡ reason_number reason → place < length row → value ≡ counted_on (get_or row place 0) 1
-    → count_in reason_number (set row place value) ≡ counted_at reason_number reason 1 (count_in reason_number row)
-reason_counted = row_counted reason_number reason_positive
-
-pub refusal_counted : (row : List ℕ) (place : ℕ) (name : Refusal) (value : ℕ) → place + 1 ≡ refusal_number name → place < length row → value ≡ counted_on (get_or row place 0) 1
-    → count_in refusal_number (set row place value) ≡ counted_at refusal_number name 1 (count_in refusal_number row)
-refusal_counted = row_counted refusal_number refusal_positive

@@ -6,7 +6,7 @@ use Rattle.mq_sched.specs.Election.{ElectionState, ticked, general_messages}
 use Rattle.mq_sched.specs.Sending.{SentQuery, GeneralQuery}
 use Rattle.mq_sched.specs.Sink.{Sends}
 use Rattle.mq_sched.proofs.Collecting.{Sends-append}
-use Rattle.mq_link.specs.declared.sending.Sender.{Sender}
+use Rattle.mq_link.specs.declared.sender.Sender.{Sender}
 use Rattle.mq_link.specs.Configuration.{Configuration}
 use Rattle.mq_link.specs.Sender.{TakesQuery, begun}
 use Rattle.mq_link.specs.State.{Groups}

@@ -57,13 +57,13 @@ response_within : (family : Family) (n : ℕ) → IsWithin (response_unit family
 response_within Igmp n h = record { at_least = let a = h.at_least in omega arith; at_most = let b = h.at_most in omega arith }
 response_within Mld n h = record { at_least = let a = h.at_least in omega arith; at_most = let b = h.at_most in omega arith }
 
--- so many groups, each with so many sources
-in_limits : (config : Configuration) → IsFaultless config → IsWithin 1 65535 config.limits.groups × IsWithin 1 1024 config.limits.group_sources
+-- so many groups, each with so many sources, and so many sources and schedules in all
+in_limits : (config : Configuration) → IsFaultless config → IsWithin 1 65535 config.limits.groups × IsWithin 1 1024 config.limits.group_sources × IsWithin 1 65535 config.limits.sources × IsWithin 1 65535 config.limits.scheduled
 in_limits config h =
     let l = config.limits in
     let none = no_limit (limit_fault l) (first_none (as_fault (limit_fault l)) _ (second_none (timing_fault config.family config.timing) _ h)) in
     let tests = none_of_four (is_outside 1 65535 l.groups) (is_outside 1 1024 l.group_sources) (is_outside 1 65535 l.sources) (is_outside 1 65535 l.scheduled) Groups GroupSources Sources Scheduled none in
-    (inside 1 65535 l.groups tests.0, inside 1 1024 l.group_sources tests.1)
+    (inside 1 65535 l.groups tests.0, inside 1 1024 l.group_sources tests.1, inside 1 65535 l.sources tests.2, inside 1 65535 l.scheduled tests.3)
 
 pub few_groups : (config : Configuration) → IsFaultless config → config.limits.groups ≤ 65535
 few_groups config h = (in_limits config h).0.at_most
@@ -73,6 +73,9 @@ some_groups config h = (in_limits config h).0.at_least
 
 pub few_sources : (config : Configuration) → IsFaultless config → config.limits.group_sources ≤ 1024
 few_sources config h = (in_limits config h).1.at_most
+
+pub few_in_all : (config : Configuration) → IsFaultless config → (config.limits.sources ≤ 65535) × (config.limits.scheduled ≤ 65535)
+few_in_all config h = ((in_limits config h).2.at_most, (in_limits config h).3.at_most)
 
 pub timing_in_range : (config : Configuration) → IsFaultless config → AreInRange config.timing
 timing_in_range config h =

@@ -1,12 +1,12 @@
 -- What a step hands out, from what a sender has taken of it.
-use Rattle.std.proofs.Common.{◌≡◌, ℕ, Bool, not, refl, suc, List, [], ◌∷◌, length, sym, ap, ◌∙◌, subst, arith}
+use Rattle.std.proofs.Common.{◌≡◌, ℕ, Bool, not, refl, suc, List, [], ◌∷◌, length, sym, ap, ◌∙◌, subst}
 use Rattle.std.specs.Prelude.{map as list_map}
 use Rattle.std.specs.List.{count_by}
 use Rattle.mq_count.specs.Streams.{counted_on}
 use Rattle.mq_wire.specs.Family.{Family}
 use Rattle.mq_sched.specs.Rounds.{AllFit}
 use Rattle.mq_sched.specs.Sink.{Sends}
-use Rattle.mq_link.specs.declared.sending.Sender.{Sender}
+use Rattle.mq_link.specs.declared.sender.Sender.{Sender}
 use Rattle.mq_link.specs.Configuration.{Configuration}
 use Rattle.mq_link.specs.Counters.{Counters}
 use Rattle.mq_link.specs.Family.{per_query}
@@ -16,7 +16,7 @@ use Rattle.mq_link.specs.Sender.{TakesQuery, begun}
 use Rattle.mq_link.specs.Sent.{Outgoing, outgoing_of}
 use Rattle.mq_link.specs.State.{LinkState}
 use Rattle.mq_link.specs.Tick.{Step}
-use Rattle.mq_link.proofs.HandedOver.{handed_all}
+use Rattle.mq_link.proofs.HandedOver.{handed_all, counted_from_none}
 
 -- each message has been answered
 answered_each : {O : Type 0} (takes : O → ℕ → List ℕ → Bool → O → Type 0) (old : O) (messages : List Outgoing) (answers : List Bool) (new : O) → HandsOver takes old messages answers new → length answers ≡ length messages
@@ -24,9 +24,6 @@ answered_each takes old [] [] new h = refl
 answered_each takes old [] (answer ∷ answers) new h = absurd h
 answered_each takes old (message ∷ messages) [] new h = absurd h
 answered_each takes old (message ∷ messages) (answer ∷ answers) new h = ap suc (answered_each takes h.0 messages answers new h.2)
-
-counted_alike : (old n : ℕ) → counted_on old (counted_on 0 n) ≡ counted_on old n
-counted_alike old n = omega arith
 
 -- the counters after the answers
 abbrev pub with_answers : Counters → (sent unsent : ℕ) → Counters
@@ -52,8 +49,8 @@ is_handed {F = F} {O = O} {K = K} {E = E} takes family config step after old new
     let handed : HandsOver takes old.outlet.now (outgoing_of config step) answers new.outlet.now =
     subst (λ f. HandsOver takes old.outlet.now (list_map (outgoing_on f terms) step.queries) answers new.outlet.now) (sym is_family) all.handed
     in
-    let sent : counted_on c.sent new.sent ≡ counted_on c.sent (count_by (λ b. b) answers) = ap (counted_on c.sent) all.sent ∙ counted_alike c.sent (count_by (λ b. b) answers) in
-    let unsent : counted_on c.unsent new.unsent ≡ counted_on c.unsent (count_by not answers) = ap (counted_on c.unsent) all.unsent ∙ counted_alike c.unsent (count_by not answers) in
+    let sent : counted_on c.sent new.sent ≡ counted_on c.sent (count_by (λ b. b) answers) = ap (counted_on c.sent) all.sent ∙ counted_from_none c.sent (count_by (λ b. b) answers) in
+    let unsent : counted_on c.unsent new.unsent ≡ counted_on c.unsent (count_by not answers) = ap (counted_on c.unsent) all.unsent ∙ counted_from_none c.unsent (count_by not answers) in
     let counted : record step.state { counters = with_answers c new.sent new.unsent } ≡ answered answers step = λ i. record step.state { counters = record c { sent = sent i; unsent = unsent i } } in
     record {
       messages = outgoing_of config step;

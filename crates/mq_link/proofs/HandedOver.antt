@@ -9,7 +9,7 @@ use Rattle.mq_sched.specs.Rounds.{AllFit}
 use Rattle.mq_sched.specs.Sending.{SentQuery, GeneralQuery, GroupQuery, SourcesQuery}
 use Rattle.mq_sched.specs.Sink.{Sends}
 use Rattle.mq_link.specs.Family.{per_query}
-use Rattle.mq_link.specs.declared.sending.Sender.{Sender}
+use Rattle.mq_link.specs.declared.sender.Sender.{Sender}
 use Rattle.mq_link.specs.Configuration.{Configuration}
 use Rattle.mq_link.specs.Counters.{Counters, count_answers}
 use Rattle.mq_link.specs.Run.{answered, HandsOut}

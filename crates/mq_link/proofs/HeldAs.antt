@@ -84,8 +84,8 @@ held_expired config now group e h = elim (is_vacant (expired now e.group)) as (�
   }
 ] refl
 
-nothing_settled : (g : GroupState) (schedule : ScheduleState) → schedule ≡ no_schedule → settled g schedule ≡ no_schedule
-nothing_settled g schedule is = ap (settled g) is ∙ by_tests (is_include g.mode) (some_source (has_sendings g) g)
+pub settled_silent : (g : GroupState) (schedule : ScheduleState) → schedule ≡ no_schedule → settled g schedule ≡ no_schedule
+settled_silent g schedule is = ap (settled g) is ∙ by_tests (is_include g.mode) (some_source (has_sendings g) g)
   where
     by_tests : (a b : Bool) → ◌≡◌ {A = ScheduleState} (record { group_query = cond a None None; sources_due = cond b None None }) no_schedule
     by_tests true true = refl
@@ -93,13 +93,10 @@ nothing_settled g schedule is = ap (settled g) is ∙ by_tests (is_include g.mod
     by_tests false true = refl
     by_tests false false = refl
 
-pub settled_silent : (g : GroupState) (schedule : ScheduleState) → schedule ≡ no_schedule → settled g schedule ≡ no_schedule
-settled_silent = nothing_settled
-
 pub silent_expired : (now group : ℕ) (e : ScheduledGroup) → IsSilent e → IfSome (if_held (group_expired now e)) IsSilent
 silent_expired now group e h = elim (is_vacant (expired now e.group)) as (λ b. IfSome (cond b None (Some (group_expired now e))) IsSilent) [
   | true ↦ tt
-  | false ↦ record { schedule = nothing_settled (expired now e.group) e.schedule h.schedule }
+  | false ↦ record { schedule = settled_silent (expired now e.group) e.schedule h.schedule }
 ]
 
 -- rounds

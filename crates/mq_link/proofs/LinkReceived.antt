@@ -12,13 +12,13 @@ use Rattle.mq_sched.specs.Sink.{Sends}
 use Rattle.mq_link.specs.declared.answers.DropReason.{DropReason}
 use Rattle.mq_link.specs.declared.answers.Received.{Received}
 use Rattle.mq_link.specs.declared.answers.Received.TheVariants.{Dropped}
-use Rattle.mq_link.specs.declared.sending.Sender.{Sender}
+use Rattle.mq_link.specs.declared.sender.Sender.{Sender}
 use Rattle.mq_link.specs.Configuration.{Configuration}
 use Rattle.mq_link.specs.Counters.{count_dropped}
 use Rattle.mq_link.specs.Family.{per_query}
 use Rattle.mq_link.specs.Link.{HasReceived}
 use Rattle.mq_link.specs.Receive.{Envelope, Receipt, count_read, taken_in, taken_or_dropped, drop_reason, receipt_after, receipt_of, read_of, pseudo_of, counting_read}
-use Rattle.mq_link.specs.Router.{Leaves, RouterValue, link_of, silent_step, state_of}
+use Rattle.mq_link.specs.Router.{HasReceipt, HasStep, RouterValue, link_of, silent_step, state_of}
 use Rattle.mq_link.specs.Sender.{TakesQuery, begun}
 use Rattle.mq_link.specs.State.{LinkState}
 use Rattle.mq_link.specs.Tick.{Step, tick_of}
@@ -51,11 +51,6 @@ decided_continues config envelope (Ok message) None state queries timing other =
 pub continues : (config : Configuration) (envelope : Envelope) (read : Result (Message ℕ) WireFault) (state : LinkState) (queries : List SentQuery) (timing other : Timing) → Continues queries timing (receipt_after config envelope read (step_with state queries timing)) (receipt_after config envelope read (step_with state [] other))
 continues config envelope read state queries timing other = decided_continues config envelope read (drop_reason config envelope read) state queries timing other
 
--- A datagram comes to this receipt, and is answered so.
-pub record Comes (receipt : Receipt) (old new : RouterValue) (answer : Received) : Type 0 where
-  pub leaves : Leaves receipt.step.state old new
-  pub answer_is : answer ≡ receipt.answer
-
 abbrev pub read_in : Family → Envelope → List ℕ → Result (Message ℕ) WireFault
 read_in family envelope bytes = read_of family (pseudo_of family envelope bytes) bytes
 
@@ -66,16 +61,19 @@ abbrev IsAnswered : {O : Type 0} → (takes : O → ℕ → List ℕ → Bool �
 IsAnswered takes config after old new answer receipt = (answer ≡ receipt.answer) × IsHanded takes config receipt.step after old new
 
 -- a datagram that is dropped is counted, and no more
-pub is_dropped : (envelope : Envelope) (read : Result (Message ℕ) WireFault) (reason : DropReason) (old between new : RouterValue)
+pub is_dropped : {S : Type 0} (takes : S → SentQuery → S → Type 0) (sink : S) (envelope : Envelope) (read : Result (Message ℕ) WireFault) (reason : DropReason) (old between new : RouterValue)
     → drop_reason old.at.config envelope read ≡ Some reason
     → between ≡ record old { counters = count_read read old.counters } → new ≡ record between { counters = count_dropped reason between.counters }
-    → Comes (receipt_after old.at.config envelope read (silent_step (state_of old))) old new (Dropped reason)
-is_dropped envelope read reason old between new is counted dropped =
-    subst (λ r. Comes r old new (Dropped reason)) (sym (ap (taken_or_dropped old.at.config envelope (silent_step (state_of old)) read) is))
+    → HasReceipt takes (receipt_after old.at.config envelope read (silent_step (state_of old))) (Dropped reason) old new sink sink
+is_dropped takes sink envelope read reason old between new is counted dropped =
+    subst (λ r. HasReceipt takes r (Dropped reason) old new sink sink) (sym (ap (taken_or_dropped old.at.config envelope (silent_step (state_of old)) read) is))
     (record {
-      leaves = record {
-        config = ap (λ (r : RouterValue). r.at.config) dropped ∙ ap (λ (r : RouterValue). r.at.config) counted;
-        state_is = ap state_of dropped ∙ ap (λ (r : RouterValue). state_of (record r { counters = count_dropped reason r.counters })) counted;
+      step = record {
+        leaves = record {
+          config = ap (λ (r : RouterValue). r.at.config) dropped ∙ ap (λ (r : RouterValue). r.at.config) counted;
+          state_is = ap state_of dropped ∙ ap (λ (r : RouterValue). state_of (record r { counters = count_dropped reason r.counters })) counted;
+        };
+        sent = refl;
       };
       answer_is = refl;
     })
@@ -90,27 +88,26 @@ is_taken envelope message old between none counted =
 
 -- with the outlet's answers counted, it is a datagram of the link
 pub has_received : {F O K E : Type 0} (takes : O → ℕ → List ℕ → Bool → O → Type 0) (family : Family) (envelope : Envelope) (bytes : List ℕ) (now : ℕ) (before ticked left after : RouterValue) (answer : Received) (old between new : Sender F O K E)
-    → before.at.config.family ≡ family → Leaves (tick_of before.at.config now (state_of before)).state before ticked
-    → (let step = tick_of before.at.config now (state_of before) in Sends (TakesQuery takes family) (begun before.at.config step.timing old) step.queries between)
-    → Comes (receipt_after ticked.at.config envelope (read_in family envelope bytes) (silent_step (state_of ticked))) ticked left answer
-    → Sends (TakesQuery takes family) between (receipt_after ticked.at.config envelope (read_in family envelope bytes) (silent_step (state_of ticked))).step.queries new
+    → before.at.config.family ≡ family
+    → (let step = tick_of before.at.config now (state_of before) in HasStep (TakesQuery takes family) step before ticked (begun before.at.config step.timing old) between)
+    → HasReceipt (TakesQuery takes family) (receipt_after ticked.at.config envelope (read_in family envelope bytes) (silent_step (state_of ticked))) answer ticked left between new
     → after ≡ record left { counters = with_answers left.counters new.sent new.unsent }
     → HasReceived takes envelope bytes now answer (link_of before) (link_of after) old.outlet.now new.outlet.now
-has_received takes family envelope bytes now before ticked left after answer old between new is_family on_tick sent_first comes sent counted =
+has_received takes family envelope bytes now before ticked left after answer old between new is_family first comes counted =
     let config = before.at.config in
     let read = read_in family envelope bytes in
     let at : Step = tick_of config now (state_of before) in
     let other : Timing = ticked.at.election.timing in
     let rest : Receipt = receipt_after config envelope read (step_with at.state [] other) in
     let whole : Receipt = receipt_after config envelope read at in
-    let rest_is : receipt_after ticked.at.config envelope read (silent_step (state_of ticked)) ≡ rest = λ i. receipt_after (on_tick.config i) envelope read (step_with (on_tick.state_is i) [] other) in
-    let went : Sends (TakesQuery takes family) between rest.step.queries new = subst (λ (r : Receipt). Sends (TakesQuery takes family) between r.step.queries new) rest_is sent in
+    let rest_is : receipt_after ticked.at.config envelope read (silent_step (state_of ticked)) ≡ rest = λ i. receipt_after (first.leaves.config i) envelope read (step_with (first.leaves.state_is i) [] other) in
+    let went : Sends (TakesQuery takes family) between rest.step.queries new = subst (λ (r : Receipt). Sends (TakesQuery takes family) between r.step.queries new) rest_is comes.step.sent in
     let on : Continues at.queries at.timing whole rest = continues config envelope read at.state at.queries at.timing other in
-    let both = Sends-append (TakesQuery takes family) (begun config at.timing old) between new at.queries rest.step.queries sent_first went in
+    let both = Sends-append (TakesQuery takes family) (begun config at.timing old) between new at.queries rest.step.queries first.sent went in
     let listed : Sends (TakesQuery takes family) (begun config at.timing old) whole.step.queries new = subst (λ qs. Sends (TakesQuery takes family) (begun config at.timing old) qs new) (sym on.queries_are) both in
     let all : Sends (TakesQuery takes family) (begun config whole.step.timing old) whole.step.queries new = subst (λ t. Sends (TakesQuery takes family) (begun config t old) whole.step.queries new) (sym on.timing_is) listed in
     let state_is : state_of after ≡ with_answers_in new.sent new.unsent whole.step.state =
-    ap state_of counted ∙ ap (with_answers_in new.sent new.unsent) (comes.leaves.state_is ∙ ap (λ (r : Receipt). r.step.state) rest_is ∙ sym on.state)
+    ap state_of counted ∙ ap (with_answers_in new.sent new.unsent) (comes.step.leaves.state_is ∙ ap (λ (r : Receipt). r.step.state) rest_is ∙ sym on.state)
     in
     let answer_is : answer ≡ whole.answer = comes.answer_is ∙ ap (λ (r : Receipt). r.answer) rest_is ∙ sym on.answer in
     let fit_now : FitsReceipt config envelope (read_in config.family envelope bytes) at = fits-receipt_of config envelope bytes now (state_of before) in

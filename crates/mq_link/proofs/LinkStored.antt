@@ -24,10 +24,10 @@ use Rattle.mq_link.specs.State.{LinkState, IsWellFormed, link_at}
 use Rattle.mq_link.specs.Storage.{HasRoom, IsReady, KeepsRooms}
 use Rattle.mq_link.specs.Tick.{next_of}
 use Rattle.mq_link.proofs.Faultless.{IsWellFormed-link_at, few_groups}
-use Rattle.mq_link.proofs.Quiet.{AllAbove, above_least, above_values, not_reached}
+use Rattle.mq_link.proofs.Quiet.{AllAbove, above_least, above_values}
 use Rattle.mq_link.proofs.Receipts.{sound_in}
 use Rattle.mq_link.proofs.Rooms.{still_room}
-use Rattle.mq_link.proofs.Silent.{from-each}
+use Rattle.mq_link.proofs.Silent.{from-each, not_reached}
 
 -- of a group that isn't held nothing is forwarded
 pub none_forwarded : (source : ℕ) → forwards_in unheld.group source ≡ false

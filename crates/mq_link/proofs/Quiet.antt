@@ -1,8 +1,7 @@
 -- A tick before the next moment does nothing, and after a tick the next moment is later.
-use Rattle.std.proofs.Common.{◌≡◌, ℕ, ◌+◌, ◌-◌, ◌<◌, Bool, true, false, cond, ◌&&◌, refl, List, [], ◌∷◌, ◌++◌, Option, None, Some, IfSome, sym, ap, ◌∙◌, subst, arith, eqb, ltb, leb}
+use Rattle.std.proofs.Common.{◌≡◌, ℕ, ◌+◌, ◌-◌, ◌<◌, Bool, true, false, cond, ◌&&◌, refl, List, [], ◌∷◌, ◌++◌, Option, None, Some, IfSome, sym, ap, ◌∙◌, subst, arith, eqb, ltb}
 use Rattle.std.specs.Prelude.{map as list_map}
 use Rattle.std.proofs.lemmas.Bool.{true≢false, lt-ltb}
-use Rattle.std.proofs.lemmas.Bool.Decides.{nat_tests}
 use Rattle.std.specs.List.{flat_map}
 use Rattle.std.specs.Option.{option_and_then, option_to_list, is_some}
 use Rattle.std.specs.FinMap as map
@@ -31,7 +30,7 @@ use Rattle.mq_link.specs.Configuration.{Configuration}
 use Rattle.mq_link.specs.State.{Groups, LinkState, IsWellFormed}
 use Rattle.mq_link.specs.Tick.{group_expired, if_held, groups_expired, queries_due, groups_after_round, tick_at, those_of, moments_of, moments_in, least, next_of, waited}
 use Rattle.mq_link.proofs.Known.{same_answers}
-use Rattle.mq_link.proofs.Silent.{Each, each-entry, from-each}
+use Rattle.mq_link.proofs.Silent.{Each, each-entry, from-each, not_reached}
 use Rattle.mq_link.proofs.HeldAs.{All}
 
 -- what is above a moment
@@ -123,25 +122,19 @@ above_beyond m e h =
     (values_above m timer_moments (map.entries g.sources) (each-entry (λ _ t. AllAbove m (timer_moments t)) g.sources (λ s t is. option_above m (deadline_of (Some t)) (subst (λ x. IfSome (deadline_of x) (λ d. m < d)) is (h.timers.sources s)))))
 
 -- Up to that moment nothing changes.
-ltb_is : (m d : ℕ) → m < d → ltb m d ≡ true
-ltb_is m d h = lt-ltb m d h
-
-pub not_reached : (m d : ℕ) → m < d → leb d m ≡ false
-not_reached m d h = grind (arith, nat_tests)
-
 same_mode : (m : ℕ) (mode : FilterMode) → IfSome (group_deadline mode) (λ d. m < d) → mode_expired m mode ≡ mode
 same_mode m Include h = refl
-same_mode m (Exclude d) h = ap (λ b. cond b (Exclude d) Include) (ltb_is m d h)
+same_mode m (Exclude d) h = ap (λ b. cond b (Exclude d) Include) (lt-ltb m d h)
 
 same_ahead : (m : ℕ) (x : Option ℕ) → IfSome x (λ d. m < d) → option_and_then (ahead m) x ≡ x
 same_ahead m None h = refl
-same_ahead m (Some d) h = ap (λ b. cond b (Some d) None) (ltb_is m d h)
+same_ahead m (Some d) h = ap (λ b. cond b (Some d) None) (lt-ltb m d h)
 
 same_timer : (m : ℕ) (mode : FilterMode) (t : Option SourceTimer) → (mode ≡ Include → is_stopped t ≡ false) → IfSome (deadline_of t) (λ d. m < d) → option_and_then (source_expired mode m) t ≡ t
 same_timer m mode None stays h = refl
 same_timer m Include (Some Stopped) stays h = let s = stays refl in cc
 same_timer m (Exclude d) (Some Stopped) stays h = refl
-same_timer m mode (Some (Running d n)) stays h = ap (λ b. cond b (Some (Running d n)) (at_zero mode)) (ltb_is m d h)
+same_timer m mode (Some (Running d n)) stays h = ap (λ b. cond b (Some (Running d n)) (at_zero mode)) (lt-ltb m d h)
 
 pub not_vacant : (g : GroupState) → IsHeld g → is_vacant g ≡ false
 not_vacant g h = by_mode g.mode refl

@@ -1,7 +1,7 @@
 -- Records, older Reports, Leave and Done leave groups that a link may hold.
 use Rattle.std.proofs.Common.{◌≡◌, ℕ, ◌+◌, ◌≤◌, ◌<◌, Bool, true, false, cond, not, ◌&&◌, ◌||◌, inl, inr, refl, List, [], ◌∷◌, length, Option, None, Some, IfSome, sym, ap, ◌∙◌, subst, arith, eqb, ltb}
+use Rattle.mq_held.proofs.Sorted.{tied}
 use Rattle.std.proofs.lemmas.Bool.{true≢false, ltb-false, eqb-true}
-use Rattle.std.proofs.lemmas.Bool.Decides.{nat_tests}
 use Rattle.std.specs.Prelude.{map as list_map}
 use Rattle.std.specs.List.{list_any}
 use Rattle.std.specs.Option.{option_map, unwrap_or}
@@ -228,9 +228,6 @@ get-with_group groups group e other = by_test (is_vacant e.group)
     by_test true = map.get-remove nat_cmp_total groups group other
     by_test false = map.get-insert nat_cmp_total groups group e other
 
-tied : (q k : ℕ) → eq_by_cmp nat_cmp q k ≡ true → q ≡ k
-tied q k e = grind (arith, nat_tests)
-
 pub all-with_group : (P : ℕ → ScheduledGroup → Type 0) (groups : Groups) (group : ℕ) (e : ScheduledGroup) → (is_vacant e.group ≡ false → P group e) → All P groups → All P (with_group groups group e)
 all-with_group P groups group e here all other found is = by_place (eq_by_cmp nat_cmp other group) refl (sym (get-with_group groups group e other) ∙ is)
   where
@@ -243,9 +240,6 @@ all-with_group P groups group e here all other found is = by_place (eq_by_cmp na
     by_place false t now_is = all other found now_is
 
 -- what the four tests of the limits say where none holds
-not_above : (most n : ℕ) → ltb most n ≡ false → n ≤ most
-not_above most n h = ltb-false most n h
-
 passes_none : (a b c d : Bool) (w x y z : Refusal) → first_named ((w, a) ∷ (x, b) ∷ (y, c) ∷ (z, d) ∷ []) ≡ None → (a ≡ false) × (b ≡ false) × (c ≡ false) × (d ≡ false)
 passes_none true b c d w x y z h = cc
 passes_none false true c d w x y z h = cc
@@ -255,10 +249,10 @@ passes_none false false false false w x y z h = (refl, refl, refl, refl)
 
 within-with_group : (limits : Limits) (groups : Groups) (group : ℕ) (e : ScheduledGroup) → limit_passed limits (with_group groups group e) e ≡ None → AreWithin limits groups → AreWithin limits (with_group groups group e)
 within-with_group limits groups group e none within = record {
-  group_count = not_above limits.groups (map.len after) tests.0;
+  group_count = ltb-false limits.groups (map.len after) tests.0;
   group_sources = λ other. subst (λ x. sources_of (unwrap_or x unheld) ≤ limits.group_sources) (sym (get-with_group groups group e other)) (by_place other (eq_by_cmp nat_cmp other group) (is_vacant e.group));
-  sources = not_above limits.sources (sources_in after) tests.2;
-  scheduled = not_above limits.scheduled (schedules_in after) tests.3;
+  sources = ltb-false limits.sources (sources_in after) tests.2;
+  scheduled = ltb-false limits.scheduled (schedules_in after) tests.3;
 }
   where
     after : Groups
@@ -269,7 +263,7 @@ within-with_group limits groups group e none within = record {
 
     by_place : (other : ℕ) (here vacant_now : Bool) → sources_of (unwrap_or (cond here (cond vacant_now None (Some e)) (map.get groups other)) unheld) ≤ limits.group_sources
     by_place other true true = let n = no_sources in omega arith
-    by_place other true false = not_above limits.group_sources (sources_of e) tests.1
+    by_place other true false = ltb-false limits.group_sources (sources_of e) tests.1
     by_place other false b = within.group_sources other
 
 pub changed_leaves : (at : Setting) (group : ℕ) (groups : Groups) (change : Option GroupChange) → 0 < at.election.timing.robustness → is_admitted at.config.family group ≡ true → AreSound at groups → IfSome change (IsSound at.config group (group_at groups group).schedule) → AreSound at (changed_or_refused at group groups change).groups

@@ -1,13 +1,14 @@
 -- A Report has no more records than its count can tell.
-use Rattle.std.proofs.Common.{◌≡◌, ℕ, zero, suc, ◌+◌, ◌<◌, ◌≤◌, Bool, true, false, List, length, drop, Option, None, Some, IfSome, Ok, refl, arith, eqb}
+use Rattle.std.proofs.Common.{◌≡◌, ℕ, ◌+◌, ◌<◌, ◌≤◌, Bool, true, false, List, length, drop, Option, None, Some, IfSome, Ok, refl, arith, eqb}
 use Rattle.std.proofs.lemmas.List.{get_or-drop}
 use Rattle.std.specs.Prelude.{slice_index}
 use Rattle.std.specs.Option.{option_map}
 use Rattle.mq_wire.specs.declared.message.Message.{Message}
 use Rattle.mq_wire.specs.declared.message.WireFault.{WireFault}
 use Rattle.mq_wire.specs.Family.{Family, Igmp, Mld, address_width}
-use Rattle.mq_wire.specs.Records.{record_count, records_at, record_end, report_records}
+use Rattle.mq_wire.specs.Records.{record_count, report_records}
 use Rattle.mq_wire.specs.Spelling.{type_named, type_of, message_of, fault_of}
+use Rattle.mq_wire.proofs.RecordLists.{length_records}
 use Rattle.mq_link.specs.Reading.{most_records, records_in}
 use Rattle.mq_link.specs.Receive.{message_in, unless_faulty, read_of}
 
@@ -21,16 +22,12 @@ octet_behind place i bytes octets = rw (get_or-drop place bytes i 0) (octets (pl
 few_counted : (bytes : List ℕ) → AreOctets bytes → record_count bytes ≤ most_records
 few_counted bytes octets = omega (arith, octet_behind 6 0 bytes octets, octet_behind 6 1 bytes octets)
 
-as_many : (width count place : ℕ) (bytes : List ℕ) → length (records_at width count place bytes) ≡ count
-as_many width zero place bytes = refl
-as_many width (suc count) place bytes = let n = as_many width count (record_end width place bytes) bytes in omega (arith, n)
-
 -- a message with no more records than can be counted
 abbrev HasFew : Message ℕ → Type 0
 HasFew message = length (records_in message) ≤ most_records
 
 few_of_report : (family : Family) (bytes : List ℕ) → AreOctets bytes → length (report_records family bytes) ≤ most_records
-few_of_report family bytes octets = rw (as_many (address_width family) (record_count bytes) 8 bytes) (few_counted bytes octets)
+few_of_report family bytes octets = rw (length_records (address_width family) (record_count bytes) 8 bytes) (few_counted bytes octets)
 
 -- by the type of a message
 igmp_few : (bytes : List ℕ) (code : ℕ) → AreOctets bytes → IfSome (option_map (λ kind. message_of Igmp kind bytes) (type_named Igmp code)) HasFew

@@ -16,7 +16,8 @@ use Rattle.mq_link.proofs.Ticked.{IsCarriedBy, IsWellFormed-query_heard}
 pub recounted_by : (rule : Counters → Counters) (inside value : RouterValue) (next : Counters) → inside ≡ value → next ≡ rule inside.counters
     → ◌≡◌ {A = RouterValue} (record inside { counters = next }) (record value { counters = rule value.counters })
 recounted_by rule inside value next is counted =
-    (λ i. record inside { counters = counted i }) ∙ ap (λ (r : RouterValue). let after : RouterValue = record r { counters = rule r.counters } in after) is
+    let next_is = counted ∙ ap (λ (r : RouterValue). rule r.counters) is in
+    λ i. record (is i) { counters = next_is i }
 
 -- the groups are sound once a query has been heard
 pub sound_heard : (r : RouterValue) (source : ℕ) (query : Query ℕ) (next : Setting) (left : Groups) → AreInRange r.at.config.timing → IsCarriedBy (announced_by query.version) → AreInRange r.at.election.timing → AreSound r.at r.groups

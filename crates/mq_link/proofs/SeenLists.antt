@@ -80,19 +80,16 @@ module _ {K : Type 0} (number : K → ℕ) where
           let count = length-map xs entry_of in
           record {
             within = omega (arith, count, goes.within);
-            below = λ j d from before. below_at j d before (cases_in j);
+            below = λ j d from before. below_at j d before;
             above = λ j d from in_list. above_at j d from in_list (omega (arith, count));
           }
         where
-          cases_in : (j : ℕ) → Unit {0}
-          cases_in j = tt
-
           any : (j : ℕ) (ys : List (MetGroup K)) → j < length ys → MetGroup K
           any j [] in_list = absurd (omega arith)
           any j (y ∷ ys) in_list = y
 
-          below_at : (j : ℕ) (d : ℕ × ℕ) → j < i → Unit {0} → key_of (get_or (entries_in xs) j d) < k
-          below_at j d before u =
+          below_at : (j : ℕ) (d : ℕ × ℕ) → j < i → key_of (get_or (entries_in xs) j d) < k
+          below_at j d before =
               let in_list : j < length xs = omega (arith, goes.within) in
               rw (get_or-map entry_of xs j (any j xs in_list) d in_list) (goes.below j (any j xs in_list) (omega arith) before)
 

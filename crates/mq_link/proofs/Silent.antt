@@ -32,7 +32,7 @@ use Rattle.mq_link.specs.Tick.{Step, groups_expired, queries_due, tick_at}
 use Rattle.mq_link.specs.Record.{Statement, RecordOf, OlderJoin, OlderLeave, limit_passed, Setting, leaving, unless_passed, changed_by, after_sending, sent_at_once, changed_or_refused, change_in, stated, Seen, Entrance, Stops, GoesOn, entrance, is_repeated, seen_after, judged_from, judged, all_judged}
 use Rattle.mq_link.specs.Heard.{election_after}
 use Rattle.mq_link.specs.Receive.{Envelope, setting_of, taken_in, taken_or_dropped, counting_read}
-use Rattle.mq_held.proofs.Sorted.{find_below, first, second, tied}
+use Rattle.mq_held.proofs.Sorted.{find_below, first, second, tied, ties}
 use Rattle.mq_link.proofs.HeldAs.{All, settled_silent}
 use Rattle.mq_link.proofs.Ticked.{was_other, ticked_role, silent-groups_expired}
 use Rattle.mq_link.specs.Sound.{AreSound}
@@ -43,9 +43,6 @@ abbrev pub Each : {X : Type 0} → (ℕ → X → Type 0) → List (ℕ × X) �
 Each P [] = Unit {0}
 Each P (e ∷ es) = P e.0 e.1 × Each P es
 
-ties : (k : ℕ) → eq_by_cmp nat_cmp k k ≡ true
-ties k = grind (arith, nat_tests)
-
 in_whole : {X : Type 0} (e : ℕ × X) (es : List (ℕ × X)) (q : ℕ) (x : X) → T (below_all nat_cmp e.0 es) → find nat_cmp q es ≡ Some x → (b : Bool) → eq_by_cmp nat_cmp q e.0 ≡ b → cond b (Some e.1) (find nat_cmp q es) ≡ Some x
 in_whole e es q x below is false apart = is
 in_whole e es q x below is true same = let none : find nat_cmp q es ≡ None = ap (λ n. find nat_cmp n es) (tied q e.0 same) ∙ find_below e.0 es below in cc
@@ -54,7 +51,7 @@ each-sorted : {X : Type 0} (P : ℕ → X → Type 0) (es : List (ℕ × X)) →
 each-sorted P [] h all = tt
 each-sorted P (e ∷ es) h all =
     let below = first (below_all nat_cmp e.0 es) (is_sorted nat_cmp es) h in (
-      all e.0 e.1 (ap (λ b. cond b (Some e.1) (find nat_cmp e.0 es)) (ties e.0)),
+      all e.0 e.1 (ap (λ b. cond b (Some e.1) (find nat_cmp e.0 es)) (ties e.0 e.0 refl)),
       each-sorted P es (second (below_all nat_cmp e.0 es) (is_sorted nat_cmp es) h) (λ q x is. all q x (in_whole e es q x below is (eq_by_cmp nat_cmp q e.0) refl)),
     )
 
@@ -147,13 +144,13 @@ silent_decided config envelope step read (Some reason) h other none = none
 silent_decided config envelope step (Err fault) None h other none = none
 silent_decided config envelope step (Ok message) None h other none = silent_taken config envelope message (counting_read (Ok message) step) (recounted config step.state _ h) other none
 
+pub not_reached : (m d : ℕ) → m < d → leb d m ≡ false
+not_reached m d h = grind (arith, nat_tests)
+
 -- No datagram makes a router querier, and no tick before the other querier's deadline.
 pub other_before : (configured timing : Timing) (now address deadline : ℕ) → now < deadline → is_querier (ticked configured now (record { role = Other address deadline; timing = timing })).role ≡ false
-other_before configured timing now address deadline before = ap (λ b. is_querier (general_after (cond b (record { role = Querier now 0; timing = configured }) (record { role = Other address deadline; timing = timing }))).role) (not_over now deadline before)
+other_before configured timing now address deadline before = ap (λ b. is_querier (general_after (cond b (record { role = Querier now 0; timing = configured }) (record { role = Other address deadline; timing = timing }))).role) (not_reached now deadline before)
   where
-    not_over : (now deadline : ℕ) → now < deadline → leb deadline now ≡ false
-    not_over now deadline before = grind (arith, nat_tests)
-
     general_after : ElectionState → ElectionState
     general_after r = cond (general_is_due now r.role) (record { role = after_general r.timing now r.role; timing = r.timing }) r
 

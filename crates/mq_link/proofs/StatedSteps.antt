@@ -4,7 +4,7 @@ use Rattle.std.specs.FinMap as map
 use Rattle.std.specs.Result.{is_ok}
 use Rattle.mq_sets.specs.Ascending.{set_of}
 use Rattle.mq_held.specs.Places.{HasPlace, GoesAt}
-use Rattle.mq_held.proofs.Places.{place-contained}
+use Rattle.mq_held.proofs.Places.{goes-absent, place-contained}
 use Rattle.mq_held.proofs.Amounts.{sources-with_group}
 use Rattle.mq_table.specs.declared.timing.Timing.{Timing}
 use Rattle.mq_table.specs.Group.{GroupState, is_vacant, IsWellFormed as IsHeld}
@@ -22,7 +22,6 @@ use Rattle.mq_link.specs.Record.{Statement, Setting, Outcome, leaving, unless_pa
 use Rattle.mq_link.specs.Sound.{AreSound}
 use Rattle.mq_link.specs.State.{Groups, group_at, with_group, sources_of, sources_in}
 use Rattle.mq_link.proofs.ChangedSizes.{stated_few}
-use Rattle.mq_link.proofs.KeptGroups.{absent}
 use Rattle.mq_link.proofs.Recorded.{IsReady, ready, stated_soundly, sound_after, stated_leaves, acted_size, IsSound}
 
 -- What was done to a group: the change, what it asks for, and the test of what it would leave.
@@ -35,7 +34,7 @@ pub record IsChanged (at : Setting) (group : ℕ) (st : Statement) (groups : Gro
 -- the place of a group says whether it is held
 pub held_by_place : (groups : Groups) (group : ℕ) (found : Result ℕ ℕ) → MatchResult found (HasPlace groups group) (GoesAt groups group) → map.contains_key groups group ≡ is_ok found
 held_by_place groups group (Ok place) h = place-contained groups group place h
-held_by_place groups group (Err place) h = ap is_some (absent groups group place h)
+held_by_place groups group (Err place) h = ap is_some (goes-absent groups group place h)
 
 pub stated_ignored : (at : Setting) (group : ℕ) (st : Statement) (groups : Groups) (before : ScheduledGroup) → before ≡ group_at groups group
     → change_stated (v1_mutes_leave at.config.family) (is_muted at.config group st) at.election.timing at.now st before.group ≡ None

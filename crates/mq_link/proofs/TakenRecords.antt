@@ -12,7 +12,7 @@ use Rattle.mq_sched.specs.Sending.{SentQuery}
 use Rattle.mq_sched.specs.Sink.{Sends, SendsOn}
 use Rattle.mq_sched.proofs.Collecting.{Sends-append}
 use Rattle.mq_link.specs.Configuration.{Configuration}
-use Rattle.mq_link.specs.Counters.{Counters, Verdict, count_verdict, count_verdicts, is_applied, is_ignored, is_refused}
+use Rattle.mq_link.specs.Counters.{Counters, Verdict, Applied, Ignored, Refused, count_verdict, count_verdicts, is_applied, is_ignored, is_refused}
 use Rattle.mq_link.specs.State.{Groups}
 use Rattle.mq_link.specs.Record.{Setting, Seen, met, Entrance, Stops, GoesOn, entrance, seen_by, seen_after, judged, Outcomes, all_judged}
 use Rattle.mq_link.specs.Sound.{AreSound}
@@ -35,9 +35,7 @@ pub record IsTakenSoFar {S : Type 0} (takes : S → SentQuery → S → Type 0) 
   pub sound : AreSound at groups
   pub few_seen : map.len seen + length left ≤ whole
   pub few_met : (group : ℕ) → met seen group + length left ≤ whole
-  pub few_applied : n.applied + length left ≤ whole
-  pub few_ignored : n.ignored + length left ≤ whole
-  pub few_refused : n.refused + length left ≤ whole
+  pub few_told : n.applied + n.ignored + n.refused + length left ≤ whole
 
 -- none is taken yet
 pub none_taken : {S : Type 0} (takes : S → SentQuery → S → Type 0) (at : Setting) (from : S) (counters : Counters) (all : List (RecordView ℕ)) (groups : Groups) → AreSound at groups
@@ -52,9 +50,7 @@ none_taken takes at from counters all groups sound = record {
   sound = sound;
   few_seen = let none = map.len-empty nat_cmp ℕ in omega (arith, none);
   few_met = λ group. let none = ap (λ x. unwrap_or x 0) (map.get-empty {X = ℕ} nat_cmp group) in omega (arith, none);
-  few_applied = omega arith;
-  few_ignored = omega arith;
-  few_refused = omega arith;
+  few_told = omega arith;
 }
 
 -- a record counts at most one group more, and one meeting more
@@ -107,12 +103,10 @@ met_after config r groups seen other = by_entrance (entrance config r)
     by_entrance (Stops verdict) = omega arith
     by_entrance (GoesOn kind) = by_test (map.contains_key groups r.group)
 
-counted_one : (p : Verdict → Bool) (v : Verdict) → count_by p (v ∷ []) ≤ 1
-counted_one p v = by_test (p v) refl
-  where
-    by_test : (b : Bool) → p v ≡ b → count_by p (v ∷ []) ≤ 1
-    by_test true is = rw is (omega arith)
-    by_test false is = rw is (omega arith)
+counted_one : (v : Verdict) → count_by is_applied (v ∷ []) + count_by is_ignored (v ∷ []) + count_by is_refused (v ∷ []) ≡ 1
+counted_one Applied = omega arith
+counted_one Ignored = omega arith
+counted_one (Refused name) = omega arith
 
 counted_first : (p : Verdict → Bool) (n : ℕ) (v : Verdict) (vs : List Verdict) → (n + count_by p (v ∷ [])) + count_by p vs ≡ n + count_by p (v ∷ vs)
 counted_first p n v vs =
@@ -137,9 +131,7 @@ one_taken takes at all whole from counters before rest r seen groups sink next c
     let later = all_judged at (seen_after at.config r groups seen) rest (judged at seen r groups).groups in
     let h = subst (λ left. IsTakenSoFar takes at all whole from counters left seen groups sink counted n) first so_far in
     let few_seen = h.few_seen in
-    let few_applied = h.few_applied in
-    let few_ignored = h.few_ignored in
-    let few_refused = h.few_refused in
+    let few_told = h.few_told in
     record {
       groups_are = h.groups_are;
       sent = λ end more. h.sent end (Sends-append takes sink next end (judged at seen r groups).queries later.queries sent more);
@@ -150,9 +142,7 @@ one_taken takes at all whole from counters before rest r seen groups sink next c
       sound = judged_leaves at seen r groups positive h.sound;
       few_seen = omega (arith, few_seen, len_after at.config r groups seen);
       few_met = λ group. let few_met = h.few_met group in omega (arith, few_met, met_after at.config r groups seen group);
-      few_applied = omega (arith, few_applied, counted_one is_applied v);
-      few_ignored = omega (arith, few_ignored, counted_one is_ignored v);
-      few_refused = omega (arith, few_refused, counted_one is_refused v);
+      few_told = omega (arith, few_told, counted_one v);
     }
 
 -- all are taken

@@ -47,10 +47,6 @@ unfolding groups_after_round
 within-groups_after_round config timing now groups within = within-kept config.limits (λ _ e. Some (after_round timing now e)) groups (λ _ e. round_no_more timing now e) within
 
 -- the election
-ranged : (b : Bool) (x y : Timing) → AreInRange x → AreInRange y → AreInRange (cond b x y)
-ranged true x y a b = a
-ranged false x y a b = b
-
 returned_timing : (configured : Timing) (now : ℕ) (e : ElectionState) → AreInRange configured → AreInRange e.timing → AreInRange (returned configured now e).timing
 returned_timing configured now e own in_force = by_test (deadline_ended now e.role)
   where

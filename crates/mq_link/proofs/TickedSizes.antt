@@ -1,30 +1,21 @@
 -- A tick leaves no more groups and sources than were held, and so a datagram spends within what was held before both; and
 -- at least what it takes on what the tick leaves.
-use Rattle.std.proofs.Common.{◌≡◌, ℕ, ◌+◌, ◌*◌, ◌≤◌, List, Option, None, Some, IfSome, sym, ap, ◌∙◌, subst, arith}
+use Rattle.std.proofs.Common.{◌≡◌, ℕ, ◌+◌, ◌*◌, ◌≤◌, List, Some, sym, ap, ◌∙◌, subst, arith}
 use Rattle.std.specs.FinMap as map
 use Rattle.mq_count.specs.Spending.{Spends}
 use Rattle.mq_count.proofs.Spent.{Spends-join_within}
 use Rattle.mq_table.specs.declared.timing.Timing.{Timing}
-use Rattle.mq_table.specs.Maps.{kept}
-use Rattle.mq_sched.specs.Schedule.{ScheduledGroup}
 use Rattle.mq_sched.specs.Sending.{after_round}
 use Rattle.mq_wire.specs.Family.{Family}
 use Rattle.mq_link.specs.Configuration.{Configuration}
 use Rattle.mq_link.specs.Cost.{cost_of}
 use Rattle.mq_link.specs.LeastCost.{least_after, least_received}
 use Rattle.mq_link.specs.Receive.{Envelope, setting_of}
-use Rattle.mq_link.specs.State.{Groups, LinkState, sources_of, sources_in}
+use Rattle.mq_link.specs.State.{Groups, LinkState, sources_in}
 use Rattle.mq_link.specs.Tick.{group_expired, if_held, groups_expired, groups_after_round, moment_of, tick_at}
-use Rattle.mq_link.proofs.Bounds.{NoMore, expired_no_more, round_no_more}
-use Rattle.mq_link.proofs.Entries.{total-kept, len-kept}
+use Rattle.mq_link.proofs.Bounds.{expired_no_more, round_no_more, sources_kept}
+use Rattle.mq_link.proofs.Entries.{len-kept}
 use Rattle.mq_link.proofs.LinkReceived.{read_in}
-
-sources_kept : (f : ℕ → ScheduledGroup → Option ScheduledGroup) (groups : Groups) → ((k : ℕ) (e : ScheduledGroup) → IfSome (f k e) (NoMore e)) → sources_in (kept f groups) ≤ sources_in groups
-sources_kept f groups no_more = total-kept sources_of f groups (λ k e. of_one (f k e) e (no_more k e))
-  where
-    of_one : (after : Option ScheduledGroup) (e : ScheduledGroup) → IfSome after (NoMore e) → IfSome after (λ a. sources_of a ≤ sources_of e)
-    of_one None e h = tt
-    of_one (Some a) e h = h.sources
 
 module _ (timing : Timing) (now : ℕ) (groups : Groups) where
   abbrev left : Groups

@@ -3,7 +3,7 @@ use Rattle.std.specs.Prelude.{◌≡◌, ℕ, Bool, List}
 use Rattle.mq_wire.specs.Family.{Family}
 use Rattle.mq_table.specs.declared.timing.Timing.{Timing}
 use Rattle.mq_sched.specs.Sending.{SentQuery}
-use Rattle.mq_link.specs.declared.sending.Sender.{Sender}
+use Rattle.mq_link.specs.declared.sender.Sender.{Sender}
 use Rattle.mq_link.specs.Configuration.{Configuration}
 use Rattle.mq_link.specs.Handing.{Tally, HandsOne}
 

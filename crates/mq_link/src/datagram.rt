@@ -3,7 +3,6 @@
 ghost use Rattle.std.specs.Prelude.{◌≡◌, ◌+◌, ◌*◌, ◌^◌, ◌≤◌, None, Ok, length};
 ghost use Rattle.std.specs.FinMap as map;
 ghost use Rattle.mq_count.specs.Spending.{Spends};
-ghost use Rattle.mq_sched.specs.Sink.{Sends};
 ghost use Rattle.mq_held.specs.Groups.{sources_in};
 ghost use Rattle.mq_wire.specs.Numbered.{numbered_message};
 ghost use Rattle.mq_link.specs.Cost.{cost_of, least_length};
@@ -11,7 +10,7 @@ ghost use Rattle.mq_link.specs.LeastCost.{least_after, least_of, least_received}
 ghost use Rattle.mq_link.specs.Link.{HasReceived};
 ghost use Rattle.mq_link.specs.Reading.{numbered_read, most_records, records_in, IsCarriedIn};
 ghost use Rattle.mq_link.specs.Receive as spec;
-ghost use Rattle.mq_link.specs.Router.{Leaves, link_of, silent_step, state_of};
+ghost use Rattle.mq_link.specs.Router.{HasReceipt, link_of, silent_step, state_of};
 ghost use Rattle.mq_link.specs.Sender.{TakesQuery};
 ghost use Rattle.mq_link.specs.State.{held_of};
 
@@ -21,7 +20,7 @@ use crate::dropping::drop_reason;
 use crate::family::Family;
 use crate::outlet::Outlet;
 use crate::router::Router;
-use crate::sending::Sender;
+use crate::sender::Sender;
 use crate::statement::StatementKind;
 use mq_count::Moment;
 use mq_wire::{Message, QueryVersion, WireFault, WireKey};
@@ -70,15 +69,9 @@ impl<F: Family> Router<F> {
         requires kept { spec.drop_reason self.old.at.config (F.envelope_of envelope.now) (Ok (numbered_message F.Address.number message.now)) ≡ None }
         requires carried { IsCarriedIn (numbered_message F.Address.number message.now) }
         requires counted { length (records_in (numbered_message F.Address.number message.now)) ≤ most_records }
-        ensures leaves { let said = numbered_message F.Address.number message.now in
+        ensures receipt { let said = numbered_message F.Address.number message.now in
             let receipt = spec.taken_in self.old.at.config (F.envelope_of envelope.now) said (silent_step (state_of self.old)) in
-            Leaves receipt.step.state self.old self.new }
-        ensures answer { let said = numbered_message F.Address.number message.now in
-            let receipt = spec.taken_in self.old.at.config (F.envelope_of envelope.now) said (silent_step (state_of self.old)) in
-            result ≡ receipt.answer }
-        ensures sent { let said = numbered_message F.Address.number message.now in
-            let receipt = spec.taken_in self.old.at.config (F.envelope_of envelope.now) said (silent_step (state_of self.old)) in
-            Sends (TakesQuery O.takes F.FAMILY) sender.old receipt.step.queries sender.new }
+            HasReceipt (TakesQuery O.takes F.FAMILY) receipt result self.old self.new sender.old sender.new }
         ensures spent { let said = numbered_message F.Address.number message.now in
             let groups = self.old.groups in
             Spends (least_of self.old.at said groups) (24 * sources_in groups + 20 * map.len groups + 64 * least_length said) self.old.spent self.new.spent }
@@ -111,18 +104,10 @@ impl<F: Family> Router<F> {
         body: &[u8],
         sender: &mut Sender<F, O>,
     ) -> Received
-        ensures leaves { let around = F.envelope_of envelope.now in
+        ensures receipt { let around = F.envelope_of envelope.now in
             let read = spec.read_of F.FAMILY (spec.pseudo_of F.FAMILY around body.now) body.now in
             let receipt = spec.receipt_after self.old.at.config around read (silent_step (state_of self.old)) in
-            Leaves receipt.step.state self.old self.new }
-        ensures answer { let around = F.envelope_of envelope.now in
-            let read = spec.read_of F.FAMILY (spec.pseudo_of F.FAMILY around body.now) body.now in
-            let receipt = spec.receipt_after self.old.at.config around read (silent_step (state_of self.old)) in
-            result ≡ receipt.answer }
-        ensures sent { let around = F.envelope_of envelope.now in
-            let read = spec.read_of F.FAMILY (spec.pseudo_of F.FAMILY around body.now) body.now in
-            let receipt = spec.receipt_after self.old.at.config around read (silent_step (state_of self.old)) in
-            Sends (TakesQuery O.takes F.FAMILY) sender.old receipt.step.queries sender.new }
+            HasReceipt (TakesQuery O.takes F.FAMILY) receipt result self.old self.new sender.old sender.new }
         ensures spent { let around = F.envelope_of envelope.now in
             let read = spec.read_of F.FAMILY (spec.pseudo_of F.FAMILY around body.now) body.now in
             let groups = self.old.groups in

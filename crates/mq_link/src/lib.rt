@@ -34,7 +34,7 @@ pub mod outlet;
 mod query_heard;
 mod report;
 mod router;
-mod sending;
+mod sender;
 mod statement;
 mod status;
 mod storage;

@@ -22,7 +22,7 @@ use crate::counts::Counts;
 use crate::family::Family;
 use crate::outlet::Outlet;
 use crate::router::Router;
-use crate::sending::{QueryTerms, Sender};
+use crate::sender::{QueryTerms, Sender};
 use mq_count::{Meter, Moment};
 use mq_held::{HeldEntries, HeldGroup};
 use mq_sched::OtherQuerier;

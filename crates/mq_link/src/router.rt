@@ -46,14 +46,14 @@ impl<F: Family> Model for Router<F> {
     ghost use Rattle.mq_table.specs.contracts.timers.FilterMode as filter_mode;
     ghost use Rattle.mq_table.specs.contracts.timers.SourceTimer as source_timer;
     ghost use Rattle.mq_sched.specs.contracts.queries.QuerySchedule as query_schedule;
-    ghost use Rattle.mq_link.specs.Router.{RouterValue, IsStored};
+    ghost use Rattle.mq_link.specs.Router.{RouterValue, router_of, IsStored};
     ghost use Rattle.mq_link.specs.LinkCode.{router_code};
 
     ghost Value = { RouterValue };
 
     ghost coded = { router_code filter_mode.the_row.coded source_timer.the_row.coded query_schedule.the_row.coded };
 
-    ghost view = { λ r. record { at = r.status; groups = r.storage.held.groups; counters = r.counts; met = r.met.counts; spent = r.storage.work.meter } };
+    ghost view = { λ r. router_of r.status r.storage r.counts r.met };
 
     ghost invariant = { λ r. IsStored r.status r.storage r.met r.places.items };
 }
@@ -73,9 +73,9 @@ impl<F: Family> Router<F> {
         config.is_faultless();
         let limits = config.limits();
         let groups = limits.groups as usize;
-        let storage = Storage::with_room(alloc, &limits)?;
-        let met = MetGroups::with_room(alloc, MOST_RECORDS)?;
         let places = vec![in alloc; 0; groups]?;
+        let met = MetGroups::with_room(alloc, MOST_RECORDS)?;
+        let storage = Storage::with_room(alloc, &limits)?;
         Ok(Router {
             status: Status::new(config, start),
             storage,

@@ -11,7 +11,6 @@ ghost use Rattle.mq_table.specs.Stored.{named_in, number_in, size_of, state_of};
 ghost use Rattle.mq_table.specs.Table.{GroupChange, NamedSources};
 ghost use Rattle.mq_sched.specs.Schedule.{ScheduledGroup};
 ghost use Rattle.mq_sched.specs.Sending.{after_change};
-ghost use Rattle.mq_sched.specs.Sink.{Sends};
 ghost use Rattle.mq_held.specs.Groups.{group_at, sources_of};
 ghost use Rattle.mq_link.specs.Changing.{statement_of, acts_as, change_written};
 ghost use Rattle.mq_link.specs.Family.{is_admitted};
@@ -19,6 +18,7 @@ ghost use Rattle.mq_link.specs.Judging.{verdict_of};
 ghost use Rattle.mq_link.specs.LeastCost.{least_merge, least_work};
 ghost use Rattle.mq_link.specs.Record as record_spec;
 ghost use Rattle.mq_link.specs.Record.{change_stated, stated};
+ghost use Rattle.mq_link.specs.Router.{HasOutcome};
 ghost use Rattle.mq_link.specs.Sound.{AreSound};
 ghost use Rattle.mq_link.specs.Storage.{HasRoom, HasRoomFor, group_stored, IsSought, KeepsRoom, KeepsRooms};
 
@@ -220,12 +220,9 @@ impl<F: Family> Status<F> {
         requires group_room { storage.old.held.group_room ≡ self.now.config.limits.groups }
         requires source_room { storage.old.held.source_room ≡ self.now.config.limits.sources }
 
-        ensures verdict { let said_so = statement_of said (named_in F.Address.number storage.old.work.named.members) in
-            verdict_of result ≡ (stated self.now (F.Address.number sought.address) said_so storage.old.held.groups).verdict }
-        ensures groups { let said_so = statement_of said (named_in F.Address.number storage.old.work.named.members) in
-            storage.new.held.groups ≡ (stated self.now (F.Address.number sought.address) said_so storage.old.held.groups).groups }
-        ensures sent { let said_so = statement_of said (named_in F.Address.number storage.old.work.named.members) in
-            Sends S.takes sink.old (stated self.now (F.Address.number sought.address) said_so storage.old.held.groups).queries sink.new }
+        ensures outcome { let said_so = statement_of said (named_in F.Address.number storage.old.work.named.members) in
+            let outcome = stated self.now (F.Address.number sought.address) said_so storage.old.held.groups in
+            HasOutcome S.takes outcome (verdict_of result) storage.new.held.groups sink.old sink.new }
         ensures rooms { KeepsRooms storage.old storage.new }
         ensures spent { let said_so = statement_of said (named_in F.Address.number storage.old.work.named.members) in
             let sizes = sources_of (group_at storage.old.held.groups (F.Address.number sought.address)) + length storage.old.work.named.members in

@@ -17,7 +17,7 @@ ghost use Rattle.mq_wire.specs.Family.{Family};
 ghost use Rattle.mq_link.specs.Family as definitions;
 ghost use Rattle.mq_link.specs.LeastCost.{least_ticked};
 ghost use Rattle.mq_link.specs.Link.{HasTicked};
-ghost use Rattle.mq_link.specs.Router.{Leaves, link_of, state_of};
+ghost use Rattle.mq_link.specs.Router.{HasStep, link_of, state_of};
 ghost use Rattle.mq_link.specs.Sender.{TakesQuery, begun};
 ghost use Rattle.mq_link.specs.Storage.{IsReady, KeepsRoom, KeepsRooms};
 ghost use Rattle.mq_link.specs.Tick.{group_expired, groups_expired, queries_due, groups_after_round, moment_of, next_of, tick_of};
@@ -25,7 +25,7 @@ ghost use Rattle.mq_link.specs.Tick.{group_expired, groups_expired, queries_due,
 use crate::family::Family;
 use crate::outlet::Outlet;
 use crate::router::Router;
-use crate::sending::Sender;
+use crate::sender::Sender;
 use crate::status::{InForce, Status};
 use crate::storage::{Storage, Workspace};
 use mq_count::{Meter, Moment};
@@ -179,9 +179,8 @@ impl<F: Family> Router<F> {
     /// before the next moment, three at most.
     pub(crate) fn come_to<O: Outlet<F::Address>>(&mut self, now: Moment, sender: &mut Sender<F, O>)
         requires in_range { now ≤ 2 ^ 53 }
-        ensures leaves { Leaves (tick_of self.old.at.config now (state_of self.old)).state self.old self.new }
-        ensures sent { let step = tick_of self.old.at.config now (state_of self.old) in
-            Sends (TakesQuery O.takes F.FAMILY) (begun self.old.at.config step.timing sender.old) step.queries sender.new }
+        ensures step { let step = tick_of self.old.at.config now (state_of self.old) in
+            HasStep (TakesQuery O.takes F.FAMILY) step self.old self.new (begun self.old.at.config step.timing sender.old) sender.new }
         ensures spent { let groups = self.old.groups in
             let least = least_ticked (moment_of (state_of self.old) now) groups in
             Spends (2 + least) (4 * sources_in groups + 27 * map.len groups + 3) self.old.spent self.new.spent }

@@ -11,12 +11,15 @@ use Rattle.mq_sched.specs.DeadlineTree.{sum_below, one_if_due}
 use Rattle.mq_sched.proofs.Below.{sum_below-leaf}
 
 -- a leaf is written that is due
-pub leaf_written : (nodes leaves : List ℕ) (n node now from leaf : ℕ) → from < length leaves → n ≤ node → get_or nodes node 0 ≤ now
-    → count_by (λ other. other == leaf) (take (from + 1) (set leaves from node)) ≡ count_by (λ other. other == leaf) (take from leaves) + sum_below (one_if_due nodes now leaf) n node
-leaf_written nodes leaves n node now from leaf within behind due =
+pub leaf_written : {X : Type 0} (f : X → ℕ) (nodes : List ℕ) (leaves : List X) (x : X) {node : ℕ} → f x ≡ node → (n now from leaf : ℕ) → from < length leaves → n ≤ node → get_or nodes node 0 ≤ now
+    → count_by (λ other. f other == leaf) (take (from + 1) (set leaves from x)) ≡ count_by (λ other. f other == leaf) (take from leaves) + sum_below (one_if_due nodes now leaf) n node
+leaf_written f nodes leaves x {node = node} is_node n now from leaf within behind due =
     let one = sum_below-leaf (one_if_due nodes now leaf) n node behind in
     let is = rw (le-leb (get_or nodes node 0) now due, and-true (node == leaf)) at one in
-    rw (take_more_set leaves from node within) (sum_by_push (λ other. cond (other == leaf) 1 0) (take from leaves) node ∙ ap (λ k. count_by (λ other. other == leaf) (take from leaves) + k) (sym is))
+    rw (take_more_set leaves from x within)
+    (sum_by_push (λ other. cond (f other == leaf) 1 0) (take from leaves) x
+    ∙ ap (λ k. count_by (λ other. f other == leaf) (take from leaves) + cond (k == leaf) 1 0) is_node
+    ∙ ap (λ k. count_by (λ other. f other == leaf) (take from leaves) + k) (sym is))
 
 -- what is spent below a node that is due: at the node that has its deadline, and on a look at the other one and, where
 -- it is due too, at that

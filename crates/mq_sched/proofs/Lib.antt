@@ -7,6 +7,7 @@ pub mod DuePlaces
 pub mod LeafMoves
 pub mod LeafPlaces
 pub mod Leaves
+pub mod NumbersAtLeaves
 pub mod PlaceMoves
 pub mod InPortions
 pub mod Rounds

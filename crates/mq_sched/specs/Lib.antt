@@ -3,6 +3,7 @@ pub mod Deadlines
 pub mod Schedule
 pub mod StoredSchedule
 pub mod LeafPlaces
+pub mod NumberedMoments
 pub mod PlaceMoves
 pub mod Portions
 pub mod Sending

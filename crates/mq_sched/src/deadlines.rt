@@ -9,7 +9,7 @@ ghost use Rattle.mq_sched.specs.Deadlines.{DeadlinesState, IsEarliest, is_due};
 
 use crate::deadline_tree::DeadlineTree;
 use crate::leaf_places::LeafPlaces;
-use mq_count::{Meter, Moment};
+use mq_count::{Meter, Moment, Moves};
 use mq_sets::Memory;
 use std::alloc::Global;
 use std::marker::Model;
@@ -87,7 +87,8 @@ impl Deadlines {
         ensures spent { let had = length self.old.deadlines in
             Spends (min 1 had) (bitlen had) m.old m.new }
     {
-        self.tree.grow(due, m);
+        let mut moves = Moves::none();
+        self.tree.grow(due, m, &mut moves);
         self.places.insert(place);
     }
 
@@ -100,7 +101,8 @@ impl Deadlines {
             Spends 0 (bitlen others) m.old m.new }
     {
         let leaf = self.places.leaf(place);
-        let later = self.tree.shrink(leaf, m);
+        let mut moves = Moves::none();
+        let later = self.tree.shrink(leaf, m, &mut moves);
         self.places.remove(place, later);
     }
 
@@ -113,7 +115,8 @@ impl Deadlines {
             Spends (min 1 others) (bitlen others) m.old m.new }
     {
         let leaf = self.places.leaf(place);
-        self.tree.change(leaf, due, m);
+        let mut moves = Moves::none();
+        self.tree.change(leaf, due, m, &mut moves);
     }
 
     /// Writes the places whose deadlines are at or before `now` at the front of `places`, ascending,

@@ -55,7 +55,7 @@ pub(crate) fn give_up_leaf(leaves: &mut [u32], places: &mut [u16], place: usize,
 }
 
 /// The place of a leaf has another leaf.
-fn hand_over(leaves: &mut [u32], places: &mut [u16], leaf: usize, other: usize)
+pub(crate) fn hand_over(leaves: &mut [u32], places: &mut [u16], leaf: usize, other: usize)
     requires leaf { leaf < length places.old }
     requires other { other < length places.old }
     requires place { slice_index places.old leaf < length leaves.old }

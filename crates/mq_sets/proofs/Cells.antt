@@ -24,7 +24,7 @@ is_cell cell other = cond (other == cell) 1 0
 pub is_cell-same : (cell other : ℕ) → other ≡ cell → is_cell cell other ≡ 1
 is_cell-same cell other same = rw (eq-eqb other cell same) refl
 
-is_cell-other : (cell other : ℕ) → (other ≡ cell → ⊥) → is_cell cell other ≡ 0
+pub is_cell-other : (cell other : ℕ) → (other ≡ cell → ⊥) → is_cell cell other ≡ 0
 is_cell-other cell other differs =
     ⊎_elim (λ same. absurd (differs same.1)) (λ told. ap (λ (b : Bool). cond b 1 0) told.0) (eqb_tells other cell)
 

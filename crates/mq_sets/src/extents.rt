@@ -3,6 +3,7 @@
 ghost use Rattle.std.specs.Prelude.{◌≡◌, ◌+◌, ◌^◌, ◌<◌, ◌≤◌, [], length, map, slice_index_or, slice_set, vec_capacity};
 ghost use Rattle.std.specs.List.{All};
 ghost use Rattle.mq_sets.specs.Pools.{rows_of, cells_said, IsWithin, AreApart};
+ghost use Rattle.mq_sets.specs.NumberedRows.{IsPlaced};
 
 use std::mem;
 
@@ -12,6 +13,20 @@ use std::mem;
 pub(crate) struct Extent {
     pub(crate) start: u32,
     pub(crate) length: u32,
+}
+
+/// Where a row of so many cells stands that begins at a place. One of no cells begins at the first.
+pub(crate) fn extent_at(start: usize, length: usize) -> Extent
+    requires start { start < 2 ^ 32 }
+    requires length { length < 2 ^ 32 }
+    ensures length { result.length ≡ length }
+    ensures start { 0 < length → result.start ≡ start }
+    ensures placed { IsPlaced result }
+{
+    Extent {
+        start: if length == 0 { 0 } else { start as u32 },
+        length: length as u32,
+    }
 }
 
 /// Copies the rows, one after another, into `packed`, which is empty and has space for them.
@@ -89,6 +104,7 @@ pub(crate) fn write_over<T: Copy>(
     ensures apart { AreApart extents.new }
     ensures lengths { map (λ e. e.length) extents.new ≡ slice_set (map (λ e. e.length) extents.old) place (length row.now) }
     ensures len { length cells.new ≡ length cells.old }
+    ensures placed { 0 < length row.now → All IsPlaced extents.old → All IsPlaced extents.new }
 {
     let first = before.start as usize;
     cells[first..first + row.len()].copy_from_slice(row);

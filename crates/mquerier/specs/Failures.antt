@@ -1,8 +1,11 @@
 -- The failures of the program: their statuses, and what standard error is told.
-use Rattle.std.specs.Prelude.{ℕ, List, [], ◌++◌, codes}
+use Rattle.std.specs.Prelude.{ℕ, zero, suc, ◌-◌, List, [], ◌∷◌, ◌++◌, codes}
+use Rattle.std.specs.List.{flat_map}
 use Rattle.std.specs.Fmt.{decimal}
 use Rattle.mq_convert.specs.declared.fault.BlockFault.{BlockFault}
 use Rattle.mq_convert.specs.declared.fault.BlockFault.TheVariants as block
+use Rattle.mq_convert.specs.declared.unread.LinkCount.{LinkCount}
+use Rattle.mq_convert.specs.declared.unread.Unread.{Unread}
 use Rattle.mq_link.specs.declared.configuration.ConfigFault.{ConfigFault}
 use Rattle.mq_link.specs.declared.configuration.ConfigFault.TheVariants as config
 use Rattle.mq_link.specs.declared.configuration.LimitName.{LimitName}
@@ -59,12 +62,23 @@ conversion_text block.Moment = codes "conversion fault 8 at block "
 conversion_text block.Cut = codes "conversion fault 9 at block "
 conversion_text block.Endless = codes "conversion fault 10 at block "
 
--- what standard error is told where packets of link types that aren't read were written: how many they are, and
--- the link type of the first
-abbrev pub unread_line : (count first : ℕ) → List ℕ
-unread_line count first =
-    codes "mquerier: " ++ decimal count ++ codes " packets of link types that aren't read, the first of " ++ decimal first
-    ++ codes "\n"
+-- what standard error is told where packets of link types that aren't read were written: how many they are, how many of each
+-- link type that has a row, and how many of the others
+abbrev pub link_text : LinkCount → List ℕ
+link_text row = codes "\n  " ++ decimal row.count ++ codes " of link type " ++ decimal row.link
+
+abbrev pub others : (count : ℕ) → List LinkCount → ℕ
+others count [] = count
+others count (row ∷ rows) = others (count - row.count) rows
+
+abbrev pub others_text : (count : ℕ) → List ℕ
+others_text zero = []
+others_text (suc n) = codes "\n  " ++ decimal (suc n) ++ codes " of others"
+
+abbrev pub unread_line : Unread → List ℕ
+unread_line unread =
+    codes "mquerier: " ++ decimal unread.count ++ codes " packets of link types that aren't read"
+    ++ flat_map link_text unread.links.items ++ others_text (others unread.count unread.links.items) ++ codes "\n"
 
 abbrev pub failure_text : Failure → List ℕ
 failure_text NoAddresses = codes "--from and --to are needed for mld"

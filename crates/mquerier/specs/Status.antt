@@ -157,12 +157,9 @@ IsConversion (Show file) = ⊥
 IsConversion (Replay protocol own settings until file) = ⊥
 
 -- standard error was told of packets whose link type isn't read, if some were written
-abbrev pub TellsFirst : (errors : Output) → (count : ℕ) → (first : Option ℕ) → Type 0
-TellsFirst errors count None = errors.new ≡ errors.old
-TellsFirst errors count (Some link) = IsTold errors (unread_line count link)
-
 abbrev pub TellsUnread : (errors : Output) → Unread → Type 0
-TellsUnread errors unread = TellsFirst errors unread.count unread.first
+TellsUnread errors unread =
+    (unread.count ≡ 0 → errors.new ≡ errors.old) × (1 ≤ unread.count → IsTold errors (unread_line unread))
 
 -- What is asked for was done, and standard error told nothing but, of a conversion, of packets whose link type isn't
 -- read.

@@ -3,7 +3,7 @@
 ghost use Rattle.std.specs.Prelude.{◌≡◌, ◌≤◌, ◌++◌, codes, length};
 ghost use Rattle.std.specs.Fmt.{decimal};
 ghost use Rattle.arrayvec.specs.ArrayVec.{array_vec_len};
-ghost use Rattle.mquerier.specs.Failures.{status_of, failure_line, failure_text, failure_words, configuration_text, configuration_words, conversion_text, capture_text, capture_words, interval_words, limit_words, unread_line};
+ghost use Rattle.mquerier.specs.Failures.{status_of, failure_line, failure_text, failure_words, configuration_text, configuration_words, conversion_text, capture_text, capture_words, interval_words, limit_words};
 
 use mq_convert::BlockFault;
 use mq_link::{ConfigFault, LimitName};
@@ -276,20 +276,4 @@ fn put_conversion(line: &mut Text, number: u64, fault: BlockFault)
         BlockFault::Cut => put_record(line, b"conversion fault 9 at block ", number),
         BlockFault::Endless => put_record(line, b"conversion fault 10 at block ", number),
     }
-}
-
-/// What standard error is told of packets whose link type isn't read.
-pub fn unread_line_of(count: u64, first: u16) -> Text
-    ensures { result.items ≡ unread_line count first }
-{
-    let mut line = Text::new();
-    put(&mut line, b"mquerier: ");
-    put_decimal(&mut line, count);
-    put(
-        &mut line,
-        b" packets of link types that aren't read, the first of ",
-    );
-    put_decimal(&mut line, u64::from(first));
-    put(&mut line, b"\n");
-    line
 }

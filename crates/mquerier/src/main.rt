@@ -13,6 +13,7 @@ mod converting;
 mod failure;
 mod program;
 mod replaying;
+mod unread;
 mod work;
 
 use clap::Error;

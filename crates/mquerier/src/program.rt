@@ -8,7 +8,8 @@ ghost use Rattle.mquerier.specs.Failures.{status_of};
 ghost use Rattle.mquerier.specs.Status.{IsConversion, IsOfMessage, IsWordless, TellsLines, TellsUnread, Told, Performs, PerformsConversion, Runs};
 
 use crate::converting::convert_capture;
-use crate::failure::{DONE, FAULTY, Failure, REFUSED, line_of, status_of_failure, unread_line_of};
+use crate::failure::{DONE, FAULTY, Failure, REFUSED, line_of, status_of_failure};
+use crate::unread::unread_line_of;
 use crate::work::work;
 use clap::Error;
 use clap::error::ErrorKind;
@@ -145,7 +146,7 @@ fn perform_conversion<R: Read, W: Write, E: Write>(
 {
     match convert_capture(alloc, choice, input, output) {
         Ok(unread) => {
-            tell_unread(unread, errors);
+            tell_unread(&unread, errors);
             DONE
         }
         Err(failure) => told(failure, errors),
@@ -153,11 +154,11 @@ fn perform_conversion<R: Read, W: Write, E: Write>(
 }
 
 /// Says on standard error that there were packets whose link type isn't read, if there were.
-fn tell_unread<E: Write>(unread: Unread, errors: &mut Watched<E>)
-    ensures { TellsUnread (output_by E.contents errors.old errors.new) unread }
+fn tell_unread<E: Write>(unread: &Unread, errors: &mut Watched<E>)
+    ensures { TellsUnread (output_by E.contents errors.old errors.new) unread.now }
 {
-    if let Some(first) = unread.first {
-        let _ = print(unread_line_of(unread.count, first).as_slice(), errors);
+    if unread.count > 0 {
+        let _ = print(unread_line_of(unread).as_slice(), errors);
     }
 }
 

@@ -1,8 +1,15 @@
-use Rattle.std.proofs.Common.{◌≡◌, sym, ap, ◌∙◌, subst}
+use Rattle.std.proofs.Common.{◌≡◌, ℕ, ◌+◌, ◌*◌, false, Some, sym, ap, ◌∙◌, subst, arith}
+use Rattle.std.specs.FinMap as map
+use Rattle.mq_count.specs.Spending.{Spends}
+use Rattle.mq_count.proofs.Spent.{Spends-join_within}
+use Rattle.mq_sched.specs.Schedule.{ScheduledGroup}
 use Rattle.mq_sched.specs.Sink.{Sends}
+use Rattle.mq_held.specs.Groups.{sources_in}
+use Rattle.mq_held.specs.Places.{has_due}
 use Rattle.mq_link.specs.declared.status.InForce.{InForce}
 use Rattle.mq_link.specs.Configuration.{Configuration}
 use Rattle.mq_link.specs.Handing.{KeepsIntervals}
+use Rattle.mq_link.specs.LeastCost.{least_ticked}
 use Rattle.mq_link.specs.Record.{Setting}
 use Rattle.mq_link.specs.Sender.{TakesQuery, begun}
 use Rattle.mq_link.specs.Tick.{groups_after_round, groups_expired, queries_due}
@@ -44,3 +51,16 @@ returns-clause-sent g c =
 
 pub returns-clause-rooms : goal.returns-clause-rooms
 returns-clause-rooms g c = rooms_on (rooms_counted c.args.storage.now c.tick-is_due.new.m) c.tick_groups.ensures.rooms
+
+pub returns-clause-spent : goal.returns-clause-spent
+returns-clause-spent g c =
+    let groups = c.args.storage.now.held.groups in
+    let moment = ap (λ (f : InForce). f.moment) c.in_force-at.ensures.in_force ∙ ap (λ (s : Setting). s.now) c.tick-is_due.ensures.ticked in
+    let served = subst (λ n. Spends (least_ticked n groups) (4 * sources_in groups + 27 * map.len groups + 1) c.tick-is_due.new.m c.tick_groups.new.self.work.meter) moment c.tick_groups.ensures.spent in
+    Spends-join_within (1 + least_ticked c.args.now groups) _ c.tick-is_due.ensures.spent served (omega arith) (omega arith)
+
+pub returns-clause-quiet : goal.returns-clause-quiet
+returns-clause-quiet g c none =
+    let moment = ap (λ (f : InForce). f.moment) c.in_force-at.ensures.in_force ∙ ap (λ (s : Setting). s.now) c.tick-is_due.ensures.ticked in
+    let none_then = subst (λ n. (address : ℕ) (e : ScheduledGroup) → map.get c.args.storage.now.held.groups address ≡ Some e → has_due n e ≡ false) (sym moment) none in
+    Spends-join_within 1 2 c.tick-is_due.ensures.spent (c.tick_groups.ensures.quiet none_then) (omega arith) (omega arith)

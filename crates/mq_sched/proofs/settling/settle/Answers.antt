@@ -31,6 +31,7 @@ loop-node-preserved c =
           λ leaf behind. get_or-set_other nodes i leaf c.if-is_left.nodes 0 (λ same. absurd (omega (arith, below, behind, c.loop-node.auto.lefts))) ∙ known.leaves leaf behind;
       lower = omega (arith, known.lower);
       spent = Spends-join_within _ _ known.spent c.reached-is_left.ensures.spent (omega (arith, bitlen-half i (omega arith), bitlen-mono i (c.args.from / 2) (omega (arith, known.lower)))) (omega (arith, bitlen-half i (omega arith), bitlen-mono i (c.args.from / 2) (omega (arith, known.lower))));
+      moves = Spends-join_within _ _ known.moves c.count.ensures (omega arith) (omega (arith, bitlen-half i (omega arith), bitlen-mono i (c.args.from / 2) (omega (arith, known.lower))));
     }
 
 pub returns-clause-spent : goal.returns-clause-spent
@@ -48,3 +49,10 @@ returns-then-is_left-lefts-clause-spent c =
     let digits = bitlen-half i (omega arith) in
     let most = bitlen-mono i (c.args.from / 2) (omega (arith, known.lower)) in
     Spends-join_within _ _ known.spent c.reached-is_left.ensures.spent (omega arith) (omega (arith, digits, most))
+
+pub returns-clause-moves : goal.returns-clause-moves
+returns-clause-moves c = Spends-within _ _ c.loop-node.invariant.moves (omega arith) (omega arith)
+
+pub returns-then-is_left-lefts-clause-moves : goal.returns-then-is_left-lefts-clause-moves
+returns-then-is_left-lefts-clause-moves c =
+    Spends-within _ _ c.loop-node.invariant.moves (omega arith) (omega arith)

@@ -13,6 +13,7 @@ invariant-loop-node l =
       leaves : (leaf : ℕ) → length l.initial.lefts ≤ leaf → get_or l.nodes leaf 0 ≡ get_or l.initial.nodes leaf 0;
       lower : l.node ≤ l.from;
       spent : Spends (bitlen (l.from / 2) - bitlen (l.node / 2)) (bitlen (l.from / 2) - bitlen (l.node / 2)) l.initial.m l.m;
+      moves : Spends 0 (bitlen (l.from / 2) - bitlen (l.node / 2)) l.initial.moves l.moves;
     }
 
 abbrev pub decreases-loop-node : goal.decreases-loop-node

@@ -2,6 +2,8 @@ use Rattle.std.proofs.Common.{◌+◌, ◌-◌, length, refl, ap, sym, ◌∙◌
 use Rattle.std.proofs.lemmas.List.{map-set}
 use Rattle.std.proofs.lemmas.List.Edits.{paste_all}
 use Rattle.std.proofs.lemmas.Slice.{put_mid-paste}
+use Rattle.std.proofs.lemmas.List.Elements.{All-set}
+use Rattle.mq_sets.specs.NumberedRows.{IsPlaced}
 use Rattle.mq_sets.specs.Pools.{rows_of, IsWithin}
 use Rattle.mq_sets.specs.declared.extents.Extent.{Extent}
 use Rattle.mq_sets.proofs.Apart.{apart-shorter}
@@ -26,3 +28,7 @@ returns-clause-apart g c =
 pub returns-clause-lengths : goal.returns-clause-lengths
 returns-clause-lengths g c =
     map-set (λ (e : Extent). e.length) c.args.extents.now c.args.place (record { start = c.args.before.start; length = length c.args.row.now })
+
+pub returns-clause-placed : goal.returns-clause-placed
+returns-clause-placed g c some placed =
+    All-set IsPlaced c.args.extents.now c.args.place (record { start = c.args.before.start; length = length c.args.row.now }) (λ none. absurd (omega (arith, some, none))) placed

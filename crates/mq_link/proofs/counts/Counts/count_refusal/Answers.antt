@@ -1,30 +1,16 @@
 use Rattle.std.proofs.Common.{◌≡◌, ◌<◌, ◌∙◌, ap, length, get_or, arith}
 use Rattle.mq_count.specs.Streams.{counted_on}
-use Rattle.mq_link.specs.Counters.{Counters, counted_at, reason_number, refusal_number, kind_number}
-use Rattle.mq_link.specs.Counted.{count_in}
-use Rattle.mq_link.proofs.CountedRows.{refusal_counted}
+use Rattle.mq_link.specs.Counters.{Counters, counted_at, refusal_number}
+use Rattle.mq_link.proofs.CountedRows.{row_counted, refusal_positive}
 use Rattle.mq_link.proofs.counts.Counts.count_refusal.Goals as goal
 
 pub returns : goal.returns
 returns c =
     let place = c.refusal_place-place.result in
     let row = c.self.inside.refused_by in
-    let value = c.saturating_add.result in
     let number = c.refusal_place-place.ensures.number in
     let within : place < length row = omega arith in
-    let counted : value ≡ counted_on (get_or row place 0) 1 = omega arith in
-    let written = refusal_counted row place c.args.name value number within counted in
-    let counting : Counters → Counters = λ counts. record counts { refused_by = counted_at refusal_number c.args.name 1 counts.refused_by } in
-    (λ i. record {
-      received = c.self.inside.received;
-      dropped = c.self.inside.dropped;
-      dropped_by = count_in reason_number c.self.inside.dropped_by;
-      spelled = count_in kind_number c.self.inside.spelled;
-      applied = c.self.inside.applied;
-      ignored = c.self.inside.ignored;
-      refused = c.self.inside.refused;
-      refused_by = written i;
-      sent = c.self.inside.sent;
-      unsent = c.self.inside.unsent;
-    })
-    ∙ ap counting c.self.view_is
+    let counted : c.saturating_add.result ≡ counted_on (get_or row place 0) 1 = omega arith in
+    let written = row_counted refusal_number refusal_positive row place c.args.name c.saturating_add.result number within counted in
+    let left = written ∙ ap (λ (counts : Counters). counted_at refusal_number c.args.name 1 counts.refused_by) c.self.view_is in
+    λ i. record (c.self.view_is i) { refused_by = left i }

@@ -5,7 +5,7 @@ use Rattle.mq_wire.specs.Canon.{source_count}
 use Rattle.mq_wire.specs.Numbered.{numbered_query}
 use Rattle.mq_link.specs.Heard.{query_heard}
 use Rattle.mq_link.specs.Record.{Setting}
-use Rattle.mq_link.specs.Router.{Leaves, RouterValue, state_of}
+use Rattle.mq_link.specs.Router.{Leaves, RouterValue, router_of, state_of}
 use Rattle.mq_link.specs.State.{sources_in}
 use Rattle.mq_link.proofs.Faultless.{few_sources, timing_in_range}
 use Rattle.mq_link.proofs.LinkStored.{ready_in, stored_next}
@@ -20,8 +20,8 @@ hear_query-requires-clause-small g c address = omega (arith, c.self.invariant.so
 
 pub invariant_of-self : goal.invariant_of-self
 invariant_of-self g c =
-    let inside : RouterValue = record { at = c.self.inside.status; groups = c.self.inside.storage.held.groups; counters = c.self.inside.counts; met = c.self.inside.met.counts; spent = c.self.inside.storage.work.meter } in
     let parts = c.self.inside in
+    let inside = router_of parts.status parts.storage parts.counts parts.met in
     let sure = c.lemma_is_sound.ensures in
     let heard = c.hear_query.ensures in
     stored_next parts.status c.hear_query.new.self parts.storage c.hear_query.new.storage parts.met parts.met parts.places.items parts.places.items c.self.invariant
@@ -31,16 +31,14 @@ invariant_of-self g c =
 
 pub returns-clause-leaves : goal.returns-clause-leaves
 returns-clause-leaves g c =
-    let inside : RouterValue = record { at = c.self.inside.status; groups = c.self.inside.storage.held.groups; counters = c.self.inside.counts; met = c.self.inside.met.counts; spent = c.self.inside.storage.work.meter } in
     let heard = c.hear_query.ensures in
     let source = g.F.Address.Key.number c.args.source in
     let query = numbered_query g.F.Address.Key.number c.args.query.now in
-    let after : RouterValue = record { at = c.hear_query.new.self; groups = c.hear_query.new.storage.held.groups; counters = c.self.inside.counts; met = c.self.inside.met.counts; spent = c.hear_query.new.storage.work.meter } in
-    let there : Leaves (query_heard inside.at.config inside.at.now source query (state_of inside)) inside after = record {
+    let after = router_of c.hear_query.new.self c.hear_query.new.storage c.self.inside.counts c.self.inside.met in
+    subst (λ (r : RouterValue). Leaves (query_heard r.at.config r.at.now source query (state_of r)) r after) c.self.view_is (record {
       config = ap (λ (s : Setting). s.config) heard.election;
-      state_is = λ i. record { groups = heard.groups i; election = ap (λ (s : Setting). s.election) heard.election i; last = ap (λ (s : Setting). s.now) heard.election i; counters = inside.counters };
-    } in
-    subst (λ (r : RouterValue). Leaves (query_heard r.at.config r.at.now source query (state_of r)) r after) c.self.view_is there
+      state_is = λ i. record { groups = heard.groups i; election = (heard.election i).election; last = (heard.election i).now; counters = c.self.inside.counts };
+    })
 
 pub returns-clause-spent : goal.returns-clause-spent
 returns-clause-spent g c =

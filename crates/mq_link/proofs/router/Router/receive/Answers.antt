@@ -21,16 +21,14 @@ counted g c =
     c.count_answers.ensures ∙ (λ i. record left.self { counters = with_answers left.self.counters (c.sent.ensures i) (c.unsent.ensures i) })
 
 pub returns-clause-config : goal.returns-clause-config
-returns-clause-config g c = ap (λ (r : RouterValue). r.at.config) (counted g c) ∙ c.take_in-received.ensures.leaves.config ∙ c.come_to.ensures.leaves.config
+returns-clause-config g c = ap (λ (r : RouterValue). r.at.config) (counted g c) ∙ c.take_in-received.ensures.receipt.step.leaves.config ∙ c.come_to.ensures.step.leaves.config
 
 pub returns-clause-receives : goal.returns-clause-receives
 returns-clause-receives g c =
-    let took = c.take_in-received.ensures in
-    has_received g.O.Outlet.takes g.F.Family.FAMILY (g.F.Family.envelope_of c.args.envelope.now) c.args.body.now c.args.now c.args.self.now c.come_to.new.self c.take_in-received.new.self c.count_answers.new.self c.take_in-received.result c.args.sender.now c.come_to.new.sender c.take_in-received.new.sender c.lemma_is_stored.ensures.family c.come_to.ensures.leaves c.come_to.ensures.sent
-    (record { leaves = took.leaves; answer_is = took.answer }) took.sent (counted g c)
+    has_received g.O.Outlet.takes g.F.Family.FAMILY (g.F.Family.envelope_of c.args.envelope.now) c.args.body.now c.args.now c.args.self.now c.come_to.new.self c.take_in-received.new.self c.count_answers.new.self c.take_in-received.result c.args.sender.now c.come_to.new.sender c.take_in-received.new.sender c.lemma_is_stored.ensures.family c.come_to.ensures.step c.take_in-received.ensures.receipt (counted g c)
 
 pub returns-clause-same_outlet : goal.returns-clause-same_outlet
-returns-clause-same_outlet g c = same_outlet _ _ _ _ _ c.take_in-received.ensures.sent ∙ same_outlet _ _ _ _ _ c.come_to.ensures.sent
+returns-clause-same_outlet g c = same_outlet _ _ _ _ _ c.take_in-received.ensures.receipt.step.sent ∙ same_outlet _ _ _ _ _ c.come_to.ensures.step.sent
 
 pub returns-clause-spent : goal.returns-clause-spent
 returns-clause-spent g c =
@@ -40,7 +38,7 @@ returns-clause-spent g c =
     let config = before.at.config in
     let envelope = g.F.Family.envelope_of c.args.envelope.now in
     let moment = max before.at.now c.args.now in
-    let leaves = c.come_to.ensures.leaves in
+    let leaves = c.come_to.ensures.step.leaves in
     let spent = received_within (ticked config.timing moment before.at.election).timing moment before.groups between.groups (length c.args.body.now) _ _ _ _ (ap (λ (s : LinkState). s.groups) leaves.state_is) (Spends-within _ _ c.come_to.ensures.spent (omega arith) (omega arith)) c.take_in-received.ensures.spent in
     let least = (λ i. let at : Setting = record { config = leaves.config i; election = between.at.election; now = between.at.now } in least_after at envelope (read_in family envelope c.args.body.now) between.groups)
     ∙ least_after_tick family config envelope c.args.body.now c.args.now moment (state_of before) (state_of between) c.lemma_is_stored.ensures.family refl leaves.state_is

@@ -1,8 +1,7 @@
-use Rattle.std.proofs.Common.{◌≡◌, ◌+◌, ◌*◌, ℕ, List, None, Some, Result, Ok, refl, sym, ap, ◌∙◌, subst, arith}
+use Rattle.std.proofs.Common.{◌≡◌, ◌+◌, ◌*◌, ℕ, List, None, Some, Result, Ok, sym, ap, ◌∙◌, subst, arith}
 use Rattle.std.specs.FinMap as map
 use Rattle.mq_count.specs.Spending.{Spends}
 use Rattle.mq_count.proofs.Spent.{Spends-within, Spends-none}
-use Rattle.mq_sched.specs.Sink.{Sends}
 use Rattle.mq_wire.specs.declared.message.Message.{Message}
 use Rattle.mq_wire.specs.declared.message.WireFault.{WireFault}
 use Rattle.mq_wire.specs.Numbered.{numbered_message}
@@ -10,12 +9,12 @@ use Rattle.mq_link.specs.declared.answers.Received.TheVariants.{Dropped}
 use Rattle.mq_link.specs.Cost.{least_length}
 use Rattle.mq_link.specs.LeastCost.{least_of, least_unless, least_after}
 use Rattle.mq_link.specs.Reading.{numbered_read}
-use Rattle.mq_link.specs.Receive.{Envelope, Receipt, taken_in, count_read, pseudo_of, read_of, receipt_after, drop_reason, taken_or_dropped}
-use Rattle.mq_link.specs.Router.{Leaves, RouterValue, silent_step, state_of}
+use Rattle.mq_link.specs.Receive.{Envelope, Receipt, taken_in, count_read, pseudo_of, read_of, receipt_after, drop_reason}
+use Rattle.mq_link.specs.Router.{HasReceipt, RouterValue, silent_step, state_of}
 use Rattle.mq_link.specs.Sender.{TakesQuery}
 use Rattle.mq_link.specs.State.{sources_in}
 use Rattle.mq_link.proofs.LeastLengths.{long_where_read}
-use Rattle.mq_link.proofs.LinkReceived.{Comes, is_dropped, is_taken}
+use Rattle.mq_link.proofs.LinkReceived.{is_dropped, is_taken}
 use Rattle.mq_link.proofs.Receipts.{IsCarriedWhere, carried_where_read}
 use Rattle.mq_link.proofs.RecordsRead.{few_where_read}
 use Rattle.mq_link.proofs.router.Router.take_in.Given.{Over}
@@ -50,7 +49,7 @@ take_message-requires-clause-counted g c =
 -- a datagram that is dropped comes to its reason
 dropped : (g : Over) (c : After-count_dropped g) → (let around = g.F.Family.envelope_of c.args.envelope.now in
     (drop_reason c.args.self.now.at.config around (numbered_read g.F.Address.Key.number c.read-read.result) ≡ Some c.in-Some.reason)
-    × Comes (whole g around c.args.body.now c.args.self.now) c.args.self.now c.count_dropped.new.self (Dropped c.in-Some.reason))
+    × HasReceipt (TakesQuery g.O.Outlet.takes g.F.Family.FAMILY) (whole g around c.args.body.now c.args.self.now) (Dropped c.in-Some.reason) c.args.self.now c.count_dropped.new.self c.args.sender.now c.args.sender.now)
 dropped g c =
     let read = numbered_read g.F.Address.Key.number c.read-read.result in
     let around = g.F.Family.envelope_of c.args.envelope.now in
@@ -58,22 +57,12 @@ dropped g c =
     let is : drop_reason before.at.config around read ≡ Some c.in-Some.reason =
     ap (λ k. drop_reason k around read) (ap (λ (r : RouterValue). r.at.config) (sym c.count_read.ensures) ∙ sym c.config.ensures) ∙ sym c.drop_reason.ensures ∙ c.in-Some.is
     in
-    let comes = is_dropped around read c.in-Some.reason before c.count_read.new.self c.count_dropped.new.self is c.count_read.ensures c.count_dropped.ensures in
-    (is, subst (λ x. Comes (receipt_after before.at.config around x (silent_step (state_of before))) before c.count_dropped.new.self (Dropped c.in-Some.reason)) c.read-read.ensures comes)
+    let takes = TakesQuery g.O.Outlet.takes g.F.Family.FAMILY in
+    let comes = is_dropped takes c.args.sender.now around read c.in-Some.reason before c.count_read.new.self c.count_dropped.new.self is c.count_read.ensures c.count_dropped.ensures in
+    (is, subst (λ x. HasReceipt takes (receipt_after before.at.config around x (silent_step (state_of before))) (Dropped c.in-Some.reason) before c.count_dropped.new.self c.args.sender.now c.args.sender.now) c.read-read.ensures comes)
 
-pub returns-in-Some-clause-leaves : goal.returns-in-Some-clause-leaves
-returns-in-Some-clause-leaves g c = (dropped g c).1.leaves
-
-pub returns-in-Some-clause-answer : goal.returns-in-Some-clause-answer
-returns-in-Some-clause-answer g c = (dropped g c).1.answer_is
-
-pub returns-in-Some-clause-sent : goal.returns-in-Some-clause-sent
-returns-in-Some-clause-sent g c =
-    let around = g.F.Family.envelope_of c.args.envelope.now in
-    let step = silent_step (state_of c.args.self.now) in
-    let config = c.args.self.now.at.config in
-    let none = ap (λ x. (taken_or_dropped config around step (numbered_read g.F.Address.Key.number c.read-read.result) x).step.queries) (sym (dropped g c).0) ∙ ap (λ x. (receipt_after config around x step).step.queries) c.read-read.ensures in
-    subst (λ qs. Sends (TakesQuery g.O.Outlet.takes g.F.Family.FAMILY) c.args.sender.now qs c.args.sender.now) none refl
+pub returns-in-Some-clause-receipt : goal.returns-in-Some-clause-receipt
+returns-in-Some-clause-receipt g c = (dropped g c).1
 
 pub returns-in-Some-clause-spent : goal.returns-in-Some-clause-spent
 returns-in-Some-clause-spent g c =
@@ -102,18 +91,12 @@ taken g c =
     in
     (read, none, ap (λ x. receipt_after before.at.config around x (silent_step (state_of before))) read ∙ is_taken around said before c.count_read.new.self none counted)
 
-pub returns-clause-leaves : goal.returns-clause-leaves
-returns-clause-leaves g c =
-    let left = c.take_message.ensures.leaves in
-    subst (λ (x : Receipt). Leaves x.step.state c.args.self.now c.take_message.new.self) (sym (taken g c).2)
-    (record { config = left.config ∙ ap (λ (r : RouterValue). r.at.config) c.count_read.ensures; state_is = left.state_is })
-
-pub returns-clause-answer : goal.returns-clause-answer
-returns-clause-answer g c = c.take_message.ensures.answer ∙ ap (λ (x : Receipt). x.answer) (sym (taken g c).2)
-
-pub returns-clause-sent : goal.returns-clause-sent
-returns-clause-sent g c =
-    subst (λ (x : Receipt). Sends (TakesQuery g.O.Outlet.takes g.F.Family.FAMILY) c.args.sender.now x.step.queries c.take_message.new.sender) (sym (taken g c).2) c.take_message.ensures.sent
+pub returns-clause-receipt : goal.returns-clause-receipt
+returns-clause-receipt g c =
+    let whole = c.take_message.ensures.receipt in
+    let config = ap (λ (r : RouterValue). r.at.config) c.count_read.ensures in
+    subst (λ (x : Receipt). HasReceipt (TakesQuery g.O.Outlet.takes g.F.Family.FAMILY) x c.take_message.result c.args.self.now c.take_message.new.self c.args.sender.now c.take_message.new.sender) (sym (taken g c).2)
+    (record { step = record { leaves = record { config = whole.step.leaves.config ∙ config; state_is = whole.step.leaves.state_is }; sent = whole.step.sent }; answer_is = whole.answer_is })
 
 pub returns-clause-spent : goal.returns-clause-spent
 returns-clause-spent g c =

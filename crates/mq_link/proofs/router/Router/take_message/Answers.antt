@@ -6,55 +6,23 @@ use Rattle.mq_link.proofs.Faultless.{few_groups}
 use Rattle.mq_link.proofs.RecordCosts.{report_within, statement_within}
 use Rattle.mq_link.proofs.router.Router.take_message.Goals as goal
 
-pub returns-in-Query-clause-leaves : goal.returns-in-Query-clause-leaves
+pub returns-in-Query-clause-receipt : goal.returns-in-Query-clause-receipt
 unfolding taken_in
-returns-in-Query-clause-leaves g c =
+returns-in-Query-clause-receipt g c =
     let source = c.source-source.ensures in
-    rw (c.in-Query.is, ← source) c.hear.ensures.leaves
+    rw (c.in-Query.is, ← source) (record { step = record { leaves = c.hear.ensures.leaves; sent = refl }; answer_is = refl })
 
-pub returns-in-Query-clause-answer : goal.returns-in-Query-clause-answer
+pub returns-in-OldReport-clause-receipt : goal.returns-in-OldReport-clause-receipt
 unfolding taken_in
-returns-in-Query-clause-answer g c = rw c.in-Query.is refl
+returns-in-OldReport-clause-receipt g c = rw c.in-OldReport.is c.take_statement.ensures.receipt
 
-pub returns-in-Query-clause-sent : goal.returns-in-Query-clause-sent
+pub returns-in-Leave-clause-receipt : goal.returns-in-Leave-clause-receipt
 unfolding taken_in
-returns-in-Query-clause-sent g c = rw c.in-Query.is refl
+returns-in-Leave-clause-receipt g c = rw c.in-Leave.is c.take_statement-in-Leave.ensures.receipt
 
-pub returns-in-OldReport-clause-leaves : goal.returns-in-OldReport-clause-leaves
+pub returns-in-Report-clause-receipt : goal.returns-in-Report-clause-receipt
 unfolding taken_in
-returns-in-OldReport-clause-leaves g c = rw c.in-OldReport.is c.take_statement.ensures.leaves
-
-pub returns-in-OldReport-clause-answer : goal.returns-in-OldReport-clause-answer
-unfolding taken_in
-returns-in-OldReport-clause-answer g c = rw c.in-OldReport.is c.take_statement.ensures.answer
-
-pub returns-in-OldReport-clause-sent : goal.returns-in-OldReport-clause-sent
-unfolding taken_in
-returns-in-OldReport-clause-sent g c = rw c.in-OldReport.is c.take_statement.ensures.sent
-
-pub returns-in-Leave-clause-leaves : goal.returns-in-Leave-clause-leaves
-unfolding taken_in
-returns-in-Leave-clause-leaves g c = rw c.in-Leave.is c.take_statement-in-Leave.ensures.leaves
-
-pub returns-in-Leave-clause-answer : goal.returns-in-Leave-clause-answer
-unfolding taken_in
-returns-in-Leave-clause-answer g c = rw c.in-Leave.is c.take_statement-in-Leave.ensures.answer
-
-pub returns-in-Leave-clause-sent : goal.returns-in-Leave-clause-sent
-unfolding taken_in
-returns-in-Leave-clause-sent g c = rw c.in-Leave.is c.take_statement-in-Leave.ensures.sent
-
-pub returns-in-Report-clause-leaves : goal.returns-in-Report-clause-leaves
-unfolding taken_in
-returns-in-Report-clause-leaves g c = rw c.in-Report.is c.take_records.ensures.leaves
-
-pub returns-in-Report-clause-answer : goal.returns-in-Report-clause-answer
-unfolding taken_in
-returns-in-Report-clause-answer g c = rw c.in-Report.is c.take_records.ensures.answer
-
-pub returns-in-Report-clause-sent : goal.returns-in-Report-clause-sent
-unfolding taken_in
-returns-in-Report-clause-sent g c = rw c.in-Report.is c.take_records.ensures.sent
+returns-in-Report-clause-receipt g c = rw c.in-Report.is c.take_records.ensures.receipt
 
 pub returns-in-OldReport-clause-spent : goal.returns-in-OldReport-clause-spent
 returns-in-OldReport-clause-spent g c =

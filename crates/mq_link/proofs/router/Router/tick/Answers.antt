@@ -14,13 +14,13 @@ counted g c =
     ∙ (λ i. record c.come_to.new.self { counters = with_answers c.come_to.new.self.counters (c.sent.ensures i) (c.unsent.ensures i) })
 
 pub returns-clause-config : goal.returns-clause-config
-returns-clause-config g c = ap (λ (r : RouterValue). r.at.config) (counted g c) ∙ c.come_to.ensures.leaves.config
+returns-clause-config g c = ap (λ (r : RouterValue). r.at.config) (counted g c) ∙ c.come_to.ensures.step.leaves.config
 
 pub returns-clause-ticks : goal.returns-clause-ticks
-returns-clause-ticks g c = has_ticked g.O.Outlet.takes g.F.Family.FAMILY c.args.now c.args.self.now c.come_to.new.self c.count_answers.new.self c.args.sender.now c.come_to.new.sender c.lemma_is_stored.ensures.family c.come_to.ensures.leaves c.come_to.ensures.sent (counted g c)
+returns-clause-ticks g c = has_ticked g.O.Outlet.takes g.F.Family.FAMILY c.args.now c.args.self.now c.come_to.new.self c.count_answers.new.self c.args.sender.now c.come_to.new.sender c.lemma_is_stored.ensures.family c.come_to.ensures.step (counted g c)
 
 pub returns-clause-same_outlet : goal.returns-clause-same_outlet
-returns-clause-same_outlet g c = same_outlet _ _ _ _ _ c.come_to.ensures.sent
+returns-clause-same_outlet g c = same_outlet _ _ _ _ _ c.come_to.ensures.step.sent
 
 pub returns-clause-spent : goal.returns-clause-spent
 returns-clause-spent g c = subst (Spends _ _ c.args.self.now.spent) (sym (ap (λ (r : RouterValue). r.spent) (counted g c))) c.come_to.ensures.spent

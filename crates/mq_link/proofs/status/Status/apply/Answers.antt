@@ -1,4 +1,4 @@
-use Rattle.std.proofs.Common.{◌≡◌, ◌≤◌, ◌+◌, ◌*◌, ℕ, Bool, None, length, refl, sym, ap, ◌∙◌, subst, arith}
+use Rattle.std.proofs.Common.{◌≡◌, ◌≤◌, ◌+◌, ◌*◌, ℕ, Bool, length, refl, sym, ap, ◌∙◌, subst, arith}
 use Rattle.std.specs.FinMap as map
 use Rattle.mq_count.specs.Spending.{Spends}
 use Rattle.mq_count.proofs.Spent.{Spends-within, Spends-join_within}
@@ -18,18 +18,18 @@ use Rattle.mq_link.specs.declared.storage.Storage.{Storage}
 use Rattle.mq_link.specs.declared.storage.Workspace.{Workspace}
 use Rattle.mq_link.specs.Changing.{acts_as, statement_of, change_written}
 use Rattle.mq_link.specs.Configuration.{Configuration}
-use Rattle.mq_link.specs.Counters.{Ignored}
 use Rattle.mq_link.specs.Family.{v1_mutes_leave, per_query}
 use Rattle.mq_link.specs.LeastCost.{least_merge, least_work}
-use Rattle.mq_link.specs.Record.{Outcome, change_stated, is_muted, leaving, limit_passed, stated, unless_passed, after_sending, sent_at_once}
-use Rattle.mq_link.specs.Storage.{group_stored, IsSought}
-use Rattle.mq_link.proofs.Faultless.{few_sources}
+use Rattle.mq_link.specs.Record.{change_stated, is_muted, limit_passed, stated, unless_passed, after_sending, sent_at_once}
+use Rattle.mq_link.specs.Storage.{group_stored, IsSought, KeepsRoom, KeepsRooms}
+use Rattle.mq_link.proofs.Faultless.{few_groups, few_in_all, few_sources}
 use Rattle.mq_link.proofs.LeastCosts.{worked}
 use Rattle.mq_link.proofs.MadeEntries.{round_keeps_size}
+use Rattle.mq_link.proofs.Rooms.{room_on, rooms_counted, rooms_on}
 use Rattle.mq_link.proofs.StatedSteps.{AreFew, IsChanged, held_by_place, stated_ignored, stated_judged, kept_is_held, left_has_place, left_has_room, made_few}
 use Rattle.mq_link.proofs.status.Status.apply.Given.{Over}
 use Rattle.mq_link.proofs.status.Status.apply.Goals as goal
-use Rattle.mq_link.proofs.status.Status.apply.Goals.{After-change, After-ask, After-refusal}
+use Rattle.mq_link.proofs.status.Status.apply.Goals.{After-change, After-ask, After-refusal, After-round}
 
 abbrev stored_as : {K : Type 0} → (K → ℕ) → HeldGroup K → ScheduledGroup
 stored_as number stored = record { group = group_stored number stored; schedule = stored.schedule }
@@ -103,28 +103,21 @@ judged : (g : Over) (c : After-refusal g) → (let number = g.F.Address.Key.numb
 judged g c = stated_judged _ _ _ _ _ _ _ _ (changed g c)
 
 -- a statement that is muted is ignored
-ignored : (g : Over) (c : After-change g) → c.change.result ≡ None → (let number = g.F.Address.Key.number in
-    stated c.args.self.now (number c.args.sought.address) (statement_of c.args.said (named_in number c.args.storage.now.work.named.members)) c.args.storage.now.held.groups ≡ leaving c.args.storage.now.held.groups Ignored)
-ignored g c none =
+pub returns-in_default-clause-outcome : goal.returns-in_default-clause-outcome
+returns-in_default-clause-outcome g c =
     let number = g.F.Address.Key.number in
-    stated_ignored _ _ _ _ (stored_as number c.look-stored.result) c.look-stored.ensures.group (written g c ∙ ap (change_written number c.change.new.self.group.state c.change.new.self.asked.items) none)
-
-pub returns-in_default-clause-verdict : goal.returns-in_default-clause-verdict
-returns-in_default-clause-verdict g c =
-    ap (λ (o : Outcome). o.verdict) (sym (ignored g c.before c.in_default.is))
-
-pub returns-in_default-clause-groups : goal.returns-in_default-clause-groups
-returns-in_default-clause-groups g c =
-    ap (λ (o : Outcome). o.groups) (sym (ignored g c.before c.in_default.is))
-
-pub returns-in_default-clause-sent : goal.returns-in_default-clause-sent
-returns-in_default-clause-sent g c =
-    subst (λ (o : Outcome). Sends g.S.Sink.takes c.args.sink.now o.queries c.args.sink.now) (sym (ignored g c.before c.in_default.is)) refl
+    let st = statement_of c.args.said (named_in number c.args.storage.now.work.named.members) in
+    let none = ap (change_written number c.change.new.self.group.state c.change.new.self.asked.items) c.in_default.is in
+    let ignored = stated_ignored c.args.self.now (number c.args.sought.address) st c.args.storage.now.held.groups (stored_as number c.look-stored.result) c.look-stored.ensures.group (written g c.before ∙ none) in
+    rw ignored (record { verdict_is = refl; groups_are = refl; sent = refl })
 
 pub returns-in_default-clause-spent : goal.returns-in_default-clause-spent
 returns-in_default-clause-spent g c =
     let size_before = ap (λ (e : ScheduledGroup). size_of e.group) c.look-stored.ensures.group in
     Spends-within _ _ (spent_changing g c.before) (omega arith) (omega (arith, size_before))
+
+pub returns-in_default-clause-rooms : goal.returns-in_default-clause-rooms
+returns-in_default-clause-rooms g c = record { groups = refl; sources = refl; work = c.change.ensures.kept }
 
 pub change-requires-clause-room : goal.change-requires-clause-room
 change-requires-clause-room g c =
@@ -134,6 +127,21 @@ change-requires-clause-room g c =
     let asked = c.requires.room.asked in
     let len = c.look-stored.ensures.len in
     record { group = omega arith; asked = omega arith }
+
+pub ask-requires-clause-ascending : goal.ask-requires-clause-ascending
+ask-requires-clause-ascending g c = rw c.in-Some.is at c.change.ensures.ascending
+
+pub ask-requires-clause-held : goal.ask-requires-clause-held
+ask-requires-clause-held g c = rw c.in-Some.is at c.change.ensures.held
+
+pub refusal-requires-clause-groups : goal.refusal-requires-clause-groups
+refusal-requires-clause-groups g c = omega (arith, c.requires.sound.within.group_count, few_groups c.args.self.now.config c.lemma_is_sound.ensures.faultless)
+
+pub refusal-requires-clause-sources : goal.refusal-requires-clause-sources
+refusal-requires-clause-sources g c = omega (arith, c.requires.sound.within.sources, (few_in_all c.args.self.now.config c.lemma_is_sound.ensures.faultless).0)
+
+pub refusal-requires-clause-scheduled : goal.refusal-requires-clause-scheduled
+refusal-requires-clause-scheduled g c = omega (arith, c.requires.sound.within.scheduled, (few_in_all c.args.self.now.config c.lemma_is_sound.ensures.faultless).1)
 
 pub refusal-requires-clause-few : goal.refusal-requires-clause-few
 refusal-requires-clause-few g c =
@@ -151,29 +159,19 @@ refusal-requires-clause-change g c =
     let address = g.F.Address.Key.number c.args.sought.address in
     (address, record { is_held = held_by_place c.args.storage.now.held.groups address c.args.sought.place c.requires.sought ∙ sym c.is_ok.ensures.value; sources = sym c.look-stored.ensures.len; schedule = ap (λ (e : ScheduledGroup). e.schedule) (sym c.look-stored.ensures.group) })
 
-pub returns-in-Some-refusal-clause-verdict : goal.returns-in-Some-refusal-clause-verdict
-returns-in-Some-refusal-clause-verdict g c =
-    let number = g.F.Address.Key.number in
-    let address = number c.args.sought.address in
-    let groups = c.args.storage.now.held.groups in
-    let is = judged g c.before ∙ ap (λ p. unless_passed p groups (with_group groups address (after_sending c.args.self.now (asked_as c.ask.new.self c.ask.new.schedule))) (sent_at_once c.args.self.now address (asked_as c.ask.new.self c.ask.new.schedule))) c.in-Some-refusal.is in
-    ap (λ (o : Outcome). o.verdict) (sym is)
+-- there is as much room as before
+rooms_so : (g : Over) (c : After-refusal g) → KeepsRooms c.args.storage.now c.refusal.new.self
+rooms_so g c =
+    let between : Storage _ = record c.args.storage.now { work = c.ask.new.self } in
+    let asked : KeepsRooms c.args.storage.now between = record { groups = refl; sources = refl; work = room_on c.change.ensures.kept c.ask.ensures.kept } in
+    subst (KeepsRooms c.args.storage.now) (sym c.refusal.ensures.left) (rooms_on asked (rooms_counted between c.refusal.new.self.work.meter))
 
-pub returns-in-Some-refusal-clause-groups : goal.returns-in-Some-refusal-clause-groups
-returns-in-Some-refusal-clause-groups g c =
-    let number = g.F.Address.Key.number in
-    let address = number c.args.sought.address in
-    let groups = c.args.storage.now.held.groups in
-    let is = judged g c.before ∙ ap (λ p. unless_passed p groups (with_group groups address (after_sending c.args.self.now (asked_as c.ask.new.self c.ask.new.schedule))) (sent_at_once c.args.self.now address (asked_as c.ask.new.self c.ask.new.schedule))) c.in-Some-refusal.is in
-    ap (λ (s : Storage _). s.held.groups) c.refusal.ensures.left ∙ ap (λ (o : Outcome). o.groups) (sym is)
+pub returns-in-Some-refusal-clause-rooms : goal.returns-in-Some-refusal-clause-rooms
+returns-in-Some-refusal-clause-rooms g c = rooms_so g c.before
 
-pub returns-in-Some-refusal-clause-sent : goal.returns-in-Some-refusal-clause-sent
-returns-in-Some-refusal-clause-sent g c =
-    let number = g.F.Address.Key.number in
-    let address = number c.args.sought.address in
-    let groups = c.args.storage.now.held.groups in
-    let is = judged g c.before ∙ ap (λ p. unless_passed p groups (with_group groups address (after_sending c.args.self.now (asked_as c.ask.new.self c.ask.new.schedule))) (sent_at_once c.args.self.now address (asked_as c.ask.new.self c.ask.new.schedule))) c.in-Some-refusal.is in
-    subst (λ (o : Outcome). Sends g.S.Sink.takes c.args.sink.now o.queries c.args.sink.now) (sym is) refl
+pub returns-in-Some-refusal-clause-outcome : goal.returns-in-Some-refusal-clause-outcome
+returns-in-Some-refusal-clause-outcome g c =
+    rw (judged g c.before, c.in-Some-refusal.is) (record { verdict_is = refl; groups_are = ap (λ (s : Storage _). s.held.groups) c.refusal.ensures.left; sent = refl })
 
 -- what it has spent until it is judged
 spent_judging : (g : Over) (c : After-refusal g) → (let number = g.F.Address.Key.number in let members = c.args.storage.now.work.named.members in
@@ -195,98 +193,65 @@ pub keep-requires-clause-sought : goal.keep-requires-clause-sought
 keep-requires-clause-sought g c =
     subst (λ (s : Storage _). IsSought g.F.Address.Key.number s.held.groups c.args.sought) (sym c.refusal.ensures.left) c.requires.sought
 
+-- what is left of the group behind the round
+left_is : (g : Over) (c : After-round g) → ◌≡◌ {A = ScheduledGroup} (record { group = c.round.new.group.state; schedule = c.round.new.self }) (after_sending c.args.self.now (asked_as c.ask.new.self c.ask.new.schedule))
+left_is g c =
+    let in_force = c.in_force-at.ensures.in_force in
+    c.round.ensures.after ∙ (λ i. after_round (in_force i).timing (in_force i).moment (asked_as (c.refusal.ensures.left i).work c.ask.new.schedule))
+
 pub keep-requires-clause-held : goal.keep-requires-clause-held
 keep-requires-clause-held g c =
-    let number = g.F.Address.Key.number in
-    let address = number c.args.sought.address in
-    let groups = c.args.storage.now.held.groups in
-    let at = c.args.self.now in
-    let in_force = c.in_force-at.ensures.in_force in
-    let kept = c.refusal.ensures.left in
-    let left : ScheduledGroup = record { group = c.round.new.group.state; schedule = c.round.new.self } in
-    let left_is : left ≡ after_sending at (asked_as c.ask.new.self c.ask.new.schedule) = c.round.ensures.after ∙ (λ i. after_round (in_force i).timing (in_force i).moment (asked_as (kept i).work c.ask.new.schedule)) in
-    kept_is_held _ address _ groups _ _ _ _ (changed g c.before.before.before.before.before.before.before.before.before.before.before) c.lemma_is_sound.ensures.positive c.requires.admitted c.requires.sound left left_is
+    kept_is_held _ _ _ c.args.storage.now.held.groups _ _ _ _ (changed g c.before.before.before.before.before.before.before.before.before.before.before) c.lemma_is_sound.ensures.positive c.requires.admitted c.requires.sound _ (left_is g c.before)
 
 pub keep-requires-clause-room : goal.keep-requires-clause-room
 keep-requires-clause-room g c =
-    let number = g.F.Address.Key.number in
-    let address = number c.args.sought.address in
-    let groups = c.args.storage.now.held.groups in
-    let at = c.args.self.now in
-    let in_force = c.in_force-at.ensures.in_force in
+    let address = g.F.Address.Key.number c.args.sought.address in
     let kept = c.refusal.ensures.left in
-    let left : ScheduledGroup = record { group = c.round.new.group.state; schedule = c.round.new.self } in
-    let left_is : left ≡ after_sending at (asked_as c.ask.new.self c.ask.new.schedule) = c.round.ensures.after ∙ (λ i. after_round (in_force i).timing (in_force i).moment (asked_as (kept i).work c.ask.new.schedule)) in
-    let most = left_has_place _ address _ groups _ _ _ _ (changed g c.before.before.before.before.before.before.before.before.before.before.before) c.lemma_is_sound.ensures.positive c.requires.admitted c.requires.sound c.in_default-refusal.is in
-    let same : map.len (with_group c.refusal.new.self.held.groups address left) ≡ map.len (with_group groups address (after_sending at (asked_as c.ask.new.self c.ask.new.schedule))) = λ i. map.len (with_group ((kept i).held.groups) address (left_is i)) in
+    let most = left_has_place _ _ _ c.args.storage.now.held.groups _ _ _ _ (changed g c.before.before.before.before.before.before.before.before.before.before.before) c.lemma_is_sound.ensures.positive c.requires.admitted c.requires.sound c.in_default-refusal.is in
+    let same : map.len (with_group c.refusal.new.self.held.groups address _) ≡ map.len (with_group c.args.storage.now.held.groups address _) = λ i. map.len (with_group (kept i).held.groups address (left_is g c.before i)) in
     let room = ap (λ (s : Storage _). s.held.group_room) kept ∙ c.requires.group_room in
     omega (arith, most, same, room)
 
 pub keep-requires-clause-fits : goal.keep-requires-clause-fits
 keep-requires-clause-fits g c =
-    let number = g.F.Address.Key.number in
-    let address = number c.args.sought.address in
-    let groups = c.args.storage.now.held.groups in
-    let at = c.args.self.now in
-    let in_force = c.in_force-at.ensures.in_force in
-    let kept = c.refusal.ensures.left in
-    let left : ScheduledGroup = record { group = c.round.new.group.state; schedule = c.round.new.self } in
-    let left_is : left ≡ after_sending at (asked_as c.ask.new.self c.ask.new.schedule) = c.round.ensures.after ∙ (λ i. after_round (in_force i).timing (in_force i).moment (asked_as (kept i).work c.ask.new.schedule)) in
-    let most = left_has_room _ address _ groups _ _ _ _ (changed g c.before.before.before.before.before.before.before.before.before.before.before) c.lemma_is_sound.ensures.positive c.requires.admitted c.requires.sound c.in_default-refusal.is in
-    let same = ap (λ (e : ScheduledGroup). size_of e.group) left_is in
+    let address = g.F.Address.Key.number c.args.sought.address in
+    let most = left_has_room _ _ _ c.args.storage.now.held.groups _ _ _ _ (changed g c.before.before.before.before.before.before.before.before.before.before.before) c.lemma_is_sound.ensures.positive c.requires.admitted c.requires.sound c.in_default-refusal.is in
+    let same = ap (λ (e : ScheduledGroup). size_of e.group) (left_is g c.before) in
     let room = c.requires.source_room in
-    subst (λ (s : Storage _). sources_in s.held.groups + size_of left.group ≤ s.held.source_room + sources_of (group_at s.held.groups address)) (sym kept) (omega (arith, most, same, room))
+    subst (λ (s : Storage _). sources_in s.held.groups + size_of c.round.new.group.state ≤ s.held.source_room + sources_of (group_at s.held.groups address)) (sym c.refusal.ensures.left) (omega (arith, most, same, room))
 
-pub returns-clause-verdict : goal.returns-clause-verdict
-returns-clause-verdict g c =
-    let number = g.F.Address.Key.number in
-    let address = number c.args.sought.address in
-    let groups = c.args.storage.now.held.groups in
-    let is = judged g c.before.before.before.before.before.before.before.before.before.before.before.before ∙ ap (λ p. unless_passed p groups (with_group groups address (after_sending c.args.self.now (asked_as c.ask.new.self c.ask.new.schedule))) (sent_at_once c.args.self.now address (asked_as c.ask.new.self c.ask.new.schedule))) c.in_default-refusal.is in
-    ap (λ (o : Outcome). o.verdict) (sym is)
+pub returns-clause-rooms : goal.returns-clause-rooms
+returns-clause-rooms g c =
+    let work : Workspace _ = record c.refusal.new.self.work { group = c.round.new.group; meter = c.round.new.m } in
+    let room = c.round.ensures.room in
+    let sent : KeepsRoom c.refusal.new.self.work work = record { group = omega arith; named = refl; asked = omega arith } in
+    let done : KeepsRooms c.refusal.new.self (record c.refusal.new.self { work = work }) = record { groups = refl; sources = refl; work = sent } in
+    rooms_on (rooms_on (rooms_so g c.before.before.before.before.before.before.before.before.before.before.before.before) done) c.keep.ensures.rooms
 
-pub returns-clause-groups : goal.returns-clause-groups
-returns-clause-groups g c =
-    let number = g.F.Address.Key.number in
-    let address = number c.args.sought.address in
-    let groups = c.args.storage.now.held.groups in
-    let at = c.args.self.now in
-    let in_force = c.in_force-at.ensures.in_force in
+pub returns-clause-outcome : goal.returns-clause-outcome
+returns-clause-outcome g c =
+    let address = g.F.Address.Key.number c.args.sought.address in
     let kept = c.refusal.ensures.left in
-    let left : ScheduledGroup = record { group = c.round.new.group.state; schedule = c.round.new.self } in
-    let left_is : left ≡ after_sending at (asked_as c.ask.new.self c.ask.new.schedule) = c.round.ensures.after ∙ (λ i. after_round (in_force i).timing (in_force i).moment (asked_as (kept i).work c.ask.new.schedule)) in
-    let is = judged g c.before.before.before.before.before.before.before.before.before.before.before.before ∙ ap (λ p. unless_passed p groups (with_group groups address (after_sending c.args.self.now (asked_as c.ask.new.self c.ask.new.schedule))) (sent_at_once c.args.self.now address (asked_as c.ask.new.self c.ask.new.schedule))) c.in_default-refusal.is in
-    c.keep.ensures.groups ∙ (λ i. with_group ((kept i).held.groups) address (left_is i)) ∙ ap (λ (o : Outcome). o.groups) (sym is)
-
-pub returns-clause-sent : goal.returns-clause-sent
-returns-clause-sent g c =
-    let number = g.F.Address.Key.number in
-    let address = number c.args.sought.address in
-    let groups = c.args.storage.now.held.groups in
-    let is = judged g c.before.before.before.before.before.before.before.before.before.before.before.before ∙ ap (λ p. unless_passed p groups (with_group groups address (after_sending c.args.self.now (asked_as c.ask.new.self c.ask.new.schedule))) (sent_at_once c.args.self.now address (asked_as c.ask.new.self c.ask.new.schedule))) c.in_default-refusal.is in
     let in_force = c.in_force-at.ensures.in_force in
     let per = c.PER_QUERY.ensures ∙ g.met.F.Family.per_query ∙ ap per_query (sym c.lemma_is_sound.ensures.family) in
-    let queries_are = (λ i. messages_due (per i) (in_force i).timing (in_force i).moment address (asked_as (c.refusal.ensures.left i).work c.ask.new.schedule)) ∙ ap (λ (o : Outcome). o.queries) (sym is) in
-    subst (λ queries. Sends g.S.Sink.takes c.args.sink.now queries c.round.new.sink) queries_are c.round.ensures.sent
+    rw (judged g c.before.before.before.before.before.before.before.before.before.before.before.before, c.in_default-refusal.is) (record {
+      verdict_is = refl;
+      groups_are = c.keep.ensures.groups ∙ (λ i. with_group (kept i).held.groups address (left_is g c.before.before i));
+      sent = subst (λ queries. Sends g.S.Sink.takes c.args.sink.now queries c.round.new.sink) (λ i. messages_due (per i) (in_force i).timing (in_force i).moment address (asked_as (kept i).work c.ask.new.schedule)) c.round.ensures.sent;
+    })
 
 pub returns-clause-spent : goal.returns-clause-spent
 returns-clause-spent g c =
     let number = g.F.Address.Key.number in
-    let address = number c.args.sought.address in
-    let groups = c.args.storage.now.held.groups in
     let at = c.args.self.now in
-    let in_force = c.in_force-at.ensures.in_force in
-    let kept = c.refusal.ensures.left in
-    let left : ScheduledGroup = record { group = c.round.new.group.state; schedule = c.round.new.self } in
-    let left_is : left ≡ after_sending at (asked_as c.ask.new.self c.ask.new.schedule) = c.round.ensures.after ∙ (λ i. after_round (in_force i).timing (in_force i).moment (asked_as (kept i).work c.ask.new.schedule)) in
     let few = few_so g c.before.before.before.before.before.before.before.before.before.before.before.before.before.before.before.before.before.before.before.before in
     let a = few.changed in
     let b = few.asked in
     let size_before = ap (λ (e : ScheduledGroup). size_of e.group) c.look-stored.ensures.group in
     let sizes = size_of (group_stored number c.look-stored.result) + length c.args.storage.now.work.named.members in
-    let size = ap (λ (s : Storage _). size_of s.work.group.state) kept in
-    let work = least_work at address (statement_of c.args.said (named_in number c.args.storage.now.work.named.members)) groups in
+    let size = ap (λ (s : Storage _). size_of s.work.group.state) c.refusal.ensures.left in
+    let work = least_work at (number c.args.sought.address) (statement_of c.args.said (named_in number c.args.storage.now.work.named.members)) c.args.storage.now.held.groups in
     let round = Spends-join_within work (5 * sizes + 8) (spent_judging g c.before.before.before.before.before.before.before.before.before.before.before.before) c.round.ensures.spent (omega arith) (omega (arith, a, b, size)) in
-    let size_left = ap (λ (e : ScheduledGroup). size_of e.group) left_is ∙ round_keeps_size at.election.timing at.now (asked_as c.ask.new.self c.ask.new.schedule) in
-    let digits = ap (λ (s : Storage _). bitlen (map.len s.held.groups)) kept in
+    let size_left = ap (λ (e : ScheduledGroup). size_of e.group) (left_is g c.before.before) ∙ round_keeps_size at.election.timing at.now (asked_as c.ask.new.self c.ask.new.schedule) in
+    let digits = ap (λ (s : Storage _). bitlen (map.len s.held.groups)) c.refusal.ensures.left in
     Spends-join_within work _ round c.keep.ensures.spent (omega arith) (omega (arith, a, b, size_before, size_left, digits))

@@ -11,20 +11,20 @@ use Rattle.mq_sched.proofs.deadline_tree.DeadlineTree.due.Goals as goal
 use Rattle.mq_sched.proofs.deadline_tree.DeadlineTree.due.Goals.{then-len-eq0-via-then-len-eq0, then-len-eq0-via-else-len-eq0+then-not-reached}
 
 pub collect-requires-clause-space : goal.collect-requires-clause-space
-collect-requires-clause-space c =
+collect-requires-clause-space g c =
     let count = ap (λ (s : TreeState). s.count) c.self.view_is in
     let some : 0 < length c.self.inside.lefts.items = omega (arith, c.if-len-eq0.false, c.len.ensures, c.self.inside.lefts.ok.0) in
     rw c.deref-2.ensures.value (omega (arith, ones-top (length c.self.inside.lefts.items) some, count, c.requires.space))
 
 pub returns-clause-within : goal.returns-clause-within
-returns-clause-within c =
+returns-clause-within g c =
     let count = ap (λ (s : TreeState). s.count) c.self.view_is in
     let some : 0 < length c.self.inside.lefts.items = omega (arith, c.if-len-eq0.false, c.len.ensures, c.self.inside.lefts.ok.0) in
     let within = rw c.deref-2.ensures.value at c.collect.ensures.within in
     omega (arith, ones-top (length c.self.inside.lefts.items) some, count, within)
 
 pub returns-clause-due : goal.returns-clause-due
-returns-clause-due c leaf =
+returns-clause-due g c leaf =
     let nodes = ap (λ (s : TreeState). s.nodes) c.self.view_is in
     let count = ap (λ (s : TreeState). s.count) c.self.view_is in
     let some : 0 < length c.self.inside.lefts.items = omega (arith, c.if-len-eq0.false, c.len.ensures, c.self.inside.lefts.ok.0) in
@@ -32,7 +32,7 @@ returns-clause-due c leaf =
     rw (← nodes, ← count) (omega (arith, due, one-top c.self.inside.nodes.items c.args.now leaf (length c.self.inside.lefts.items) some))
 
 pub returns-then-len-eq0-clause-due : goal.returns-then-len-eq0-clause-due
-returns-then-len-eq0-clause-due c leaf =
+returns-then-len-eq0-clause-due g c leaf =
     let nodes = ap (λ (s : TreeState). s.nodes) c.self.view_is in
     let count = ap (λ (s : TreeState). s.count) c.self.view_is in
     let n = length c.self.inside.lefts.items in
@@ -50,7 +50,7 @@ returns-then-len-eq0-clause-due c leaf =
     ])
 
 pub returns-clause-spent : goal.returns-clause-spent
-returns-clause-spent c =
+returns-clause-spent g c =
     let count = ap (λ (s : TreeState). s.count) c.self.view_is in
     let n = length c.self.inside.lefts.items in
     let some : 0 < n = omega (arith, c.if-len-eq0.false, c.len.ensures, c.self.inside.lefts.ok.0) in
@@ -59,3 +59,8 @@ returns-clause-spent c =
     let all : c.collect.result - 0 ≡ c.collect.result = omega arith in
     let spent = rw (c.deref-2.ensures.value, ones-top n some, height, all) at c.collect.ensures.spent in
     rw (← count) (Spends-join_within _ _ c.reached.ensures.spent spent (omega arith) (omega arith))
+
+pub collect-requires-clause-counted : goal.collect-requires-clause-counted
+collect-requires-clause-counted g c =
+    let some : 0 < length c.self.inside.lefts.items = omega (arith, c.if-len-eq0.false, c.len.ensures, c.self.inside.lefts.ok.0) in
+    rw c.deref-2.ensures.value (omega (arith, ones-top (length c.self.inside.lefts.items) some, c.self.invariant.1, c.self.invariant.2))

@@ -1,6 +1,6 @@
 use Rattle.std.proofs.Common.{◌<◌, ◌≤◌, ◌≡◌, ◌-◌, ◌*◌, ◌/◌, ◌⊎◌, inl, inr, arith, ap, length, set, ◌∙◌}
 use Rattle.std.proofs.lemmas.List.{get_or_read, take_at, length-set, get_or-take}
-use Rattle.mq_count.proofs.Spent.{Spends-within}
+use Rattle.mq_count.proofs.Spent.{Spends-within, Spends-join_within}
 use Rattle.mq_sets.proofs.Bitlen.{bitlen-mono}
 use Rattle.mq_sched.specs.DeadlineTree.{TreeState}
 use Rattle.mq_sched.proofs.Shrinking.{shrunk, pair_below, went_to}
@@ -37,6 +37,15 @@ returns-clause-spent c =
       | else-leaf-last w ↦ omega (arith, w.changed-is, c.len-last.ensures, c.self.inside.lefts.ok.0, count)
     ] in
     Spends-within _ _ c.settle.ensures.spent (omega arith) (bitlen-mono _ _ half)
+
+pub returns-clause-moves : goal.returns-clause-moves
+returns-clause-moves c =
+    let count = ap (λ (s : TreeState). s.count) c.self.view_is in
+    let half : c.if-leaf-last.changed / 2 ≤ c.args.self.now.count - 1 = elim c.if-leaf-last.branch [
+      | then-leaf-last w ↦ omega (arith, w.if-leaf-last.true, w.changed-is, c.len-last.ensures, c.self.inside.lefts.ok.0, count)
+      | else-leaf-last w ↦ omega (arith, w.changed-is, c.len-last.ensures, c.self.inside.lefts.ok.0, count)
+    ] in
+    Spends-join_within _ _ c.settle.ensures.moves c.count.ensures (omega arith) (omega (arith, bitlen-mono _ _ half))
 
 pub returns-clause-leaves : goal.returns-clause-leaves
 returns-clause-leaves c other from below =
