@@ -225,7 +225,8 @@ impl Pages {
     fn take_out(&mut self, spot: Spot, moves: &mut Moves)
         requires taken { IsTaken self.old.pages spot }
         ensures pages { self.new ≡ record self.old {
-            pages = slice_set self.old.pages spot.page (remove (slice_index_or self.old.pages spot.page []) spot.place) } }
+          pages = slice_set self.old.pages spot.page (remove (slice_index_or self.old.pages spot.page []) spot.place);
+        } }
         ensures moved { let moved = length (slice_index_or self.old.pages spot.page []) - spot.place in
             Spends moved moved moves.old moves.new }
     {
@@ -258,7 +259,9 @@ impl Pages {
     {
         let mut behind = self.used.remove(page + 1);
         moves.count(behind.len() + (self.used.len() - page));
-        self.used[page].extend_from_slice(behind.as_slice()).unwrap();
+        self.used[page]
+            .extend_from_slice(behind.as_slice())
+            .unwrap();
         behind.clear();
         self.spare.push(behind).unwrap();
     }
