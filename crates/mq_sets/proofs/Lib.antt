@@ -16,6 +16,7 @@ pub mod PackedRows
 pub mod PageSizes
 pub mod PagedNumbers
 pub mod PagesJoined
+pub mod PagesMoved
 pub mod Placing
 pub mod RowEdits
 pub mod Rules

@@ -5,7 +5,7 @@ ghost use Rattle.std.specs.List.{All, insert, remove};
 ghost use Rattle.mq_count.specs.Spending.{Spends};
 ghost use Rattle.mq_sets.specs.Ascending.{IsAscending};
 ghost use Rattle.mq_sets.specs.Search.{bitlen, IsPlaceFor};
-ghost use Rattle.mq_sets.specs.NumberedKeys.{PagesState, AreFilled, IsTaken, above_least, first_key, joined, key_at, number_at, numbers_in, rank_of, moved_behind, moved_by_split, moved_by_insert};
+ghost use Rattle.mq_sets.specs.NumberedKeys.{PagesState, AreFilled, IsTaken, above_least, first_key, joined, key_at, number_at, numbers_in, rank_of, moved_behind, moved_by_split, moved_by_insert, moved_by_remove};
 
 use crate::firsts::search;
 use crate::inserting::insert_at_once;
@@ -212,6 +212,8 @@ impl Pages {
         ensures filled { AreFilled (map length self.new.pages) }
         ensures limit { self.new.limit ≡ self.old.limit }
         ensures moved { Spends 1 (1022 + length self.old.pages) moves.old moves.new }
+        ensures exact { let moved = moved_by_remove (map length self.old.pages) spot in
+            Spends moved moved moves.old moves.new }
     {
         self.take_out(spot, moves);
         if self.must_join(spot.page) {

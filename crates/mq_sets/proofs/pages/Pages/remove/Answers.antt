@@ -1,7 +1,9 @@
 use Rattle.std.proofs.Common.{ℕ, ◌≡◌, ◌<◌, ◌≤◌, ◌+◌, ◌-◌, min, List, [], sym, ap, ◌∙◌, subst, arith, length, length-set, map, set, get_or, not}
 use Rattle.std.specs.List.{remove}
+use Rattle.std.proofs.lemmas.List.{length-map}
 use Rattle.mq_count.proofs.Spent.{Spends-join_within, Spends-within}
-use Rattle.mq_sets.specs.NumberedKeys.{PagesState, AreFilled, numbers_in, joined}
+use Rattle.mq_sets.specs.NumberedKeys.{PagesState, AreFilled, above_least, numbers_in, joined}
+use Rattle.mq_sets.proofs.PagesMoved.{joins-behind, joins-before, joins-none, moved-join, moved-remove}
 use Rattle.mq_sets.proofs.PagesJoined.{numbers-joined, numbers-remove, filled-joined, filled-joined_before, filled-left_of, least-is, page-within, left-within}
 use Rattle.mq_sets.proofs.pages.Pages.remove.Goals as goal
 use Rattle.mq_sets.proofs.pages.Pages.remove.Goals.{else-spot-gt0-via-then-spot-gt0+else-must_join-2, else-spot-gt0-via-else-spot-gt0}
@@ -92,6 +94,49 @@ pub returns-else-spot-gt0-clause-moved : goal.returns-else-spot-gt0-clause-moved
 returns-else-spot-gt0-clause-moved c =
     let first = page-within c.args.self.now.pages c.args.spot.page c.requires.filled in
     Spends-within _ _ c.take_out.ensures.moved (omega (arith, c.requires.taken.1)) (omega (arith, first))
+
+pub returns-then-must_join-clause-exact : goal.returns-then-must_join-clause-exact
+returns-then-must_join-clause-exact c =
+    let P = c.args.self.now.pages in
+    let T = c.take_out.new.self.pages in
+    let i = c.args.spot.page in
+    let e = ap (λ (s : PagesState). s.pages) c.take_out.ensures.pages in
+    let yes = c.must_join.ensures.yes c.if-must_join.true in
+    let same = length-map T length in
+    let joins = joins-behind (map length T) i (omega (arith, yes.0, same)) yes.1 ∙ moved-join T i yes.0 in
+    let all = moved-remove P T c.args.spot c.requires.taken.0 c.requires.taken.1 e in
+    Spends-join_within _ _ c.take_out.ensures.moved c.join.ensures.moved (omega (arith, all, joins)) (omega (arith, all, joins))
+
+pub returns-then-must_join-2-clause-exact : goal.returns-then-must_join-2-clause-exact
+returns-then-must_join-2-clause-exact c =
+    let P = c.args.self.now.pages in
+    let T = c.take_out.new.self.pages in
+    let i = c.args.spot.page in
+    let e = ap (λ (s : PagesState). s.pages) c.take_out.ensures.pages in
+    let yes = c.must_join-then-spot-gt0.ensures.yes c.if-must_join-2.true in
+    let same = length-map T length in
+    let enough : i + 1 < length (map length T) → 1 ≤ above_least (map length T) i = λ more. c.must_join.ensures.no (ap not c.if-must_join.false) (omega (arith, more, same)) in
+    let joins = joins-before (map length T) i enough (omega (arith, yes.0, same)) yes.1 ∙ moved-join T (i - 1) yes.0 in
+    let all = moved-remove P T c.args.spot c.requires.taken.0 c.requires.taken.1 e in
+    Spends-join_within _ _ c.take_out.ensures.moved c.join-then-must_join-2.ensures.moved (omega (arith, all, joins)) (omega (arith, all, joins))
+
+pub returns-else-spot-gt0-clause-exact : goal.returns-else-spot-gt0-clause-exact
+returns-else-spot-gt0-clause-exact c =
+    let P = c.args.self.now.pages in
+    let T = c.take_out.new.self.pages in
+    let i = c.args.spot.page in
+    let e = ap (λ (s : PagesState). s.pages) c.take_out.ensures.pages in
+    let same = length-map T length in
+    let enough : i + 1 < length (map length T) → 1 ≤ above_least (map length T) i = λ more. c.must_join.ensures.no (ap not c.if-must_join.false) (omega (arith, more, same)) in
+    let before : i - 1 + 1 < length (map length T) → 1 ≤ above_least (map length T) (i - 1) =
+    λ more.
+    elim c.else-spot-gt0.branch [
+      | else-spot-gt0-via-then-spot-gt0+else-must_join-2 w ↦ w.must_join-then-spot-gt0.ensures.no (ap not w.if-must_join-2.false) (omega (arith, more, same))
+      | else-spot-gt0-via-else-spot-gt0 w ↦ (let none : i ≡ i - 1 = omega (arith, w.if-spot-gt0.false) in subst (λ k. 1 ≤ above_least (map length T) k) none (enough (omega (arith, more, w.if-spot-gt0.false))))
+    ] in
+    let joins = joins-none (map length T) i enough before in
+    let all = moved-remove P T c.args.spot c.requires.taken.0 c.requires.taken.1 e in
+    Spends-within _ _ c.take_out.ensures.moved (omega (arith, all, joins)) (omega (arith, all, joins))
 
 pub returns-else-spot-gt0-clause-filled : goal.returns-else-spot-gt0-clause-filled
 returns-else-spot-gt0-clause-filled c =
