@@ -11,9 +11,12 @@ pub mod Merges
 pub mod Narrowing
 pub mod NumberedItems
 pub mod NumbersGiven
+pub mod NumbersTaken
 pub mod PackedRows
 pub mod PageSizes
 pub mod PagedNumbers
+pub mod PagesJoined
+pub mod PagesMoved
 pub mod Placing
 pub mod RowEdits
 pub mod Rules

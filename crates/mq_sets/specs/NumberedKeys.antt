@@ -1,6 +1,6 @@
 -- An ordered set of keys each of which has a number for its life, and how it stands in pages of numbers.
-use Rattle.std.specs.Prelude.{ℕ, ◌+◌, ◌-◌, ◌≡◌, ◌<◌, ◌≤◌, min, nat_lt, nat_le, if◌then◌else◌, List, [], ◌∷◌, length, map, take, sum, slice_index, slice_index_or}
-use Rattle.std.specs.List.{All, flat_map}
+use Rattle.std.specs.Prelude.{ℕ, ◌+◌, ◌-◌, ◌≡◌, ◌<◌, ◌≤◌, min, nat_lt, nat_le, if◌then◌else◌, Bool, List, [], ◌∷◌, ◌++◌, length, map, take, sum, slice_index, slice_index_or, slice_set}
+use Rattle.std.specs.List.{All, HoldsAt, flat_map, remove}
 use Rattle.std.specs.Option.{option_map_or}
 use Rattle.mq_sets.specs.Ascending.{item_with}
 use Rattle.mq_sets.specs.Search.{IsPlaceFor}
@@ -88,3 +88,40 @@ moved_by_insert pages spot =
     if nat_lt (slice_index pages spot.page) 511
     then moved_behind (slice_index pages spot.page) spot.place
     else moved_by_split (length pages) spot
+
+-- 0 where a page and the one behind it have to become one: one is empty, or both together have too few numbers
+abbrev pub above_least : List ℕ → ℕ → ℕ
+above_least pages i =
+    min (min (slice_index pages i) (slice_index pages (i + 1))) (slice_index pages i + slice_index pages (i + 1) - 255)
+
+-- whether a page and the one behind it have to become one
+abbrev pub have_to_join : List ℕ → ℕ → Bool
+have_to_join pages i = nat_lt (above_least pages i) (min 1 (length pages - 1 - i))
+
+-- how many items are moved where they do: the numbers of the second, and the pages behind it
+abbrev pub moved_by_join : List ℕ → ℕ → ℕ
+moved_by_join pages i = slice_index pages (i + 1) + (length pages - 1 - i)
+
+-- how many are moved once page i has become smaller: it joins the one behind it, or else the one before, or neither
+abbrev pub moved_by_joins : List ℕ → ℕ → ℕ
+moved_by_joins pages i =
+    if have_to_join pages i then moved_by_join pages i
+    else (if have_to_join pages (i - 1) then moved_by_join pages (i - 1) else 0)
+
+-- how many items are moved where the one at a spot is taken out: itself, those behind it in its page, and those of joins
+abbrev pub moved_by_remove : List ℕ → Spot → ℕ
+moved_by_remove pages spot =
+    slice_index pages spot.page - spot.place
+    + moved_by_joins (slice_set pages spot.page (slice_index pages spot.page - 1)) spot.page
+
+-- the pages where one and the one behind it become one
+abbrev pub joined : List (List ℕ) → ℕ → List (List ℕ)
+joined pages i =
+    slice_set (remove pages (i + 1)) i (slice_index_or pages i [] ++ slice_index_or pages (i + 1) [])
+
+-- without the item of a number
+pub record IsWithout (old new : List NumberedKey) (number : ℕ) : Type 0 where
+  pub rank : ℕ
+  pub there : rank < length old
+  pub is : HoldsAt (λ (x : NumberedKey). x.number ≡ number) old rank
+  pub rest : new ≡ remove old rank
