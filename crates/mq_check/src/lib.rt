@@ -12,20 +12,26 @@
 
 mod asked;
 mod check_fault;
+mod checked_capture;
 mod checked_family;
+mod checking;
 mod entry;
 pub mod examples;
 mod finding;
 mod finding_lines;
 mod general;
+mod judging;
 mod phase;
 mod seen_queries;
 mod terms;
 mod told;
 mod totals;
+mod waiting;
+mod wanted_queries;
 
 pub use asked::Asked;
 pub use check_fault::CheckFault;
+pub use checked_capture::{CheckTerms, check};
 pub use checked_family::CheckedFamily;
 pub use entry::Entry;
 pub use finding::{Difference, Finding};

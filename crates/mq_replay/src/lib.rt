@@ -35,6 +35,7 @@ mod ticks;
 
 pub use buffer::{flush, make_room};
 pub use captured_family::{CapturedDatagram, CapturedFamily};
+pub use ending::is_gap;
 pub use line_key::LineKey;
 pub use lines::{igmp_line, mld_line};
 pub use listing::show;
@@ -42,3 +43,4 @@ pub use output::Output;
 pub use printing::{LineFault, print};
 pub use replay_fault::ReplayFault;
 pub use replaying::replay;
+pub use stamps::{Stamps, first_moment};
