@@ -1,6 +1,6 @@
 -- An ordered set of keys each of which has a number for its life, and how it stands in pages of numbers.
-use Rattle.std.specs.Prelude.{ℕ, ◌+◌, ◌-◌, ◌≡◌, ◌<◌, ◌≤◌, min, nat_lt, nat_le, if◌then◌else◌, List, [], ◌∷◌, length, map, take, sum, slice_index, slice_index_or}
-use Rattle.std.specs.List.{All, flat_map}
+use Rattle.std.specs.Prelude.{ℕ, ◌+◌, ◌-◌, ◌*◌, ◌==◌, Bool, ◌≡◌, ◌<◌, ◌≤◌, min, nat_lt, nat_le, if◌then◌else◌, List, [], ◌∷◌, length, map, take, sum, slice_index, slice_index_or}
+use Rattle.std.specs.List.{All, flat_map, list_any}
 use Rattle.std.specs.Option.{option_map_or}
 use Rattle.mq_sets.specs.Ascending.{item_with}
 use Rattle.mq_sets.specs.Search.{IsPlaceFor}
@@ -88,3 +88,12 @@ moved_by_insert pages spot =
     if nat_lt (slice_index pages spot.page) 511
     then moved_behind (slice_index pages spot.page) spot.place
     else moved_by_split (length pages) spot
+
+-- whether a number is one of some
+abbrev pub is_among : List ℕ → ℕ → Bool
+is_among numbers n = list_any (λ k. k == n) numbers
+
+-- how many items are moved at most where so many are taken out of pages of these lengths: each page is looked at; and for each
+-- item no more than two pages have, but no more than twice what all have
+abbrev pub moved_by_removal : (count : ℕ) → List ℕ → ℕ
+moved_by_removal count pages = length pages + min (2 * sum pages) (1022 * count)

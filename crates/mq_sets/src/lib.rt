@@ -28,6 +28,7 @@
 //!   `moves_are_paid`.
 #![tactic(auto)]
 
+mod closing;
 mod extents;
 mod firsts;
 pub mod inserting;
@@ -35,6 +36,7 @@ pub mod items;
 pub mod memory;
 pub mod merge_state;
 pub mod merging;
+mod number_sorting;
 pub mod numbered_keys;
 pub mod numbered_rows;
 mod packing;

@@ -1,12 +1,13 @@
 //! Numbers in pages: a list of lists, each of which has a room that never changes.
 
-ghost use Rattle.std.specs.Prelude.{◌≡◌, ◌+◌, ◌-◌, ◌*◌, ◌<◌, ◌≤◌, [], ◌∷◌, ◌++◌, length, map, take, drop, min, sum, slice_index, slice_index_or, slice_set, vec_capacity, IfOk, IfErr};
+ghost use Rattle.std.specs.Prelude.{◌≡◌, ◌+◌, ◌-◌, ◌*◌, ◌<◌, ◌≤◌, [], ◌∷◌, ◌++◌, length, map, take, drop, min, sum, slice_index, slice_index_or, slice_set, vec_capacity, not, filter, IfOk, IfErr, IsTrue};
 ghost use Rattle.std.specs.List.{All, insert};
 ghost use Rattle.mq_count.specs.Spending.{Spends};
 ghost use Rattle.mq_sets.specs.Ascending.{IsAscending};
 ghost use Rattle.mq_sets.specs.Search.{bitlen, IsPlaceFor};
-ghost use Rattle.mq_sets.specs.NumberedKeys.{PagesState, AreFilled, IsTaken, first_key, key_at, number_at, numbers_in, rank_of, moved_behind, moved_by_split, moved_by_insert};
+ghost use Rattle.mq_sets.specs.NumberedKeys.{PagesState, AreFilled, IsTaken, is_among, moved_by_removal, first_key, key_at, number_at, numbers_in, rank_of, moved_behind, moved_by_split, moved_by_insert};
 
+use crate::closing::{close_up, take_out};
 use crate::firsts::search;
 use crate::inserting::insert_at_once;
 use crate::memory::Memory;
@@ -17,8 +18,6 @@ use std::marker::Model;
 
 /// For how many numbers a page has room.
 pub(crate) const PAGE_ROOM: usize = 511;
-/// How many numbers two neighbouring pages have at least.
-pub(crate) const TWO_PAGES: usize = 256;
 /// How many numbers stay in a full page that is split.
 const FIRST_HALF: usize = 255;
 
@@ -123,6 +122,57 @@ impl Pages {
         ensures { result ≡ number_at self.now.pages spot }
     {
         self.page(spot.page)[spot.place]
+    }
+
+    /// The page that has a number, of those from `from` on, which are not empty. At most one comparison for each binary digit
+    /// of how many pages there are.
+    fn page_from<K: Key>(&self, from: usize, keys: &[K], number: u16, m: &mut Meter) -> usize
+        requires within { All (λ n. n < length keys.now) (numbers_in self.now.pages) }
+        requires ascending { IsAscending (key_at K.number keys.now) (numbers_in self.now.pages) }
+        requires some { All (λ page. 1 ≤ length page) (drop from self.now.pages) }
+        requires there { IsTrue (is_among (numbers_in (drop from self.now.pages)) number) }
+        ensures from { (from ≤ result) × (result < length self.now.pages) }
+        ensures there { IsTrue (is_among (slice_index_or self.now.pages result []) number) }
+        ensures spent { Spends 1 (bitlen (length self.now.pages)) m.old m.new }
+    {
+        match search(keys, &self.used[from..], keys[number as usize], m) {
+            Ok(behind) => from + behind,
+            Err(behind) => from + behind - 1,
+        }
+    }
+
+    /// Takes numbers out, which are given by ascending key. For each page that has one of them, at most one comparison for each
+    /// binary digit of how many pages there are.
+    pub(crate) fn remove_all<K: Key>(
+        &mut self,
+        keys: &[K],
+        numbers: &[u16],
+        m: &mut Meter,
+        moves: &mut Moves,
+    )
+        requires filled { AreFilled (map length self.old.pages) }
+        requires ascending { IsAscending (key_at K.number keys.now) (numbers_in self.old.pages) }
+        requires within { All (λ n. n < length keys.now) (numbers_in self.old.pages) }
+        requires in_order { IsAscending (key_at K.number keys.now) numbers.now }
+        requires there { All (λ n. IsTrue (is_among (numbers_in self.old.pages) n)) numbers.now }
+        ensures numbers { numbers_in self.new.pages ≡ filter (λ n. not (is_among numbers.now n)) (numbers_in self.old.pages) }
+        ensures filled { AreFilled (map length self.new.pages) }
+        ensures limit { self.new.limit ≡ self.old.limit }
+        ensures spent { let count = length numbers.now in
+            let pages = length self.old.pages in
+            Spends (min 1 count) (min count pages * bitlen pages) m.old m.new }
+        ensures moved { let count = length numbers.now in
+            Spends count (moved_by_removal count (map length self.old.pages)) moves.old moves.new }
+    {
+        let (mut done, mut from) = (0, 0);
+        while done < numbers.len() {
+            let page = self.page_from(from, keys, numbers[done], m);
+            done += take_out(&mut self.used[page], &numbers[done..], moves);
+            from = page + 1;
+        }
+        if done > 0 {
+            close_up(&mut self.used, &mut self.spare, moves);
+        }
     }
 
     /// Puts a number at a place of a page that isn't full.
