@@ -11,8 +11,8 @@ ghost use Rattle.mq_sched.specs.Schedule.{ScheduledGroup};
 ghost use Rattle.mq_sets.specs.NumberedKeys.{IsSpotFor};
 ghost use Rattle.mq_held.specs.Groups.{group_at, kept_as, sources_of, sources_in, with_group};
 ghost use Rattle.mq_held.specs.Held.{HasNumber, IsNumber, empty_state};
-ghost use Rattle.mq_link.specs.Moved.{HasSpace, MovesWithin, moved_by_edit};
-ghost use Rattle.mq_link.specs.Storage.{HasRoom, group_stored, IsSought, KeepsRooms};
+ghost use Rattle.mq_link.specs.Moved.{MovesWithin, moved_by_edit};
+ghost use Rattle.mq_link.specs.Storage.{HasRoom, HasSpace, group_stored, IsSought, KeepsRooms};
 
 use crate::configuration::Limits;
 use mq_count::{Key, Meter, Moves};

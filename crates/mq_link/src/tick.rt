@@ -17,10 +17,10 @@ ghost use Rattle.mq_wire.specs.Family.{Family};
 ghost use Rattle.mq_link.specs.Family as definitions;
 ghost use Rattle.mq_link.specs.LeastCost.{least_ticked};
 ghost use Rattle.mq_link.specs.Link.{HasTicked};
-ghost use Rattle.mq_link.specs.Moved.{HasMoved, HasSpace, MovesWithin, most_moved_by_tick};
+ghost use Rattle.mq_link.specs.Moved.{HasMoved, MovesWithin, most_moved_by_tick};
 ghost use Rattle.mq_link.specs.Router.{HasStep, link_of, state_of};
 ghost use Rattle.mq_link.specs.Sender.{TakesQuery, begun};
-ghost use Rattle.mq_link.specs.Storage.{IsReady, KeepsRoom, KeepsRooms};
+ghost use Rattle.mq_link.specs.Storage.{HasSpace, IsReady, KeepsRoom, KeepsRooms};
 ghost use Rattle.mq_link.specs.Tick.{group_expired, groups_expired, queries_due, groups_after_round, moment_of, next_of, tick_of};
 
 use crate::family::Family;

@@ -82,7 +82,7 @@ module _ (nodes leaves numbers : List ℕ) (count : ℕ) (known : AreNumbered le
   dense-at : (leaf : ℕ) → count ≤ leaf → get_or (drop count numbers) (leaf - count) 0 ≡ get_or numbers leaf 0
   dense-at leaf from = get_or-drop count numbers (leaf - count) 0 ∙ ap (λ l. get_or numbers l 0) (omega (arith, from))
 
-  dense-leaf : (k d : ℕ) → k < length (drop count numbers) → IsLeafOf numbers count (count + k) (get_or (drop count numbers) k d)
+  pub dense-leaf : (k d : ℕ) → k < length (drop count numbers) → IsLeafOf numbers count (count + k) (get_or (drop count numbers) k d)
   dense-leaf k d here = record {
     from = omega arith;
     below = omega (arith, here, known.size, length-drop count numbers);

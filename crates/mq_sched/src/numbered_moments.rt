@@ -2,6 +2,7 @@
 
 ghost use Rattle.std.specs.Prelude.{◌≡◌, ℕ, ◌+◌, ◌-◌, ◌*◌, ◌^◌, ◌<◌, ◌≤◌, min, length, take, drop, true, false, if◌then◌else◌, IfOk, MatchOption};
 ghost use Rattle.std.specs.FinMap as map;
+ghost use Rattle.std.specs.List.{All};
 ghost use Rattle.mq_count.specs.Spending.{Spends};
 ghost use Rattle.mq_sets.specs.Search.{bitlen};
 ghost use Rattle.mq_sets.specs.Slots.{times};
@@ -67,14 +68,16 @@ impl NumberedMoments {
 
     /// How many numbers are there.
     pub fn len(&self) -> usize
-        ensures { result ≡ map.len self.now.moments }
+        ensures len { result ≡ map.len self.now.moments }
+        ensures within { result ≤ self.now.room }
     {
         self.numbers.len() / 2
     }
 
     /// The numbers that are there, each once, in any order.
     pub fn numbers(&self) -> &[u16]
-        ensures { (number : ℕ) → times number result.now ≡ (if map.contains_key self.now.moments number then 1 else 0) }
+        ensures each { (number : ℕ) → times number result.now ≡ (if map.contains_key self.now.moments number then 1 else 0) }
+        ensures within { All (λ number. number < self.now.room) result.now }
     {
         let first = self.numbers.len() / 2;
         &self.numbers[first..]

@@ -14,6 +14,7 @@ pub mod NumbersGiven
 pub mod PackedRows
 pub mod PageSizes
 pub mod PagedNumbers
+pub mod PagesJoined
 pub mod Placing
 pub mod RowEdits
 pub mod Rules

@@ -1,8 +1,8 @@
 -- An ordered set of keys each of which has a number for its life, and how it stands in pages of numbers.
-use Rattle.std.specs.Prelude.{ℕ, ◌+◌, ◌-◌, ◌*◌, ◌==◌, Bool, ◌≡◌, ◌<◌, ◌≤◌, min, nat_lt, nat_le, if◌then◌else◌, List, [], ◌∷◌, length, map, take, sum, slice_index, slice_index_or}
-use Rattle.std.specs.List.{All, flat_map, list_any}
+use Rattle.std.specs.Prelude.{ℕ, ◌+◌, ◌-◌, ◌*◌, ◌/◌, ◌==◌, ◌≡◌, ◌<◌, ◌≤◌, Bool, IsTrue, min, nat_lt, nat_le, if◌then◌else◌, List, [], ◌∷◌, ◌++◌, length, map, take, drop, sum, slice_index, slice_index_or, slice_set}
+use Rattle.std.specs.List.{All, HoldsAt, flat_map, list_any, remove}
 use Rattle.std.specs.Option.{option_map_or}
-use Rattle.mq_sets.specs.Ascending.{item_with}
+use Rattle.mq_sets.specs.Ascending.{IsAscending, item_with}
 use Rattle.mq_sets.specs.Search.{IsPlaceFor}
 use Rattle.mq_sets.specs.declared.spots.Spot.{Spot}
 
@@ -97,3 +97,32 @@ is_among numbers n = list_any (λ k. k == n) numbers
 -- item no more than two pages have, but no more than twice what all have
 abbrev pub moved_by_removal : (count : ℕ) → List ℕ → ℕ
 moved_by_removal count pages = length pages + min (2 * sum pages) (1022 * count)
+
+-- 0 where a page and the one behind it have to become one: one is empty, or both together have too few numbers
+abbrev pub above_least : List ℕ → ℕ → ℕ
+above_least pages i =
+    min (min (slice_index pages i) (slice_index pages (i + 1))) (slice_index pages i + slice_index pages (i + 1) - 255)
+
+-- the pages where one and the one behind it become one
+abbrev pub joined : List (List ℕ) → ℕ → List (List ℕ)
+joined pages i =
+    slice_set (remove pages (i + 1)) i (slice_index_or pages i [] ++ slice_index_or pages (i + 1) [])
+
+-- without the item of a number
+pub record IsWithout (old new : List NumberedKey) (number : ℕ) : Type 0 where
+  pub rank : ℕ
+  pub there : rank < length old
+  pub is : HoldsAt (λ (x : NumberedKey). x.number ≡ number) old rank
+  pub rest : new ≡ remove old rank
+
+-- how many runs of so many numbers each there are, and that each of them ascends by the keys of its numbers
+abbrev pub runs_in : (count width : ℕ) → ℕ
+runs_in count width = (count + width - 1) / width
+
+abbrev pub AreRuns : (ℕ → ℕ) → (width : ℕ) → List ℕ → Type 0
+AreRuns key_of width numbers = (run : ℕ) → IsAscending key_of (take width (drop (run * width) numbers))
+
+-- two numbers of one key are one
+abbrev pub AreDistinct : {K : Type 0} → (K → ℕ) → List K → List ℕ → Type 0
+AreDistinct number keys numbers =
+    (a b : ℕ) → IsTrue (is_among numbers a) → IsTrue (is_among numbers b) → key_at number keys a ≡ key_at number keys b → a ≡ b

@@ -1,19 +1,21 @@
 //! Pages from which numbers were taken out: which numbers are left, and which pages are.
 
-ghost use Rattle.std.specs.Prelude.{◌≡◌, ◌+◌, ◌*◌, ◌<◌, ◌≤◌, [], length, map, sum, vec_capacity};
+ghost use Rattle.std.specs.Prelude.{◌≡◌, ℕ, ◌+◌, ◌<◌, ◌≤◌, ◌++◌, [], length, map, filter, take, not, sum, slice_index_or, slice_set, vec_capacity};
 ghost use Rattle.std.specs.List.{All};
 ghost use Rattle.mq_count.specs.Spending.{Spends};
-ghost use Rattle.mq_sets.specs.NumberedKeys.{AreFilled, first_of_both, numbers_in, without_those};
+ghost use Rattle.mq_sets.specs.NumberedKeys.{AreFilled, is_among, numbers_in};
+ghost use Rattle.mq_sets.specs.Slots.{times};
 
+use crate::pages::TWO_PAGES;
 use mq_count::Moves;
-
-/// How many numbers two neighbouring pages have at least.
-pub(crate) const TWO_PAGES: usize = 256;
 
 /// Takes the first of `numbers` out of a page, as many as it has; they stand in both in one order. Answers how many.
 pub(crate) fn take_out(page: &mut Vec<u16>, numbers: &[u16], moves: &mut Moves) -> usize
-    ensures taken { result ≡ first_of_both page.old.items numbers.now }
-    ensures left { page.new.items ≡ without_those page.old.items numbers.now }
+    requires once { (number : ℕ) → times number page.old.items ≤ 1 }
+    requires in_order { let both = filter (is_among numbers.now) page.old.items in
+        both ≡ take (length both) numbers.now }
+    ensures taken { result ≡ length (filter (is_among numbers.now) page.old.items) }
+    ensures left { page.new.items ≡ filter (λ n. not (is_among numbers.now n)) page.old.items }
     ensures capacity { vec_capacity page.old ≤ vec_capacity page.new }
     ensures moved { Spends (length page.old.items) (length page.old.items) moves.old moves.new }
 {
@@ -34,7 +36,19 @@ pub(crate) fn take_out(page: &mut Vec<u16>, numbers: &[u16], moves: &mut Moves) 
 }
 
 /// Puts the numbers of a page behind those of the one before it.
-fn join(used: &mut [Vec<u16>], first: usize, second: usize, moves: &mut Moves) {
+fn join(used: &mut [Vec<u16>], first: usize, second: usize, moves: &mut Moves)
+    requires order { first < second }
+    requires within { second < length used.old }
+    requires room { All (λ page. 511 ≤ vec_capacity page) used.old }
+    requires fits { let pages = map (λ page. page.items) used.old in
+        length (slice_index_or pages first []) + length (slice_index_or pages second []) ≤ 511 }
+    ensures pages { let pages = map (λ page. page.items) used.old in
+        let both = slice_index_or pages first [] ++ slice_index_or pages second [] in
+        map (λ page. page.items) used.new ≡ slice_set (slice_set pages first both) second [] }
+    ensures room { All (λ page. 511 ≤ vec_capacity page) used.new }
+    ensures moved { let moved = length (slice_index_or (map (λ page. page.items) used.old) second []) in
+        Spends moved moved moves.old moves.new }
+{
     for place in 0..used[second].len() {
         let number = used[second][place];
         used[first].push(number).unwrap();

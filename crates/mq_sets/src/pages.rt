@@ -1,11 +1,11 @@
 //! Numbers in pages: a list of lists, each of which has a room that never changes.
 
-ghost use Rattle.std.specs.Prelude.{◌≡◌, ◌+◌, ◌-◌, ◌*◌, ◌<◌, ◌≤◌, [], ◌∷◌, ◌++◌, length, map, take, drop, min, sum, slice_index, slice_index_or, slice_set, vec_capacity, not, filter, IfOk, IfErr, IsTrue};
-ghost use Rattle.std.specs.List.{All, insert};
+ghost use Rattle.std.specs.Prelude.{◌≡◌, ◌+◌, ◌-◌, ◌*◌, ◌<◌, ◌≤◌, [], ◌∷◌, ◌++◌, length, map, filter, take, drop, min, sum, slice_index, slice_index_or, slice_set, vec_capacity, not, IfOk, IfErr, IsTrue};
+ghost use Rattle.std.specs.List.{All, insert, remove};
 ghost use Rattle.mq_count.specs.Spending.{Spends};
 ghost use Rattle.mq_sets.specs.Ascending.{IsAscending};
 ghost use Rattle.mq_sets.specs.Search.{bitlen, IsPlaceFor};
-ghost use Rattle.mq_sets.specs.NumberedKeys.{PagesState, AreFilled, IsTaken, is_among, moved_by_removal, first_key, key_at, number_at, numbers_in, rank_of, moved_behind, moved_by_split, moved_by_insert};
+ghost use Rattle.mq_sets.specs.NumberedKeys.{PagesState, AreFilled, IsTaken, above_least, first_key, is_among, joined, key_at, number_at, numbers_in, rank_of, moved_behind, moved_by_split, moved_by_insert, moved_by_removal};
 
 use crate::closing::{close_up, take_out};
 use crate::firsts::search;
@@ -18,6 +18,8 @@ use std::marker::Model;
 
 /// For how many numbers a page has room.
 pub(crate) const PAGE_ROOM: usize = 511;
+/// How many numbers two neighbouring pages have at least.
+pub(crate) const TWO_PAGES: usize = 256;
 /// How many numbers stay in a full page that is split.
 const FIRST_HALF: usize = 255;
 
@@ -251,6 +253,69 @@ impl Pages {
         } else {
             self.put_in(second, spot.place - FIRST_HALF, number, moves);
         }
+    }
+
+    /// Takes the number at a spot out. Two neighbours that have few numbers left become one page.
+    pub(crate) fn remove(&mut self, spot: Spot, moves: &mut Moves)
+        requires taken { IsTaken self.old.pages spot }
+        requires filled { AreFilled (map length self.old.pages) }
+        ensures numbers { numbers_in self.new.pages
+            ≡ remove (numbers_in self.old.pages) (rank_of (map length self.old.pages) spot) }
+        ensures filled { AreFilled (map length self.new.pages) }
+        ensures limit { self.new.limit ≡ self.old.limit }
+        ensures moved { Spends 1 (1022 + length self.old.pages) moves.old moves.new }
+    {
+        self.take_out(spot, moves);
+        if self.must_join(spot.page) {
+            self.join(spot.page, moves);
+        } else if spot.page > 0 && self.must_join(spot.page - 1) {
+            self.join(spot.page - 1, moves);
+        }
+    }
+
+    /// Takes the number at a spot out, and nothing else.
+    fn take_out(&mut self, spot: Spot, moves: &mut Moves)
+        requires taken { IsTaken self.old.pages spot }
+        ensures pages { self.new ≡ record self.old {
+          pages = slice_set self.old.pages spot.page (remove (slice_index_or self.old.pages spot.page []) spot.place);
+        } }
+        ensures moved { let moved = length (slice_index_or self.old.pages spot.page []) - spot.place in
+            Spends moved moved moves.old moves.new }
+    {
+        let numbers = &mut self.used[spot.page];
+        moves.count(numbers.len() - spot.place);
+        numbers.remove(spot.place);
+    }
+
+    /// Whether a page and the one behind it have to become one: one of them is empty, or both together have too few numbers.
+    fn must_join(&self, page: usize) -> bool
+        requires page { page < length self.now.pages }
+        ensures yes { IsTrue result → (page + 1 < length self.now.pages) × (above_least (map length self.now.pages) page ≡ 0) }
+        ensures no { IsTrue (not result) → page + 1 < length self.now.pages → 1 ≤ above_least (map length self.now.pages) page }
+    {
+        if self.count() - page == 1 {
+            return false;
+        }
+        let behind = page + 1;
+        let (first, second) = (self.page(page).len(), self.page(behind).len());
+        first == 0 || second == 0 || first + second < TWO_PAGES
+    }
+
+    /// Makes one page of two.
+    fn join(&mut self, page: usize, moves: &mut Moves)
+        requires behind { page + 1 < length self.old.pages }
+        requires fits { length (slice_index_or self.old.pages page []) + length (slice_index_or self.old.pages (page + 1) []) ≤ 511 }
+        ensures pages { self.new ≡ record self.old { pages = joined self.old.pages page } }
+        ensures moved { let moved = length (slice_index_or self.old.pages (page + 1) []) + (length self.old.pages - 1 - page) in
+            Spends moved moved moves.old moves.new }
+    {
+        let mut behind = self.used.remove(page + 1);
+        moves.count(behind.len() + (self.used.len() - page));
+        self.used[page]
+            .extend_from_slice(behind.as_slice())
+            .unwrap();
+        behind.clear();
+        self.spare.push(behind).unwrap();
     }
 }
 

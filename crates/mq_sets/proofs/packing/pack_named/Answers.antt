@@ -19,7 +19,6 @@ pub offset_bounds-cells-first : goal.offset_bounds-cells-first
 offset_bounds-cells-first g c =
     let k = c.loop-number.number-index in
     let numbers = c.args.numbers.now in
-    let x = get_or numbers k 0 in
     let in_list : k < length numbers = omega arith in
     let next = next_of c.args.cells.now c.loop-number.packed.items c.args.extents.now c.loop-number.extents numbers k in_list c.requires.within c.requires.named c.loop-number.invariant.packed in
     omega (arith, next.inside)
@@ -28,7 +27,6 @@ pub slice_bounds-row-end : goal.slice_bounds-row-end
 slice_bounds-row-end g c =
     let k = c.loop-number.number-index in
     let numbers = c.args.numbers.now in
-    let x = get_or numbers k 0 in
     let in_list : k < length numbers = omega arith in
     let next = next_of c.args.cells.now c.loop-number.packed.items c.args.extents.now c.loop-number.extents numbers k in_list c.requires.within c.requires.named c.loop-number.invariant.packed in
     let inside = next.inside in search rules
@@ -37,7 +35,6 @@ pub unwrap-requires : goal.unwrap-requires
 unwrap-requires g c =
     let k = c.loop-number.number-index in
     let numbers = c.args.numbers.now in
-    let x = get_or numbers k 0 in
     let in_list : k < length numbers = omega arith in
     let next = next_of c.args.cells.now c.loop-number.packed.items c.args.extents.now c.loop-number.extents numbers k in_list c.requires.within c.requires.named c.loop-number.invariant.packed in
     c.extend_from_slice.ensures.succeeds (omega (arith, next.fits, next.inside, c.loop-number.invariant.capacity, c.loop-number.packed.ok.0))
@@ -46,7 +43,6 @@ pub extent_at-requires-clause-start : goal.extent_at-requires-clause-start
 extent_at-requires-clause-start g c =
     let k = c.loop-number.number-index in
     let numbers = c.args.numbers.now in
-    let x = get_or numbers k 0 in
     let in_list : k < length numbers = omega arith in
     let next = next_of c.args.cells.now c.loop-number.packed.items c.args.extents.now c.loop-number.extents numbers k in_list c.requires.within c.requires.named c.loop-number.invariant.packed in
     omega (arith, next.fits, c.len-start.ensures, c.loop-number.packed.ok.0)
@@ -55,7 +51,6 @@ pub bounds-extents-place : goal.bounds-extents-place
 bounds-extents-place g c =
     let k = c.loop-number.number-index in
     let numbers = c.args.numbers.now in
-    let x = get_or numbers k 0 in
     let in_list : k < length numbers = omega arith in
     let next = next_of c.args.cells.now c.loop-number.packed.items c.args.extents.now c.loop-number.extents numbers k in_list c.requires.within c.requires.named c.loop-number.invariant.packed in
     omega (arith, next.in_list, c.loop-number.auto.extents)

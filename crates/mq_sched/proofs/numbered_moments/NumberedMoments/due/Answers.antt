@@ -13,9 +13,6 @@ write_numbers-requires c =
     let numbers = c.self.inside.numbers.items in
     let count = c.self.inside.tree.count in
     let known = c.self.invariant.0 in
-    let counted = c.self.invariant.1 in
-    let moments = ap (λ (s : NumberedMomentsState). s.moments) c.self.view_is in
-    let room = ap (λ (s : NumberedMomentsState). s.room) c.self.view_is in
     let half : c.len-first.result / 2 ≡ count = omega (arith, c.len-first.ensures, c.self.inside.numbers.ok.0, known.size) in
     let all : take (length numbers - count) (drop count numbers) ≡ drop count numbers = take_all (length numbers - count) (drop count numbers) (omega (arith, length-drop count numbers)) in
     rw (c.deref.ensures.value, half, all) (found_behind nodes leaves numbers count known c.args.now (take c.due-count.result c.due-count.new.leaves) c.due-count.ensures.due)
@@ -29,7 +26,6 @@ returns-clause-due c number =
     let known = c.self.invariant.0 in
     let counted = c.self.invariant.1 in
     let moments = ap (λ (s : NumberedMomentsState). s.moments) c.self.view_is in
-    let room = ap (λ (s : NumberedMomentsState). s.room) c.self.view_is in
     let half : c.len-first.result / 2 ≡ count = omega (arith, c.len-first.ensures, c.self.inside.numbers.ok.0, known.size) in
     let all : take (length numbers - count) (drop count numbers) ≡ drop count numbers = take_all (length numbers - count) (drop count numbers) (omega (arith, length-drop count numbers)) in
     let found = take c.due-count.result c.due-count.new.leaves in

@@ -12,5 +12,4 @@ returns c =
     let known = c.self.invariant.0 in
     let counted = c.self.invariant.1 in
     let moments = ap (λ (s : NumberedMomentsState). s.moments) c.self.view_is in
-    let room = ap (λ (s : NumberedMomentsState). s.room) c.self.view_is in
     rw (← moments) (earliest_of_numbers nodes leaves numbers count known c.earliest.result counted c.earliest.ensures)
