@@ -47,11 +47,13 @@ abbrev pub earliest_of : List ℕ → Option ℕ
 earliest_of [] = None
 earliest_of (m ∷ ms) = Some (least m ms)
 
--- Each row ascends, and one that no group has is empty. The moment of a number is the earliest of its group, and none where no
+-- Each row ascends; what stands at a number that no group has is INCLUDE without sources, so that a number is given to a new
+-- group as one that is. The moment of a number is the earliest of its group, and none where no
 -- group has the number or where it is INCLUDE without sources, which has none. The schedules are counted.
 pub record IsStored {K : Type 0} (number : K → ℕ) (items : List NumberedKey) (heads : List ScheduledHead) (rows : List (List (Source K))) (moments : FinMap nat_cmp ℕ) (schedules : ℕ) : Type 0 where
   pub rows_ascend : All (IsAscending (number_in number)) rows
   pub unused_are_empty : (n : ℕ) → set_of (λ x. x.number) items n ≡ false → slice_index_or rows n [] ≡ []
+  pub unused_are_vacant : (n : ℕ) → set_of (λ x. x.number) items n ≡ false → slice_index_or heads n no_head ≡ no_head
   pub moments_are : (n : ℕ) → map.get moments n ≡ (if set_of (λ x. x.number) items n then earliest_of (moments_of (group_by number heads rows n)) else None)
   pub vacant_are_unheld : (n : ℕ) → set_of (λ x. x.number) items n ≡ true → is_vacant (group_by number heads rows n).group ≡ true → group_by number heads rows n ≡ unheld
   pub others_are_held : (n : ℕ) → set_of (λ x. x.number) items n ≡ true → is_vacant (group_by number heads rows n).group ≡ false → IsWellFormed (group_by number heads rows n).group
