@@ -22,7 +22,6 @@ pub struct HeldEntries<'a, K: Key> {
 impl<'a, K: Key> Model for HeldEntries<'a, K> {
     ghost use Rattle.std.specs.Prelude.{ℕ, ◌<◌, ◌≤◌, List, length, slice_index};
     ghost use Rattle.std.specs.Coded.{coded×, coded_ℕ, coded_list};
-    ghost use Rattle.std.specs.FinMap as map;
     ghost use Rattle.mq_table.specs.contracts.timers.FilterMode as filter_mode;
     ghost use Rattle.mq_table.specs.contracts.timers.SourceTimer as source_timer;
     ghost use Rattle.mq_sched.specs.contracts.queries.QuerySchedule as query_schedule;

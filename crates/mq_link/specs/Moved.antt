@@ -30,10 +30,10 @@ HasMoved budget old new = IsPaid budget old.put_by new.put_by old.moved new.move
 abbrev pub moved_by_edit : ℕ
 moved_by_edit = 1555
 
--- What a tick moves at most: five for each source that is written again; and for each group 20 at its moment, 32 to put those that
+-- What a tick moves at most: five for each source that is written again; and for each group 21 at its moment, 32 to put those that
 -- are due in order, and four to take out those that ended.
 abbrev pub most_moved_by_tick : Groups → ℕ
-most_moved_by_tick groups = 5 * sources_in groups + 56 * map.len groups
+most_moved_by_tick groups = 5 * sources_in groups + 57 * map.len groups
 
 -- What a record moves at most: nothing, where it ends before its group is looked for, or where four others of the datagram have met
 -- its group; else five for each source of its group and for each that it names, and what an edit moves.

@@ -78,7 +78,7 @@ impl<F: Family> Router<F> {
             Spends (least_of self.old.at said groups) (24 * sources_in groups + 20 * map.len groups + 64 * least_length said) self.old.spent self.new.spent }
         ensures moved { let said = numbered_message F.Address.number message.now in
             let groups = self.old.groups in
-            HasMoved (20 * sources_in groups + 20 * map.len groups + 256 * least_length said) self.old self.new }
+            HasMoved (20 * sources_in groups + 21 * map.len groups + 256 * least_length said) self.old self.new }
     {
         self.lemma_is_stored();
         match message {
@@ -117,7 +117,7 @@ impl<F: Family> Router<F> {
             let groups = self.old.groups in
             Spends (least_after self.old.at around read groups) (24 * sources_in groups + 20 * map.len groups + 64 * length body.now) self.old.spent self.new.spent }
         ensures moved { let groups = self.old.groups in
-            HasMoved (20 * sources_in groups + 20 * map.len groups + 256 * length body.now) self.old self.new }
+            HasMoved (20 * sources_in groups + 21 * map.len groups + 256 * length body.now) self.old self.new }
     {
         let read = F::read(envelope, body);
         self.count_read(&read);

@@ -72,7 +72,7 @@ impl<F: Family> Link<F> {
     /// sections 6.5, 6.6.2 and 6.6.3, RFC 3810 sections 7.5, 7.6.2 and 7.6.3). However late it is called, each goes once.
     /// Behind it the next moment is later than `now`. At least one comparison for each group that has something to do, and two
     /// more; at most four for each source, 44 for each group and three more; before the next moment, three at most. What is
-    /// moved to keep the groups is at most six for each source and 57 for each group; before the next moment nothing.
+    /// moved to keep the groups is at most six for each source and 58 for each group; before the next moment nothing.
     pub fn tick<O: Outlet<F::Address>>(&mut self, now: Moment, outlet: &mut O)
         requires in_range { now ≤ 2 ^ 53 }
         ensures config { self.new.config ≡ self.old.config }
@@ -84,7 +84,8 @@ impl<F: Family> Link<F> {
             Spends (2 + least) (4 * sources_in groups + 44 * map.len groups + 3) self.old.spent self.new.spent }
         ensures bounded { Spends 0 (cost_of 0 (held_of self.old.state)) self.old.spent self.new.spent }
         ensures quiet { moment_of self.old.state now < next_of self.old.state → Spends 2 3 self.old.spent self.new.spent }
-        ensures moved { Spends 0 (most_moved 0 (held_of self.old.state)) self.old.moved self.new.moved }
+        ensures moved { let groups = self.old.state.groups in
+            Spends 0 (6 * sources_in groups + 58 * map.len groups) self.old.moved self.new.moved }
         ensures still { moment_of self.old.state now < next_of self.old.state → self.new.moved ≡ self.old.moved }
     {
         self.is_well_formed();
@@ -98,7 +99,8 @@ impl<F: Family> Link<F> {
     /// taken. Answers what became of it. The envelope is what its packet says of it, the body its bytes without the IP
     /// header (RFC 3376 sections 4, 6.4 and 7.3.2, RFC 3810 sections 5, 7.4 and 8.3.2). At most 64 comparisons for each
     /// byte of the body and for each group and source that is held as it comes, and 64 more, whatever its records are; at
-    /// least two, and what its records take.
+    /// least two, and what its records take. What is moved to keep the groups is at most 256 for each byte of the body and for
+    /// each group and source.
     pub fn receive<O: Outlet<F::Address>>(
         &mut self,
         envelope: &F::Envelope,

@@ -92,7 +92,7 @@ impl<K: WireKey> Storage<K> {
             Spends 0 (own + 4 + bitlen (map.len self.old.held.groups)) self.old.work.meter self.new.work.meter }
         ensures moved { (address : ℕ) → HasNumber self.old.held address number →
             let own = sources_of (group_at self.old.held.groups address) in
-            MovesWithin (5 * own + 4 + bitlen (map.len self.old.held.groups)) self.old self.new }
+            MovesWithin (5 * own + 5 + bitlen (map.len self.old.held.groups)) self.old self.new }
     {
         let mut schedule = self.held.load(number, &mut self.work.group);
         if schedule.group_query().is_some() || schedule.sources_due().is_some() {
@@ -113,7 +113,7 @@ impl<K: WireKey> Storage<K> {
         ensures spent { let groups = self.old.held.groups in
             Spends 0 (sources_in groups + 20 * map.len groups) self.old.work.meter self.new.work.meter }
         ensures moved { let groups = self.old.held.groups in
-            MovesWithin (5 * sources_in groups + 20 * map.len groups) self.old self.new }
+            MovesWithin (5 * sources_in groups + 21 * map.len groups) self.old self.new }
     {
         let count = self.held.all(numbers);
         for number in &numbers[..count] {
@@ -133,7 +133,7 @@ impl<K: WireKey> Storage<K> {
         ensures spent { let own = sources_of (group_at self.old.held.groups (K.number query.now.group)) in
             Spends 0 (own + 12 * source_count query.now.version + 39) self.old.work.meter self.new.work.meter }
         ensures moved { let own = sources_of (group_at self.old.held.groups (K.number query.now.group)) in
-            MovesWithin (5 * own + 20) self.old self.new }
+            MovesWithin (5 * own + 21) self.old self.new }
     {
         if let Ok(number) = self.held.find(query.group, &mut self.work.meter) {
             let schedule = self.held.load(number, &mut self.work.group);
@@ -188,7 +188,7 @@ impl<F: Family> Status<F> {
             let most = 2 * sources_in groups + 20 * map.len groups + 12 * source_count query.now.version + 40 in
             Spends 1 most storage.old.work.meter storage.new.work.meter }
         ensures moved { let groups = storage.old.held.groups in
-            MovesWithin (10 * sources_in groups + 20 * map.len groups + 20) storage.old storage.new }
+            MovesWithin (10 * sources_in groups + 21 * map.len groups + 21) storage.old storage.new }
     {
         let announced = announcement(&query.version);
         if self.hear(source, announced, &mut storage.work.meter) {
@@ -210,7 +210,7 @@ impl<F: Family> Router<F> {
             let most = 2 * sources_in groups + 20 * map.len groups + 12 * source_count query.now.version + 40 in
             Spends 1 most self.old.spent self.new.spent }
         ensures moved { let groups = self.old.groups in
-            HasMoved (10 * sources_in groups + 20 * map.len groups + 20) self.old self.new }
+            HasMoved (10 * sources_in groups + 21 * map.len groups + 21) self.old self.new }
     {
         self.status.lemma_is_sound();
         self.status

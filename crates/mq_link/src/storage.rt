@@ -160,7 +160,7 @@ impl<K: Key> Storage<K> {
         ensures order { self.new.held.order ≡ self.old.held.order }
         ensures rooms { KeepsRooms self.old self.new }
         ensures spent { Spends 0 (size_of self.old.work.group.state + 4 + bitlen (map.len self.old.held.groups)) self.old.work.meter self.new.work.meter }
-        ensures moved { MovesWithin (5 * size_of self.old.work.group.state + 4 + bitlen (map.len self.old.held.groups)) self.old self.new }
+        ensures moved { MovesWithin (5 * size_of self.old.work.group.state + 5 + bitlen (map.len self.old.held.groups)) self.old self.new }
     {
         self.held.put(
             number,

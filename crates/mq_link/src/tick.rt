@@ -81,7 +81,7 @@ impl<K: WireKey> Storage<K> {
             Spends 0 (own + 10 + bitlen (map.len self.old.held.groups)) self.old.work.meter self.new.work.meter }
         ensures moved { (address : ℕ) → HasNumber self.old.held address number →
             let own = sources_of (group_at self.old.held.groups address) in
-            MovesWithin (5 * own + 4 + bitlen (map.len self.old.held.groups)) self.old self.new }
+            MovesWithin (5 * own + 5 + bitlen (map.len self.old.held.groups)) self.old self.new }
     {
         let address = self.held.address(number);
         let mut schedule = self.held.load(number, &mut self.work.group);
@@ -161,7 +161,7 @@ fn do_due<F: Family, O: Outlet<F::Address>>(
     sender: &mut Sender<F, O>,
 )
     requires in_range { now ≤ 2 ^ 53 }
-    requires space { map.len storage.old.held.groups ≤ length numbers.old }
+    requires space { HasSpace (map.len storage.old.held.groups) numbers.old }
     requires ready { IsReady storage.old }
     ensures status { status.new ≡ record status.old { election = ticked status.old.config.timing now status.old.election; now = now } }
     ensures groups { let in_force = (ticked status.old.config.timing now status.old.election).timing in
@@ -176,6 +176,7 @@ fn do_due<F: Family, O: Outlet<F::Address>>(
     ensures spent { let groups = storage.old.held.groups in
         let least = least_ticked now groups in
         Spends (1 + least) (4 * sources_in groups + 44 * map.len groups + 2) storage.old.work.meter storage.new.work.meter }
+    ensures moved { MovesWithin (most_moved_by_tick storage.old.held.groups) storage.old storage.new }
     ensures quiet { let is_quiet = (address : ℕ) (e : ScheduledGroup) → map.get storage.old.held.groups address ≡ Some e → has_due now e ≡ false in
         is_quiet → Spends 1 2 storage.old.work.meter storage.new.work.meter }
     ensures still { let is_quiet = (address : ℕ) (e : ScheduledGroup) → map.get storage.old.held.groups address ≡ Some e → has_due now e ≡ false in

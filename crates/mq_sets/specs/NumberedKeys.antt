@@ -93,10 +93,10 @@ moved_by_insert pages spot =
 abbrev pub is_among : List ℕ → ℕ → Bool
 is_among numbers n = list_any (λ k. k == n) numbers
 
--- how many items are moved at most where so many are taken out of pages of these lengths: each page is looked at; and for each
--- item no more than two pages have, but no more than twice what all have
+-- how many items are moved at most where so many are taken out of pages of these lengths: none for none; else each page is looked
+-- at, and for each item no more than two pages have, but no more than twice what all have
 abbrev pub moved_by_removal : (count : ℕ) → List ℕ → ℕ
-moved_by_removal count pages = length pages + min (2 * sum pages) (1022 * count)
+moved_by_removal count pages = min 1 count * length pages + min (2 * sum pages) (1022 * count)
 
 -- 0 where a page and the one behind it have to become one: one is empty, or both together have too few numbers
 abbrev pub above_least : List ℕ → ℕ → ℕ
