@@ -46,6 +46,9 @@ struct Both {
     spare: Vec<u16>,
     meter: Meter,
     moves: Moves,
+    /// How many items may have been moved, and how many have to.
+    most: u64,
+    least: u64,
 }
 
 type Checked = Result<(), &'static str>;
@@ -97,6 +100,8 @@ impl Both {
             spare: vec![in alloc; 0; ROOM].ok()?,
             meter: Meter::new(),
             moves: Moves::none(),
+            most: 0,
+            least: 0,
         })
     }
 
@@ -110,6 +115,7 @@ impl Both {
         if self.held.free_sources() + before < sources {
             return Ok(());
         }
+        self.most += 1555 + 5 * sources as u64;
         let none = Schedule::none();
         match self.held.find(address_of(place), &mut self.meter) {
             Ok(number) => {
@@ -127,6 +133,7 @@ impl Both {
                     return Ok(());
                 }
                 let address = address_of(place);
+                self.least += 4;
                 self.held.insert(spot, address, group, none, &mut self.meter, &mut self.moves);
             }
         }
@@ -142,6 +149,8 @@ impl Both {
         match self.held.find(address_of(place), &mut self.meter) {
             Ok(number) => {
                 check(self.plain[place].is_some(), "found, but not held")?;
+                self.most += 1555;
+                self.least += 6;
                 self.held.remove(number, &mut self.meter, &mut self.moves);
             }
             Err(_) => check(self.plain[place].is_none(), "held, but not found")?,
@@ -150,8 +159,15 @@ impl Both {
         Ok(())
     }
 
-    /// Makes those vacant that are due, but each `kept`th, and takes these out at once.
-    fn end_due(&mut self, vacant: &Group<Addr4>, now: u64, kept: usize) -> Checked {
+    /// Makes those vacant that are due, but each `kept`th, and takes these out at once; each fifth that was made vacant is held
+    /// again before.
+    fn end_due(
+        &mut self,
+        vacant: &Group<Addr4>,
+        again: Option<&Group<Addr4>>,
+        now: u64,
+        kept: usize,
+    ) -> Checked {
         let count = self.held.due(
             moment(now),
             &mut self.numbers,
@@ -179,13 +195,30 @@ impl Both {
                 self.held
                     .put(number, vacant, none, &mut self.meter, &mut self.moves);
                 self.plain[place] = None;
+                if next % 5 == 0 {
+                    self.hold_again(place, number, again, now);
+                }
             }
         }
         check(next == count, "too many are due")?;
+        self.most += 1620 * count as u64;
         let due = &mut self.numbers[..count];
         self.held
             .take_out_vacant(due, &mut self.meter, &mut self.moves);
         Ok(())
+    }
+
+    /// Puts a group in the place of one that was made vacant and is not taken out yet.
+    fn hold_again(&mut self, place: usize, number: u16, again: Option<&Group<Addr4>>, now: u64) {
+        if let Some(group) = again {
+            let none = Schedule::none();
+            self.held
+                .put(number, group, none, &mut self.meter, &mut self.moves);
+            self.plain[place] = Some(Plain {
+                due: now + 260000,
+                sources: group.sources().len(),
+            });
+        }
     }
 
     /// All that may be asked of the storage, beside the plain list.
@@ -242,14 +275,19 @@ fn edits(alloc: Global, seed: u64, count: usize, kept: usize) -> Checked {
         if edit % 1000 == 999 {
             both.compare()?;
             now += 130000;
-            both.end_due(&vacant, now, kept)?;
+            let Some(again) = group_of(alloc, 0, now) else {
+                return Err("no group");
+            };
+            both.end_due(&vacant, Some(&again), now, kept)?;
             both.compare()?;
         }
     }
-    both.end_due(&vacant, now + 300000, count + 1)?;
+    both.end_due(&vacant, None, now + 300000, count + 1)?;
     both.compare()?;
     check(both.held.len() == 0, "not empty")?;
-    check(both.held.earliest().is_none(), "a moment of none")
+    check(both.held.earliest().is_none(), "a moment of none")?;
+    check(both.moves.made() <= both.most, "too many moves")?;
+    check(both.least <= both.moves.made(), "too few moves")
 }
 
 #[test]
