@@ -11,6 +11,7 @@ pub mod Merges
 pub mod Narrowing
 pub mod NumberedItems
 pub mod NumbersGiven
+pub mod NumbersTaken
 pub mod PackedRows
 pub mod PageSizes
 pub mod PagedNumbers

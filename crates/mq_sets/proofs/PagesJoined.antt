@@ -120,20 +120,20 @@ module _ (pages : List (List ℕ)) (i place : ℕ) (within : i < length pages) (
       let in_list : i < length sizes = omega (arith, same, within) in
       let before : AreFilled (take i sizes ++ get_or sizes i 0 ∷ drop (suc i) sizes) = subst AreFilled (in_parts sizes i 0 in_list) known in
       let front : (k : ℕ) → length (take i sizes) ≡ k + 1 → (1 ≤ gone) × (256 ≤ get_or (take i sizes) k 0 + gone) =
-          λ k size.
-          let is : i ≡ k + 1 = omega (arith, length-take i sizes, size, in_list) in
-          let a : length (get_or left_of k []) ≡ get_or sizes k 0 = ap length (get_or-set_other pages i k (remove (get_or pages i []) place) [] (λ e. omega (arith, e, is))) ∙ sym (size-at k (omega (arith, is, within))) in
-          let b : length (get_or left_of (k + 1) []) ≡ gone = ap (λ j. length (get_or left_of j [])) (sym is) ∙ ap length here in
-          let enough = left k is in
-          (omega (arith, enough, a, b), omega (arith, enough, a, b, get_or-take i sizes k 0 (omega (arith, is)))) in
+      λ k size.
+      let is : i ≡ k + 1 = omega (arith, length-take i sizes, size, in_list) in
+      let a : length (get_or left_of k []) ≡ get_or sizes k 0 = ap length (get_or-set_other pages i k (remove (get_or pages i []) place) [] (λ e. omega (arith, e, is))) ∙ sym (size-at k (omega (arith, is, within))) in
+      let b : length (get_or left_of (k + 1) []) ≡ gone = ap (λ j. length (get_or left_of j [])) (sym is) ∙ ap length here in
+      let enough = left k is in
+      (omega (arith, enough, a, b), omega (arith, enough, a, b, get_or-take i sizes k 0 (omega (arith, is)))) in
       let back : 0 < length (drop (suc i) sizes) → (1 ≤ gone) × (256 ≤ gone + get_or (drop (suc i) sizes) 0 0) =
-          λ more.
-          let two : i + 1 < length pages = omega (arith, length-drop (suc i) sizes, more, same) in
-          let at : suc i + 0 ≡ i + 1 = omega arith in
-          let a = ap length here in
-          let b : length (get_or left_of (i + 1) []) ≡ get_or sizes (i + 1) 0 = ap length (get_or-set_other pages i (i + 1) (remove (get_or pages i []) place) [] (λ e. omega (arith, e))) ∙ sym (size-at (i + 1) two) in
-          let enough = right two in
-          (omega (arith, enough, a, b), omega (arith, enough, a, b, get_or-drop (suc i) sizes 0 0, ap (λ k. get_or sizes k 0) at)) in
+      λ more.
+      let two : i + 1 < length pages = omega (arith, length-drop (suc i) sizes, more, same) in
+      let at : suc i + 0 ≡ i + 1 = omega arith in
+      let a = ap length here in
+      let b : length (get_or left_of (i + 1) []) ≡ get_or sizes (i + 1) 0 = ap length (get_or-set_other pages i (i + 1) (remove (get_or pages i []) place) [] (λ e. omega (arith, e))) ∙ sym (size-at (i + 1) two) in
+      let enough = right two in
+      (omega (arith, enough, a, b), omega (arith, enough, a, b, get_or-drop (suc i) sizes 0 0, ap (λ k. get_or sizes k 0) at)) in
       subst AreFilled (sym (sizes-left ∙ set_split sizes i gone in_list)) (filled-less (take i sizes) (drop (suc i) sizes) (get_or sizes i 0) gone (size-at i within ∙ one) front back before)
 
 -- what tells whether two neighbours have to become one page

@@ -28,14 +28,14 @@ returns-clause-pages c =
     let left_is = c.remove-behind.ensures.items in
     let kept = ap length left_is in
     let first : c.index_mut.result.now.items ≡ get_or pages c.args.page [] =
-        ap items (c.index_mut.ensures.value ∙ ap (λ xs. get_or xs c.args.page c.index_mut.result.now) left_is ∙ get_or-remove_below used (c.args.page + 1) c.index_mut.result.now c.args.page (omega arith) two)
-        ∙ sym (get_or-map items used c.args.page c.index_mut.result.now [] (omega (arith, two))) in
+    ap items (c.index_mut.ensures.value ∙ ap (λ xs. get_or xs c.args.page c.index_mut.result.now) left_is ∙ get_or-remove_below used (c.args.page + 1) c.index_mut.result.now c.args.page (omega arith) two)
+    ∙ sym (get_or-map items used c.args.page c.index_mut.result.now [] (omega (arith, two))) in
     let second : c.remove-behind.result.items ≡ get_or pages (c.args.page + 1) [] =
-        ap items c.remove-behind.ensures.value ∙ sym (get_or-map items used (c.args.page + 1) c.remove-behind.result [] two) in
+    ap items c.remove-behind.ensures.value ∙ sym (get_or-map items used (c.args.page + 1) c.remove-behind.result [] two) in
     let both : c.extend_from_slice.new.self.items ≡ get_or pages c.args.page [] ++ get_or pages (c.args.page + 1) [] =
-        (rw c.unwrap.ensures at c.extend_from_slice.ensures.items)
-        ∙ ap (λ xs. xs ++ c.as_slice.result.now) first
-        ∙ ap (λ xs. get_or pages c.args.page [] ++ xs) (c.as_slice.ensures.value ∙ second) in
+    (rw c.unwrap.ensures at c.extend_from_slice.ensures.items)
+    ∙ ap (λ xs. xs ++ c.as_slice.result.now) first
+    ∙ ap (λ xs. get_or pages c.args.page [] ++ xs) (c.as_slice.ensures.value ∙ second) in
     let pushed = ap length (rw c.unwrap-2.ensures at c.push.ensures.items) in
     let longer = length-append c.self.inside.spare.items (c.clear.new.self ∷ []) in
     let written = length-set left c.args.page c.extend_from_slice.new.self in
@@ -64,10 +64,10 @@ invariant_of-self c =
     let here : IsPage c.index_mut.result.now = subst IsPage (sym c.index_mut.ensures.value) (all_left c.args.page c.index_mut.result.now (omega (arith, kept, fewer, two))) in
     let gone : IsPage c.remove-behind.result = subst IsPage (sym c.remove-behind.ensures.value) (c.self.invariant.0 (c.args.page + 1) c.remove-behind.result two) in
     let first : c.index_mut.result.now.items ≡ get_or pages c.args.page [] =
-        ap items (c.index_mut.ensures.value ∙ ap (λ xs. get_or xs c.args.page c.index_mut.result.now) left_is ∙ get_or-remove_below used (c.args.page + 1) c.index_mut.result.now c.args.page (omega arith) two)
-        ∙ sym (get_or-map items used c.args.page c.index_mut.result.now [] (omega (arith, two))) in
+    ap items (c.index_mut.ensures.value ∙ ap (λ xs. get_or xs c.args.page c.index_mut.result.now) left_is ∙ get_or-remove_below used (c.args.page + 1) c.index_mut.result.now c.args.page (omega arith) two)
+    ∙ sym (get_or-map items used c.args.page c.index_mut.result.now [] (omega (arith, two))) in
     let second : c.remove-behind.result.items ≡ get_or pages (c.args.page + 1) [] =
-        ap items c.remove-behind.ensures.value ∙ sym (get_or-map items used (c.args.page + 1) c.remove-behind.result [] two) in
+    ap items c.remove-behind.ensures.value ∙ sym (get_or-map items used (c.args.page + 1) c.remove-behind.result [] two) in
     let fits : length (get_or pages c.args.page []) + length (get_or pages (c.args.page + 1) []) ≤ 511 = subst (λ (s : PagesState). length (get_or s.pages c.args.page []) + length (get_or s.pages (c.args.page + 1) []) ≤ 511) (sym c.self.view_is) c.requires.fits in
     let long = ap length (rw c.unwrap.ensures at c.extend_from_slice.ensures.items) in
     let sum = length-append c.index_mut.result.now.items c.as_slice.result.now in
@@ -75,8 +75,9 @@ invariant_of-self c =
     let pushed = rw c.unwrap-2.ensures at c.push.ensures.items in
     let longer = length-append c.self.inside.spare.items (c.clear.new.self ∷ []) in
     let written = length-set left c.args.page c.extend_from_slice.new.self in
-    let empty : IsSpare c.clear.new.self = (omega (arith, gone.0, c.clear.ensures.capacity), c.clear.ensures.items) in
-    (All-set IsPage left c.args.page c.extend_from_slice.new.self page all_left,
-    subst (All IsSpare) (sym pushed) (All-push IsSpare c.self.inside.spare.items c.clear.new.self c.self.invariant.1 empty),
-    omega (arith, written, kept, fewer, ap length pushed, longer, c.remove-behind.ensures.capacity, c.self.invariant.2),
-    omega (arith, written, kept, fewer, ap length pushed, longer, c.push.ensures.capacity, c.self.invariant.3))
+    let empty : IsSpare c.clear.new.self = (omega (arith, gone.0, c.clear.ensures.capacity), c.clear.ensures.items) in (
+      All-set IsPage left c.args.page c.extend_from_slice.new.self page all_left,
+      subst (All IsSpare) (sym pushed) (All-push IsSpare c.self.inside.spare.items c.clear.new.self c.self.invariant.1 empty),
+      omega (arith, written, kept, fewer, ap length pushed, longer, c.remove-behind.ensures.capacity, c.self.invariant.2),
+      omega (arith, written, kept, fewer, ap length pushed, longer, c.push.ensures.capacity, c.self.invariant.3),
+    )

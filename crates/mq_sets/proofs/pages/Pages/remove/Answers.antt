@@ -101,15 +101,16 @@ returns-else-spot-gt0-clause-filled c =
     let e = ap (λ (s : PagesState). s.pages) c.take_out.ensures.pages in
     let same = ap length e ∙ length-set P i (remove (get_or P i []) c.args.spot.place) in
     let right : i + 1 < length P → 1 ≤ least (set P i (remove (get_or P i []) c.args.spot.place)) i =
-        λ more.
-        let two : i + 1 < length T = omega (arith, same, more) in
-        let enough = c.must_join.ensures.no (ap not c.if-must_join.false) two in
-        subst (λ xs. 1 ≤ least xs i) e (omega (arith, enough, least-is T i two)) in
+    λ more.
+    let two : i + 1 < length T = omega (arith, same, more) in
+    let enough = c.must_join.ensures.no (ap not c.if-must_join.false) two in
+    subst (λ xs. 1 ≤ least xs i) e (omega (arith, enough, least-is T i two)) in
     let left : (k : ℕ) → i ≡ k + 1 → 1 ≤ least (set P i (remove (get_or P i []) c.args.spot.place)) k =
-        λ k is.
-        let two : k + 1 < length T = omega (arith, same, is, c.requires.taken.0) in
-        let before : i - 1 ≡ k = omega (arith, is) in
-        elim c.else-spot-gt0.branch [
-        else-spot-gt0-via-then-spot-gt0+else-must_join-2 w ↦ subst (λ xs. 1 ≤ least xs k) e (subst (λ m. 1 ≤ least T m) before (omega (arith, w.must_join-then-spot-gt0.ensures.no (ap not w.if-must_join-2.false) (omega (arith, two, before)), least-is T (i - 1) (omega (arith, two, before)))))
-        | else-spot-gt0-via-else-spot-gt0 w ↦ absurd (omega (arith, w.if-spot-gt0.false, is)) ] in
+    λ k is.
+    let two : k + 1 < length T = omega (arith, same, is, c.requires.taken.0) in
+    let before : i - 1 ≡ k = omega (arith, is) in
+    elim c.else-spot-gt0.branch [
+      | else-spot-gt0-via-then-spot-gt0+else-must_join-2 w ↦ subst (λ xs. 1 ≤ least xs k) e (subst (λ m. 1 ≤ least T m) before (omega (arith, w.must_join-then-spot-gt0.ensures.no (ap not w.if-must_join-2.false) (omega (arith, two, before)), least-is T (i - 1) (omega (arith, two, before)))))
+      | else-spot-gt0-via-else-spot-gt0 w ↦ absurd (omega (arith, w.if-spot-gt0.false, is))
+    ] in
     subst (λ xs. AreFilled (map length xs)) (sym e) (filled-left_of P i c.args.spot.place c.requires.taken.0 c.requires.taken.1 c.requires.filled right left)

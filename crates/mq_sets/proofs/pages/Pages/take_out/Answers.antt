@@ -3,7 +3,6 @@ use Rattle.std.specs.List.{remove}
 use Rattle.std.proofs.lemmas.List.{map-set, get_or-map, length-map}
 use Rattle.mq_sets.specs.NumberedKeys.{PagesState}
 use Rattle.mq_sets.proofs.PagedNumbers.{paged, paged-same}
-use Rattle.mq_sets.proofs.PagesJoined.{filled-joined}
 use Rattle.mq_sets.proofs.pages.Pages.take_out.Goals as goal
 
 pub returns-clause-pages : goal.returns-clause-pages
