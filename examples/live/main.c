@@ -2,6 +2,7 @@
    What is proved is what the library decides; the socket, the clock, the headers and this loop are plain C. */
 #define _GNU_SOURCE
 #include "link.h"
+#include "ring.h"
 #include "text.h"
 
 #include <arpa/inet.h>
@@ -27,8 +28,8 @@
 #include <unistd.h>
 
 enum { STATUS_FAILED = 1, STATUS_USAGE = 2, NOBODY = 65534 };
-/* So many frames are taken from the kernel at once, and so much is printed. */
-enum { FRAMES = 16, PRINTED = 1 << 16 };
+/* So many frames are handed in before signals are looked at again, and so much is printed at once. */
+enum { FRAMES = 1024, PRINTED = 1 << 16 };
 
 static const char HELP[] =
     "Usage: mquerier-live INTERFACE igmp|mld --own ADDR [OPTION]..\n"
@@ -66,6 +67,7 @@ struct live {
     struct link link;
     const char *interface;
     int packets; /* the socket */
+    struct ring ring;
     uint8_t mac[MAC], own[16];
     struct timespec start;
     uint64_t heard;
@@ -146,7 +148,8 @@ static void open_socket(struct live *live, bool is_mld) {
         .sll_protocol = htons(is_mld ? ETH_P_IPV6 : ETH_P_IP),
         .sll_ifindex = request.ifr_ifindex,
     };
-    if (filter_packets(packets, is_mld) < 0 || setsockopt(packets, SOL_PACKET, PACKET_ADD_MEMBERSHIP, &every, sizeof every) < 0
+    if (ring_open(&live->ring, packets) < 0 || filter_packets(packets, is_mld) < 0
+        || setsockopt(packets, SOL_PACKET, PACKET_ADD_MEMBERSHIP, &every, sizeof every) < 0
         || bind(packets, (struct sockaddr *)&at, sizeof at) < 0)
         fail(STATUS_FAILED, interface, strerror(errno));
     live->packets = packets;
@@ -227,11 +230,9 @@ static void print_answer(const struct live *live, const struct datagram *datagra
 }
 
 /* Hands in what one frame carries. */
-static void hear(struct live *live, const struct sockaddr_ll *from, const uint8_t *frame, size_t length, uint64_t now) {
+static void hear(struct live *live, const struct frame *frame, uint64_t now) {
     struct datagram datagram;
-    if (from->sll_pkttype == PACKET_OUTGOING || from->sll_pkttype == PACKET_OTHERHOST)
-        return;
-    if (!(live->link.is_mld ? read_mld_frame : read_igmp_frame)(frame, length, &datagram))
+    if (!frame->is_heard || !(live->link.is_mld ? read_mld_frame : read_igmp_frame)(frame->bytes, frame->length, &datagram))
         return;
     mq_answer answer = link_receive(&live->link, &datagram, now);
     send_queries(live, answer, now);
@@ -239,22 +240,11 @@ static void hear(struct live *live, const struct sockaddr_ll *from, const uint8_
     print_answer(live, &datagram, answer, now);
 }
 
-/* Hands in what the frames carry that are there, so many at most. */
+/* Hands in what the frames carry that are there. */
 static void receive(struct live *live, uint64_t now) {
-    static uint8_t frames[FRAMES][GREATEST_FRAME];
-    struct sockaddr_ll from[FRAMES];
-    struct iovec rooms[FRAMES];
-    struct mmsghdr heads[FRAMES];
-    for (int at = 0; at < FRAMES; at++) {
-        rooms[at] = (struct iovec){.iov_base = frames[at], .iov_len = sizeof frames[at]};
-        struct msghdr head = {.msg_name = &from[at], .msg_namelen = sizeof from[at], .msg_iov = &rooms[at], .msg_iovlen = 1};
-        heads[at] = (struct mmsghdr){.msg_hdr = head};
-    }
-    int count = recvmmsg(live->packets, heads, FRAMES, MSG_DONTWAIT, NULL);
-    if (count < 0 && errno != EAGAIN && errno != EINTR)
-        tell_failure(live, "receive");
-    for (int at = 0; at < count; at++)
-        hear(live, &from[at], frames[at], heads[at].msg_len, now);
+    struct frame frame;
+    for (int count = 0; count < FRAMES && ring_next(&live->ring, &frame); count++)
+        hear(live, &frame, now);
 }
 
 /* Waits for frames, a signal, or the next deadline; answers whether there are frames. */
@@ -265,6 +255,11 @@ static bool wait_for_frames(struct live *live, const sigset_t *waiting) {
     int ready = ppoll(&packets, 1, next == MQ_NONE ? NULL : &limit, waiting);
     if (ready < 0 && errno != EINTR)
         fail(STATUS_FAILED, "poll", strerror(errno));
+    if (ready > 0 && (packets.revents & POLLERR)) {
+        socklen_t length = sizeof errno;
+        getsockopt(live->packets, SOL_SOCKET, SO_ERROR, &errno, &length);
+        tell_failure(live, "receive");
+    }
     return ready > 0;
 }
 
