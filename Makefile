@@ -4,7 +4,7 @@ PREFIX ?= /usr/local
 SOURCES := crates.txt $(shell find crates/*/src crates/*/specs crates/*/proofs -type f)
 FIRST_PATH := message igmp 1600f8faef010203
 
-.PHONY: all run lib quick test live live-test mutants bench install clean
+.PHONY: all run lib quick test live live-test mutants bench install dist clean
 
 all: bin/mquerier
 
@@ -73,5 +73,9 @@ install: bin/mquerier lib/libmquerier.a
 	install -m 644 man/mquerier.1 $(DESTDIR)$(PREFIX)/share/man/man1/mquerier.1
 	install -m 644 man/libmquerier.3 $(DESTDIR)$(PREFIX)/share/man/man3/libmquerier.3
 
+# The release of this commit, as one archive with its sum: dist/mquerier-VERSION.tar.gz.
+dist: bin/mquerier lib/libmquerier.a
+	@tools/dist
+
 clean:
-	rm -rf bin lib crates/*/out
+	rm -rf bin lib dist crates/*/out

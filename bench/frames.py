@@ -30,24 +30,26 @@ def signed(message, pseudo=b""):
     return message[:2] + checksum(pseudo + message) + message[4:]
 
 
-def ipv4(message, source="10.0.0.7"):
+def ipv4(message, source="10.0.0.7", destination="224.0.0.22"):
     """A packet of an IGMP message, with Router Alert."""
     header = struct.pack(">BBHHHBBH4s4s4s", 0x46, 0xC0, 24 + len(message), 7, 0, 1, 2, 0,
-                         address(V4, source), address(V4, "224.0.0.22"), b"\x94\x04\0\0")
-    return header + signed(message)
+                         address(V4, source), address(V4, destination), b"\x94\x04\0\0")
+    return header[:10] + checksum(header) + header[12:] + signed(message)
 
 
-def ipv6(message, source="fe80::7"):
+def ipv6(message, source="fe80::7", destination="ff02::16"):
     """A packet of an MLD message, with Router Alert."""
-    ends = address(V6, source) + address(V6, "ff02::16")
+    ends = address(V6, source) + address(V6, destination)
     options = bytes((58, 0, 5, 2, 0, 0, 1, 0))
     header = struct.pack(">IHBB", 0x60000000, len(options) + len(message), 0, 1) + ends
     return header + options + signed(message, ends + struct.pack(">II", len(message), 58))
 
 
 def ethernet(packet):
-    kind = 0x0800 if packet[0] >> 4 == 4 else 0x86DD
-    return bytes.fromhex("01005e000016020000000001") + struct.pack(">H", kind) + packet
+    """A frame to the multicast address that the packet goes to (of IPv4: RFC 1112 section 6.4)."""
+    is_ipv4 = packet[0] >> 4 == 4
+    to = b"\x01\x00\x5e" + bytes((packet[17] & 0x7F, *packet[18:20])) if is_ipv4 else b"\x33\x33" + packet[36:40]
+    return to + bytes.fromhex("020000000001") + (b"\x08\x00" if is_ipv4 else b"\x86\xdd") + packet
 
 
 def record(kind, group, sources=()):

@@ -1,6 +1,7 @@
 #include "link.h"
 
-#include <arpa/inet.h>
+#include "text.h"
+
 #include <inttypes.h>
 #include <stdlib.h>
 
@@ -54,28 +55,30 @@ bool link_next_query(const struct link *link, const uint8_t **at, mq_answer answ
     return mq_next_query(link->is_mld ? 16 : 4, at, link->queries + answer.written, query);
 }
 
-/* An IPv6 address that embeds one of IPv4 is written with dots here, as ::ffff:10.0.0.1, which mquerier doesn't do. */
-const char *link_address(const struct link *link, const uint8_t *address) {
-    static char texts[2][INET6_ADDRSTRLEN];
-    static int last;
-    last = !last;
-    return inet_ntop(link->is_mld ? AF_INET6 : AF_INET, address, texts[last], sizeof texts[last]);
+char *link_put_address(const struct link *link, char *to, const uint8_t *address) {
+    return (link->is_mld ? put_ipv6_address : put_ipv4_address)(to, address);
+}
+
+static void print_address(const struct link *link, const uint8_t *address, FILE *to) {
+    char text[LONGEST_ADDRESS];
+    fwrite(text, 1, (size_t)(link_put_address(link, text, address) - text), to);
 }
 
 /* The front of a group's line; then come its sources, and its older hosts. */
 static void print_group(const struct link *link, const uint8_t *address, uint64_t deadline, FILE *to) {
-    fprintf(to, "group %s ", link_address(link, address));
+    fputs("group ", to);
+    print_address(link, address, to);
     if (deadline == MQ_NONE)
-        fputs("include", to);
+        fputs(" include", to);
     else
-        fprintf(to, "exclude %" PRIu64, deadline);
+        fprintf(to, " exclude %" PRIu64, deadline);
 }
 
 static void print_source(const struct link *link, const uint8_t *address, uint64_t deadline, FILE *to) {
-    if (deadline == MQ_NONE)
-        fprintf(to, " !%s", link_address(link, address));
-    else
-        fprintf(to, " %s=%" PRIu64, link_address(link, address), deadline);
+    fputs(deadline == MQ_NONE ? " !" : " ", to);
+    print_address(link, address, to);
+    if (deadline != MQ_NONE)
+        fprintf(to, "=%" PRIu64, deadline);
 }
 
 static void print_older_hosts(uint64_t v1, uint64_t v2, FILE *to) {

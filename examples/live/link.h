@@ -32,8 +32,8 @@ uint64_t link_next_deadline(struct link *link);
 /* The next query of an answer, and steps behind it; `*at` begins at `link->queries`. */
 bool link_next_query(const struct link *link, const uint8_t **at, mq_answer answer, mq_query *query);
 
-/* An address as text, in memory that the next call but one uses again. */
-const char *link_address(const struct link *link, const uint8_t *address);
+/* Writes an address as text, without a NUL, and answers the place behind; at most 39 bytes. */
+char *link_put_address(const struct link *link, char *to, const uint8_t *address);
 /* What `mquerier replay` ends with: who is querier at moment `now`, what is held, and what was counted. */
 void link_print_state(struct link *link, uint64_t now, FILE *to);
 

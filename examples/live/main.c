@@ -2,6 +2,8 @@
    What is proved is what the library decides; the socket, the clock, the headers and this loop are plain C. */
 #define _GNU_SOURCE
 #include "link.h"
+#include "ring.h"
+#include "text.h"
 
 #include <arpa/inet.h>
 #include <errno.h>
@@ -26,6 +28,8 @@
 #include <unistd.h>
 
 enum { STATUS_FAILED = 1, STATUS_USAGE = 2, NOBODY = 65534 };
+/* So many frames are handed in before signals are looked at again, and so much is printed at once. */
+enum { FRAMES = 1024, PRINTED = 1 << 16 };
 
 static const char HELP[] =
     "Usage: mquerier-live INTERFACE igmp|mld --own ADDR [OPTION]..\n"
@@ -63,6 +67,7 @@ struct live {
     struct link link;
     const char *interface;
     int packets; /* the socket */
+    struct ring ring;
     uint8_t mac[MAC], own[16];
     struct timespec start;
     uint64_t heard;
@@ -143,7 +148,8 @@ static void open_socket(struct live *live, bool is_mld) {
         .sll_protocol = htons(is_mld ? ETH_P_IPV6 : ETH_P_IP),
         .sll_ifindex = request.ifr_ifindex,
     };
-    if (filter_packets(packets, is_mld) < 0 || setsockopt(packets, SOL_PACKET, PACKET_ADD_MEMBERSHIP, &every, sizeof every) < 0
+    if (ring_open(&live->ring, packets) < 0 || filter_packets(packets, is_mld) < 0
+        || setsockopt(packets, SOL_PACKET, PACKET_ADD_MEMBERSHIP, &every, sizeof every) < 0
         || bind(packets, (struct sockaddr *)&at, sizeof at) < 0)
         fail(STATUS_FAILED, interface, strerror(errno));
     live->packets = packets;
@@ -176,15 +182,25 @@ static void tell_failure(const struct live *live, const char *what) {
     fprintf(stderr, "mquerier-live: %s: %s\n", what, strerror(error));
 }
 
+/* The front of a line: its moment, and what it is. */
+static char *put_event(char *to, uint64_t now, const char *what) {
+    return put_text(put_number(to, now), what);
+}
+
+static void print_line(const char *line, char *end) {
+    *end++ = '\n';
+    fwrite(line, 1, (size_t)(end - line), stdout);
+}
+
 static void send_query(struct live *live, const mq_query *query, uint64_t now) {
     static uint8_t frame[GREATEST_FRAME];
+    static char line[2 * GREATEST_FRAME + 128];
     bool is_mld = live->link.is_mld;
     size_t length = (is_mld ? write_mld_frame : write_igmp_frame)(live->mac, live->own, query->destination, query->message,
                                                                   query->length, frame);
-    printf("%" PRIu64 " send %s ", now, link_address(&live->link, query->destination));
-    for (size_t at = 0; at < query->length; at++)
-        printf("%02x", query->message[at]);
-    putchar('\n');
+    char *to = link_put_address(&live->link, put_event(line, now, " send "), query->destination);
+    *to++ = ' ';
+    print_line(line, put_hexadecimal(to, query->message, query->length));
     if (send(live->packets, frame, length, 0) < 0) /* it is lost, as on the wire: queries are repeated */
         tell_failure(live, "send");
 }
@@ -196,48 +212,62 @@ static void send_queries(struct live *live, mq_answer answer, uint64_t now) {
         send_query(live, &query, now);
 }
 
-/* Hands in what one frame carries. */
-static void receive(struct live *live, uint64_t now) {
-    static uint8_t frame[GREATEST_FRAME];
-    struct sockaddr_ll from;
-    socklen_t room = sizeof from;
-    struct datagram datagram;
-    bool is_mld = live->link.is_mld;
-    ssize_t length = recvfrom(live->packets, frame, sizeof frame, MSG_DONTWAIT, (struct sockaddr *)&from, &room);
-    if (length < 0) {
-        if (errno != EAGAIN && errno != EINTR)
-            tell_failure(live, "receive");
-        return;
+/* Says what a datagram did. */
+static void print_answer(const struct live *live, const struct datagram *datagram, mq_answer answer, uint64_t now) {
+    char line[256], *to = put_number(put_event(line, now, " receive "), live->heard);
+    *to++ = ' ';
+    to = link_put_address(&live->link, to, datagram->source);
+    if (answer.dropped != 0) {
+        to = put_number(put_text(to, " dropped "), answer.dropped);
+    } else {
+        to = put_number(put_text(to, " taken "), answer.applied);
+        *to++ = ' ';
+        to = put_number(to, answer.ignored);
+        *to++ = ' ';
+        to = put_number(to, answer.refused);
     }
-    if (from.sll_pkttype == PACKET_OUTGOING || from.sll_pkttype == PACKET_OTHERHOST)
-        return;
-    if (!(is_mld ? read_mld_frame : read_igmp_frame)(frame, (size_t)length, &datagram))
+    print_line(line, to);
+}
+
+/* Hands in what one frame carries. */
+static void hear(struct live *live, const struct frame *frame, uint64_t now) {
+    struct datagram datagram;
+    if (!frame->is_heard || !(live->link.is_mld ? read_mld_frame : read_igmp_frame)(frame->bytes, frame->length, &datagram))
         return;
     mq_answer answer = link_receive(&live->link, &datagram, now);
     send_queries(live, answer, now);
-    printf("%" PRIu64 " receive %" PRIu64 " %s ", now, ++live->heard, link_address(&live->link, datagram.source));
-    if (answer.dropped != 0)
-        printf("dropped %" PRIu32 "\n", answer.dropped);
-    else
-        printf("taken %" PRIu32 " %" PRIu32 " %" PRIu32 "\n", answer.applied, answer.ignored, answer.refused);
+    live->heard++;
+    print_answer(live, &datagram, answer, now);
 }
 
-/* Waits for a frame, a signal, or the next deadline; answers whether there is a frame. */
-static bool wait_for_frame(struct live *live, const sigset_t *waiting) {
+/* Hands in what the frames carry that are there. */
+static void receive(struct live *live, uint64_t now) {
+    struct frame frame;
+    for (int count = 0; count < FRAMES && ring_next(&live->ring, &frame); count++)
+        hear(live, &frame, now);
+}
+
+/* Waits for frames, a signal, or the next deadline; answers whether there are frames. */
+static bool wait_for_frames(struct live *live, const sigset_t *waiting) {
     uint64_t now = moment(live), next = link_next_deadline(&live->link), wait = next > now ? next - now : 0;
     struct timespec limit = {.tv_sec = (time_t)(wait / 1000), .tv_nsec = (long)(wait % 1000) * 1000000};
     struct pollfd packets = {.fd = live->packets, .events = POLLIN};
     int ready = ppoll(&packets, 1, next == MQ_NONE ? NULL : &limit, waiting);
     if (ready < 0 && errno != EINTR)
         fail(STATUS_FAILED, "poll", strerror(errno));
+    if (ready > 0 && (packets.revents & POLLERR)) {
+        socklen_t length = sizeof errno;
+        getsockopt(live->packets, SOL_SOCKET, SO_ERROR, &errno, &length);
+        tell_failure(live, "receive");
+    }
     return ready > 0;
 }
 
 static void run(struct live *live, const sigset_t *waiting) {
     while (!is_over) {
-        bool is_frame = wait_for_frame(live, waiting);
+        bool are_frames = wait_for_frames(live, waiting);
         uint64_t now = moment(live);
-        if (is_frame)
+        if (are_frames)
             receive(live, now); /* which does what a tick does, too */
         if (is_asked || link_next_deadline(&live->link) <= now)
             send_queries(live, link_tick(&live->link, now), now);
@@ -342,6 +372,8 @@ int main(int count, char **words) {
     open_socket(&live, is_mld);
     drop_privileges();
     clock_gettime(CLOCK_MONOTONIC, &live.start);
+    static char printed[PRINTED];
+    setvbuf(stdout, printed, _IOFBF, sizeof printed); /* what is ready is written at once, by `run` */
     run(&live, &waiting);
     close(live.packets);
     link_free(&live.link);
