@@ -7,7 +7,6 @@ use Rattle.mq_pcap.specs.declared.form.Endian.TheVariants.{Little}
 use Rattle.mq_pcap.specs.Capture as pcap
 use Rattle.mq_pcap.specs.Capture.{field}
 use Rattle.mq_pcap.proofs.FileHeader.{field-append}
-use Rattle.mq_convert.specs.declared.context.Kind.TheVariants.{Classic}
 use Rattle.mq_convert.specs.declared.fault.BlockFault.{BlockFault}
 use Rattle.mq_convert.specs.Blocks.{Captured, block_in}
 use Rattle.mq_convert.specs.Files.{AreBlocks, Captures, endless}
@@ -37,7 +36,7 @@ one_more number bytes first rest packet is all r below plainly next =
     let size = r.header_length in
     let under : field Little 4 4 r.header < second = subst (λ n. n < second) (ap (field Little 4 4) r.parts ∙ field-append Little 4 4 r.header packet.bytes (omega (arith, size))) below in
     let whole : IsWhole behind_header.kind first = subst (λ xs. IsWhole behind_header.kind xs) (sym r.parts) (whole_record r.header packet.bytes size r.captured r.within) in
-    let read = ap (block_in behind_header) r.parts ∙ record_read r.header packet.bytes size header under in
+    let read = ap (block_in behind_header) r.parts ∙ record_read r.header packet.bytes size r.within header under in
     let kept = record_kept r.header packet.bytes size header each r.captured r.within under plainly in
     let few = next.few in
     record {

@@ -1,7 +1,7 @@
 -- The header of a classic capture of Ethernet in nanoseconds, as a block of a file that is converted.
-use Rattle.std.proofs.Common.{◌≡◌, ◌≤◌, ◌<◌, ◌%◌, ℕ, Bool, true, false, List, [], ◌∷◌, ◌++◌, length, take, drop, Option, None, Some, Result, Ok, Err, refl, arith, sym, ◌∙◌, ap}
-use Rattle.std.specs.Prelude.{nat_lt, not, ◌&&◌, ◌==◌, slice_range}
-use Rattle.std.proofs.lemmas.Bool.{eqb-true, le-ltb, ltb-false, ne_eqb}
+use Rattle.std.proofs.Common.{◌≡◌, ◌≤◌, ◌<◌, ◌%◌, ℕ, Bool, true, false, List, ◌++◌, length, take, drop, None, Some, Result, Ok, refl, arith, sym, ◌∙◌, ap}
+use Rattle.std.specs.Prelude.{nat_lt, ◌&&◌, ◌==◌}
+use Rattle.std.proofs.lemmas.Bool.{eqb-true, ltb-false, ne_eqb}
 use Rattle.std.proofs.lemmas.List.{length-take-le}
 use Rattle.std.proofs.lemmas.List.Elements.{All-drop}
 use Rattle.std.proofs.Math.Seq.{take-add}
@@ -15,13 +15,14 @@ use Rattle.mq_pcap.specs.declared.form.Fraction.TheVariants.{Microseconds, Nanos
 use Rattle.mq_pcap.specs.declared.link_type.LinkType.TheVariants.{Ethernet, RawIp}
 use Rattle.mq_pcap.specs.Capture.{field, header_in, header_of, magic_of}
 use Rattle.mq_convert.specs.declared.context.Kind.TheVariants.{Start}
-use Rattle.mq_convert.specs.Blocks.{block_in, classic_in, first_in}
+use Rattle.mq_convert.specs.Blocks.{block_in, classic_in, first_in, seen_in}
 use Rattle.mq_convert.specs.Contexts.{at_start}
 use Rattle.mq_convert.specs.Plain.{looked_at, plain}
 use Rattle.mq_convert.specs.Records.{file_header}
 use Rattle.mq_convert.specs.Sizes.{IsWhole, first_size, form_in, section_type}
 use Rattle.mq_convert.proofs.KeptBytes.{AreBytes, each_byte, field-take, four_at, low_two_at}
 use Rattle.mq_convert.proofs.KeptRecords.{behind_header}
+use Rattle.mq_convert.proofs.Seen.{whole_seen}
 
 -- what the header says beside its magic number
 record SaysPlain (order : Endian) (fraction : Fraction) (bytes : List ℕ) : Type 0 where
@@ -122,7 +123,8 @@ header_read bytes all h =
     let big = field-take Big 0 4 24 bytes (omega arith) h.long in
     let section = no_section bytes all h.magic in
     let form = form_is bytes h in
-    rw (first_in, big, section, form) (classic_is bytes h)
+    let is : seen_in at_start (length (take 24 bytes)) (take 24 bytes) ≡ Ok (behind_header, None) = rw (first_in, big, section, form) (classic_is bytes h) in
+    whole_seen at_start (take 24 bytes) (omega (arith, length-take-le 24 bytes h.long)) ∙ is
 
 -- what is looked at of it is what is written
 pub looked_is : (bytes : List ℕ) → AreBytes bytes → IsPlainHeader bytes → looked_at bytes ≡ file_header

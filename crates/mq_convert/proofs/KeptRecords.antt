@@ -1,27 +1,27 @@
 -- A record of Ethernet without tags, in nanoseconds, is written as it was.
-use Rattle.std.proofs.Common.{◌≡◌, ◌≤◌, ◌<◌, ◌+◌, ◌-◌, ◌*◌, ◌/◌, ◌%◌, ◌^◌, min, ℕ, Bool, true, false, List, [], ◌∷◌, ◌++◌, length, take, drop, Option, None, Some, Result, Ok, Err, refl, arith, sym, ◌∙◌, ap, subst, length-append, length-drop}
-use Rattle.std.specs.Prelude.{nat_lt, not, ◌||◌, slice_range}
+use Rattle.std.proofs.Common.{◌≡◌, ◌≤◌, ◌<◌, ◌+◌, ◌-◌, ◌*◌, ◌^◌, min, ℕ, Bool, true, false, List, [], ◌∷◌, ◌++◌, length, take, drop, Some, Ok, refl, arith, ◌∙◌, ap, subst, length-append, length-drop}
+use Rattle.std.specs.Prelude.{nat_lt, not, slice_range}
 use Rattle.std.proofs.lemmas.Bool.{le-ltb, lt-ltb, ltb-false, ltb-true}
 use Rattle.std.proofs.lemmas.List.{take_all, take_at}
 use Rattle.std.proofs.lemmas.List.Elements.{All-drop}
 use Rattle.std.proofs.lemmas.Nat.{div-mul-add, mod-mul-add}
 use Rattle.std.proofs.Math.Seq.{drop-append_seam}
-use Rattle.byteorder.specs.Endian.{big_bytes, little_bytes, little_number}
+use Rattle.byteorder.specs.Endian.{little_bytes}
 use Rattle.byteorder.specs.Numbers.{little_from-lt}
 use Rattle.mq_pcap.specs.declared.form.Endian.TheVariants.{Big, Little}
 use Rattle.mq_pcap.specs.declared.form.Fraction.TheVariants.{Nanoseconds}
-use Rattle.mq_pcap.specs.Capture as pcap
-use Rattle.mq_pcap.specs.Capture.{IsRecord, field, most_bytes}
+use Rattle.mq_pcap.specs.Capture.{field, most_bytes}
 use Rattle.mq_pcap.proofs.FileHeader.{field-append}
 use Rattle.mq_convert.specs.declared.context.Kind.TheVariants.{Classic}
-use Rattle.mq_convert.specs.Blocks.{Captured, block_in, record_in}
+use Rattle.mq_convert.specs.Blocks.{Captured, block_in, record_in, seen_in}
 use Rattle.mq_convert.specs.Contexts.{ContextState}
-use Rattle.mq_convert.specs.Frames.{Framed, Whole, Cut, behind_tags, before_type, carried_of, frame_bytes, frame_length, frame_of, frame_size, is_tag, of_ethernet, tag_of, untagged}
+use Rattle.mq_convert.specs.Frames.{Framed, before_type, carried_of, frame_bytes, frame_length, frame_of, frame_size, is_tag, of_ethernet, untagged}
 use Rattle.mq_convert.specs.Moments.{classic_moment, placed, second}
-use Rattle.mq_convert.specs.Plain.{everything, is_untagged, plain}
-use Rattle.mq_convert.specs.Records.{original_of, record_header, record_of, record_with}
-use Rattle.mq_convert.specs.Sizes.{IsWhole, greatest_block, record_size}
-use Rattle.mq_convert.proofs.KeptBytes.{AreBytes, each_byte, four_at, four_numbers, front_bytes, rest_bytes, three_parts, two_at}
+use Rattle.mq_convert.specs.Plain.{everything, is_untagged}
+use Rattle.mq_convert.specs.Records.{original_of, record_header, record_of}
+use Rattle.mq_convert.specs.Sizes.{IsWhole, most_seen, record_size}
+use Rattle.mq_convert.proofs.KeptBytes.{AreBytes, each_byte, four_at, four_numbers, three_parts, two_at}
+use Rattle.mq_convert.proofs.Seen.{whole_seen}
 use Rattle.mq_convert.proofs.TagWalk.{no_tag}
 
 -- behind the header of such a file
@@ -48,7 +48,7 @@ unfolding record_size
 whole_record header bytes size captured within =
     let long = length-append header bytes in
     let front : take 16 (header ++ bytes) ≡ header = take_at header bytes 16 size in
-    let fits = le-ltb greatest_block (16 + length bytes) (omega (arith, within)) in
+    let fits = le-ltb most_seen (16 + length bytes) (omega (arith, within)) in
     let all : 16 + length bytes ≡ length (header ++ bytes) = omega (arith, long, size) in
     record { head = omega (arith, long, size); size = rw (front, ← captured, fits, all) refl }
 
@@ -63,9 +63,9 @@ number_below : (place : ℕ) (xs : List ℕ) → AreBytes xs → field Little pl
 number_below place xs all = little_from-lt 0 4 (drop place xs) (each_byte (drop place xs) (All-drop (λ (byte : ℕ). byte < 256) place xs all))
 
 -- what a record holds
-pub record_read : (header bytes : List ℕ) → length header ≡ 16 → AreBytes header → field Little 4 4 header < second → block_in behind_header (header ++ bytes) ≡ Ok (behind_header, Some (packet_of header bytes))
+pub record_read : (header bytes : List ℕ) → length header ≡ 16 → length bytes ≤ most_bytes → AreBytes header → field Little 4 4 header < second → block_in behind_header (header ++ bytes) ≡ Ok (behind_header, Some (packet_of header bytes))
 unfolding record_in
-record_read header bytes size all below =
+record_read header bytes size within all below =
     let a = field-append Little 0 4 header bytes (omega (arith, size)) in
     let b = field-append Little 4 4 header bytes (omega (arith, size)) in
     let c = field-append Little 12 4 header bytes (omega (arith, size)) in
@@ -73,7 +73,8 @@ record_read header bytes size all below =
     let behind : drop 16 (header ++ bytes) ≡ bytes = subst (λ n. drop n (header ++ bytes) ≡ bytes) size (drop-append_seam header bytes) in
     let captured : slice_range (header ++ bytes) 16 (length (header ++ bytes)) ≡ bytes =
     rw behind (take_all (length (header ++ bytes) - 16) bytes (omega (arith, size, length-append header bytes))) in
-    rw (record_in, a, b, moment) (rw (c, captured) refl)
+    let is : seen_in behind_header (length (header ++ bytes)) (header ++ bytes) ≡ Ok (behind_header, Some (packet_of header bytes)) = rw (record_in, a, b, moment) (rw (c, captured) refl) in
+    whole_seen behind_header (header ++ bytes) (omega (arith, size, within, length-append header bytes)) ∙ is
 
 -- its frame
 record IsKept (bytes : List ℕ) (frame : Framed) : Type 0 where

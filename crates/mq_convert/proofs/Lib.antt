@@ -9,8 +9,10 @@ pub mod KeptRecords
 pub mod NextBlocks
 pub mod OneFile
 pub mod Options
+pub mod Passed
 pub mod Powers
 pub mod Printed
+pub mod Seen
 pub mod SoFar
 pub mod TagWalk
 pub mod Tallied

@@ -13,10 +13,10 @@ use Rattle.mq_convert.specs.declared.fault.BlockFault.TheVariants as fault
 use Rattle.mq_convert.specs.declared.fault.ConvertFault.{ConvertFault}
 use Rattle.mq_convert.specs.declared.fault.ConvertFault.TheVariants as answer
 use Rattle.mq_convert.specs.Files.{endless, outer_fault, size_fault}
-use Rattle.mq_convert.specs.Filling.{FillsFrom}
+use Rattle.mq_convert.specs.Filling.{FillsFrom, FillsSeen}
 use Rattle.mq_convert.specs.Faults.{is_cut}
 use Rattle.mq_convert.specs.Reading.{NextBlock}
-use Rattle.mq_convert.specs.Sizes.{head_size, is_start, least_size, size_in, size_of}
+use Rattle.mq_convert.specs.Sizes.{head_size, is_start, least_size, most_seen, seen_of, size_in, size_of}
 
 pub some_head : (kind : Kind) → 0 < head_size kind
 some_head Start = omega arith
@@ -135,10 +135,10 @@ size_faulty kind number old mid block f h few says uncut =
     }
 
 pub body_failed : (kind : Kind) (number : ℕ) (old mid new : InputState) (block after : List ℕ) (size : ℕ) (e : ConvertFault) → IsHead kind old mid block
-    → Ok size ≡ size_in kind (take (head_size kind) block) → FillsFrom {E = ConvertFault} mid new block after (head_size kind) size (Err e) → NextBlock kind number old new after (Err answer.Read)
+    → Ok size ≡ size_in kind (take (head_size kind) block) → FillsSeen {E = ConvertFault} mid new block after (head_size kind) size (Err e) → NextBlock kind number old new after (Err answer.Read)
 body_failed kind number old mid new block after size e h says filled =
     let known = size_then kind old mid block filled.bytes (Ok size) h says in
-    let short = filled.fills in
+    let short = filled.passes in
     let whole = h.size in
     let long = length-append h.bytes filled.bytes in
     record {
@@ -149,11 +149,11 @@ body_failed kind number old mid new block after size e h says filled =
     }
 
 pub body_cut : (kind : Kind) (number : ℕ) (old mid new : InputState) (block after : List ℕ) (size count : ℕ) → IsHead kind old mid block → number < endless
-    → Ok size ≡ size_in kind (take (head_size kind) block) → count < size → FillsFrom {E = ConvertFault} mid new block after (head_size kind) size (Ok count)
+    → Ok size ≡ size_in kind (take (head_size kind) block) → count < size → FillsSeen {E = ConvertFault} mid new block after (head_size kind) size (Ok count)
     → NextBlock kind number old new after (Err (answer.Block number fault.Cut))
 body_cut kind number old mid new block after size count h few says short filled =
     let known = size_then kind old mid block filled.bytes (Ok size) h says in
-    let place = filled.fills.1 in
+    let place = filled.passes.0 in
     let whole = h.size in
     let long = length-append h.bytes filled.bytes in
     let cut = lt-ltb (length (h.bytes ++ filled.bytes)) size (omega (arith, short, place, whole, long)) in
@@ -161,17 +161,17 @@ body_cut kind number old mid new block after size count h few says short filled 
     record {
       bytes = h.bytes ++ filled.bytes;
       takes = Takes-trans old mid new h.bytes filled.bytes h.takes filled.takes;
-      answers = (refl, rw cut at outer, λ e. filled.fills.3 short);
+      answers = (refl, rw cut at outer, λ e. filled.passes.2 short);
       failed = filled.failed ∙ ap (λ (b : Bool). b || false) h.failed;
     }
 
 pub whole_next : (kind : Kind) (number : ℕ) (old mid new : InputState) (block after : List ℕ) (size count : ℕ) → IsHead kind old mid block → number < endless
-    → Ok size ≡ size_in kind (take (head_size kind) block) → size ≤ count → size ≤ length block → least_size kind ≤ size
-    → FillsFrom {E = ConvertFault} mid new block after (head_size kind) size (Ok count) → NextBlock kind number old new after (Ok (Some size))
+    → Ok size ≡ size_in kind (take (head_size kind) block) → size ≤ count → most_seen ≤ length block → least_size kind ≤ size
+    → FillsSeen {E = ConvertFault} mid new block after (head_size kind) size (Ok count) → NextBlock kind number old new after (Ok (Some size))
 whole_next kind number old mid new block after size count h few says whole room least filled =
     let known = size_then kind old mid block filled.bytes (Ok size) h says in
-    let place = filled.fills.1 in
-    let within = filled.fills.2 in
+    let place = filled.passes.0 in
+    let within = filled.passes.1 in
     let is : count ≡ size = omega (arith, whole, within) in
     let first = h.size in
     let long = length-append h.bytes filled.bytes in
@@ -181,7 +181,8 @@ whole_next kind number old mid new block after size count h few says whole room 
       takes = Takes-trans old mid new h.bytes filled.bytes h.takes filled.takes;
       answers = (
         few,
-        sym (ap (λ (n : ℕ). take n after) (sym is) ∙ filled.fills.0 ∙ ap (λ (xs : List ℕ). xs ++ filled.bytes) h.front),
+        ap (λ (xs : List ℕ). seen_of (xs ++ filled.bytes)) (sym h.front) ∙ filled.shows is,
+        all,
         let same = filled.size in omega (arith, same, room),
         least,
         record { head = omega (arith, first, long); size = known ∙ ap Ok (sym all) },

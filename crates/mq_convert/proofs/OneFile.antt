@@ -1,17 +1,13 @@
 -- A file is one capture, and some faults of a beginning are faults of the whole.
-use Rattle.std.proofs.Common.{◌≡◌, ◌≤◌, ◌<◌, ◌+◌, ℕ, zero, suc, Bool, true, false, List, [], ◌∷◌, ◌++◌, length, take, drop, Option, None, Some, Result, Ok, Err, refl, arith, sym, ◌∙◌, ap, inl, inr, length-append, append_assoc, subst}
-use Rattle.std.specs.Prelude.{nat_lt, not, ◌&&◌, ◌⊎◌}
+use Rattle.std.proofs.Common.{◌≡◌, ◌≤◌, ◌<◌, ◌+◌, ℕ, false, List, [], ◌∷◌, ◌++◌, length, take, drop, Option, None, Some, Result, Ok, Err, refl, arith, sym, ◌∙◌, ap, inl, inr, length-append, append_assoc, subst}
 use Rattle.std.proofs.lemmas.Bool.{le-ltb, lt-ltb}
 use Rattle.std.proofs.lemmas.List.{take_at, take-append-le}
 use Rattle.std.proofs.Math.Seq.{drop-append_seam}
 use Rattle.mq_convert.specs.declared.context.Kind.{Kind}
-use Rattle.mq_convert.specs.declared.context.Kind.TheVariants.{Start, Classic, Section}
 use Rattle.mq_convert.specs.declared.fault.BlockFault.{BlockFault}
-use Rattle.mq_convert.specs.declared.fault.BlockFault.TheVariants as fault
 use Rattle.mq_convert.specs.Blocks.{Captured, block_in}
 use Rattle.mq_convert.specs.Contexts.{ContextState, at_start}
-use Rattle.mq_convert.specs.Faults.{is_cut}
-use Rattle.mq_convert.specs.Files.{AreBlocks, Captures, EndsBy, IsInnerFault, endless, outer_fault, size_fault}
+use Rattle.mq_convert.specs.Files.{AreBlocks, Captures, EndsBy, endless, outer_fault}
 use Rattle.mq_convert.specs.Sizes.{IsWhole, head_size, is_start, size_in, size_of}
 use Rattle.mq_convert.proofs.NextBlocks.{some_head}
 

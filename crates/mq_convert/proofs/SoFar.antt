@@ -1,5 +1,5 @@
 -- What is known of a file of which some blocks were read, and whose packets were put.
-use Rattle.std.proofs.Common.{◌≡◌, ℕ, ◌+◌, ◌≤◌, List, [], ◌∷◌, ◌++◌, length, take, Option, Some, None, Result, Ok, Err, refl, ap, sym, subst, ◌∙◌, inl, inr, arith, append-nil, append_assoc, length-append}
+use Rattle.std.proofs.Common.{◌≡◌, ℕ, ◌+◌, ◌≤◌, min, List, [], ◌∷◌, ◌++◌, length, take, Option, Some, None, Result, Ok, Err, refl, ap, sym, subst, ◌∙◌, inl, inr, arith, append-nil, append_assoc, length-append}
 use Rattle.std.specs.Prelude.{option_to_list}
 use Rattle.std.specs.List.{flat_map}
 use Rattle.std.proofs.lemmas.Grind.{flat_map-append}
@@ -14,14 +14,14 @@ use Rattle.mq_convert.specs.declared.fault.ConvertFault.{ConvertFault}
 use Rattle.mq_convert.specs.declared.fault.ConvertFault.TheVariants as answer
 use Rattle.mq_convert.specs.declared.packet.Packet.{Packet}
 use Rattle.mq_convert.specs.declared.unread.Unread.{Unread}
-use Rattle.mq_convert.specs.Blocks.{Captured, block_in}
+use Rattle.mq_convert.specs.Blocks.{Captured, block_in, seen_in}
 use Rattle.mq_convert.specs.Contexts.{ContextState, at_start}
 use Rattle.mq_convert.specs.Converting.{IsEndedBy}
 use Rattle.mq_convert.specs.Files.{AreBlocks, EndsBy, endless}
 use Rattle.mq_convert.specs.Putting.{IsPut, PutsCapture, ReadsBlock, block_text, held_of}
 use Rattle.mq_convert.specs.Reading.{NextBlock}
 use Rattle.mq_convert.specs.Records.{converted, file_header, packets_of, record_of, unread_link, unread_links}
-use Rattle.mq_convert.specs.Sizes.{IsWhole}
+use Rattle.mq_convert.specs.Sizes.{IsWhole, most_seen, seen_of}
 use Rattle.mq_convert.specs.Tallies.{Tallies}
 use Rattle.mq_convert.proofs.Begun.{begun_ends}
 use Rattle.mq_convert.proofs.NextBlocks.{some_head}
@@ -82,17 +82,23 @@ nothing_read choice s context unread is tallied = record {
   tallied = tallied;
 }
 
+-- what a block comes to is what its size and what is seen of it come to
+is_seen : (context : ContextState) (number size count : ℕ) (mid new : InputState) (buffer : List ℕ) → (next : NextBlock context.kind number mid new buffer (Ok (Some size))) → count ≡ min size most_seen
+    → block_in context next.bytes ≡ seen_in context size (take count buffer)
+is_seen context number size count mid new buffer next is =
+    ap (λ n. seen_in context n (seen_of next.bytes)) next.answers.2 ∙ ap (seen_in context size) (next.answers.1 ∙ ap (λ n. take n buffer) (sym is))
+
 -- a block more was read and put
-next_read : (choice : Choice) (old mid new : InputState) (context after : ContextState) (number size : ℕ) (unread more : Unread) (buffer : List ℕ) (held : Option Captured)
-    → (r : IsReadTo choice old mid context number unread) → NextBlock context.kind number mid new buffer (Ok (Some size)) → block_in context (take size buffer) ≡ Ok (after, held)
+next_read : (choice : Choice) (old mid new : InputState) (context after : ContextState) (number size count : ℕ) (unread more : Unread) (buffer : List ℕ) (held : Option Captured)
+    → (r : IsReadTo choice old mid context number unread) → NextBlock context.kind number mid new buffer (Ok (Some size)) → count ≡ min size most_seen → seen_in context size (take count buffer) ≡ Ok (after, held)
     → ((links : List ℕ) → Tallies links unread → Tallies (links ++ unread_links choice (option_to_list held)) more)
     → (s : IsReadTo choice old new after (number + 1) more) × (s.blocks ≡ r.blocks ++ (held ∷ []))
-next_read choice old mid new context after number size unread more buffer held r next is tally = (
+next_read choice old mid new context after number size count unread more buffer held r next front is tally = (
   record {
     bytes = r.bytes ++ next.bytes;
     blocks = r.blocks ++ (held ∷ []);
     takes = Takes-trans old mid new r.bytes next.bytes r.takes next.takes;
-    are_blocks = AreBlocks-more at_start context after r.bytes next.bytes r.blocks held r.are_blocks next.answers.4 (ap (block_in context) next.answers.1 ∙ is);
+    are_blocks = AreBlocks-more at_start context after r.bytes next.bytes r.blocks held r.are_blocks next.answers.5 (is_seen context number size count mid new buffer next front ∙ is);
     count = let count = r.count in omega (arith, count, length-append r.blocks (held ∷ []));
     tallied = rw links-more (tally (unread_links choice (packets_of r.blocks)) r.tallied);
   },
@@ -141,39 +147,39 @@ ended_faulty choice old mid new before after held left context number unread buf
     (refl, next.answers.0 ∙ r.count, next.answers.2, next.failed ∙ or-false mid.failed ∙ same) passed
 
 -- the next block was read, and what it holds has a fault
-pub ended_within : (choice : Choice) (old mid new : InputState) (before after : Option (List ℕ)) (held left : List ℕ) (context now : ContextState) (number size : ℕ) (unread : Unread) (buffer : List ℕ) (e : ConvertFault) (r : IsReadTo choice old mid context number unread)
-    → Passes before after held left (converted choice (packets_of r.blocks)) → mid.failed ≡ old.failed → NextBlock context.kind number mid new buffer (Ok (Some size)) → ReadsBlock number context now (take size buffer) (Err e)
+pub ended_within : (choice : Choice) (old mid new : InputState) (before after : Option (List ℕ)) (held left : List ℕ) (context now : ContextState) (number size count : ℕ) (unread : Unread) (buffer : List ℕ) (e : ConvertFault) (r : IsReadTo choice old mid context number unread)
+    → Passes before after held left (converted choice (packets_of r.blocks)) → mid.failed ≡ old.failed → NextBlock context.kind number mid new buffer (Ok (Some size)) → count ≡ min size most_seen → ReadsBlock number context now size (take count buffer) (Err e)
     → PutsCapture choice old new before after held left (Err e)
-ended_within choice old mid new before after held left context now number size unread buffer answer.Read r passed same next reads = absurd reads
-ended_within choice old mid new before after held left context now number size unread buffer answer.Write r passed same next reads = absurd reads
-ended_within choice old mid new before after held left context now number size unread buffer answer.Memory r passed same next reads = absurd reads
-ended_within choice old mid new before after held left context now number size unread buffer (answer.Block n f) r passed same next reads =
+ended_within choice old mid new before after held left context now number size count unread buffer answer.Read r passed same next front reads = absurd reads
+ended_within choice old mid new before after held left context now number size count unread buffer answer.Write r passed same next front reads = absurd reads
+ended_within choice old mid new before after held left context now number size count unread buffer answer.Memory r passed same next front reads = absurd reads
+ended_within choice old mid new before after held left context now number size count unread buffer (answer.Block n f) r passed same next front reads =
     let few = next.answers.0 in
     ended_with choice old mid new before after held left context number unread r next.bytes next.takes (omega (arith, few)) (Some f)
-    (inr (next.bytes, [], sym (append-nil next.bytes), few, next.answers.4, ap (block_in context) next.answers.1 ∙ reads.1)) (Err (answer.Block n f))
+    (inr (next.bytes, [], sym (append-nil next.bytes), few, next.answers.5, is_seen context number size count mid new buffer next front ∙ reads.1)) (Err (answer.Block n f))
     (refl, reads.0 ∙ r.count, λ cut. absurd (cc (cut, reads.2)), next.failed ∙ or-false mid.failed ∙ same) passed
 
 -- the next block was read, and what it holds put
-pub next_put : (T E : Type 0) (choice : Choice) (old mid new : InputState) (before now after : Option (List ℕ)) (held more left : List ℕ) (context behind : ContextState) (number size : ℕ) (unread tally : Unread) (buffer : List ℕ) (packet : Option Packet) (it : T)
-    → (r : IsReadTo choice old mid context number unread) → Passes before now held more (converted choice (packets_of r.blocks)) → NextBlock context.kind number mid new buffer (Ok (Some size))
-    → ReadsBlock number context behind (take size buffer) (Ok packet) → Puts {T = T} {E = E} now after more left (block_text choice (held_of (take size buffer) packet)) (Ok it)
-    → ((links : List ℕ) → Tallies links unread → Tallies (links ++ unread_links choice (option_to_list (held_of (take size buffer) packet))) tally)
+pub next_put : (T E : Type 0) (choice : Choice) (old mid new : InputState) (before now after : Option (List ℕ)) (held more left : List ℕ) (context behind : ContextState) (number size count : ℕ) (unread tally : Unread) (buffer : List ℕ) (packet : Option Packet) (it : T)
+    → (r : IsReadTo choice old mid context number unread) → Passes before now held more (converted choice (packets_of r.blocks)) → NextBlock context.kind number mid new buffer (Ok (Some size)) → count ≡ min size most_seen
+    → ReadsBlock number context behind size (take count buffer) (Ok packet) → Puts {T = T} {E = E} now after more left (block_text choice (held_of (take count buffer) packet)) (Ok it)
+    → ((links : List ℕ) → Tallies links unread → Tallies (links ++ unread_links choice (option_to_list (held_of (take count buffer) packet))) tally)
     → (s : IsReadTo choice old new behind (number + 1) tally) × Passes before after held left (converted choice (packets_of s.blocks))
-next_put T E choice old mid new before now after held more left context behind number size unread tally buffer packet it r passed next reads put counted =
-    let found = held_of (take size buffer) packet in
-    let s = next_read choice old mid new context behind number size unread tally buffer found r next reads.0 counted in
+next_put T E choice old mid new before now after held more left context behind number size count unread tally buffer packet it r passed next front reads put counted =
+    let found = held_of (take count buffer) packet in
+    let s = next_read choice old mid new context behind number size count unread tally buffer found r next front reads.0 counted in
     let both = both_passed before now after held more left (converted choice (packets_of r.blocks)) (block_text choice found) passed put in
     (s.0, rw (s.1, converted-more choice r.blocks found) both)
 
 -- it was read, and what it holds was not put whole
-pub next_broken : (T E : Type 0) (choice : Choice) (old mid new : InputState) (before now after : Option (List ℕ)) (held more left : List ℕ) (context behind : ContextState) (number size : ℕ) (unread : Unread) (buffer : List ℕ) (packet : Option Packet) (e : E)
-    → (r : IsReadTo choice old mid context number unread) → Passes before now held more (converted choice (packets_of r.blocks)) → NextBlock context.kind number mid new buffer (Ok (Some size))
-    → ReadsBlock number context behind (take size buffer) (Ok packet) → Puts {T = T} {E = E} now after more left (block_text choice (held_of (take size buffer) packet)) (Err e)
+pub next_broken : (T E : Type 0) (choice : Choice) (old mid new : InputState) (before now after : Option (List ℕ)) (held more left : List ℕ) (context behind : ContextState) (number size count : ℕ) (unread : Unread) (buffer : List ℕ) (packet : Option Packet) (e : E)
+    → (r : IsReadTo choice old mid context number unread) → Passes before now held more (converted choice (packets_of r.blocks)) → NextBlock context.kind number mid new buffer (Ok (Some size)) → count ≡ min size most_seen
+    → ReadsBlock number context behind size (take count buffer) (Ok packet) → Puts {T = T} {E = E} now after more left (block_text choice (held_of (take count buffer) packet)) (Err e)
     → PutsCapture choice old new before after held left (Err answer.Write)
-next_broken T E choice old mid new before now after held more left context behind number size unread buffer packet e r passed next reads put =
-    let found = held_of (take size buffer) packet in
+next_broken T E choice old mid new before now after held more left context behind number size count unread buffer packet e r passed next front reads put =
+    let found = held_of (take count buffer) packet in
     let begun = begun_ends (number + 1) behind [] (inl (some_head behind.kind)) in
-    let count : number + 1 ≡ length (r.blocks ++ (found ∷ [])) = let count = r.count in omega (arith, count, length-append r.blocks (found ∷ [])) in
+    let reached : number + 1 ≡ length (r.blocks ++ (found ∷ [])) = let count = r.count in omega (arith, count, length-append r.blocks (found ∷ [])) in
     let few = next.answers.0 in
     let broken = broken_behind before now after held more (converted choice (packets_of r.blocks)) (block_text choice found) passed put in
     record {
@@ -186,9 +192,9 @@ next_broken T E choice old mid new before now after held more left context behin
         rest = [];
         context = behind;
         parts = sym (append-nil (r.bytes ++ next.bytes));
-        are_blocks = AreBlocks-more at_start context behind r.bytes next.bytes r.blocks found r.are_blocks next.answers.4 (ap (block_in context) next.answers.1 ∙ reads.0);
-        few = omega (arith, few, count);
-        ends = rw (← count) begun.1;
+        are_blocks = AreBlocks-more at_start context behind r.bytes next.bytes r.blocks found r.are_blocks next.answers.5 (is_seen context number size count mid new buffer next front ∙ reads.0);
+        few = omega (arith, few, reached);
+        ends = rw (← reached) begun.1;
       };
       ended = tt;
       put = rw (converted-more choice r.blocks found) broken;

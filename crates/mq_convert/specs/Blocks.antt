@@ -1,4 +1,4 @@
--- What a whole block holds, and what it changes for those behind it.
+-- What a whole block holds, and what it changes for those behind it, by its size and what is seen of it.
 use Rattle.std.specs.Prelude.{ℕ, ◌+◌, ◌-◌, ◌*◌, ◌%◌, ◌^◌, ◌≤◌, min, nat_lt, Bool, not, ◌&&◌, ◌||◌, ◌==◌, if◌then◌else◌, List, [], ◌∷◌, ◌++◌, length, slice_get, slice_range, Option, None, Some, Result, Ok, Err}
 use Rattle.mq_count.specs.Streams.{counted_on}
 use Rattle.mq_pcap.specs.declared.form.Endian.{Endian}
@@ -16,7 +16,7 @@ use Rattle.mq_convert.specs.declared.packet.Said.{Said}
 use Rattle.mq_convert.specs.Contexts.{ContextState}
 use Rattle.mq_convert.specs.Interfaces.{interface_in}
 use Rattle.mq_convert.specs.Moments.{classic_moment, moment_of}
-use Rattle.mq_convert.specs.Sizes.{section_type, form_in, order_in}
+use Rattle.mq_convert.specs.Sizes.{section_type, form_in, most_seen, order_in, seen_of}
 
 -- a packet: the number of its interface among all that the file describes, what that interface's frames begin
 -- with, the moment in nanoseconds, how many bytes the packet had, and those that were captured
@@ -62,14 +62,14 @@ IsHeldWithin block (Ok (Some packet)) = packet.place + packet.length ≤ length 
 IsHeldWithin block (Err f) = Unit {0}
 
 -- the length that a section's block begins with stands at its end too
-abbrev pub is_closed : Endian → List ℕ → Bool
-is_closed order block = field order (length block - 4) 4 block == length block
+abbrev pub is_closed : Endian → (size : ℕ) → List ℕ → Bool
+is_closed order size block = field order (length block - 4) 4 block == size
 
 -- the number of an interface of the section among all that the file describes
 abbrev pub numbered : ContextState → (id : ℕ) → ℕ
 numbered context id = counted_on context.earlier id
 
--- a packet with what an interface and its block say of it, if there is room for it before the last 4 bytes
+-- a packet with what an interface and its block say of it, if there is room for it before the last 4 bytes that are seen
 unfoldable pub packet_of : ContextState → (id : ℕ) → Interface → (moment : Option ℕ) → Said → List ℕ → Result Captured BlockFault
 packet_of context id interface moment said block =
     if nat_lt (length block) (said.place + said.captured + 4)
@@ -118,26 +118,26 @@ abbrev pub with_packet : ContextState → Result Captured BlockFault → Outcome
 with_packet context (Ok packet) = Ok (context, Some packet)
 with_packet context (Err f) = Err f
 
--- the description of an interface, at the end of those of its section, of which there are 1024 at most
-unfoldable pub described_in : ContextState → Endian → List ℕ → Outcome
-described_in context order block = first_that_holds
-    ((nat_lt (length block) 20, Err fault.Length)
+-- the description of an interface, at the end of those of its section, of which there are 1024 at most; all of it is seen
+unfoldable pub described_in : ContextState → Endian → (size : ℕ) → List ℕ → Outcome
+described_in context order size block = first_that_holds
+    ((nat_lt (length block) 20 || nat_lt most_seen size, Err fault.Length)
     ∷ (not (nat_lt (length context.interfaces) 1024), Err fault.Interfaces)
     ∷ [])
     (Ok (record context { interfaces = context.interfaces ++ (interface_in order (slice_range block 8 (length block - 4)) ∷ []) }, None))
 
 -- the same in the byte order that the header says
-unfoldable pub opened_in : Endian → ContextState → List ℕ → Outcome
-opened_in order context block = first_that_holds
-    ((not (is_closed order block), Err fault.Length) ∷ (not (field order 12 2 block == 1), Err fault.Version) ∷ [])
+unfoldable pub opened_in : Endian → ContextState → (size : ℕ) → List ℕ → Outcome
+opened_in order context size block = first_that_holds
+    ((not (is_closed order size block), Err fault.Length) ∷ (not (field order 12 2 block == 1), Err fault.Version) ∷ [])
     (Ok (record { kind = Section order; interfaces = []; earlier = counted_on context.earlier (length context.interfaces) }, None))
 
 -- a section header, whose version begins with 1: a new section, of which no interface was described
-unfoldable pub section_in : ContextState → List ℕ → Outcome
-section_in context block =
+unfoldable pub section_in : ContextState → (size : ℕ) → List ℕ → Outcome
+section_in context size block =
     if nat_lt (length block) 28
     then Err fault.Length
-    else (elim (order_in block) [ None ↦ Err fault.Order | Some order ↦ opened_in order context block ])
+    else (elim (order_in block) [ None ↦ Err fault.Order | Some order ↦ opened_in order context size block ])
 
 -- a packet block of a section: types 6 and 2, whose interface has 4 bytes and 2, and simple ones
 unfoldable pub packet_in : ContextState → Endian → (kind : ℕ) → List ℕ → Result Captured BlockFault
@@ -149,12 +149,12 @@ packet_in context order kind block = first_that_holds
     (simple_in context order block)
 
 -- the blocks behind a section header, by their types; one of another type is passed over
-unfoldable pub next_in : Endian → ContextState → List ℕ → Outcome
-next_in order context block =
+unfoldable pub next_in : Endian → ContextState → (size : ℕ) → List ℕ → Outcome
+next_in order context size block =
     let kind = field order 0 4 block in first_that_holds
-    ((kind == section_type, section_in context block)
-    ∷ (not (is_closed order block), Err fault.Length)
-    ∷ (kind == 1, described_in context order block)
+    ((kind == section_type, section_in context size block)
+    ∷ (not (is_closed order size block), Err fault.Length)
+    ∷ (kind == 1, described_in context order size block)
     ∷ (kind == 6 || (kind == 2 || kind == 3), with_packet context (packet_in context order kind block))
     ∷ [])
     (Ok (context, None))
@@ -174,10 +174,10 @@ classic_in order fraction block = first_that_holds
     ))
 
 -- the first block of a file
-unfoldable pub first_in : ContextState → List ℕ → Outcome
-first_in context block =
+unfoldable pub first_in : ContextState → (size : ℕ) → List ℕ → Outcome
+first_in context size block =
     if field Big 0 4 block == section_type
-    then section_in context block
+    then section_in context size block
     else (elim (form_in block) [ None ↦ Err fault.NoCapture | Some form ↦ classic_in form.0 form.1 block ])
 
 -- the packet of a record of a classic capture
@@ -197,11 +197,15 @@ record_in order fraction context block =
       ]
     ]
 
-abbrev pub block_by : Kind → ContextState → List ℕ → Outcome
-block_by Start context block = first_in context block
-block_by (Classic order fraction) context block = with_packet context (record_in order fraction context block)
-block_by (Section order) context block = next_in order context block
+abbrev pub block_by : Kind → ContextState → (size : ℕ) → List ℕ → Outcome
+block_by Start context size block = first_in context size block
+block_by (Classic order fraction) context size block = with_packet context (record_in order fraction context block)
+block_by (Section order) context size block = next_in order context size block
+
+-- what a block of this size comes to of which this is seen
+abbrev pub seen_in : ContextState → (size : ℕ) → List ℕ → Outcome
+seen_in context size block = block_by context.kind context size block
 
 -- what a whole block comes to
 abbrev pub block_in : ContextState → List ℕ → Outcome
-block_in context block = block_by context.kind context block
+block_in context block = seen_in context (length block) (seen_of block)

@@ -9,7 +9,7 @@ use Rattle.mq_convert.specs.declared.fault.ConvertFault.{ConvertFault}
 use Rattle.mq_convert.specs.declared.fault.ConvertFault.TheVariants as answer
 use Rattle.mq_convert.specs.declared.packet.Packet.{Packet}
 use Rattle.mq_convert.specs.declared.unread.Unread.{Unread}
-use Rattle.mq_convert.specs.Blocks.{Captured, IsHeldWithin, captured_of, block_in}
+use Rattle.mq_convert.specs.Blocks.{Captured, IsHeldWithin, captured_of, seen_in}
 use Rattle.mq_convert.specs.Contexts.{ContextState}
 use Rattle.mq_convert.specs.Converting.{IsEndedBy}
 use Rattle.mq_convert.specs.Faults.{is_cut}
@@ -21,15 +21,15 @@ abbrev pub held_of : List ℕ → Option Packet → Option Captured
 held_of block None = None
 held_of block (Some packet) = Some (captured_of block packet)
 
--- a whole block was read: what it holds, or its fault
-abbrev pub ReadsBlock : (number : ℕ) → (old new : ContextState) → List ℕ → Result (Option Packet) ConvertFault → Type 0
-ReadsBlock number old new block (Ok held) =
-    (block_in old block ≡ Ok (new, held_of block held)) × IsHeldWithin block (Ok held)
-ReadsBlock number old new block (Err (answer.Block n f)) =
-    (n ≡ number) × (block_in old block ≡ Err f) × (is_cut f ≡ false)
-ReadsBlock number old new block (Err answer.Read) = ⊥
-ReadsBlock number old new block (Err answer.Write) = ⊥
-ReadsBlock number old new block (Err answer.Memory) = ⊥
+-- a block of this size was read of which this is seen: what it holds, or its fault
+abbrev pub ReadsBlock : (number : ℕ) → (old new : ContextState) → (size : ℕ) → List ℕ → Result (Option Packet) ConvertFault → Type 0
+ReadsBlock number old new size block (Ok held) =
+    (seen_in old size block ≡ Ok (new, held_of block held)) × IsHeldWithin block (Ok held)
+ReadsBlock number old new size block (Err (answer.Block n f)) =
+    (n ≡ number) × (seen_in old size block ≡ Err f) × (is_cut f ≡ false)
+ReadsBlock number old new size block (Err answer.Read) = ⊥
+ReadsBlock number old new size block (Err answer.Write) = ⊥
+ReadsBlock number old new size block (Err answer.Memory) = ⊥
 
 -- what is written of a block
 abbrev pub block_text : Choice → Option Captured → List ℕ

@@ -1,5 +1,5 @@
 -- How many bytes a block has, by its first ones. A classic capture's blocks are its header and its records.
-use Rattle.std.specs.Prelude.{◌≡◌, ℕ, ◌+◌, ◌%◌, nat_lt, Bool, true, false, not, ◌==◌, if◌then◌else◌, List, [], ◌∷◌, length, take, ◌≤◌, Option, None, Some, Result, Ok, Err}
+use Rattle.std.specs.Prelude.{◌≡◌, ℕ, ◌+◌, ◌-◌, ◌%◌, nat_lt, Bool, true, false, not, ◌==◌, if◌then◌else◌, List, [], ◌∷◌, ◌++◌, length, take, drop, ◌≤◌, Option, None, Some, Result, Ok, Err}
 use Rattle.mq_pcap.specs.declared.form.Endian.{Endian}
 use Rattle.mq_pcap.specs.declared.form.Endian.TheVariants.{Big, Little}
 use Rattle.mq_pcap.specs.declared.form.Fraction.{Fraction}
@@ -11,9 +11,15 @@ use Rattle.mq_convert.specs.declared.context.Kind.TheVariants.{Start, Classic, S
 use Rattle.mq_convert.specs.declared.fault.BlockFault.{BlockFault}
 use Rattle.mq_convert.specs.declared.fault.BlockFault.TheVariants as fault
 
--- the most bytes that a block may have
-abbrev pub greatest_block : ℕ
-greatest_block = 294912
+-- how many bytes of a block are seen at most
+abbrev pub most_seen : ℕ
+most_seen = 294912
+
+-- What is seen of a block: all of it, or of one that is longer its first bytes and its last 4, which are its length. What
+-- stands between is passed over.
+unfoldable pub seen_of : List ℕ → List ℕ
+seen_of block =
+    if nat_lt most_seen (length block) then take (most_seen - 4) block ++ drop (length block - 4) block else block
 
 -- the type of a section header, which reads the same in both byte orders
 abbrev pub section_type : ℕ
@@ -56,7 +62,6 @@ unfoldable pub block_size : Endian → (least : ℕ) → List ℕ → Result ℕ
 block_size order least bytes =
     let size = field order 4 4 bytes in first_that_holds
     ((nat_lt size least, Err fault.Length)
-    ∷ (nat_lt greatest_block size, Err fault.Length)
     ∷ (not (size % 4 == 0), Err fault.Length)
     ∷ [])
     (Ok size)
@@ -72,10 +77,10 @@ first_size bytes =
     then section_size bytes
     else (elim (form_in bytes) [ None ↦ Err fault.NoCapture | Some form ↦ Ok 24 ])
 
--- a record of a classic capture is a header of 16 bytes, and what was captured
+-- a record of a classic capture is a header of 16 bytes, and what was captured, all of which is seen
 unfoldable pub record_size : Endian → List ℕ → Result ℕ BlockFault
 record_size order bytes =
-    let size = 16 + field order 8 4 bytes in if nat_lt greatest_block size then Err fault.Length else Ok size
+    let size = 16 + field order 8 4 bytes in if nat_lt most_seen size then Err fault.Length else Ok size
 
 -- a block behind a section header may be the next section's header
 unfoldable pub next_size : Endian → List ℕ → Result ℕ BlockFault

@@ -1,4 +1,4 @@
-//! What a whole block holds, and what it changes for those behind it.
+//! What a block holds, and what it changes for those behind it, by its size and what is seen of it.
 
 ghost use Rattle.std.specs.Prelude.{◌≡◌, ◌≤◌, false, length, IfErr};
 ghost use Rattle.mq_convert.specs.Blocks as spec;
@@ -7,7 +7,7 @@ ghost use Rattle.mq_convert.specs.Sizes.{least_size};
 ghost use Rattle.mq_convert.specs.Contexts.{context_of};
 ghost use Rattle.mq_convert.specs.Faults.{is_cut};
 
-use crate::context::{Context, Interface, Kind};
+use crate::context::{Context, Interface, Kind, MOST_SEEN};
 use crate::fault::BlockFault;
 use crate::interfaces::interface_in;
 use crate::packet::Packet;
@@ -24,41 +24,41 @@ const SIMPLE_PACKET: u32 = 3;
 
 const ENHANCED_PACKET: u32 = 6;
 
-/// Whether a block ends with its length, as it begins.
-fn is_closed(order: Endian, block: &[u8]) -> bool
+/// Whether a block of this size ends with it, as it begins.
+fn is_closed(order: Endian, size: usize, block: &[u8]) -> bool
     requires { 4 ≤ length block.now }
-    ensures { result ≡ spec.is_closed order block.now }
+    ensures { result ≡ spec.is_closed order size block.now }
 {
-    order.double_word(block, block.len() - 4) as usize == block.len()
+    order.double_word(block, block.len() - 4) as usize == size
 }
 
 impl Context {
-    /// Reads a whole block: the packet in it, if it has one.
+    /// Reads a block of this size, of which this is seen: the packet in it, if it has one.
     #[inline(always)]
-    #[tactic(auto, unfolding(crate::specs::Blocks::block_in))]
-    pub(crate) fn read(&mut self, block: &[u8]) -> Result<Option<Packet>, BlockFault>
+    #[tactic(auto, unfolding(crate::specs::Blocks::seen_in))]
+    pub(crate) fn read(&mut self, size: usize, block: &[u8]) -> Result<Option<Packet>, BlockFault>
         requires { least_size (context_of self.old).kind ≤ length block.now }
-        ensures held { answer_of (context_of self.new) block.now result ≡ spec.block_in (context_of self.old) block.now }
+        ensures held { answer_of (context_of self.new) block.now result ≡ spec.seen_in (context_of self.old) size block.now }
         ensures within { IsHeldWithin block.now result }
         ensures uncut { IfErr result (λ f. is_cut f ≡ false) }
     {
         match self.kind {
-            Kind::Start => self.read_first(block),
+            Kind::Start => self.read_first(size, block),
             Kind::Classic { order, fraction } => Ok(Some(self.record(order, fraction, block)?)),
-            Kind::Section { order } => self.read_next(order, block),
+            Kind::Section { order } => self.read_next(order, size, block),
         }
     }
 
     /// The first block of a file.
     #[tactic(auto, unfolding(crate::specs::Blocks::first_in))]
-    fn read_first(&mut self, block: &[u8]) -> Result<Option<Packet>, BlockFault>
+    fn read_first(&mut self, size: usize, block: &[u8]) -> Result<Option<Packet>, BlockFault>
         requires { 24 ≤ length block.now }
-        ensures held { answer_of (context_of self.new) block.now result ≡ spec.first_in (context_of self.old) block.now }
+        ensures held { answer_of (context_of self.new) block.now result ≡ spec.first_in (context_of self.old) size block.now }
         ensures within { IsHeldWithin block.now result }
         ensures uncut { IfErr result (λ f. is_cut f ≡ false) }
     {
         if Endian::Big.double_word(block, 0) == SECTION {
-            return self.read_section(block);
+            return self.read_section(size, block);
         }
         match form_in(block) {
             Some((order, fraction)) => self.read_classic(order, fraction, block),
@@ -99,9 +99,9 @@ impl Context {
 
     /// A section header.
     #[tactic(auto, unfolding(crate::specs::Blocks::section_in))]
-    fn read_section(&mut self, block: &[u8]) -> Result<Option<Packet>, BlockFault>
+    fn read_section(&mut self, size: usize, block: &[u8]) -> Result<Option<Packet>, BlockFault>
         requires { 12 ≤ length block.now }
-        ensures held { answer_of (context_of self.new) block.now result ≡ spec.section_in (context_of self.old) block.now }
+        ensures held { answer_of (context_of self.new) block.now result ≡ spec.section_in (context_of self.old) size block.now }
         ensures within { IsHeldWithin block.now result }
         ensures uncut { IfErr result (λ f. is_cut f ≡ false) }
     {
@@ -109,20 +109,25 @@ impl Context {
             return Err(BlockFault::Length);
         }
         match order_in(block) {
-            Some(order) => self.open_section(order, block),
+            Some(order) => self.open_section(order, size, block),
             None => Err(BlockFault::Order),
         }
     }
 
     /// A section header of this byte order.
     #[tactic(auto, unfolding(crate::specs::Blocks::opened_in))]
-    fn open_section(&mut self, order: Endian, block: &[u8]) -> Result<Option<Packet>, BlockFault>
+    fn open_section(
+        &mut self,
+        order: Endian,
+        size: usize,
+        block: &[u8],
+    ) -> Result<Option<Packet>, BlockFault>
         requires { 28 ≤ length block.now }
-        ensures held { answer_of (context_of self.new) block.now result ≡ spec.opened_in order (context_of self.old) block.now }
+        ensures held { answer_of (context_of self.new) block.now result ≡ spec.opened_in order (context_of self.old) size block.now }
         ensures within { IsHeldWithin block.now result }
         ensures uncut { IfErr result (λ f. is_cut f ≡ false) }
     {
-        if !is_closed(order, block) {
+        if !is_closed(order, size, block) {
             return Err(BlockFault::Length);
         }
         if order.word(block, 12) != 1 {
@@ -137,21 +142,26 @@ impl Context {
     /// A block behind a section header.
     #[inline(always)]
     #[tactic(auto, unfolding(crate::specs::Blocks::next_in))]
-    fn read_next(&mut self, order: Endian, block: &[u8]) -> Result<Option<Packet>, BlockFault>
+    fn read_next(
+        &mut self,
+        order: Endian,
+        size: usize,
+        block: &[u8],
+    ) -> Result<Option<Packet>, BlockFault>
         requires { 12 ≤ length block.now }
-        ensures held { answer_of (context_of self.new) block.now result ≡ spec.next_in order (context_of self.old) block.now }
+        ensures held { answer_of (context_of self.new) block.now result ≡ spec.next_in order (context_of self.old) size block.now }
         ensures within { IsHeldWithin block.now result }
         ensures uncut { IfErr result (λ f. is_cut f ≡ false) }
     {
         let kind = order.double_word(block, 0);
         if kind == SECTION {
-            return self.read_section(block);
+            return self.read_section(size, block);
         }
-        if !is_closed(order, block) {
+        if !is_closed(order, size, block) {
             return Err(BlockFault::Length);
         }
         match kind {
-            INTERFACE => self.read_interface(order, block),
+            INTERFACE => self.read_interface(order, size, block),
             ENHANCED_PACKET | OBSOLETE_PACKET | SIMPLE_PACKET => {
                 Ok(Some(self.packet_in(order, kind, block)?))
             }
@@ -180,13 +190,18 @@ impl Context {
 
     /// The description of an interface.
     #[tactic(auto, unfolding(crate::specs::Blocks::described_in))]
-    fn read_interface(&mut self, order: Endian, block: &[u8]) -> Result<Option<Packet>, BlockFault>
+    fn read_interface(
+        &mut self,
+        order: Endian,
+        size: usize,
+        block: &[u8],
+    ) -> Result<Option<Packet>, BlockFault>
         requires { 12 ≤ length block.now }
-        ensures held { answer_of (context_of self.new) block.now result ≡ spec.described_in (context_of self.old) order block.now }
+        ensures held { answer_of (context_of self.new) block.now result ≡ spec.described_in (context_of self.old) order size block.now }
         ensures within { IsHeldWithin block.now result }
         ensures uncut { IfErr result (λ f. is_cut f ≡ false) }
     {
-        if block.len() < 20 {
+        if block.len() < 20 || size > MOST_SEEN {
             return Err(BlockFault::Length);
         }
         if self.interfaces.is_full() {

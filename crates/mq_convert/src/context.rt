@@ -6,8 +6,9 @@ use mq_pcap::{Endian, Fraction};
 /// How many interfaces a section may describe.
 pub const MOST_INTERFACES: usize = 1024;
 
-/// The most bytes that a block may have, of a classic capture a record with its header.
-pub const GREATEST_BLOCK: usize = 294_912;
+/// How many bytes of a block are seen at most: of a longer one its first ones and its last four. A record of a classic
+/// capture has no more with its header.
+pub const MOST_SEEN: usize = 294_912;
 
 /// What kind of block comes next.
 #[derive(Clone, Copy)]

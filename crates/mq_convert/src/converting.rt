@@ -10,11 +10,11 @@ ghost use Rattle.mq_convert.specs.Converting.{Converts};
 ghost use Rattle.mq_convert.specs.Faults as spec;
 ghost use Rattle.mq_convert.specs.Putting.{PutsCapture, ReadsBlock, block_text, held_of};
 ghost use Rattle.mq_convert.specs.Records.{unread_links};
-ghost use Rattle.mq_convert.specs.Sizes.{greatest_block, least_size};
+ghost use Rattle.mq_convert.specs.Sizes.{least_size, most_seen};
 ghost use Rattle.mq_convert.specs.Tallies.{Tallies};
 
 use crate::choice::Choice;
-use crate::context::{Context, GREATEST_BLOCK};
+use crate::context::{Context, MOST_SEEN};
 use crate::fault::ConvertFault;
 use crate::next_block::{faulty, next_block};
 use crate::packet::Packet;
@@ -42,7 +42,7 @@ pub fn convert<R: Read, W: Write>(
     ensures failed { has_failed writer.new ≡ has_failed writer.old || spec.is_failed_write result }
     ensures memory { result ≡ Err ConvertFault.Memory → (reader.new ≡ reader.old) × (writer.new ≡ writer.old) }
 {
-    let mut block = match vec![in alloc; 0; GREATEST_BLOCK] {
+    let mut block = match vec![in alloc; 0; MOST_SEEN] {
         Ok(block) => block,
         Err(_) => return Err(ConvertFault::Memory),
     };
@@ -56,7 +56,7 @@ fn convert_by<R: Read, W: Write>(
     reader: &mut Watched<R>,
     writer: &mut Watched<W>,
 ) -> Result<Unread, ConvertFault>
-    requires { greatest_block ≤ length block.old }
+    requires { most_seen ≤ length block.old }
     ensures converts { Converts choice
         (input_of R.remaining reader.old) (input_of R.remaining reader.new)
         (W.contents (inner_of writer.old)) (W.contents (inner_of writer.new))
@@ -88,7 +88,7 @@ fn put_capture<R: Read, W: Write>(
     reader: &mut Watched<R>,
     writer: &mut Watched<W>,
 ) -> Result<Unread, ConvertFault>
-    requires room { greatest_block ≤ length block.old }
+    requires room { most_seen ≤ length block.old }
     requires empty { buffer.old.items ≡ [] }
     ensures puts { PutsCapture choice
         (input_of R.remaining reader.old) (input_of R.remaining reader.new)
@@ -102,25 +102,26 @@ fn put_capture<R: Read, W: Write>(
     let mut unread = Unread::none();
     let mut number = 0;
     while let Some(size) = next_block(context.kind, number, reader, block)? {
-        let read = &block[..size];
-        let held = read_block(&mut context, number, read)?;
-        put_held(choice, held, read, &mut unread, buffer, writer)?;
+        let seen = &block[..size.min(MOST_SEEN)];
+        let held = read_block(&mut context, number, size, seen)?;
+        put_held(choice, held, seen, &mut unread, buffer, writer)?;
         number += 1;
     }
     Ok(unread)
 }
 
-/// Reads a whole block of this number.
+/// Reads a block of this number and this size, of which this is seen.
 #[inline(always)]
 fn read_block(
     context: &mut Context,
     number: u64,
-    block: &[u8],
+    size: usize,
+    seen: &[u8],
 ) -> Result<Option<Packet>, ConvertFault>
-    requires { least_size (context_of context.old).kind ≤ length block.now }
-    ensures { ReadsBlock number (context_of context.old) (context_of context.new) block.now result }
+    requires { least_size (context_of context.old).kind ≤ length seen.now }
+    ensures { ReadsBlock number (context_of context.old) (context_of context.new) size seen.now result }
 {
-    match context.read(block) {
+    match context.read(size, seen) {
         Ok(held) => Ok(held),
         Err(fault) => Err(faulty(number, fault)),
     }

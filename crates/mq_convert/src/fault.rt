@@ -22,8 +22,9 @@ pub enum BlockFault {
     /// The number by which a section says its byte order is in neither.
     #[error("a section of no byte order")]
     Order,
-    /// The length is none that such a block can have, or more than `GREATEST_BLOCK`; or it contradicts the one
-    /// that is repeated at the block's end, or the length of the packet in it.
+    /// The length is none that such a block can have; or it contradicts the one that is repeated at the block's end, or
+    /// the length of the packet in it. Or a packet ends behind what is seen of its block, `MOST_SEEN` bytes, or the
+    /// description of an interface is longer.
     #[error("an impossible length")]
     Length,
     /// The block has a packet of an interface that wasn't described before.

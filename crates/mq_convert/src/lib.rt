@@ -25,14 +25,16 @@ mod moments;
 mod next_block;
 mod packet;
 mod packets;
+mod passing;
 mod pieces;
 mod records;
+mod seeing;
 mod sizes;
 mod tags;
 mod unread;
 
 pub use choice::Choice;
-pub use context::{Context, GREATEST_BLOCK, Interface, Kind, MOST_INTERFACES};
+pub use context::{Context, Interface, Kind, MOST_INTERFACES, MOST_SEEN};
 pub use converting::convert;
 pub use fault::{BlockFault, ConvertFault};
 pub use unread::{LinkCount, MOST_LINKS, Unread};

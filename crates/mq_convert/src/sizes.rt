@@ -4,7 +4,7 @@ ghost use Rattle.std.specs.Prelude.{◌≡◌, ◌≤◌, false, length, IfErr, 
 ghost use Rattle.mq_convert.specs.Faults.{is_cut};
 ghost use Rattle.mq_convert.specs.Sizes as spec;
 
-use crate::context::{GREATEST_BLOCK, Kind};
+use crate::context::{Kind, MOST_SEEN};
 use crate::fault::BlockFault;
 use mq_pcap::{Endian, Fraction};
 
@@ -76,11 +76,11 @@ pub(crate) fn order_in(bytes: &[u8]) -> Option<Endian>
 fn block_size(order: Endian, least: usize, bytes: &[u8]) -> Result<usize, BlockFault>
     requires { 12 ≤ length bytes.now }
     ensures size { result ≡ spec.block_size order least bytes.now }
-    ensures within { IfOk result (λ n. (least ≤ n) × (n ≤ spec.greatest_block)) }
+    ensures within { IfOk result (λ n. least ≤ n) }
     ensures uncut { IfErr result (λ f. is_cut f ≡ false) }
 {
     let size = order.double_word(bytes, 4) as usize;
-    if size < least || size > GREATEST_BLOCK || size % 4 != 0 {
+    if size < least || size % 4 != 0 {
         return Err(BlockFault::Length);
     }
     Ok(size)
@@ -91,7 +91,7 @@ fn block_size(order: Endian, least: usize, bytes: &[u8]) -> Result<usize, BlockF
 fn section_size(bytes: &[u8]) -> Result<usize, BlockFault>
     requires { 12 ≤ length bytes.now }
     ensures size { result ≡ spec.section_size bytes.now }
-    ensures within { IfOk result (λ n. (28 ≤ n) × (n ≤ spec.greatest_block)) }
+    ensures within { IfOk result (λ n. 28 ≤ n) }
     ensures uncut { IfErr result (λ f. is_cut f ≡ false) }
 {
     match order_in(bytes) {
@@ -105,7 +105,7 @@ fn section_size(bytes: &[u8]) -> Result<usize, BlockFault>
 fn first_size(bytes: &[u8]) -> Result<usize, BlockFault>
     requires { 12 ≤ length bytes.now }
     ensures size { result ≡ spec.first_size bytes.now }
-    ensures within { IfOk result (λ n. (24 ≤ n) × (n ≤ spec.greatest_block)) }
+    ensures within { IfOk result (λ n. 24 ≤ n) }
     ensures uncut { IfErr result (λ f. is_cut f ≡ false) }
 {
     if Endian::Big.double_word(bytes, 0) == SECTION {
@@ -122,11 +122,11 @@ fn first_size(bytes: &[u8]) -> Result<usize, BlockFault>
 fn record_size(order: Endian, bytes: &[u8]) -> Result<usize, BlockFault>
     requires { 16 ≤ length bytes.now }
     ensures size { result ≡ spec.record_size order bytes.now }
-    ensures within { IfOk result (λ n. (16 ≤ n) × (n ≤ spec.greatest_block)) }
+    ensures within { IfOk result (λ n. 16 ≤ n) }
     ensures uncut { IfErr result (λ f. is_cut f ≡ false) }
 {
     let size = 16 + order.double_word(bytes, 8) as usize;
-    if size > GREATEST_BLOCK {
+    if size > MOST_SEEN {
         return Err(BlockFault::Length);
     }
     Ok(size)
@@ -137,7 +137,7 @@ fn record_size(order: Endian, bytes: &[u8]) -> Result<usize, BlockFault>
 fn next_size(order: Endian, bytes: &[u8]) -> Result<usize, BlockFault>
     requires { 12 ≤ length bytes.now }
     ensures size { result ≡ spec.next_size order bytes.now }
-    ensures within { IfOk result (λ n. (12 ≤ n) × (n ≤ spec.greatest_block)) }
+    ensures within { IfOk result (λ n. 12 ≤ n) }
     ensures uncut { IfErr result (λ f. is_cut f ≡ false) }
 {
     if order.double_word(bytes, 0) == SECTION {
@@ -150,7 +150,7 @@ fn next_size(order: Endian, bytes: &[u8]) -> Result<usize, BlockFault>
 pub(crate) fn size_in(kind: Kind, bytes: &[u8]) -> Result<usize, BlockFault>
     requires { spec.head_size kind ≤ length bytes.now }
     ensures size { result ≡ spec.size_in kind bytes.now }
-    ensures within { IfOk result (λ n. (spec.least_size kind ≤ n) × (n ≤ spec.greatest_block)) }
+    ensures within { IfOk result (λ n. spec.least_size kind ≤ n) }
     ensures uncut { IfErr result (λ f. is_cut f ≡ false) }
 {
     match kind {

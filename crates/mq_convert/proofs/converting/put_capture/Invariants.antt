@@ -5,7 +5,7 @@ use Rattle.mq_replay.specs.Printing.{Passes}
 use Rattle.mq_convert.specs.Contexts.{context_of}
 use Rattle.mq_convert.specs.Files.{endless}
 use Rattle.mq_convert.specs.Records.{converted, packets_of}
-use Rattle.mq_convert.specs.Sizes.{greatest_block}
+use Rattle.mq_convert.specs.Sizes.{most_seen}
 use Rattle.mq_convert.proofs.SoFar.{IsReadTo}
 use Rattle.mq_convert.proofs.converting.put_capture.Given as goal
 
@@ -18,7 +18,7 @@ invariant-loop-size g l =
       put : (r : IsReadTo l.choice old now (context_of l.context) l.number l.unread)
           × Passes (g.W.Write.contents (inner_of l.fn.writer)) (g.W.Write.contents (inner_of l.writer)) l.fn.buffer.items l.buffer.items (converted l.choice (packets_of r.blocks));
       few : l.number ≤ endless;
-      room : greatest_block ≤ length l.block;
+      room : most_seen ≤ length l.block;
       read : has_failed l.reader ≡ has_failed l.fn.reader;
       written : has_failed l.writer ≡ has_failed l.fn.writer;
     }
