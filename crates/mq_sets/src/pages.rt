@@ -19,6 +19,8 @@ use std::marker::Model;
 pub(crate) const PAGE_ROOM: usize = 511;
 /// How many numbers two neighbouring pages have at least.
 pub(crate) const TWO_PAGES: usize = 256;
+/// How many numbers a page has where all are written anew.
+const FILLED_TO: usize = 384;
 /// How many numbers stay in a full page that is split.
 const FIRST_HALF: usize = 255;
 
@@ -221,6 +223,44 @@ impl Pages {
         } else if spot.page > 0 && self.must_join(spot.page - 1) {
             self.join(spot.page - 1, moves);
         }
+    }
+
+    /// Has these numbers alone, in their order, in pages that are three quarters full but for the last.
+    pub(crate) fn fill(&mut self, numbers: &[u16], moves: &mut Moves)
+        requires fits { length numbers.now ≤ length (numbers_in self.old.pages) }
+        requires filled { AreFilled (map length self.old.pages) }
+        ensures numbers { numbers_in self.new.pages ≡ numbers.now }
+        ensures filled { AreFilled (map length self.new.pages) }
+        ensures limit { self.new.limit ≡ self.old.limit }
+    {
+        self.clear();
+        for number in numbers {
+            self.append(*number);
+        }
+        moves.count(numbers.len());
+    }
+
+    /// Leaves one page, which is empty.
+    fn clear(&mut self)
+        ensures pages { self.new ≡ record self.old { pages = [] ∷ [] } }
+    {
+        while self.used.len() > 1 {
+            let mut page = self.used.pop().unwrap();
+            page.clear();
+            self.spare.push(page).unwrap();
+        }
+        self.used[0].clear();
+    }
+
+    /// Puts a number behind the last one.
+    fn append(&mut self, number: u16)
+    {
+        if self.used[self.used.len() - 1].len() == FILLED_TO {
+            let page = self.spare.pop().unwrap();
+            self.used.push(page).unwrap();
+        }
+        let last = self.used.len() - 1;
+        self.used[last].push(number).unwrap();
     }
 
     /// Takes the number at a spot out, and nothing else.
