@@ -149,10 +149,10 @@ impl NumberedMoments {
     {
         let leaf = self.leaves[number as usize] as usize;
         let first = self.numbers.len() / 2;
-        leaf >= first
-            && leaf < self.numbers.len()
-            && self.numbers[leaf] == number
-            && m.reached(self.tree.moment(leaf), now)
+        if leaf < first || leaf >= self.numbers.len() || self.numbers[leaf] != number {
+            return false;
+        }
+        m.reached(self.tree.moment(leaf), now)
     }
 
     /// Writes the numbers whose moments are at or before `now` at the front of `numbers`, each once, in any order, and answers

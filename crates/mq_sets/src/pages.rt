@@ -227,40 +227,47 @@ impl Pages {
 
     /// Has these numbers alone, in their order, in pages that are three quarters full but for the last.
     pub(crate) fn fill(&mut self, numbers: &[u16], moves: &mut Moves)
-        requires fits { length numbers.now ≤ length (numbers_in self.old.pages) }
-        requires filled { AreFilled (map length self.old.pages) }
+        requires some { 1 ≤ self.old.limit }
+        requires room { length numbers.now ≤ 128 * self.old.limit }
         ensures numbers { numbers_in self.new.pages ≡ numbers.now }
         ensures filled { AreFilled (map length self.new.pages) }
         ensures limit { self.new.limit ≡ self.old.limit }
+        ensures moved { let moved = length self.old.pages + length numbers.now + length self.new.pages in
+            Spends moved moved moves.old moves.new }
     {
-        self.clear();
-        for number in numbers {
-            self.append(*number);
+        self.clear(moves);
+        let mut done = numbers.len().min(FILLED_TO);
+        self.append(&numbers[..done], moves);
+        while done < numbers.len() {
+            let next = (done + FILLED_TO).min(numbers.len());
+            self.append(&numbers[done..next], moves);
+            done = next;
         }
-        moves.count(numbers.len());
     }
 
-    /// Leaves one page, which is empty.
-    fn clear(&mut self)
-        ensures pages { self.new ≡ record self.old { pages = [] ∷ [] } }
+    /// Leaves no page.
+    fn clear(&mut self, moves: &mut Moves)
+        ensures pages { self.new ≡ record self.old { pages = [] } }
+        ensures moved { let moved = length self.old.pages in Spends moved moved moves.old moves.new }
     {
-        while self.used.len() > 1 {
-            let mut page = self.used.pop().unwrap();
+        moves.count(self.used.len());
+        while let Some(mut page) = self.used.pop() {
             page.clear();
             self.spare.push(page).unwrap();
         }
-        self.used[0].clear();
     }
 
-    /// Puts a number behind the last one.
-    fn append(&mut self, number: u16)
+    /// One page more, behind the others, with these numbers.
+    fn append(&mut self, numbers: &[u16], moves: &mut Moves)
+        requires room { length self.old.pages < self.old.limit }
+        requires within { length numbers.now ≤ 511 }
+        ensures pages { self.new ≡ record self.old { pages = self.old.pages ++ numbers.now ∷ [] } }
+        ensures moved { let moved = length numbers.now + 1 in Spends moved moved moves.old moves.new }
     {
-        if self.used[self.used.len() - 1].len() == FILLED_TO {
-            let page = self.spare.pop().unwrap();
-            self.used.push(page).unwrap();
-        }
-        let last = self.used.len() - 1;
-        self.used[last].push(number).unwrap();
+        let mut page = self.spare.pop().unwrap();
+        page.extend_from_slice(numbers).unwrap();
+        self.used.push(page).unwrap();
+        moves.count(numbers.len() + 1);
     }
 
     /// Takes the number at a spot out, and nothing else.
