@@ -1,4 +1,4 @@
-use Rattle.std.proofs.Common.{◌≡◌, ◌-◌, sym, ap, ◌∙◌, subst, refl, arith, length, take, drop, [], ◌∷◌, length-append, length-take, length-drop}
+use Rattle.std.proofs.Common.{◌-◌, sym, ap, ◌∙◌, subst, refl, arith, length, take, drop, [], ◌∷◌, length-append, length-take, length-drop}
 use Rattle.mq_count.proofs.Spent.{Spends-join_within}
 use Rattle.mq_sets.specs.NumberedKeys.{PagesState}
 use Rattle.mq_sets.proofs.PagesFilled.{IsFilling, IsFilling-more}
