@@ -24,11 +24,11 @@ returns-then-leaf-first-clause-due c =
     let within : n < length leaves = omega (arith, c.requires.number, c.self.invariant.4, ap (λ (s : NumberedMomentsState). s.room) c.self.view_is) in
     let told : c.index.result.now ≡ get_or leaves n 0 = get_or_read leaves n c.index.result.now within c.index.ensures 0 in
     let absent : IsLeafOf numbers count (get_or leaves n 0) n → ⊥ = elim c.then-leaf-first.branch as (λ _. IsLeafOf numbers count (get_or leaves n 0) n → ⊥) [
-      then-leaf-first-via-then-leaf-first w ↦ λ is. omega (arith, told, is.from, known.size, w.if-leaf-first.true, c.len-first.ensures, c.self.inside.numbers.ok.0)
-    | then-leaf-first-via-else-leaf-first+then-leaf-len w ↦ λ is. omega (arith, told, is.below, known.size, w.if-leaf-len.true, w.len.ensures, c.self.inside.numbers.ok.0)
-    | then-leaf-first-via-else-leaf-first+else-leaf-len+then-index-number w ↦ λ is.
-      let leaf : c.index.result.now < length numbers = omega (arith, w.if-leaf-len.false, w.len.ensures, c.self.inside.numbers.ok.0) in
-      w.if-index-number.true (get_or_read numbers c.index.result.now w.index-else-leaf-len.result.now leaf w.index-else-leaf-len.ensures 0 ∙ ap (λ l. get_or numbers l 0) told ∙ is.has)
+      | then-leaf-first-via-then-leaf-first w ↦ λ is. omega (arith, told, is.from, known.size, w.if-leaf-first.true, c.len-first.ensures, c.self.inside.numbers.ok.0)
+      | then-leaf-first-via-else-leaf-first+then-leaf-len w ↦ λ is. omega (arith, told, is.below, known.size, w.if-leaf-len.true, w.len.ensures, c.self.inside.numbers.ok.0)
+      | then-leaf-first-via-else-leaf-first+else-leaf-len+then-index-number w ↦ λ is.
+          let leaf : c.index.result.now < length numbers = omega (arith, w.if-leaf-len.false, w.len.ensures, c.self.inside.numbers.ok.0) in
+          w.if-index-number.true (get_or_read numbers c.index.result.now w.index-else-leaf-len.result.now leaf w.index-else-leaf-len.ensures 0 ∙ ap (λ l. get_or numbers l 0) told ∙ is.has)
     ] in
     sym (ap (λ (s : NumberedMomentsState). is_number_due s.moments c.args.now n) (sym c.self.view_is) ∙ due-none nodes leaves numbers count known c.args.now n absent)
 
