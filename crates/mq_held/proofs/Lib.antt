@@ -1,0 +1,10 @@
+pub mod Sorted
+pub mod Entries
+pub mod LeastMoments
+pub mod HeldMoments
+pub mod Places
+pub mod Amounts
+pub mod OrderedItems
+pub mod OrderedGroups
+pub mod Inside
+mod HeldInOrder
