@@ -1,0 +1,5 @@
+pub mod AskedFor
+pub mod Entering
+pub mod Tellings
+pub mod Texts
+pub mod Waits
