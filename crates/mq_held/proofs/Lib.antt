@@ -1,0 +1,13 @@
+pub mod Sorted
+pub mod Entries
+pub mod LeastMoments
+pub mod HeldMoments
+pub mod Places
+pub mod Amounts
+pub mod OrderedItems
+pub mod OrderedGroups
+pub mod OrderedAmounts
+pub mod StoredEdits
+pub mod Inside
+mod EarliestHeld
+mod HeldInOrder
