@@ -17,9 +17,13 @@ use Rattle.mq_sets.specs.Search.{IsPlaceFor}
 use Rattle.mq_sets.proofs.Stored.{map-insert, map-remove}
 use Rattle.mq_sched.specs.Schedule.{ScheduledGroup}
 use Rattle.mq_held.specs.Groups.{Groups, unheld, group_at}
-use Rattle.mq_held.specs.Places.{HasPlace, GoesAt, group_in}
+use Rattle.mq_held.specs.Places.{HasPlace, group_in}
 use Rattle.mq_held.proofs.Sorted.{first, second, tied, ties, ascending-sorted, below-all}
 use Rattle.mq_held.proofs.Entries.{place_within, key_at, get-place, get-absent, entries-replaced, entries-deleted, entries-made}
+
+-- a group that isn't held would go to this place
+pub record GoesAt (groups : Groups) (address place : ℕ) : Type 0 where
+  pub goes : IsPlaceFor (λ n. n) (map.keys groups) address place
 
 -- a place within a list, by the number that stands there
 place_of_key : (ks : List ℕ) (p k : ℕ) → p < length ks → get_or ks p k ≡ k → slice_get ks p ≡ Some k
