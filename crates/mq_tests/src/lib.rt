@@ -15,6 +15,8 @@ mod facts;
 #[cfg(test)]
 mod groups;
 #[cfg(test)]
+mod held_groups;
+#[cfg(test)]
 mod merges;
 #[cfg(test)]
 mod meters;
