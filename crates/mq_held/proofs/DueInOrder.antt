@@ -36,7 +36,7 @@ use Rattle.mq_held.proofs.DueNumbers.{due-number, due-unused}
 use Rattle.mq_held.proofs.Entries.{get-place}
 use Rattle.mq_held.proofs.GroupsInOrder.{IsOrdered, IsOrdered-stored, all-numbers, all-addresses}
 use Rattle.mq_held.proofs.Inside.{items_are}
-use Rattle.mq_held.proofs.KeysByNumber.{numbers_in, keys_in, map-filter, filter-agree, key-of_item}
+use Rattle.mq_held.proofs.KeysByNumber.{numbers_in, numbers-ascend, map-filter, filter-agree}
 use Rattle.mq_held.proofs.OrderedAmounts.{sum_by-map, times-filter}
 use Rattle.mq_held.proofs.OrderedItems.{number_of, has-number, times-in, absent-times}
 
@@ -92,17 +92,6 @@ abbrev pub is_due_at : HeldState → ℕ → ℕ → Bool
 is_due_at s now n = has_due now (group_at s.groups (key_in s.order.items n))
 
 module _ {s : HeldState} (known : IsOrdered s) (now : ℕ) where
-  numbers_ascend : IsAscending (key_in s.order.items) (numbers_in s.order.items)
-  numbers_ascend i j d before in_list =
-      let size = length-map s.order.items (λ (x : NumberedKey). x.number) in
-      let x : NumberedKey = record { number = d; key = 0 } in
-      let j_in : j < length s.order.items = omega (arith, in_list, size) in
-      let i_in : i < length s.order.items = omega (arith, before, j_in) in
-      let at_i = key-of_item s.order.items known.once i x i_in in
-      let at_j = key-of_item s.order.items known.once j x j_in in
-      let up = known.ascending i j x before j_in in
-      rw (get_or-map (λ (x : NumberedKey). x.number) s.order.items i x d i_in, get_or-map (λ (x : NumberedKey). x.number) s.order.items j x d j_in) (omega (arith, at_i, at_j, up))
-
   pub due-left : {ns : List ℕ} → ns ≡ filter (is_due_at s now) (numbers_in s.order.items) → list_map (key_in s.order.items) ns ≡ addresses_due now s.groups
   due-left is =
       ap (list_map (key_in s.order.items)) is
@@ -119,7 +108,7 @@ module _ {s : HeldState} (known : IsOrdered s) (now : ℕ) where
       subst (All (IsNumber s)) (sym is) (All-filter (is_due_at s now) (IsNumber s) (numbers_in s.order.items) (all-numbers known))
 
   left_ascend : IsAscending (key_in s.order.items) (filter (is_due_at s now) (numbers_in s.order.items))
-  left_ascend = AllPairs-filter (λ n m. key_in s.order.items n < key_in s.order.items m) (is_due_at s now) (numbers_in s.order.items) numbers_ascend
+  left_ascend = AllPairs-filter (λ n m. key_in s.order.items n < key_in s.order.items m) (is_due_at s now) (numbers_in s.order.items) (numbers-ascend s.order.items known.ascending known.once)
 
   pub ordered-left : {ns : List ℕ} → IsAscending (key_in s.order.items) ns → ((n : ℕ) → times n ns ≡ times n (filter (is_due_at s now) (numbers_in s.order.items))) → ns ≡ filter (is_due_at s now) (numbers_in s.order.items)
   ordered-left {ns = ns} up same =

@@ -1,5 +1,5 @@
 -- The earliest of all moments of the groups, by the moments of their numbers.
-use Rattle.std.proofs.Common.{◌≡◌, ℕ, zero, suc, ◌+◌, ◌<◌, ◌≤◌, min, Bool, true, false, true≢false, if◌then◌else◌, refl, List, [], ◌∷◌, ◌++◌, length, map, get_or, Option, None, Some, is_some, sym, ap, ◌∙◌, subst, arith, ⊎_elim}
+use Rattle.std.proofs.Common.{◌≡◌, ℕ, zero, suc, ◌+◌, ◌<◌, ◌≤◌, Bool, true, false, true≢false, if◌then◌else◌, refl, List, [], ◌∷◌, ◌++◌, length, map, get_or, Option, None, Some, is_some, sym, ap, ◌∙◌, subst, arith, ⊎_elim}
 use Rattle.std.specs.Prelude.{nat_lt, MatchOption}
 use Rattle.std.specs.List.{All, Contains, flat_map}
 use Rattle.std.specs.Option.{option_to_list}
@@ -9,11 +9,10 @@ use Rattle.std.specs.FinMap.{FinMap}
 use Rattle.std.proofs.lemmas.Bool.{cases_lt, lt-ltb, le-ltb}
 use Rattle.std.proofs.lemmas.List.Elements.{All-nil, All-cons, Contains-append_left, Contains-append_right}
 use Rattle.std.proofs.lemmas.List.Concat.{flat_map-cons}
-use Rattle.mq_sets.specs.Ascending.{IsAscending, set_of}
+use Rattle.mq_sets.specs.Ascending.{set_of}
 use Rattle.mq_sets.specs.NumberedKeys.{NumberedKey, NumberedKeysState}
 use Rattle.mq_table.specs.declared.sources.Source.{Source}
 use Rattle.mq_sched.specs.NumberedMoments.{IsEarliestMoment}
-use Rattle.mq_sched.specs.Schedule.{ScheduledGroup}
 use Rattle.mq_held.specs.declared.scheduled_head.ScheduledHead.{ScheduledHead}
 use Rattle.mq_held.specs.Groups.{running_in}
 use Rattle.mq_held.specs.Held.{HeldState}

@@ -1,13 +1,13 @@
 -- What is stored says of the groups that a contract sees.
-use Rattle.std.proofs.Common.{◌≡◌, ◌==◌, ◌&&◌, Bool, not, ℕ, ◌<◌, ◌≤◌, true, false, refl, List, [], ◌∷◌, length, map, get_or, set, Option, None, Some, sym, ap, ◌∙◌, subst, arith}
-use Rattle.std.specs.List.{Contains, sum_by}
+use Rattle.std.proofs.Common.{◌≡◌, ◌==◌, ◌&&◌, Bool, not, ℕ, ◌<◌, true, refl, List, [], length, map, get_or, set, sym, ap, ◌∙◌, subst, arith}
+use Rattle.std.specs.List.{Contains}
 use Rattle.std.specs.Ordering.{nat_cmp}
 use Rattle.std.specs.FinMap as map
 use Rattle.std.specs.FinMap.{FinMap}
 use Rattle.std.proofs.lemmas.Bool.{le-leb}
 use Rattle.std.proofs.lemmas.List.{get_or_read}
 use Rattle.mq_sets.specs.Ascending.{IsAscending, set_of}
-use Rattle.mq_sets.specs.NumberedKeys.{NumberedKey, NumberedKeysState}
+use Rattle.mq_sets.specs.NumberedKeys.{NumberedKeysState, key_in}
 use Rattle.mq_sets.specs.Pools.{cells_in}
 use Rattle.mq_table.specs.declared.sources.Source.{Source}
 use Rattle.mq_table.specs.Group.{is_include, is_vacant}
@@ -18,9 +18,9 @@ use Rattle.mq_held.specs.declared.scheduled_head.ScheduledHead.{ScheduledHead}
 use Rattle.mq_held.specs.Groups.{group_at, sources_of, sources_in, schedules_in, running_in}
 use Rattle.mq_held.specs.Held.{HeldState, HasNumber, IsNumber, ahead_with}
 use Rattle.mq_held.specs.Stored.{group_of, group_by, no_head, groups_by, IsStored}
-use Rattle.mq_held.proofs.OrderedItems.{item, number_of, key_of, one-key, has-key, has-number, key-in, number-in, number-within, key-of_number}
+use Rattle.mq_held.proofs.OrderedItems.{item, number_of, key_of, one-key, one-number, has-key, has-number, key-in, number-in, number-within, key-of_number}
 use Rattle.mq_held.proofs.OrderedAmounts.{sources-groups, schedules-groups, running-groups, has-moment}
-use Rattle.mq_held.proofs.OrderedGroups.{entries-groups, len-groups, get-groups, get-here, group-here, groups-changed, contains-groups}
+use Rattle.mq_held.proofs.OrderedGroups.{len-groups, get-groups, group-here, groups-changed, contains-groups}
 use Rattle.mq_held.proofs.StoredEdits.{group-set, group-other}
 
 module _ {K : Type 0} (number : K → ℕ) {order : NumberedKeysState} {heads : List ScheduledHead} {rows : List (List (Source K))} {moments : FinMap nat_cmp ℕ} {schedules : ℕ} (known : IsStored number order.items heads rows moments schedules) {source_room ahead : ℕ} {state : HeldState} (was : ◌≡◌ {A = HeldState} (record { groups = groups_by number order.items heads rows; order = order; source_room = source_room; ahead = ahead }) state) where
@@ -60,6 +60,9 @@ module _ {K : Type 0} (number : K → ℕ) {order : NumberedKeysState} {heads : 
 
   pub same-address : {a b n : ℕ} → HasNumber state a n → HasNumber state b n → a ≡ b
   same-address {a} {b} {n} in_a in_b = one-key order.items n a b (known.once n) (here in_a) (here in_b)
+
+  pub same-number : {a n m : ℕ} → HasNumber state a n → HasNumber state a m → n ≡ m
+  same-number {a} {n} {m} in_n in_m = one-number order.items a n m known.ascending (here in_n) (here in_m)
 
   pub contained : {a n : ℕ} → HasNumber state a n → map.contains_key state.groups a ≡ true
   contained {a} {n} is =
@@ -107,9 +110,9 @@ module _ {K : Type 0} (number : K → ℕ) {order : NumberedKeysState} {heads : 
       ∙ ap not (sym (vacant found.0 found.1))
 
   -- the number of an address, and back
-  pub known-key : {a n : ℕ} → HasNumber state a n → Rattle.mq_sets.specs.NumberedKeys.key_in state.order.items n ≡ a
+  pub known-key : {a n : ℕ} → HasNumber state a n → key_in state.order.items n ≡ a
   known-key {a} {n} is =
-      ap (λ xs. Rattle.mq_sets.specs.NumberedKeys.key_in xs n) (sym items_are) ∙ key-of_number order.items n a (known.once n) (here is)
+      ap (λ xs. key_in xs n) (sym items_are) ∙ key-of_number order.items n a (known.once n) (here is)
 
   -- how many groups, sources and schedules there are
   pub len-held : map.len state.groups ≡ length order.items
@@ -124,9 +127,6 @@ module _ {K : Type 0} (number : K → ℕ) {order : NumberedKeysState} {heads : 
   -- and how many that aren't vacant
   pub running-held : running_in state.groups ≡ map.len moments
   running-held = ap running_in (sym groups_are) ∙ running-groups number known
-
-  pub few-held : length order.items ≤ order.room → map.len state.groups ≤ state.order.room
-  few-held few = omega (arith, len-held, room_is, few)
 
   -- the group of a number is another
   pub state-set : {a n : ℕ} (h : ScheduledHead) (row : List (Source K)) (e : ScheduledGroup) (left new_left : ℕ) → HasNumber state a n → n < length heads → group_of number h row ≡ e → left ≡ new_left

@@ -104,3 +104,15 @@ first-item (x ∷ items) n is =
   where
     at_first : (x.number == n) ≡ true → x.key ≡ key_in (x ∷ items) n
     at_first same = rw same refl
+
+-- the numbers are in the order of their keys
+pub numbers-ascend : (items : List NumberedKey) → IsAscending (λ x. x.key) items → ((n : ℕ) → times n (numbers_in items) ≤ 1) → IsAscending (key_in items) (numbers_in items)
+numbers-ascend items up once i j d before in_list =
+    let size = length-map items (λ (x : NumberedKey). x.number) in
+    let x : NumberedKey = record { number = d; key = 0 } in
+    let j_in : j < length items = omega (arith, in_list, size) in
+    let i_in : i < length items = omega (arith, before, j_in) in
+    let at_i = key-of_item items once i x i_in in
+    let at_j = key-of_item items once j x j_in in
+    let above = up i j x before j_in in
+    rw (get_or-map (λ (x : NumberedKey). x.number) items i x d i_in, get_or-map (λ (x : NumberedKey). x.number) items j x d j_in) (omega (arith, at_i, at_j, above))

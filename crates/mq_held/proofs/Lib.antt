@@ -16,6 +16,9 @@ pub mod DueNumbers
 mod EarliestHeld
 mod StoredMoments
 mod MadeGroup
+mod TakenGroup
 pub mod GroupPages
 pub mod DueInOrder
+pub mod TakenItems
+pub mod TakenGroups
 mod HeldInOrder

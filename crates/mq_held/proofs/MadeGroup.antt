@@ -1,12 +1,12 @@
 -- A number is given to an address: the storage before its group is written there.
-use Rattle.std.proofs.Common.{◌≡◌, ◌==◌, ◌||◌, ℕ, suc, ◌+◌, ◌-◌, ◌<◌, ◌≤◌, Bool, true, false, cond, not, if◌then◌else◌, refl, List, [], ◌∷◌, length, map, get_or, Option, None, Some, sym, ap, ◌∙◌, subst, arith, ◌⊎◌, inl, inr, ⊎_elim}
+use Rattle.std.proofs.Common.{◌≡◌, ◌||◌, ℕ, ◌+◌, ◌-◌, ◌<◌, ◌≤◌, Bool, true, false, cond, if◌then◌else◌, refl, List, length, map, Option, Some, sym, ap, ◌∙◌, subst, arith, ◌⊎◌, inl, inr, ⊎_elim}
 use Rattle.std.specs.Prelude.{nat_le}
 use Rattle.std.specs.List.{All, Contains, insert, sum_by}
 use Rattle.std.specs.Ordering.{nat_cmp, eq_by_cmp}
 use Rattle.std.specs.Cmp.{nat_cmp_total}
 use Rattle.std.specs.FinMap as map
 use Rattle.std.specs.FinMap.{FinMap}
-use Rattle.std.proofs.lemmas.Bool.{cases_lt, cases_eq}
+use Rattle.std.proofs.lemmas.Bool.{cases_lt}
 use Rattle.std.proofs.lemmas.Bool.Decides.{eqb_tells}
 use Rattle.std.proofs.lemmas.List.Edits.{length-insert, get_or-insert_below, get_or-insert_above, get_or-insert_at}
 use Rattle.std.proofs.lemmas.List.Sums.{sum_by-insert}
@@ -22,10 +22,9 @@ use Rattle.mq_table.specs.declared.sources.Source.{Source}
 use Rattle.mq_table.specs.Group.{is_vacant}
 use Rattle.mq_sched.specs.Schedule.{ScheduledGroup}
 use Rattle.mq_held.specs.declared.scheduled_head.ScheduledHead.{ScheduledHead}
-use Rattle.mq_held.specs.Groups.{Groups, group_at, one_if, running_in, sources_in, sources_of, unheld}
+use Rattle.mq_held.specs.Groups.{Groups, group_at, running_in, sources_in, sources_of, unheld}
 use Rattle.mq_held.specs.Held.{HeldState, HasNumber, IsNumber, ahead_with, moved_by_row, moved_by_new_row}
 use Rattle.mq_held.specs.Stored.{group_by, entry_of, entries_of, groups_by, IsStored}
-use Rattle.mq_held.proofs.Sorted.{ties, untied}
 use Rattle.mq_held.proofs.Amounts.{no_sources}
 use Rattle.mq_held.proofs.OrderedItems.{item, number_of, key_of, number-in}
 use Rattle.mq_held.proofs.OrderedGroups.{group-here, groups-made}
@@ -68,7 +67,7 @@ place-in was a spot is =
     subst (λ (s : HeldState). IsPlaceFor key_of s.order.items a (rank_of s.order.pages spot)) (sym was) is.goes
 
 module _ {K : Type 0} (number : K → ℕ) {order : NumberedKeysState} {heads : List ScheduledHead} {rows : List (List (Source K))} {moments : FinMap nat_cmp ℕ} {schedules : ℕ} (known : IsStored number order.items heads rows moments schedules) {source_room ahead : ℕ} {state : HeldState} (was : ◌≡◌ {A = HeldState} (record { groups = groups_by number order.items heads rows; order = order; source_room = source_room; ahead = ahead }) state)
-  (new : NumberedKeysState) (n a p : ℕ) (fresh : set_of number_of order.items n ≡ false) (place : IsPlaceFor key_of order.items a p) (items : new.items ≡ insert order.items p (item n a)) (room : new.room ≡ order.room) where
+    (new : NumberedKeysState) (n a p : ℕ) (fresh : set_of number_of order.items n ≡ false) (place : IsPlaceFor key_of order.items a p) (items : new.items ≡ insert order.items p (item n a)) (room : new.room ≡ order.room) where
   abbrev pub mid : HeldState
   mid = record { groups = groups_by number new.items heads rows; order = new; source_room = source_room; ahead = ahead }
 
@@ -136,13 +135,13 @@ module _ {K : Type 0} (number : K → ℕ) {order : NumberedKeysState} {heads : 
         let total = source_room_is number known was in
         let left = ahead_is number known was in
         λ i. if nat_le has (size i) then left i
-            else if nat_le has (left i) then left i - has
-            else cells_reserved (rooms i) (total i) - (made-sources i - size i + has)
+        else if nat_le has (left i) then left i - has
+        else cells_reserved (rooms i) (total i) - (made-sources i - size i + has)
 
     pub made-moved : (has : ℕ) → moved_by_row mid true (sources_of (group_at mid.groups a)) has ≡ moved_by_new_row state has
     made-moved has =
         let size = made-size a after.ascending made-has in
         let left = ahead_is number known was in
         λ i. if nat_le has (size i) then has
-            else if nat_le has (left i) then has
-            else has + (made-sources i - size i + (made-running i + 1))
+        else if nat_le has (left i) then has
+        else has + (made-sources i - size i + (made-running i + 1))

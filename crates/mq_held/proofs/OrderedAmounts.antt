@@ -1,8 +1,8 @@
 -- How much the groups have together, by the items of the order: sources, schedules, and moments.
-use Rattle.std.proofs.Common.{◌≡◌, ◌==◌, ℕ, zero, suc, ◌+◌, ◌-◌, ◌<◌, ◌≤◌, Bool, true, false, true≢false, cond, not, if◌then◌else◌, refl, List, [], ◌∷◌, length, map, get_or, Option, None, Some, is_some, sym, ap, ◌∙◌, subst, arith, ⊎_elim}
-use Rattle.std.specs.List.{All, Contains, sum_by, count_by, filter, flat_map}
+use Rattle.std.proofs.Common.{◌≡◌, ℕ, zero, suc, ◌+◌, ◌-◌, ◌<◌, ◌≤◌, Bool, true, false, true≢false, cond, not, if◌then◌else◌, refl, List, [], ◌∷◌, length, map, get_or, Option, None, Some, is_some, sym, ap, ◌∙◌, arith, ⊎_elim}
+use Rattle.std.specs.List.{All, sum_by, count_by, filter, flat_map}
 use Rattle.std.specs.Option.{option_to_list}
-use Rattle.std.specs.Ordering.{nat_cmp, eq_by_cmp}
+use Rattle.std.specs.Ordering.{nat_cmp}
 use Rattle.std.specs.Cmp.{nat_cmp_total}
 use Rattle.std.specs.FinMap as map
 use Rattle.std.specs.FinMap.{FinMap}
@@ -10,27 +10,26 @@ use Rattle.std.proofs.lemmas.Bool.{cases_lt, cases_eq}
 use Rattle.std.proofs.lemmas.List.{length-map, nil_from_length}
 use Rattle.std.proofs.lemmas.List.Elements.{All-map}
 use Rattle.std.proofs.lemmas.List.Sums.{sum_by-cons, length-filter}
-use Rattle.mq_sets.specs.Ascending.{IsAscending, set_of}
+use Rattle.mq_sets.specs.Ascending.{set_of}
 use Rattle.mq_sets.specs.NumberedKeys.{NumberedKey}
-use Rattle.mq_sets.specs.Pools.{cells_in, cells_said}
+use Rattle.mq_sets.specs.Pools.{cells_in}
 use Rattle.mq_sets.specs.Slots.{times}
 use Rattle.mq_sets.specs.declared.extents.Extent.{Extent}
 use Rattle.mq_sets.proofs.Cells.{is_cell, is_cell-same, is_cell-other}
-use Rattle.mq_sets.proofs.PackedRows.{none, size_of, named-sum}
+use Rattle.mq_sets.proofs.PackedRows.{size_of, named-sum}
 use Rattle.mq_table.specs.declared.sources.Source.{Source}
-use Rattle.mq_table.specs.Group.{IsWellFormed, deadline_of, is_vacant}
+use Rattle.mq_table.specs.Group.{deadline_of, is_vacant}
 use Rattle.mq_table.specs.declared.timers.SourceTimer.{SourceTimer}
-use Rattle.mq_table.specs.Stored.{number_in}
 use Rattle.mq_table.proofs.SourceLists.{len-timers_in}
 use Rattle.mq_sched.specs.Schedule.{ScheduledGroup}
 use Rattle.mq_held.specs.declared.scheduled_head.ScheduledHead.{ScheduledHead}
 use Rattle.mq_held.specs.Groups.{unheld, sources_of, sources_in, schedules_of, schedules_in, running_in}
 use Rattle.mq_held.specs.Moments.{moments_of}
-use Rattle.mq_held.specs.Stored.{group_by, entries_of, groups_by, earliest_of, IsStored}
+use Rattle.mq_held.specs.Stored.{group_by, groups_by, earliest_of, IsStored}
 use Rattle.mq_held.proofs.Sorted.{ties, untied}
 use Rattle.mq_held.proofs.Amounts.{of_group, total-entries}
 use Rattle.mq_held.proofs.HeldMoments.{held-moment}
-use Rattle.mq_held.proofs.OrderedItems.{number_of, key_of, has-number, times-in, absent-times}
+use Rattle.mq_held.proofs.OrderedItems.{number_of, has-number, times-in, absent-times}
 use Rattle.mq_held.proofs.OrderedGroups.{entries-groups, values-groups}
 
 -- a sum over a map of a list

@@ -1,5 +1,6 @@
 -- The map of the groups that are kept by number, by the items of the order: what it has at an address, and its edits.
 use Rattle.std.proofs.Common.{◌≡◌, ℕ, ◌<◌, ◌≤◌, Bool, true, false, cond, refl, List, [], ◌∷◌, length, map, get_or, Option, None, Some, is_some, sym, ap, ◌∙◌, subst, arith, ⊎_elim}
+use Rattle.std.specs.Prelude.{slice_get}
 use Rattle.std.specs.List.{Contains, insert, remove}
 use Rattle.std.specs.Option.{option_map, unwrap_or}
 use Rattle.std.specs.Ordering.{nat_cmp, eq_by_cmp}
@@ -19,7 +20,7 @@ use Rattle.mq_sets.proofs.Stored.{map-insert, map-remove}
 use Rattle.mq_table.specs.declared.sources.Source.{Source}
 use Rattle.mq_sched.specs.Schedule.{ScheduledGroup}
 use Rattle.mq_held.specs.declared.scheduled_head.ScheduledHead.{ScheduledHead}
-use Rattle.mq_held.specs.Groups.{Groups, unheld, group_at}
+use Rattle.mq_held.specs.Groups.{unheld, group_at}
 use Rattle.mq_held.specs.Places.{HasPlace}
 use Rattle.mq_held.specs.Stored.{group_by, entry_of, entries_of, groups_by}
 use Rattle.mq_held.proofs.Sorted.{sorted-ascending, ties, untied}
@@ -82,7 +83,7 @@ module _ {K : Type 0} (number : K → ℕ) (items : List NumberedKey) (heads : L
   pub place-here : (x : NumberedKey) (p : ℕ) → p < length items → get_or items p x ≡ x → HasPlace (groups_by number items heads rows) x.key p
   place-here x p within is = record {
     address_is =
-        ap (λ ks. Rattle.std.specs.Prelude.slice_get ks p) keys-groups
+        ap (λ ks. slice_get ks p) keys-groups
         ∙ slice_get-get_or (map key_of items) p x.key (omega (arith, length-map items key_of, within))
         ∙ ap Some (get_or-map key_of items p x x.key within ∙ ap key_of is);
   }
@@ -126,8 +127,8 @@ groups-made number items heads rows up n a p place =
       within = omega (arith, place.within, length-map items key_of);
       below = λ i d from before. rw (get_or-map key_of items i (item 0 d) d (omega (arith, place.within, before))) (place.below i (item 0 d) from before);
       above = λ i d from in_list.
-      let inside : i < length items = omega (arith, in_list, length-map items key_of) in
-      rw (get_or-map key_of items i (item 0 d) d inside) (place.above i (item 0 d) from inside);
+          let inside : i < length items = omega (arith, in_list, length-map items key_of) in
+          rw (get_or-map key_of items i (item 0 d) d inside) (place.above i (item 0 d) from inside);
     } in
     map.same_entries_map (groups_by number (insert items p (item n a)) heads rows) (map.insert (groups_by number items heads rows) a (group_by number heads rows n))
     (entries-groups number (insert items p (item n a)) heads rows after

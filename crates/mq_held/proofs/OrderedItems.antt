@@ -1,5 +1,5 @@
 -- The items of the order: the one of a number, and the one of an address.
-use Rattle.std.proofs.Common.{◌≡◌, ◌==◌, ℕ, zero, suc, ◌+◌, ◌<◌, ◌≤◌, true, false, true≢false, refl, List, [], ◌∷◌, length, map, get_or, Option, None, Some, is_some, sym, ap, ◌∙◌, arith, ⊎_elim}
+use Rattle.std.proofs.Common.{◌≡◌, ◌==◌, ℕ, zero, suc, ◌<◌, ◌≤◌, true, false, true≢false, refl, List, [], ◌∷◌, length, map, get_or, Option, None, Some, is_some, sym, ap, ◌∙◌, arith, ⊎_elim}
 use Rattle.std.specs.List.{All, Contains}
 use Rattle.std.specs.Option.{option_map_or}
 use Rattle.std.proofs.lemmas.Bool.{cases_lt, eqb-true, eq-eqb}

@@ -1,5 +1,5 @@
 -- What is stored, once the group of a number has changed, or another order has the same groups but for vacant ones.
-use Rattle.std.proofs.Common.{◌≡◌, ℕ, ◌+◌, ◌-◌, ◌*◌, ◌<◌, ◌≤◌, Bool, true, false, true≢false, cond, if◌then◌else◌, ◌&&◌, ◌==◌, ◌||◌, refl, List, [], ◌∷◌, length, map, get_or, set, Option, None, Some, is_some, sym, ap, ◌∙◌, subst, arith, ◌⊎◌, inl, inr, ⊎_elim}
+use Rattle.std.proofs.Common.{◌≡◌, ℕ, ◌+◌, ◌-◌, ◌*◌, ◌<◌, ◌≤◌, Bool, true, false, true≢false, cond, if◌then◌else◌, ◌&&◌, ◌==◌, refl, List, [], ◌∷◌, length, map, get_or, set, None, Some, is_some, sym, ap, ◌∙◌, subst, arith, ◌⊎◌, inl, inr, ⊎_elim}
 use Rattle.std.specs.Prelude.{replicate}
 use Rattle.std.specs.List.{All, Contains, sum_by}
 use Rattle.std.specs.Ordering.{nat_cmp, eq_by_cmp}
@@ -7,7 +7,7 @@ use Rattle.std.specs.Cmp.{nat_cmp_total}
 use Rattle.std.specs.FinMap as map
 use Rattle.std.specs.FinMap.{FinMap}
 use Rattle.std.proofs.lemmas.Bool.{cases_lt, cases_eq, eqb-true, eq-eqb}
-use Rattle.std.proofs.lemmas.List.{length-map, length-set, get_or-map, get_or-set_same, get_or-set_other, get_or_default, get_or_past, get_or_read, get_or-replicate, length-replicate, same_lists, nil_from_length}
+use Rattle.std.proofs.lemmas.List.{length-map, length-set, get_or-map, get_or-set_same, get_or-set_other, get_or_past, get_or_read, get_or-replicate, length-replicate, same_lists, nil_from_length}
 use Rattle.std.proofs.lemmas.List.Elements.{All-set, All-replicate}
 use Rattle.std.proofs.lemmas.List.Sums.{sum_by-cons, sum_by-set, get_or-le-sum_by}
 use Rattle.mq_sets.specs.Ascending.{IsAscending, set_of}
@@ -27,7 +27,7 @@ use Rattle.mq_held.specs.Groups.{unheld, one_if, schedules_of}
 use Rattle.mq_held.specs.Moments.{moments_of}
 use Rattle.mq_held.specs.Stored.{group_of, group_by, no_head, entry_of, entries_of, groups_by, earliest_of, IsStored}
 use Rattle.mq_held.proofs.Sorted.{ties, untied}
-use Rattle.mq_held.proofs.OrderedItems.{item, number_of, key_of, one-place, has-number, number-within}
+use Rattle.mq_held.proofs.OrderedItems.{item, number_of, key_of, one-place, has-number}
 use Rattle.mq_held.proofs.OrderedAmounts.{no-moments}
 
 abbrev pub schedules_at : ℕ × ScheduledGroup → ℕ
@@ -300,31 +300,27 @@ module _ {K : Type 0} (number : K → ℕ) {items : List NumberedKey} {heads : L
       none_either n gone false = refl
 
 -- no groups
-pub IsStored-none : {K : Type 0} (number : K → ℕ) (items : List NumberedKey) (heads : List ScheduledHead) (rows : List (List (Source K))) (moments : FinMap nat_cmp ℕ) (room : ℕ) → items ≡ [] → heads ≡ replicate room no_head → rows ≡ replicate room [] → moments ≡ map.empty
-    → IsStored number items heads rows moments 0
-IsStored-none {K} number items heads rows moments room no_items none_heads none_rows none_moments =
-    rw (no_items, none_heads, none_rows, none_moments) empty
-  where
-    nothing : {X : Type 0} (d : X) (n : ℕ) → get_or (replicate room d) n d ≡ d
-    nothing d n =
-        ⊎_elim
-        (λ (within : n < room). get_or-replicate room n d d within)
-        (λ (past : room ≤ n). get_or_past (replicate room d) n d (omega (arith, past, length-replicate room d)))
-        (cases_lt n room)
+module _ {K : Type 0} (number : K → ℕ) (room : ℕ) where
+  nothing : {X : Type 0} (d : X) (n : ℕ) → get_or (replicate room d) n d ≡ d
+  nothing d n =
+      ⊎_elim
+      (λ (within : n < room). get_or-replicate room n d d within)
+      (λ (past : room ≤ n). get_or_past (replicate room d) n d (omega (arith, past, length-replicate room d)))
+      (cases_lt n room)
 
-    empty : IsStored number [] (replicate room no_head) (replicate room []) map.empty 0
-    empty = record {
-      ascending = λ i j d before in_list. absurd (omega (arith, in_list));
-      once = λ n. omega arith;
-      within = λ k d in_list. absurd (omega (arith, in_list));
-      rows_ascend = All-replicate (IsAscending (number_in number)) room [] (λ i j d before in_list. absurd (omega (arith, in_list)));
-      unused_are_empty = λ n absent. nothing [] n;
-      unused_are_vacant = λ n absent. nothing no_head n;
-      moments_are = λ n. map.get-empty nat_cmp n;
-      vacant_are_unheld = λ n held vacant. absurd (true≢false (sym held));
-      others_are_held = λ n held other. absurd (true≢false (sym held));
-      schedules_are = refl;
-    }
+  pub IsStored-none : IsStored number [] (replicate room no_head) (replicate room []) map.empty 0
+  IsStored-none = record {
+    ascending = λ i j d before in_list. absurd (omega (arith, in_list));
+    once = λ n. omega arith;
+    within = λ k d in_list. absurd (omega (arith, in_list));
+    rows_ascend = All-replicate (IsAscending (number_in number)) room [] (λ i j d before in_list. absurd (omega (arith, in_list)));
+    unused_are_empty = λ n absent. nothing [] n;
+    unused_are_vacant = λ n absent. nothing no_head n;
+    moments_are = λ n. map.get-empty nat_cmp n;
+    vacant_are_unheld = λ n held vacant. absurd (true≢false (sym held));
+    others_are_held = λ n held other. absurd (true≢false (sym held));
+    schedules_are = refl;
+  }
 
 -- and the map of none
 pub groups_by-none : {K : Type 0} (number : K → ℕ) (heads : List ScheduledHead) (rows : List (List (Source K))) → groups_by number [] heads rows ≡ map.empty

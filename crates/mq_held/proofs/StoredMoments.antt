@@ -1,18 +1,18 @@
 -- The moments of the numbers, once one is set or removed, and the rows that they name.
-use Rattle.std.proofs.Common.{◌≡◌, ℕ, zero, suc, ◌+◌, ◌-◌, ◌<◌, ◌≤◌, Bool, true, false, true≢false, not, cond, if◌then◌else◌, refl, List, [], ◌∷◌, length, map, get_or, set, Option, None, Some, is_some, sym, ap, ◌∙◌, subst, arith, ⊎_elim}
+use Rattle.std.proofs.Common.{◌≡◌, ℕ, zero, suc, ◌+◌, ◌-◌, ◌<◌, ◌≤◌, Bool, true, false, not, cond, if◌then◌else◌, refl, List, [], ◌∷◌, length, map, get_or, set, None, Some, is_some, sym, ap, ◌∙◌, arith, ⊎_elim}
 use Rattle.std.specs.Prelude.{nat_le}
-use Rattle.std.specs.List.{All, Contains, sum_by, count_by, filter}
-use Rattle.std.specs.Ordering.{nat_cmp, eq_by_cmp}
+use Rattle.std.specs.List.{All, count_by}
+use Rattle.std.specs.Ordering.{nat_cmp}
 use Rattle.std.specs.Cmp.{nat_cmp_total}
 use Rattle.std.specs.FinMap as map
 use Rattle.std.specs.FinMap.{FinMap}
-use Rattle.std.proofs.lemmas.Bool.{cases_lt, cases_eq}
+use Rattle.std.proofs.lemmas.Bool.{cases_eq}
 use Rattle.std.proofs.lemmas.List.{length-map, get_or-map}
 use Rattle.std.proofs.lemmas.List.Filters.{length-filter_both}
-use Rattle.std.proofs.lemmas.List.Sums.{length-filter, get_or-le-sum_by, sum_by-set}
-use Rattle.mq_sets.specs.Ascending.{IsAscending, set_of}
+use Rattle.std.proofs.lemmas.List.Sums.{count_by-le-length, length-filter, get_or-le-sum_by, sum_by-set}
+use Rattle.mq_sets.specs.Ascending.{set_of}
 use Rattle.mq_sets.specs.NumberedKeys.{NumberedKey, NumberedKeysState}
-use Rattle.mq_sets.specs.NumberedRows.{NumberedRowsState, NamesRows, ahead_after, cells_reserved, moved_for}
+use Rattle.mq_sets.specs.NumberedRows.{NamesRows, ahead_after, cells_reserved, moved_for}
 use Rattle.mq_sets.specs.Pools.{cells_in}
 use Rattle.mq_sets.specs.Slots.{times}
 use Rattle.mq_table.specs.declared.sources.Source.{Source}
@@ -23,11 +23,11 @@ use Rattle.mq_held.specs.Groups.{group_at, one_if, running_in, sources_in, sourc
 use Rattle.mq_held.specs.Held.{HeldState, HasNumber, IsNumber, ahead_with, moved_by_row}
 use Rattle.mq_held.specs.Stored.{group_by, no_head, groups_by, IsStored}
 use Rattle.mq_held.proofs.Sorted.{ties, untied}
-use Rattle.mq_held.proofs.OrderedItems.{item, number_of, key_of, has-number}
-use Rattle.mq_held.proofs.OrderedGroups.{len-groups, values-groups}
+use Rattle.mq_held.proofs.OrderedItems.{item, number_of, has-number}
+use Rattle.mq_held.proofs.OrderedGroups.{values-groups}
 use Rattle.mq_held.proofs.OrderedAmounts.{absent-get, has-moment, len-counted, running-groups}
 use Rattle.mq_held.proofs.StoredEdits.{row-none}
-use Rattle.mq_held.proofs.Inside.{address-of, ahead_is, group-of, groups_are, is-number, len-held, numbered, room_is, running-held, size-of, source_room_is, sources-held, within-rows}
+use Rattle.mq_held.proofs.Inside.{address-of, ahead_is, group-of, is-number, len-held, numbered, room_is, running-held, size-of, source_room_is, sources-held, within-rows}
 
 module _ {X : Type 0} where
   -- nothing is removed where nothing is
@@ -134,7 +134,7 @@ module _ {K : Type 0} (number : K → ℕ) {order : NumberedKeysState} {heads : 
         where
           few_run : running_in state.groups ≤ map.len state.groups
           few_run =
-              let part = Rattle.std.proofs.lemmas.List.Sums.count_by-le-length (λ (e : ScheduledGroup). not (is_vacant e.group)) (map.values state.groups) in
+              let part = count_by-le-length (λ (e : ScheduledGroup). not (is_vacant e.group)) (map.values state.groups) in
               omega (arith, part, map.len-entries state.groups, length-map (map.entries state.groups) (λ (e : ℕ × ScheduledGroup). e.1))
 
   -- what can be written before the rows are packed, and what is moved, by how many sources a group had and has
@@ -150,8 +150,8 @@ module _ {K : Type 0} (number : K → ℕ) {order : NumberedKeysState} {heads : 
         let room : length rows ≡ state.order.room = size ∙ room_is number known was in
         let all : limit ≡ state.source_room = limit_is ∙ source_room_is number known was in
         λ i. if nat_le (length row) (sym had i) then ahead_is number known was i
-            else if nat_le (length row) (ahead_is number known was i) then ahead_is number known was i - length row
-            else cells_reserved (room i) (all i) - after i
+        else if nat_le (length row) (ahead_is number known was i) then ahead_is number known was i - length row
+        else cells_reserved (room i) (all i) - after i
 
     pub moved-is : (named : ℕ) (was_vacant : Bool) → named ≡ running_in state.groups + one_if was_vacant
         → moved_for (record { rows = rows; cell_limit = limit; ahead = ahead }) n row named ≡ moved_by_row state was_vacant (sources_of (group_at state.groups a)) (length row)
@@ -159,5 +159,5 @@ module _ {K : Type 0} (number : K → ℕ) {order : NumberedKeysState} {heads : 
         let had = size-of number known was has in
         let sources = sources-held number known was in
         λ i. if nat_le (length row) (sym had i) then length row
-            else if nat_le (length row) (ahead_is number known was i) then length row
-            else length row + (sym sources i - sym had i + named_is i)
+        else if nat_le (length row) (ahead_is number known was i) then length row
+        else length row + (sym sources i - sym had i + named_is i)

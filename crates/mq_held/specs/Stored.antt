@@ -48,9 +48,10 @@ abbrev pub earliest_of : List ℕ → Option ℕ
 earliest_of [] = None
 earliest_of (m ∷ ms) = Some (least m ms)
 
--- The addresses ascend, and no two groups have one number. Each row ascends; what stands at a number that no group has is INCLUDE without sources, so that a number is given to a new
--- group as one that is. The moment of a number is the earliest of its group, and none where no
--- group has the number or where it is INCLUDE without sources, which has none. The schedules are counted.
+-- The addresses ascend, no two groups have one number, and each number has a row. Each row ascends. What stands at a number that
+-- no group has is INCLUDE without sources, so that a number is given to a new group as one that is. The moment of a number is the
+-- earliest of its group, and none where no group has the number or where it is INCLUDE without sources, which has none. The
+-- schedules are counted.
 pub record IsStored {K : Type 0} (number : K → ℕ) (items : List NumberedKey) (heads : List ScheduledHead) (rows : List (List (Source K))) (moments : FinMap nat_cmp ℕ) (schedules : ℕ) : Type 0 where
   pub ascending : IsAscending (λ (x : NumberedKey). x.key) items
   pub once : (n : ℕ) → times n (list_map (λ (x : NumberedKey). x.number) items) ≤ 1

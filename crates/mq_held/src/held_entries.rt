@@ -43,6 +43,7 @@ impl<'a, K: Key> HeldEntries<'a, K> {
     pub(crate) fn of(held: &'a HeldGroups<K>) -> HeldEntries<'a, K>
         ensures { result ≡ entries_from 0 held.entry.now.groups }
     {
+        held.lemma_is_numbered();
         HeldEntries {
             held,
             page: 0,

@@ -38,9 +38,9 @@ entry_of-requires g c =
     let next : IsNext pages (rank_at pages page place) c.if-self-page.self-inside.page c.if-self-page.self-inside.place × (c.if-self-page.self-inside.held ≡ c.self.inside.held) =
     elim c.if-self-page.branch [
       | then-self-page+else-self-pages w ↦
-      rw w.self-inside-is (IsNext-turned pages page place filled c.self.invariant.0 (λ last. w.if-self-pages.false (last ∙ sym count ∙ sym w.pages.ensures)) (omega (arith, w.if-self-page.true, c.page.ensures.len, size)), refl)
+          rw w.self-inside-is (IsNext-turned pages page place filled c.self.invariant.0 (λ last. w.if-self-pages.false (last ∙ sym count ∙ sym w.pages.ensures)) (omega (arith, w.if-self-page.true, c.page.ensures.len, size)), refl)
       | else-self-page w ↦
-      rw w.self-inside-is (IsNext-here pages page place c.self.invariant.0 c.self.invariant.1 (λ end. w.if-self-page.false (end ∙ sym size ∙ sym c.page.ensures.len)), refl)
+          rw w.self-inside-is (IsNext-here pages page place c.self.invariant.0 c.self.invariant.1 (λ end. w.if-self-page.false (end ∙ sym size ∙ sym c.page.ensures.len)), refl)
     ] in
     let total = ap (λ (s : HeldState). sum s.order.pages) c.held.view_is in
     let all : sum pages ≡ map.len s.groups = omega (arith, total, c.lemma_is_ordered.ensures.paged, len-view known (ap (λ (s : HeldState). s.order) c.held.view_is)) in
@@ -61,9 +61,9 @@ returns-clause-steps g c =
     let next : IsNext pages (rank_at pages page place) c.if-self-page.self-inside.page c.if-self-page.self-inside.place × (c.if-self-page.self-inside.held ≡ c.self.inside.held) =
     elim c.if-self-page.branch [
       | then-self-page+else-self-pages w ↦
-      rw w.self-inside-is (IsNext-turned pages page place filled c.self.invariant.0 (λ last. w.if-self-pages.false (last ∙ sym count ∙ sym w.pages.ensures)) (omega (arith, w.if-self-page.true, c.page.ensures.len, size)), refl)
+          rw w.self-inside-is (IsNext-turned pages page place filled c.self.invariant.0 (λ last. w.if-self-pages.false (last ∙ sym count ∙ sym w.pages.ensures)) (omega (arith, w.if-self-page.true, c.page.ensures.len, size)), refl)
       | else-self-page w ↦
-      rw w.self-inside-is (IsNext-here pages page place c.self.invariant.0 c.self.invariant.1 (λ end. w.if-self-page.false (end ∙ sym size ∙ sym c.page.ensures.len)), refl)
+          rw w.self-inside-is (IsNext-here pages page place c.self.invariant.0 c.self.invariant.1 (λ end. w.if-self-page.false (end ∙ sym size ∙ sym c.page.ensures.len)), refl)
     ] in
     let total = ap (λ (s : HeldState). sum s.order.pages) c.held.view_is in
     let all : sum pages ≡ map.len s.groups = omega (arith, total, c.lemma_is_ordered.ensures.paged, len-view known (ap (λ (s : HeldState). s.order) c.held.view_is)) in

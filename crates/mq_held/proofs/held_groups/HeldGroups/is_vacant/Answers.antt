@@ -1,4 +1,4 @@
-use Rattle.std.proofs.Common.{◌∙◌, [], refl, get_or, arith, ap, sym, true≢false}
+use Rattle.std.proofs.Common.{◌∙◌, true, false, [], refl, get_or, arith, ap, sym, true≢false}
 use Rattle.mq_table.specs.Group.{is_include}
 use Rattle.mq_held.proofs.Inside.{vacant-of, within-rows}
 use Rattle.mq_held.proofs.held_groups.HeldGroups.is_vacant.Goals as goal
@@ -16,17 +16,25 @@ index-requires g c =
 pub returns-then-matches : goal.returns-then-matches
 returns-then-matches g c address has =
     elim c.match-matches.branch [
-    in-Include w ↦
-    let within = within-rows g.K.Key.number c.self.invariant.0 c.self.view_is c.args.number c.requires.number in
-    c.is_empty.ensures ∙ sym (vacant-of g.K.Key.number c.self.invariant.0 c.self.view_is c.index.result.now c.row.result.now Rattle.std.proofs.Common.true has (omega (arith, within, c.self.invariant.2, c.self.invariant.3)) c.index.ensures c.row.ensures.cells (ap is_include w.in-Include.is))
-    | in_default w ↦ absurd (true≢false (sym c.if-matches.true ∙ w.matches-is))
+      | in-Include w ↦
+          let within = within-rows g.K.Key.number c.self.invariant.0 c.self.view_is c.args.number c.requires.number in
+<<<<<<< HEAD
+          c.is_empty.ensures ∙ sym (vacant-of g.K.Key.number c.self.invariant.0 c.self.view_is c.index.result.now c.row.result.now Rattle.std.proofs.Common.true has (omega (arith, within, c.self.invariant.2, c.self.invariant.3)) c.index.ensures c.row.ensures.cells (ap is_include w.in-Include.is))
+=======
+          c.is_empty.ensures ∙ sym (vacant-of g.K.Key.number c.self.invariant.0 c.self.view_is c.index.result.now c.row.result.now true has (omega (arith, within, c.self.invariant.2, c.self.invariant.3)) c.index.ensures c.row.ensures.cells (ap is_include w.in-Include.is))
+>>>>>>> 58470dbcb619c9bf37e9416461e7e390a2516974
+      | in_default w ↦ absurd (true≢false (sym c.if-matches.true ∙ w.matches-is))
     ]
 
 pub returns-else-matches : goal.returns-else-matches
 returns-else-matches g c address has =
     elim c.match-matches.branch [
-    in-Include w ↦ absurd (true≢false (sym w.matches-is ∙ c.if-matches.false))
-    | in_default w ↦
-    let within = within-rows g.K.Key.number c.self.invariant.0 c.self.view_is c.args.number c.requires.number in
-    w.matches-is ∙ sym (vacant-of g.K.Key.number c.self.invariant.0 c.self.view_is c.index.result.now (get_or c.self.inside.sources.rows c.args.number []) Rattle.std.proofs.Common.false has (omega (arith, within, c.self.invariant.2, c.self.invariant.3)) c.index.ensures refl (ap is_include w.in_default.is))
+      | in-Include w ↦ absurd (true≢false (sym w.matches-is ∙ c.if-matches.false))
+      | in_default w ↦
+          let within = within-rows g.K.Key.number c.self.invariant.0 c.self.view_is c.args.number c.requires.number in
+<<<<<<< HEAD
+          w.matches-is ∙ sym (vacant-of g.K.Key.number c.self.invariant.0 c.self.view_is c.index.result.now (get_or c.self.inside.sources.rows c.args.number []) Rattle.std.proofs.Common.false has (omega (arith, within, c.self.invariant.2, c.self.invariant.3)) c.index.ensures refl (ap is_include w.in_default.is))
+=======
+          w.matches-is ∙ sym (vacant-of g.K.Key.number c.self.invariant.0 c.self.view_is c.index.result.now (get_or c.self.inside.sources.rows c.args.number []) false has (omega (arith, within, c.self.invariant.2, c.self.invariant.3)) c.index.ensures refl (ap is_include w.in_default.is))
+>>>>>>> 58470dbcb619c9bf37e9416461e7e390a2516974
     ]

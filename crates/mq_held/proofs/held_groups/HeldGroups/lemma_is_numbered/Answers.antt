@@ -1,8 +1,7 @@
-use Rattle.std.proofs.Common.{length, ap, subst, arith}
+use Rattle.std.proofs.Common.{length, arith, ap, subst}
 use Rattle.mq_sets.specs.NumberedKeys.{AreFilled}
 use Rattle.mq_held.specs.Held.{HeldState}
-use Rattle.mq_held.proofs.Inside.{contained, here, known-key, len-held, number-of, room_is, same-address}
-use Rattle.mq_held.proofs.OrderedItems.{one-number}
+use Rattle.mq_held.proofs.Inside.{contained, known-key, len-held, number-of, room_is, same-address, same-number}
 use Rattle.mq_held.proofs.held_groups.HeldGroups.lemma_is_numbered.Goals as goal
 
 pub returns-clause-held : goal.returns-clause-held
@@ -20,8 +19,7 @@ returns-clause-known g c address number has = known-key g.K.Key.number c.self.in
 
 pub returns-clause-one : goal.returns-clause-one
 returns-clause-one g c address number other has also =
-    let known = c.self.invariant.0 in
-    one-number _ address number other known.ascending (here g.K.Key.number known c.self.view_is has) (here g.K.Key.number known c.self.view_is also)
+    same-number g.K.Key.number c.self.invariant.0 c.self.view_is has also
 
 pub returns-clause-fits : goal.returns-clause-fits
 returns-clause-fits g c =

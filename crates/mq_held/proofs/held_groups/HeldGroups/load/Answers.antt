@@ -1,7 +1,6 @@
-use Rattle.std.proofs.Common.{◌∙◌, [], arith, ap}
-use Rattle.mq_table.specs.Stored.{timers_in, state_of}
+use Rattle.std.proofs.Common.{◌∙◌, [], length, arith, ap}
 use Rattle.mq_sched.specs.Schedule.{ScheduledGroup}
-use Rattle.mq_held.proofs.Inside.{address-of, head-of, is-number, size-of, within-rows}
+use Rattle.mq_held.proofs.Inside.{address-of, head-of, size-of, within-rows}
 use Rattle.mq_held.proofs.held_groups.HeldGroups.load.Goals as goal
 
 pub index-item-requires : goal.index-item-requires
@@ -22,7 +21,7 @@ pub load-requires-clause-room : goal.load-requires-clause-room
 load-requires-clause-room g c =
     let number = g.K.Key.number in
     let found = address-of number c.self.invariant.0 c.self.view_is c.args.number c.requires.number in
-    omega (arith, ap Rattle.std.proofs.Common.length c.row.ensures.cells, size-of number c.self.invariant.0 c.self.view_is found.1, c.requires.room found.0 found.1)
+    omega (arith, ap length c.row.ensures.cells, size-of number c.self.invariant.0 c.self.view_is found.1, c.requires.room found.0 found.1)
 
 pub returns-clause-group : goal.returns-clause-group
 returns-clause-group g c address has =

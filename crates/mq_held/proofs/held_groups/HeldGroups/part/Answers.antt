@@ -40,9 +40,9 @@ loop-place-preserved g c =
     let upto = c.loop-place.invariant.1 in
     elim c.if-not-is_vacant.branch [
       | then-not-is_vacant w ↦
-      rw (w.kept-is, w.count-is) (passed_yes _ _ _ _ _ n front inside within c.index-number.ensures (ap not (sym told ∙ w.if-not-is_vacant.true)), omega (arith, upto))
+          rw (w.kept-is, w.count-is) (passed_yes _ _ _ _ _ n front inside within c.index-number.ensures (ap not (sym told ∙ w.if-not-is_vacant.true)), omega (arith, upto))
       | else-not-is_vacant w ↦
-      rw (w.kept-is, w.count-is) (passed_no _ _ _ _ _ n front within c.index-number.ensures (ap not (sym told ∙ w.if-not-is_vacant.false)), omega (arith, upto))
+          rw (w.kept-is, w.count-is) (passed_no _ _ _ _ _ n front within c.index-number.ensures (ap not (sym told ∙ w.if-not-is_vacant.false)), omega (arith, upto))
     ]
 
 pub leave_vacant-requires : goal.leave_vacant-requires
