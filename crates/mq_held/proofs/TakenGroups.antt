@@ -132,9 +132,11 @@ module _ {s : HeldState} (known : IsOrdered s) (ns : List ℕ) (there : All (IsN
       by_test true vacant = times-vacant n vacant
       by_test false other = refl
 
-  pub few-vacant : vacant_in s.groups ≤ length ns
-  few-vacant =
-      omega (arith, count-numbers known (λ e. is_vacant e.group), length-counted (filter (is_vacant_at s) ns) (filter (is_vacant_at s) (numbers_in s.order.items)) same-vacant, length-filter (is_vacant_at s) ns, count_by-le-length (is_vacant_at s) ns)
+  pub all-vacant : {gone : List ℕ} → gone ≡ filter (is_vacant_at s) ns → vacant_in s.groups ≡ length gone
+  all-vacant is =
+      count-numbers known (λ e. is_vacant e.group)
+      ∙ sym (length-counted (filter (is_vacant_at s) ns) (filter (is_vacant_at s) (numbers_in s.order.items)) same-vacant)
+      ∙ ap length (sym is)
 
   -- they are no more than there are groups
   pub few-given : length ns ≤ length s.order.items

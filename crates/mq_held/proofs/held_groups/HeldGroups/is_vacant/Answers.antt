@@ -18,11 +18,7 @@ returns-then-matches g c address has =
     elim c.match-matches.branch [
       | in-Include w ↦
           let within = within-rows g.K.Key.number c.self.invariant.0 c.self.view_is c.args.number c.requires.number in
-<<<<<<< HEAD
-          c.is_empty.ensures ∙ sym (vacant-of g.K.Key.number c.self.invariant.0 c.self.view_is c.index.result.now c.row.result.now Rattle.std.proofs.Common.true has (omega (arith, within, c.self.invariant.2, c.self.invariant.3)) c.index.ensures c.row.ensures.cells (ap is_include w.in-Include.is))
-=======
           c.is_empty.ensures ∙ sym (vacant-of g.K.Key.number c.self.invariant.0 c.self.view_is c.index.result.now c.row.result.now true has (omega (arith, within, c.self.invariant.2, c.self.invariant.3)) c.index.ensures c.row.ensures.cells (ap is_include w.in-Include.is))
->>>>>>> 58470dbcb619c9bf37e9416461e7e390a2516974
       | in_default w ↦ absurd (true≢false (sym c.if-matches.true ∙ w.matches-is))
     ]
 
@@ -32,9 +28,5 @@ returns-else-matches g c address has =
       | in-Include w ↦ absurd (true≢false (sym w.matches-is ∙ c.if-matches.false))
       | in_default w ↦
           let within = within-rows g.K.Key.number c.self.invariant.0 c.self.view_is c.args.number c.requires.number in
-<<<<<<< HEAD
-          w.matches-is ∙ sym (vacant-of g.K.Key.number c.self.invariant.0 c.self.view_is c.index.result.now (get_or c.self.inside.sources.rows c.args.number []) Rattle.std.proofs.Common.false has (omega (arith, within, c.self.invariant.2, c.self.invariant.3)) c.index.ensures refl (ap is_include w.in_default.is))
-=======
           w.matches-is ∙ sym (vacant-of g.K.Key.number c.self.invariant.0 c.self.view_is c.index.result.now (get_or c.self.inside.sources.rows c.args.number []) false has (omega (arith, within, c.self.invariant.2, c.self.invariant.3)) c.index.ensures refl (ap is_include w.in_default.is))
->>>>>>> 58470dbcb619c9bf37e9416461e7e390a2516974
     ]

@@ -61,4 +61,4 @@ returns-clause-moved g c =
     let known = IsOrdered-stored g.K.Key.number c.self.invariant.0 c.self.view_is in
     let all = c.all.ensures.numbers ∙ ap (λ s. numbers_in s.order.items) c.self.view_is in
     let size = len-view known (ap (λ s. s.order) c.self.view_is) in
-    Spends-join_within _ _ c.all.ensures.moved c.leave_vacant.ensures.moved (omega (arith, size)) (omega (arith, size, len-all known all))
+    Spends-join_within _ _ c.all.ensures.moved c.leave_vacant.ensures.moved (omega (arith, size, len-all known all)) (omega (arith, size, len-all known all))

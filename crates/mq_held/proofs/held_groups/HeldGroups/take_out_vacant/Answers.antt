@@ -6,7 +6,7 @@ use Rattle.mq_held.specs.Held.{is_vacant_at}
 use Rattle.mq_held.proofs.GroupsInOrder.{IsOrdered-stored, len-ordered}
 use Rattle.mq_held.proofs.Inside.{len-held}
 use Rattle.mq_held.proofs.TakenItems.{length-left, length-vacant}
-use Rattle.mq_held.proofs.TakenGroups.{groups-left, IsStored-left, has-left, left-removed, gone-there, gone-once, parts-left, order-left, left-kept, few-given, few-vacant, few-searches, few-moves, many-moves}
+use Rattle.mq_held.proofs.TakenGroups.{groups-left, IsStored-left, has-left, left-removed, gone-there, gone-once, parts-left, order-left, left-kept, few-given, all-vacant, few-searches, few-moves, many-moves}
 use Rattle.mq_held.proofs.held_groups.HeldGroups.take_out_vacant.Goals as goal
 
 pub remove_each-requires-clause-there : goal.remove_each-requires-clause-there
@@ -112,9 +112,10 @@ returns-then-len-clause-moved g c =
     let known = IsOrdered-stored number stored c.self.view_is in
     let size = len-held number stored c.self.view_is in
     let few = few-given known given c.requires.there c.requires.each c.requires.vacant in
-    let vacant = few-vacant known given c.requires.there c.requires.each c.requires.vacant in
+    let left = c.as_slice.ensures.value ∙ c.leave_vacant.ensures.numbers in
+    let vacant = all-vacant known given c.requires.there c.requires.each c.requires.vacant left in
     let count = len-ordered known in
-    let part = length-vacant (is_vacant_at c.args.self.now) given (c.as_slice.ensures.value ∙ c.leave_vacant.ensures.numbers) in
+    let part = length-vacant (is_vacant_at c.args.self.now) given left in
     let some : length c.as_slice.result.now ≤ length c.self.inside.order.items / 32 = omega (arith, c.if-len.true, c.len.ensures, c.as_slice.ensures.len, ap (λ n. n / 32) c.len-2.ensures.len) in
     let small : length c.self.inside.order.items ≤ 2 ^ 16 = omega (arith, c.self.invariant.5, c.self.invariant.6) in
     let within : length given ≤ length c.self.inside.order.items = omega (arith, few, count, size) in
@@ -129,7 +130,7 @@ returns-else-len-clause-moved g c =
     let known = IsOrdered-stored number stored c.self.view_is in
     let size = len-held number stored c.self.view_is in
     let few = few-given known given c.requires.there c.requires.each c.requires.vacant in
-    let vacant = few-vacant known given c.requires.there c.requires.each c.requires.vacant in
+    let vacant = all-vacant known given c.requires.there c.requires.each c.requires.vacant c.leave_vacant.ensures.numbers in
     let count = len-ordered known in
     let gone = length c.leave_vacant.new.numbers.items in
     let part = length-vacant (is_vacant_at c.args.self.now) given c.leave_vacant.ensures.numbers in
@@ -137,4 +138,4 @@ returns-else-len-clause-moved g c =
     let within : length given ≤ length c.self.inside.order.items = omega (arith, few, count, size) in
     let bound = many-moves gone (length given) (length c.self.inside.order.items) many part within in
     rw size
-    (Spends-join_within _ _ (Spends-join c.leave_vacant.ensures.moved c.part-kept.ensures.moved) c.keep.ensures.moved (omega (arith, vacant)) (omega (arith, bound, size)))
+    (Spends-join_within _ _ (Spends-join c.leave_vacant.ensures.moved c.part-kept.ensures.moved) c.keep.ensures.moved (omega (arith, vacant, part, within, size)) (omega (arith, bound, size)))
