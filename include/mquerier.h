@@ -242,6 +242,10 @@ uint64_t mq_mld_other_querier(mq_mld *link, uint8_t *address, size_t room);
 uint64_t mq_igmp_spent(mq_igmp *link);
 uint64_t mq_mld_spent(mq_mld *link);
 
+/* How many items of lists `tick` and `receive` have moved to keep the groups. A tick before the next moment moves none. */
+uint64_t mq_igmp_moved(mq_igmp *link);
+uint64_t mq_mld_moved(mq_mld *link);
+
 mq_counts mq_igmp_counts(mq_igmp *link);
 mq_counts mq_mld_counts(mq_mld *link);
 

@@ -75,11 +75,11 @@ static void asking(void) {
   uint8_t address[4] = {0};
   mq_igmp_config config = mq_igmp_defaults(own);
   CHECK(mq_igmp_new(config, 0, &link) == MQ_DONE);
-  CHECK(mq_igmp_is_querier(&link) && mq_igmp_len(&link) == 0 && mq_igmp_spent(&link) == 0);
+  CHECK(mq_igmp_is_querier(&link) && mq_igmp_len(&link) == 0 && mq_igmp_spent(&link) == 0 && mq_igmp_moved(&link) == 0);
   CHECK(mq_igmp_other_querier(&link, address, sizeof address) == MQ_NONE && !address[0]);
   mq_igmp_receive(&link, host, join, sizeof join, 10, NULL, 0);
   mq_igmp_receive(&link, host, allow, sizeof allow, 20, NULL, 0);
-  CHECK(mq_igmp_len(&link) == 2 && mq_igmp_spent(&link) > 0);
+  CHECK(mq_igmp_len(&link) == 2 && mq_igmp_spent(&link) > 0 && mq_igmp_moved(&link) > 0);
   CHECK(mq_igmp_forwards(&link, group, source) && mq_igmp_forwards(&link, other, source) && !mq_igmp_forwards(&link, other, host));
   page = mq_igmp_groups(&link, 0, groups, 3, sources, 3);
   CHECK(page.groups == 2 && page.sources == 2);

@@ -60,7 +60,7 @@ int main(void) {
   CHECK(mq_mld_is_querier(&link) && mq_mld_other_querier(&link, address, sizeof address) == MQ_NONE);
   counts = mq_mld_counts(&link);
   CHECK(counts.received == 6 && counts.dropped == 3 && counts.dropped_by[1] == 1 && counts.dropped_by[5] == 1 && counts.dropped_by[6] == 1);
-  CHECK(counts.sent == 2 && counts.unsent == 1 && mq_mld_spent(&link) > 0);
+  CHECK(counts.sent == 2 && counts.unsent == 1 && mq_mld_spent(&link) > 0 && mq_mld_moved(&link) > 0);
   CHECK(mq_mld_line(host, all, done, sizeof done, (uint8_t *)line, sizeof line) == 22 && !memcmp(line, "leave group ff0e::1234", 22));
   memset(line, '-', sizeof line);
   CHECK(mq_mld_line(host, all, done, sizeof done, (uint8_t *)line, 21) == 21 && !memcmp(line, "leave group ff0e::123-", 22));

@@ -16,7 +16,7 @@ use Rattle.mq_sched.specs.Election.{is_querier}
 use Rattle.mq_sched.specs.Schedule.{ScheduledGroup, settled}
 use Rattle.mq_sched.specs.Sending.{SentQuery}
 use Rattle.mq_sched.proofs.StayHeld.{held_acted, held_after_round}
-use Rattle.mq_held.proofs.Places.{absent-place, goes-absent}
+use Rattle.mq_link.proofs.KeptGroups.{absent_unheld}
 use Rattle.mq_link.specs.declared.answers.Refusal.{Refusal}
 use Rattle.mq_link.specs.declared.answers.Refusal.TheVariants.{Repeated}
 use Rattle.mq_link.specs.Counters.{Refused}
@@ -198,8 +198,7 @@ judged_asks at seen r groups sound = by_entrance (entrance at.config r)
               omega (arith, falls, stays.0, stays.1);
         }
     by_tests kind false four absent _ =
-        let none = absent-place groups r.group absent in
-        let is : group_at groups r.group ≡ unheld = ap (λ (e : Option ScheduledGroup). unwrap_or e unheld) (goes-absent groups r.group none.0 none.1) in
+        let is : group_at groups r.group ≡ unheld = absent_unheld groups r.group absent in
         record {
           asked = 0;
           sources = 0;

@@ -1,8 +1,12 @@
 //! The calls of a link that hand out queries, for both families.
 
-ghost use Rattle.std.specs.Prelude.{◌≡◌, ◌<◌, ◌≤◌, ◌^◌, length};
-ghost use Rattle.mq_link.specs.State.{IsWellFormed};
-ghost use Rattle.mq_link.specs.Tick.{next_of};
+ghost use Rattle.std.specs.Prelude.{◌≡◌, ◌+◌, ◌*◌, ◌<◌, ◌≤◌, ◌^◌, length};
+ghost use Rattle.std.specs.FinMap as map;
+ghost use Rattle.mq_count.specs.Spending.{Spends};
+ghost use Rattle.mq_link.specs.Cost.{cost_of};
+ghost use Rattle.mq_link.specs.Moved.{most_moved};
+ghost use Rattle.mq_link.specs.State.{IsWellFormed, held_of, sources_in};
+ghost use Rattle.mq_link.specs.Tick.{moment_of, next_of};
 ghost use Rattle.mq_c.specs.Calls as spec;
 ghost use Rattle.mq_c.specs.Calls.{CallsAt, TicksInto, ReceivesInto};
 ghost use Rattle.mq_c.specs.Queries.{outbox_of};
@@ -68,13 +72,18 @@ fn answer_to(received: Received, queries: &Queries<'_>) -> Answer
     }
 }
 
-/// A tick at a moment, with its queries; where the memory is as long as the room of a tick, none is left out.
+/// A tick at a moment, with its queries, and how much it compares and moves at most, as of the link; where the memory is as long
+/// as the room of a tick, none is left out.
 fn tick_at<F: Family>(link: &mut Link<F>, now: Moment, out: &mut [u8]) -> Answer
     requires in_range { now ≤ 2 ^ 53 }
     ensures config { link.new.config ≡ link.old.config }
     ensures formed { IsWellFormed link.new.config link.new.state }
     ensures later { now < next_of link.new.state }
     ensures ticks { TicksInto F.Address.WIDTH now link.old link.new out.old out.new result }
+    ensures spent { Spends 0 (cost_of 0 (held_of link.old.state)) link.old.spent link.new.spent }
+    ensures moved { let groups = link.old.state.groups in
+        Spends 0 (6 * sources_in groups + 136 * map.len groups) link.old.moved link.new.moved }
+    ensures still { moment_of link.old.state now < next_of link.old.state → link.new.moved ≡ link.old.moved }
     ensures none_left_out { tick_room F.Address.WIDTH link.old.config ≤ length out.old → result.unsent ≡ 0 }
 {
     link.is_well_formed();
@@ -83,7 +92,8 @@ fn tick_at<F: Family>(link: &mut Link<F>, now: Moment, out: &mut [u8]) -> Answer
     answer_to_tick(&queries)
 }
 
-/// A datagram at a moment, with its queries; where the memory is as long as the room of a datagram, none is left out.
+/// A datagram at a moment, with its queries, and how much it compares and moves at most, as of the link; where the memory is as
+/// long as the room of a datagram, none is left out.
 fn receive_at<F: Family>(
     link: &mut Link<F>,
     envelope: &F::Envelope,
@@ -96,6 +106,8 @@ fn receive_at<F: Family>(
     ensures formed { IsWellFormed link.new.config link.new.state }
     ensures receives { ReceivesInto F.Address.WIDTH (F.envelope_of envelope.now) body.now now link.old link.new
         out.old out.new result }
+    ensures spent { Spends 0 (cost_of (length body.now) (held_of link.old.state)) link.old.spent link.new.spent }
+    ensures moved { Spends 0 (most_moved (length body.now) (held_of link.old.state)) link.old.moved link.new.moved }
     ensures none_left_out { receive_room F.Address.WIDTH link.old.config ≤ length out.old → length body.now ≤ longest_body → result.unsent ≡ 0 }
 {
     link.config().is_faultless();
@@ -111,6 +123,10 @@ pub(crate) fn tick<F: Family>(link: &mut Link<F>, now: u64, out: &mut [u8]) -> A
         out.old out.new result }
     ensures formed { IsWellFormed link.new.config link.new.state }
     ensures later { now ≤ 2 ^ 53 → now < next_of link.new.state }
+    ensures spent { Spends 0 (cost_of 0 (held_of link.old.state)) link.old.spent link.new.spent }
+    ensures moved { let groups = link.old.state.groups in
+        Spends 0 (6 * sources_in groups + 136 * map.len groups) link.old.moved link.new.moved }
+    ensures still { moment_of link.old.state now < next_of link.old.state → link.new.moved ≡ link.old.moved }
     ensures none_left_out { tick_room F.Address.WIDTH link.old.config ≤ length out.old → result.unsent ≡ 0 }
 {
     link.is_well_formed();
@@ -131,6 +147,8 @@ pub(crate) fn receive<F: Family>(
     ensures receives { CallsAt now (ReceivesInto F.Address.WIDTH (F.envelope_of envelope) body.now now link.old link.new
         out.old out.new result) link.old link.new out.old out.new result }
     ensures formed { IsWellFormed link.new.config link.new.state }
+    ensures spent { Spends 0 (cost_of (length body.now) (held_of link.old.state)) link.old.spent link.new.spent }
+    ensures moved { Spends 0 (most_moved (length body.now) (held_of link.old.state)) link.old.moved link.new.moved }
     ensures none_left_out { receive_room F.Address.WIDTH link.old.config ≤ length out.old → length body.now ≤ longest_body → result.unsent ≡ 0 }
 {
     link.is_well_formed();

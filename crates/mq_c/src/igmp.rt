@@ -1,17 +1,21 @@
 //! Links of IGMP, as C calls them.
 
-ghost use Rattle.std.specs.Prelude.{◌≡◌, ◌<◌, ◌≤◌, ◌^◌, ℕ, IsTrue, MatchOption, [], false, length};
+ghost use Rattle.std.specs.Prelude.{◌≡◌, ◌+◌, ◌*◌, ◌<◌, ◌≤◌, ◌^◌, ℕ, IsTrue, MatchOption, [], false, length};
 ghost use Rattle.std.specs.Int.{w32, from_be_bytes};
 ghost use types.Logic.{sem};
 ghost use denote.Follow.{follows};
 ghost use Rattle.mq_c.specs.Rows.{igmp_row};
 ghost use Rattle.mq_c.specs.contracts.igmp_object.IgmpObject as object;
 ghost use Rattle.mq_wire.specs.Family as family;
+ghost use Rattle.mq_count.specs.Spending.{Spends};
+ghost use Rattle.mq_link.specs.Cost.{cost_of};
 ghost use Rattle.mq_link.specs.Defaults.{configured_by_default};
 ghost use Rattle.mq_c.specs.Milliseconds.{no_deadline};
 ghost use Rattle.mq_sched.specs.Election.{is_querier, Other};
+ghost use Rattle.mq_link.specs.Moved.{most_moved};
 ghost use Rattle.mq_link.specs.State as state;
-ghost use Rattle.mq_link.specs.Tick.{next_of};
+ghost use Rattle.mq_link.specs.State.{held_of, sources_in};
+ghost use Rattle.mq_link.specs.Tick.{moment_of, next_of};
 ghost use Rattle.std.specs.FinMap as map;
 ghost use Rattle.mq_c.specs.Calls.{CallsAt, ReceivesInto, TicksInto};
 ghost use Rattle.mq_c.specs.Counted.{counted};
@@ -105,6 +109,8 @@ pub extern "C" fn mq_igmp_receive(
     ensures receives { CallsAt now (ReceivesInto 4 (envelope source.now) body.now now link.old.kept link.new.kept queries.old queries.new result)
         link.old.kept link.new.kept queries.old queries.new result }
     ensures formed { state.IsWellFormed link.new.kept.config link.new.kept.state }
+    ensures spent { Spends 0 (cost_of (length body.now) (held_of link.old.kept.state)) link.old.kept.spent link.new.kept.spent }
+    ensures moved { Spends 0 (most_moved (length body.now) (held_of link.old.kept.state)) link.old.kept.moved link.new.kept.moved }
     ensures none_left_out { receive_room 4 link.old.kept.config ≤ length queries.old → length body.now ≤ longest_body → result.unsent ≡ 0 }
 {
     let envelope = IgmpEnvelope {
@@ -121,6 +127,10 @@ pub extern "C" fn mq_igmp_tick(link: &mut IgmpObject, now: u64, queries: &mut [u
         link.old.kept link.new.kept queries.old queries.new result }
     ensures formed { state.IsWellFormed link.new.kept.config link.new.kept.state }
     ensures later { now ≤ 2 ^ 53 → now < next_of link.new.kept.state }
+    ensures spent { Spends 0 (cost_of 0 (held_of link.old.kept.state)) link.old.kept.spent link.new.kept.spent }
+    ensures moved { let groups = link.old.kept.state.groups in
+        Spends 0 (6 * sources_in groups + 136 * map.len groups) link.old.kept.moved link.new.kept.moved }
+    ensures still { moment_of link.old.kept.state now < next_of link.old.kept.state → link.new.kept.moved ≡ link.old.kept.moved }
     ensures none_left_out { tick_room 4 link.old.kept.config ≤ length queries.old → result.unsent ≡ 0 }
 {
     calls::tick(link.lend(), now, queries)
@@ -165,6 +175,16 @@ pub extern "C" fn mq_igmp_spent(link: &mut IgmpObject) -> u64
     ensures at { link.new.at ≡ link.old.at }
 {
     link.lend().spent()
+}
+
+/// How many items of lists the calls have moved to keep the groups.
+#[unsafe(no_mangle)]
+pub extern "C" fn mq_igmp_moved(link: &mut IgmpObject) -> u64
+    ensures answer { result ≡ link.old.kept.moved }
+    ensures same { link.new.kept ≡ link.old.kept }
+    ensures at { link.new.at ≡ link.old.at }
+{
+    link.lend().moved()
 }
 
 /// All counters.

@@ -15,10 +15,10 @@ use Rattle.mq_table.specs.declared.timers.SourceTimer.{SourceTimer}
 use Rattle.mq_table.specs.Group.{is_vacant, is_include}
 use Rattle.mq_sched.specs.Schedule.{ScheduledGroup}
 use Rattle.mq_held.specs.Groups.{Groups, unheld, group_at, with_group, sources_of, sources_in, one_if, schedules_of, schedules_in}
-use Rattle.mq_held.specs.Places.{HasPlace, GoesAt}
+use Rattle.mq_held.specs.Places.{HasPlace}
 use Rattle.mq_held.proofs.Sorted.{tied}
 use Rattle.mq_held.proofs.Entries.{place_within, key_at, get-place, entries-replaced, entries-deleted, entries-made}
-use Rattle.mq_held.proofs.Places.{held-place, absent-place, goes-absent}
+use Rattle.mq_held.proofs.Places.{GoesAt, held-place, absent-place, goes-absent}
 
 -- A sum over all groups, of any number that a group has at its address.
 module _ (w : ℕ × ScheduledGroup → ℕ) (groups : Groups) (a : ℕ) where

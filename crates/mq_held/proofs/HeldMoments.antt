@@ -1,5 +1,5 @@
 -- The moments of a group, by the row of its sources.
-use Rattle.std.proofs.Common.{◌≡◌, ℕ, ◌+◌, ◌<◌, Bool, true, false, cond, refl, List, [], ◌∷◌, ◌++◌, take, get_or, length, Option, Some, is_some, sym, ap, ◌∙◌, append_assoc, append-nil}
+use Rattle.std.proofs.Common.{◌≡◌, ℕ, Bool, true, false, cond, refl, List, [], ◌∷◌, ◌++◌, Option, Some, is_some, sym, ap, ◌∙◌, append_assoc, append-nil}
 use Rattle.std.specs.Prelude.{map as list_map}
 use lib.Dec.{T}
 use Rattle.std.specs.Option.{option_to_list}
@@ -7,8 +7,6 @@ use Rattle.std.specs.List.{flat_map}
 use Rattle.std.specs.Ordering.{nat_cmp, eq_by_cmp}
 use Rattle.std.specs.Cmp.{nat_cmp_total}
 use Rattle.std.proofs.lemmas.Bool.{true≢false}
-use Rattle.std.proofs.lemmas.List.{take_more}
-use Rattle.std.proofs.lemmas.List.Concat.{flat_map-append}
 use Rattle.std.specs.FinMap as map
 use Rattle.std.specs.FinMap.{FinMap, find, is_sorted}
 use Rattle.mq_sets.specs.Ascending.{IsAscending}
@@ -44,14 +42,6 @@ module _ {K : Type 0} (number : K → ℕ) where
       each : (row : List (Source K)) → flat_map (λ timer. option_to_list (deadline_of (Some timer))) (list_map (λ (e : ℕ × SourceTimer). e.1) (list_map (λ (x : Source K). let e : ℕ × SourceTimer = (number x.address, x.timer) in e) row)) ≡ flat_map timer_moments row
       each [] = refl
       each (x ∷ row) = ap (λ ms. timer_moments x ++ ms) (each row)
-
--- one moment more, if there is one
-pub earliest-more : {K : Type 0} (first : Option ℕ) (row : List (Source K)) (i : ℕ) (x : Source K) → i < length row → x ≡ get_or row i x → (earliest : Option ℕ) → earliest ≡ earliest_of (option_to_list first ++ flat_map timer_moments (take i row)) → earliest_of (option_to_list earliest ++ timer_moments x) ≡ earliest_of (option_to_list first ++ flat_map timer_moments (take (i + 1) row))
-earliest-more first row i x within here earliest is =
-    ap (λ o. earliest_of (option_to_list o ++ timer_moments x)) is
-    ∙ earliest-join (option_to_list first ++ flat_map timer_moments (take i row)) (timer_moments x)
-    ∙ ap earliest_of (append_assoc (option_to_list first) (flat_map timer_moments (take i row)) (timer_moments x))
-    ∙ ap (λ ms. earliest_of (option_to_list first ++ ms)) (sym (ap (flat_map timer_moments) (take_more row i x within ∙ ap (λ y. take i row ++ y ∷ []) (sym here)) ∙ flat_map-append timer_moments (take i row) (x ∷ []) ∙ ap (λ ms. flat_map timer_moments (take i row) ++ ms) (append-nil (timer_moments x))))
 
 -- lists of one earliest are alike
 earliest-alike : (xs ys zs : List ℕ) → earliest_of xs ≡ earliest_of ys → earliest_of (xs ++ zs) ≡ earliest_of (ys ++ zs)

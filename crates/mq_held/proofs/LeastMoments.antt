@@ -1,10 +1,9 @@
 -- The earliest of some moments.
 use Rattle.std.proofs.Common.{◌≡◌, ℕ, zero, suc, ◌<◌, length, get_or, ◌≤◌, min, Bool, true, false, ◌||◌, refl, List, [], ◌∷◌, ◌++◌, Some, sym, ap, ◌∙◌, arith}
-use Rattle.std.specs.Prelude.{map as list_map, nat_le}
+use Rattle.std.specs.Prelude.{nat_le}
 use Rattle.std.specs.Option.{option_to_list}
-use Rattle.std.specs.List.{All, list_any, flat_map}
+use Rattle.std.specs.List.{All, list_any}
 use Rattle.std.proofs.lemmas.List.Elements.{All-head, All-tail}
-use Rattle.std.proofs.lemmas.List.Concat.{flat_map-cons}
 use Rattle.std.proofs.lemmas.Bool.Decides.{nat_tests}
 use Rattle.mq_held.specs.Moments.{least}
 use Rattle.mq_held.specs.Stored.{earliest_of}
@@ -75,19 +74,6 @@ due-earliest now (x ∷ xs) d is =
         or_turned true true c = refl
         or_turned true false c = refl
         or_turned false b c = refl
-
--- each list by its earliest: the earliest of all are the earliest of these
-pub least-each : {X : Type 0} (f : X → List ℕ) (es : List X) (ds : List ℕ) (n : ℕ) → list_map Some ds ≡ list_map (λ e. earliest_of (f e)) es → least n (flat_map f es) ≡ least n ds
-least-each f [] [] n same = refl
-least-each f [] (d ∷ ds) n same = cc
-least-each f (e ∷ es) [] n same = cc
-least-each f (e ∷ es) (d ∷ ds) n same =
-    let here : earliest_of (f e) ≡ Some d = cc in
-    let rest = least-each f es ds n (cc) in
-    ap (least n) (flat_map-cons f e es) ∙ least-append n (f e) (flat_map f es) ∙ least-earliest (least n (flat_map f es)) (f e) ∙ ap (min_or (least n (flat_map f es))) here ∙ ap (λ k. min k d) rest ∙ turned (least n ds) d
-  where
-    turned : (a b : ℕ) → min a b ≡ min b a
-    turned a b = omega arith
 
 below-all : (d n : ℕ) (ds : List ℕ) → All (λ deadline. d ≤ deadline) ds → min d (least n ds) ≡ min d n
 below-all d n [] below = refl

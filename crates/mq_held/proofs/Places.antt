@@ -1,29 +1,25 @@
--- Where the groups of a map stand, and what is left of their places by an edit.
-use Rattle.std.proofs.Common.{◌≡◌, cond, ℕ, zero, suc, ◌+◌, ◌<◌, ◌≤◌, Bool, true, false, refl, List, [], ◌∷◌, length, get_or, set, Option, None, Some, is_some, sym, ap, ◌∙◌, subst, arith, ◌⊎◌, inl, inr}
+-- Where the groups of a map stand.
+use Rattle.std.proofs.Common.{◌≡◌, cond, ℕ, zero, suc, ◌<◌, ◌≤◌, Bool, true, false, refl, List, [], ◌∷◌, length, get_or, Option, None, Some, is_some, sym, ap, ◌∙◌, arith, ◌⊎◌, inl, inr}
 use Rattle.std.specs.Prelude.{map as list_map, slice_get}
 use lib.Dec.{T}
-use Rattle.std.specs.List.{insert, remove}
 use Rattle.std.specs.Option.{unwrap_or}
 use Rattle.std.specs.Ordering.{nat_cmp, eq_by_cmp}
 use Rattle.std.proofs.lemmas.Bool.{cases_lt, true≢false}
-use Rattle.std.proofs.lemmas.List.{get_or-map, length-map, map-set}
-use Rattle.std.proofs.lemmas.List.Edits.{length-insert, length-remove, get_or-insert_below, get_or-insert_above, get_or-insert_at, get_or-remove_below, get_or-remove_above}
-use Rattle.std.proofs.lemmas.Option.{slice_get-get_or, slice_get_within, get_or_from_slice_get}
+use Rattle.std.proofs.lemmas.List.{get_or-map, length-map}
+use Rattle.std.proofs.lemmas.Option.{slice_get-get_or}
 use Rattle.std.specs.FinMap as map
 use Rattle.std.specs.FinMap.{find, is_sorted}
 use Rattle.std.specs.FinMap.Entries.{below_all}
-use Rattle.mq_sets.specs.Ascending.{IsAscending}
 use Rattle.mq_sets.specs.Search.{IsPlaceFor}
-use Rattle.mq_sets.proofs.Stored.{map-insert, map-remove}
 use Rattle.mq_sched.specs.Schedule.{ScheduledGroup}
 use Rattle.mq_held.specs.Groups.{Groups, unheld, group_at}
-use Rattle.mq_held.specs.Places.{HasPlace, GoesAt, group_in}
-use Rattle.mq_held.proofs.Sorted.{first, second, tied, ties, ascending-sorted, below-all}
-use Rattle.mq_held.proofs.Entries.{place_within, key_at, get-place, get-absent, entries-replaced, entries-deleted, entries-made}
+use Rattle.mq_held.specs.Places.{HasPlace, group_in}
+use Rattle.mq_held.proofs.Sorted.{first, second, tied, ties, below-all}
+use Rattle.mq_held.proofs.Entries.{place_within, key_at, get-place, get-absent}
 
--- a place within a list, by the number that stands there
-place_of_key : (ks : List ℕ) (p k : ℕ) → p < length ks → get_or ks p k ≡ k → slice_get ks p ≡ Some k
-place_of_key ks p k within is = slice_get-get_or ks p k within ∙ ap Some is
+-- a group that isn't held would go to this place
+pub record GoesAt (groups : Groups) (address place : ℕ) : Type 0 where
+  pub goes : IsPlaceFor (λ n. n) (map.keys groups) address place
 
 module _ (groups : Groups) (a p : ℕ) (has : HasPlace groups a p) where
   pub place-len : p < map.len groups
@@ -44,35 +40,6 @@ module _ (groups : Groups) (a p : ℕ) (has : HasPlace groups a p) where
   -- one place has one address
   pub same-address : (b : ℕ) → HasPlace groups b p → a ≡ b
   same-address b other = sym (key_at groups a p has.address_is (a, unheld)) ∙ key_at groups b p other.address_is (a, unheld)
-
--- the places are in the order of the addresses
-pub places-ascend : (groups : Groups) (a b p q : ℕ) → HasPlace groups a p → HasPlace groups b q → p < q → a < b
-places-ascend groups a b p q has_a has_b before =
-    let up : IsAscending (λ (e : ℕ × ScheduledGroup). e.0) (map.entries groups) = ascending-sorted (map.entries groups) (map.entries_sorted groups) in
-    let below = up p q (a, unheld) before (place_within groups b q has_b.address_is) in
-    omega (arith, below, key_at groups a p has_a.address_is (a, unheld), key_at groups b q has_b.address_is (a, unheld))
-
-pub addresses-ascend : (groups : Groups) (a b p q : ℕ) → HasPlace groups a p → HasPlace groups b q → a < b → p < q
-addresses-ascend groups a b p q has_a has_b below = by_order (cases_lt p q)
-  where
-    by_order : (p < q) ⊎ (q ≤ p) → p < q
-    by_order (inl before) = before
-    by_order (inr from) = absurd (by_place (cases_lt q p))
-      where
-        by_place : (q < p) ⊎ (p ≤ q) → ⊥
-        by_place (inl behind) = let above = places-ascend groups b a q p has_b has_a behind in absurd (omega (arith, above))
-        by_place (inr upto) =
-            let is : p ≡ q = omega arith in
-            let same = same-address groups a p has_a b (subst (HasPlace groups b) (sym is) has_b) in
-            absurd (omega (arith, same))
-
-pub same-place : (groups : Groups) (a p q : ℕ) → HasPlace groups a p → HasPlace groups a q → p ≡ q
-same-place groups a p q has_p has_q = by_order (cases_lt p q) (cases_lt q p)
-  where
-    by_order : (p < q) ⊎ (q ≤ p) → (q < p) ⊎ (p ≤ q) → p ≡ q
-    by_order (inl before) _ = let below = places-ascend groups a a p q has_p has_q before in absurd (omega (arith, below))
-    by_order (inr from) (inl behind) = let below = places-ascend groups a a q p has_q has_p behind in absurd (omega (arith, below))
-    by_order (inr from) (inr upto) = omega arith
 
 -- each place has an address
 pub place-of : (groups : Groups) (p : ℕ) → p < map.len groups → (a : ℕ) × HasPlace groups a p
@@ -144,76 +111,3 @@ absent-place groups a none =
 
 pub goes-absent : (groups : Groups) (a p : ℕ) → GoesAt groups a p → map.get groups a ≡ None
 goes-absent groups a p place = get-absent groups a p place.goes
-
-pub goes-within : (groups : Groups) (a p : ℕ) → GoesAt groups a p → p ≤ map.len groups
-goes-within groups a p place =
-    let within = place.goes.within in
-    omega (arith, within, map.len-entries groups, length-map (map.entries groups) (λ (e : ℕ × ScheduledGroup). e.0))
-
--- The addresses in their order, once a group has changed, is held, or is no longer held.
-pub keys-put : (groups : Groups) (a p : ℕ) (e : ScheduledGroup) → HasPlace groups a p → map.keys (map.insert groups a e) ≡ map.keys groups
-keys-put groups a p e has =
-    ap (list_map (λ (e : ℕ × ScheduledGroup). e.0)) (entries-replaced groups a p has.address_is e)
-    ∙ map-set (λ (e : ℕ × ScheduledGroup). e.0) (map.entries groups) p (a, e)
-    ∙ same_there (map.keys groups) p a has.address_is
-  where
-    same_there : (ks : List ℕ) (p k : ℕ) → slice_get ks p ≡ Some k → set ks p k ≡ ks
-    same_there [] p k is = refl
-    same_there (x ∷ ks) zero k is = let same : k ≡ x = cc in ap (λ n. n ∷ ks) same
-    same_there (x ∷ ks) (suc p) k is = ap (λ ns. x ∷ ns) (same_there ks p k is)
-
-pub keys-insert : (groups : Groups) (a p : ℕ) (e : ScheduledGroup) → GoesAt groups a p → map.keys (map.insert groups a e) ≡ insert (map.keys groups) p a
-keys-insert groups a p e place =
-    ap (list_map (λ (e : ℕ × ScheduledGroup). e.0)) (entries-made groups a p place.goes e)
-    ∙ map-insert (λ (e : ℕ × ScheduledGroup). e.0) (map.entries groups) p (a, e)
-
-pub keys-remove : (groups : Groups) (a p : ℕ) → HasPlace groups a p → map.keys (map.remove groups a) ≡ remove (map.keys groups) p
-keys-remove groups a p has =
-    ap (list_map (λ (e : ℕ × ScheduledGroup). e.0)) (entries-deleted groups a p has.address_is)
-    ∙ map-remove (λ (e : ℕ × ScheduledGroup). e.0) (map.entries groups) p
-
--- a group that changes leaves all places
-pub places-put : (groups : Groups) (a p : ℕ) (e : ScheduledGroup) → HasPlace groups a p → (b q : ℕ) → HasPlace groups b q → HasPlace (map.insert groups a e) b q
-places-put groups a p e has b q other = record { address_is = ap (λ ks. slice_get ks q) (keys-put groups a p e has) ∙ other.address_is }
-
-pub places-put_back : (groups : Groups) (a p : ℕ) (e : ScheduledGroup) → HasPlace groups a p → (b q : ℕ) → HasPlace (map.insert groups a e) b q → HasPlace groups b q
-places-put_back groups a p e has b q other = record { address_is = sym (ap (λ ks. slice_get ks q) (keys-put groups a p e has)) ∙ other.address_is }
-
--- a group that is made has its place, those of lower addresses keep theirs, and those of higher ones move up by one
-module _ (groups : Groups) (a p : ℕ) (e : ScheduledGroup) (place : GoesAt groups a p) where
-  pub place-insert_at : HasPlace (map.insert groups a e) a p
-  place-insert_at =
-      let within = place.goes.within in
-      record { address_is = ap (λ ks. slice_get ks p) (keys-insert groups a p e place) ∙ place_of_key (insert (map.keys groups) p a) p a (omega (arith, within, length-insert (map.keys groups) p a within)) (get_or-insert_at (map.keys groups) p a a within) }
-
-  pub place-insert_below : (b q : ℕ) → HasPlace groups b q → q < p → HasPlace (map.insert groups a e) b q
-  place-insert_below b q has below =
-      let ks = map.keys groups in
-      let within = place.goes.within in
-      let at : get_or ks q b ≡ b = get_or_from_slice_get ks q b b has.address_is in
-      record { address_is = ap (λ ks. slice_get ks q) (keys-insert groups a p e place) ∙ place_of_key (insert ks p a) q b (omega (arith, within, length-insert ks p a within)) (get_or-insert_below ks p a b q below within ∙ at) }
-
-  pub place-insert_above : (b q : ℕ) → HasPlace groups b q → p ≤ q → HasPlace (map.insert groups a e) b (q + 1)
-  place-insert_above b q has from =
-      let ks = map.keys groups in
-      let within = place.goes.within in
-      let at : get_or ks q b ≡ b = get_or_from_slice_get ks q b b has.address_is in
-      let in_list = slice_get_within ks q b has.address_is in
-      record { address_is = ap (λ ks. slice_get ks (q + 1)) (keys-insert groups a p e place) ∙ place_of_key (insert ks p a) (q + 1) b (omega (arith, in_list, length-insert ks p a within)) (get_or-insert_above ks p a b q from within ∙ at) }
-
--- once a group is no longer held, those of lower addresses keep their places, and those of higher ones move down by one
-module _ (groups : Groups) (a p : ℕ) (has : HasPlace groups a p) where
-  pub place-remove_below : (b q : ℕ) → HasPlace groups b q → q < p → HasPlace (map.remove groups a) b q
-  place-remove_below b q other below =
-      let ks = map.keys groups in
-      let within = slice_get_within ks p a has.address_is in
-      let at : get_or ks q b ≡ b = get_or_from_slice_get ks q b b other.address_is in
-      record { address_is = ap (λ ks. slice_get ks q) (keys-remove groups a p has) ∙ place_of_key (remove ks p) q b (omega (arith, within, length-remove ks p within)) (get_or-remove_below ks p b q below within ∙ at) }
-
-  pub place-remove_above : (b q : ℕ) → HasPlace groups b (q + 1) → p ≤ q → HasPlace (map.remove groups a) b q
-  place-remove_above b q other from =
-      let ks = map.keys groups in
-      let within = slice_get_within ks p a has.address_is in
-      let in_list = slice_get_within ks (q + 1) b other.address_is in
-      let at : get_or ks (q + 1) b ≡ b = get_or_from_slice_get ks (q + 1) b b other.address_is in
-      record { address_is = ap (λ ks. slice_get ks q) (keys-remove groups a p has) ∙ place_of_key (remove ks p) q b (omega (arith, in_list, length-remove ks p within)) (get_or-remove_above ks p b q from within ∙ at) }

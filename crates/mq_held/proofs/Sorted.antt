@@ -59,7 +59,7 @@ module _ {X : Type 0} where
   below-all k (e ∷ es) h =
       All-cons (λ (e : ℕ × X). k < e.0) e es (is_below k e.0 (first (is_lt (nat_cmp k e.0)) (below_all nat_cmp k es) h)) (below-all k es (second (is_lt (nat_cmp k e.0)) (below_all nat_cmp k es) h))
 
-  all-below : (k : ℕ) (es : List (ℕ × X)) → All (λ e. k < key_of e) es → T (below_all nat_cmp k es)
+  pub all-below : (k : ℕ) (es : List (ℕ × X)) → All (λ e. k < key_of e) es → T (below_all nat_cmp k es)
   all-below k [] h = tt
   all-below k (e ∷ es) h =
       both (is_lt (nat_cmp k e.0)) (below_all nat_cmp k es) (tests_below k e.0 (All-head (λ (e : ℕ × X). k < e.0) e es h)) (all-below k es (All-tail (λ (e : ℕ × X). k < e.0) e es h))

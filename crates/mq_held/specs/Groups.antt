@@ -1,11 +1,12 @@
 -- The groups that a link holds (RFC 3376 section 6.2, RFC 3810 section 7.2).
-use Rattle.std.specs.Prelude.{ℕ, ◌+◌, Bool, if◌then◌else◌, is_some}
+use Rattle.std.specs.Prelude.{ℕ, ◌+◌, Bool, not, if◌then◌else◌, Option, None, Some, is_some}
 use Rattle.std.specs.Option.{unwrap_or}
-use Rattle.std.specs.List.{sum_by}
+use Rattle.std.specs.List.{count_by, sum_by}
 use Rattle.std.specs.Ordering.{nat_cmp}
 use Rattle.std.specs.FinMap as map
 use Rattle.std.specs.FinMap.{FinMap}
 use Rattle.mq_table.specs.Group.{vacant, is_vacant}
+use Rattle.mq_table.specs.Maps.{kept}
 use Rattle.mq_table.specs.Stored.{size_of}
 use Rattle.mq_sched.specs.Schedule.{ScheduledGroup, no_schedule}
 
@@ -41,3 +42,22 @@ schedules_of e = one_if (is_some e.schedule.group_query) + one_if (is_some e.sch
 
 abbrev pub schedules_in : Groups → ℕ
 schedules_in groups = sum_by schedules_of (map.values groups)
+
+-- What a group is that is put back: one that is INCLUDE({}) has no moment and no schedule from then on, and stays in the map as
+-- such until it is taken out.
+abbrev pub kept_as : ScheduledGroup → ScheduledGroup
+kept_as e = if is_vacant e.group then unheld else e
+
+-- how many groups aren't such
+abbrev pub running_in : Groups → ℕ
+running_in groups = count_by (λ e. not (is_vacant e.group)) (map.values groups)
+
+-- how many are, and the groups without these
+abbrev pub vacant_in : Groups → ℕ
+vacant_in groups = count_by (λ e. is_vacant e.group) (map.values groups)
+
+abbrev pub if_running : ℕ → ScheduledGroup → Option ScheduledGroup
+if_running address e = if is_vacant e.group then None else Some e
+
+abbrev pub without_vacant : Groups → Groups
+without_vacant groups = kept if_running groups

@@ -1,5 +1,5 @@
 -- What a contract sees of groups that are looked at one after the other.
-use Rattle.std.specs.Prelude.{ℕ, List, drop}
+use Rattle.std.specs.Prelude.{ℕ, ◌+◌, List, sum, take, drop}
 use Rattle.std.specs.FinMap as map
 use Rattle.mq_table.specs.Stored.{timers_in}
 use Rattle.mq_sched.specs.Schedule.{ScheduledGroup}
@@ -19,3 +19,7 @@ entry_in number h = (
 -- the groups from a place on, with their addresses
 abbrev pub entries_from : (place : ℕ) → Groups → List (ℕ × ScheduledGroup)
 entries_from place groups = drop place (map.entries groups)
+
+-- the rank of what stands at a place of a page
+abbrev pub rank_at : List ℕ → (page place : ℕ) → ℕ
+rank_at pages page place = sum (take page pages) + place

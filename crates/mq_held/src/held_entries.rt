@@ -14,28 +14,28 @@ use std::marker::Model;
 #[derive(Drop)]
 pub struct HeldEntries<'a, K: Key> {
     held: &'a HeldGroups<K>,
-    /// The place of the next one.
+    /// The page of the order that has the next one, and its place there.
+    page: usize,
     place: usize,
 }
 
 impl<'a, K: Key> Model for HeldEntries<'a, K> {
-    ghost use Rattle.std.specs.Prelude.{ℕ, ◌≤◌, List};
+    ghost use Rattle.std.specs.Prelude.{ℕ, ◌<◌, ◌≤◌, List, length, slice_index};
     ghost use Rattle.std.specs.Coded.{coded×, coded_ℕ, coded_list};
-    ghost use Rattle.std.specs.FinMap as map;
     ghost use Rattle.mq_table.specs.contracts.timers.FilterMode as filter_mode;
     ghost use Rattle.mq_table.specs.contracts.timers.SourceTimer as source_timer;
     ghost use Rattle.mq_sched.specs.contracts.queries.QuerySchedule as query_schedule;
     ghost use Rattle.mq_sched.specs.Schedule.{ScheduledGroup};
     ghost use Rattle.mq_held.specs.Held.{scheduled_code};
-    ghost use Rattle.mq_held.specs.Listed.{entries_from};
+    ghost use Rattle.mq_held.specs.Listed.{entries_from, rank_at};
 
     ghost Value = { List (ℕ × ScheduledGroup) };
 
     ghost coded = { coded_list (coded× coded_ℕ (scheduled_code filter_mode.the_row.coded source_timer.the_row.coded query_schedule.the_row.coded)) };
 
-    ghost view = { λ e. entries_from e.place e.held.now.groups };
+    ghost view = { λ e. entries_from (rank_at e.held.now.order.pages e.page e.place) e.held.now.groups };
 
-    ghost invariant = { λ e. e.place ≤ map.len e.held.now.groups };
+    ghost invariant = { λ e. (e.page < length e.held.now.order.pages) × (e.place ≤ slice_index e.held.now.order.pages e.page) };
 }
 
 impl<'a, K: Key> HeldEntries<'a, K> {
@@ -43,7 +43,12 @@ impl<'a, K: Key> HeldEntries<'a, K> {
     pub(crate) fn of(held: &'a HeldGroups<K>) -> HeldEntries<'a, K>
         ensures { result ≡ entries_from 0 held.entry.now.groups }
     {
-        HeldEntries { held, place: 0 }
+        held.lemma_is_numbered();
+        HeldEntries {
+            held,
+            page: 0,
+            place: 0,
+        }
     }
 }
 
@@ -55,11 +60,17 @@ impl<'a, K: Key> Iterator for HeldEntries<'a, K> {
     ghost remaining = { item_count (λ r. r) };
 
     fn next(&mut self) -> Option<HeldGroup<'a, K>> {
-        if self.place == self.held.len() {
-            return None;
+        let held = self.held;
+        held.order.lemma_is_ordered();
+        if self.place == held.order.page(self.page).len() {
+            if self.page + 1 == held.order.pages() {
+                return None;
+            }
+            self.page += 1;
+            self.place = 0;
         }
-        let entry = self.held.entry(self.place);
+        let number = held.order.page(self.page)[self.place];
         self.place += 1;
-        Some(entry)
+        Some(held.entry_of(number))
     }
 }

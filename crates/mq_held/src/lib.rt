@@ -3,10 +3,12 @@
 //! ```text
 //! let mut held = HeldGroups::with_room(alloc, 500, 4000)?;
 //! match held.find(address, &mut m) {
-//!     Ok(place) => held.put(place, &group, schedule, &mut m),
-//!     Err(place) => held.insert(place, address, &group, schedule, &mut m),
+//!     Ok(number) => held.put(number, &group, schedule, &mut m, &mut moves),
+//!     Err(spot) => {
+//!         held.insert(spot, address, &group, schedule, &mut m, &mut moves);
+//!     }
 //! }
-//! let count = held.due(now, &mut places, &mut m);
+//! held.due(now, &mut numbers, &mut spare, &mut m, &mut moves);
 //! ```
 //!
 //! - `HeldGroups`: the finite map from address to group with its schedule, and what may be asked of it.

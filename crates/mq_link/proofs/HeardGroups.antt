@@ -20,9 +20,7 @@ use Rattle.mq_sched.specs.Schedule.{ScheduledGroup, cleared}
 use Rattle.mq_sched.proofs.Fits.{fits_cleared}
 use Rattle.mq_sched.proofs.StayHeld.{held_cleared}
 use Rattle.mq_held.specs.Groups.{unheld, group_at, sources_of, sources_in}
-use Rattle.mq_held.specs.Places.{HasPlace, GoesAt}
 use Rattle.mq_held.proofs.Sorted.{tied, ties}
-use Rattle.mq_held.proofs.Places.{goes-absent}
 use Rattle.mq_link.specs.State.{Groups}
 use Rattle.mq_link.specs.Heard.{suppresses, asked_by, groups_cleared, group_lowered, groups_lowered}
 use Rattle.mq_link.specs.declared.storage.Storage.{Storage}
@@ -31,7 +29,8 @@ use Rattle.mq_link.specs.Storage.{IsReady, KeepsRooms}
 use Rattle.mq_link.proofs.Bounds.{cleared_no_more, lowered_no_more}
 use Rattle.mq_link.proofs.Entries.{total-kept, len-kept}
 use Rattle.mq_link.proofs.HeldAs.{all-kept}
-use Rattle.mq_link.proofs.ClearedPlaces.{group_found, served_more}
+use Rattle.mq_link.proofs.ClearedGroups.{served_more}
+use Rattle.mq_link.proofs.KeptGroups.{group_found, group_absent}
 
 -- a lowered group is held, and has no more sources
 lowered_held : (timing : Timing) (now : ℕ) (s : Bool) (asked : Option Set) (g : GroupState) → IsHeld g → IsHeld (lowered_by_query timing now s asked g)
@@ -55,9 +54,9 @@ module _ (timing : Timing) (now : ℕ) where
     other_stays q (Some e) other = ap (λ b. Some (cond b (group_lowered timing now query.version e) e)) (sym other)
 
     -- the group that is held is lowered
-    pub lowered_at : (place : ℕ) (left : ScheduledGroup) → HasPlace groups query.group place → left ≡ group_lowered timing now query.version (group_at groups query.group) → map.insert groups query.group left ≡ groups_lowered timing now query groups
+    pub lowered_at : (left : ScheduledGroup) → map.contains_key groups query.group ≡ true → left ≡ group_lowered timing now query.version (group_at groups query.group) → map.insert groups query.group left ≡ groups_lowered timing now query groups
     unfolding groups_lowered
-    lowered_at place left has is =
+    lowered_at left held is =
         same_sources _ _ (λ q.
         map.get-insert nat_cmp_total groups query.group left q
         ∙ by_test q (eq_by_cmp nat_cmp q query.group) refl
@@ -74,18 +73,18 @@ module _ (timing : Timing) (now : ℕ) where
         by_test q true same =
             ap Some is
             ∙ ap (λ b. Some (cond b (group_lowered timing now query.version (group_at groups query.group)) (group_at groups query.group))) (sym (same_number query.group))
-            ∙ ap (option_and_then (lowered_in query.group)) (sym (group_found groups query.group place has))
+            ∙ ap (option_and_then (lowered_in query.group)) (sym (group_found groups query.group held))
             ∙ ap (λ n. option_and_then (lowered_in n) (map.get groups n)) (sym (tied q query.group same))
         by_test q false other = other_stays q (map.get groups q) (other_number q other (eqb q query.group) refl)
 
     -- a group that isn't held leaves all as they are
-    pub lowered_none : (place : ℕ) → GoesAt groups query.group place → groups ≡ groups_lowered timing now query groups
+    pub lowered_none : map.contains_key groups query.group ≡ false → groups ≡ groups_lowered timing now query groups
     unfolding groups_lowered
-    lowered_none place goes = same_sources _ _ (λ q. by_test q (eqb q query.group) refl ∙ sym (get-kept lowered_in groups q))
+    lowered_none absent = same_sources _ _ (λ q. by_test q (eqb q query.group) refl ∙ sym (get-kept lowered_in groups q))
       where
         by_test : (q : ℕ) (b : Bool) → eqb q query.group ≡ b → map.get groups q ≡ option_and_then (lowered_in q) (map.get groups q)
         by_test q true same =
-            let none = ap (map.get groups) (eqb-true q query.group same) ∙ goes-absent groups query.group place goes in
+            let none = ap (map.get groups) (eqb-true q query.group same) ∙ group_absent groups query.group absent in
             none ∙ ap (option_and_then (lowered_in q)) (sym none)
         by_test q false other = other_stays q (map.get groups q) other
 

@@ -1,6 +1,5 @@
 -- What is stored of a link, at its start and after its calls.
-use Rattle.std.proofs.Common.{◌≡◌, ℕ, ◌<◌, ◌≤◌, List, [], ◌∷◌, false, Some, length, take, drop, ◌++◌, length-append, length-drop, refl, sym, ap, ◌∙◌, subst, arith, leb}
-use Rattle.std.proofs.lemmas.List.{length-take}
+use Rattle.std.proofs.Common.{◌≡◌, ℕ, ◌<◌, ◌≤◌, List, [], ◌∷◌, false, Some, refl, sym, ap, ◌∙◌, subst, arith, leb}
 use Rattle.std.specs.List.{list_any}
 use Rattle.std.specs.Option.{unwrap_or}
 use Rattle.std.specs.Ordering.{nat_cmp}
@@ -10,9 +9,10 @@ use Rattle.mq_table.specs.Variables.{AreInRange}
 use Rattle.mq_sched.specs.Election.{election_at, next_moment}
 use Rattle.mq_sched.specs.Schedule.{ScheduledGroup}
 use Rattle.mq_held.specs.Groups.{Groups, group_at, unheld, sources_of}
-use Rattle.mq_held.specs.Held.{HeldState}
+use Rattle.mq_held.specs.Held.{HeldState, empty_state}
 use Rattle.mq_held.specs.Moments.{moments_of, moments_in}
 use Rattle.mq_held.specs.Places.{has_due}
+use Rattle.mq_link.specs.declared.storage.Numbers.{Numbers}
 use Rattle.mq_link.specs.declared.storage.Storage.{Storage}
 use Rattle.mq_link.specs.Configuration.{Configuration, IsFaultless}
 use Rattle.mq_link.specs.Reading.{most_records}
@@ -21,12 +21,12 @@ use Rattle.mq_link.specs.Router.{IsStored, RouterValue, state_of}
 use Rattle.mq_link.specs.Seen.{SeenState}
 use Rattle.mq_link.specs.Sound.{AreSound}
 use Rattle.mq_link.specs.State.{LinkState, IsWellFormed, link_at}
-use Rattle.mq_link.specs.Storage.{HasRoom, IsReady, KeepsRooms}
+use Rattle.mq_link.specs.Storage.{HasRoom, HasSpace, IsReady, KeepsRooms, KeepsSpace, put_by_rows}
 use Rattle.mq_link.specs.Tick.{next_of}
 use Rattle.mq_link.proofs.Faultless.{IsWellFormed-link_at, few_groups}
 use Rattle.mq_link.proofs.Quiet.{AllAbove, above_least, above_values}
 use Rattle.mq_link.proofs.Receipts.{sound_in}
-use Rattle.mq_link.proofs.Rooms.{still_room}
+use Rattle.mq_link.proofs.Rooms.{still_room, still_space}
 use Rattle.mq_link.proofs.Silent.{from-each, not_reached}
 
 -- of a group that isn't held nothing is forwarded
@@ -41,20 +41,24 @@ pub well_formed_at : (r : RouterValue) → AreSound r.at r.groups → AreInRange
 well_formed_at r sound timing = record { groups = sound.all; within = sound.within; timing = timing; silent = sound.silent }
 
 -- the storage of a link at its start
-pub stored_at_start : {K : Type 0} (config : Configuration) (start : ℕ) (storage : Storage K) (seen : SeenState) (places : List ℕ)
-    → IsFaultless config → (let empty : HeldState = record { groups = map.empty; group_room = config.limits.groups; source_room = config.limits.sources } in storage.held ≡ empty)
-    → HasRoom config.limits.group_sources storage.work → most_records ≤ seen.room → length places ≡ config.limits.groups
-    → (let status : Setting = record { config = config; election = election_at config.timing start; now = start } in IsStored status storage seen places)
-stored_at_start config start storage seen places faultless held room seen_room place_room =
+pub stored_at_start : {K : Type 0} (config : Configuration) (start : ℕ) (storage : Storage K) (seen : SeenState) (numbers : Numbers)
+    → IsFaultless config → storage.held ≡ empty_state config.limits.groups config.limits.sources
+    → HasRoom config.limits.group_sources storage.work → most_records ≤ seen.room → HasSpace config.limits.groups numbers
+    → (let status : Setting = record { config = config; election = election_at config.timing start; now = start } in IsStored status storage seen numbers)
+stored_at_start config start storage seen numbers faultless held room seen_room number_room =
     let status : Setting = record { config = config; election = election_at config.timing start; now = start } in
     record {
       sound = subst (AreSound status) (sym (ap (λ (h : HeldState). h.groups) held)) (sound_in config (link_at config start) (IsWellFormed-link_at config start faultless));
-      group_room = ap (λ (h : HeldState). h.group_room) held;
+      group_room = ap (λ (h : HeldState). h.order.room) held;
       source_room = ap (λ (h : HeldState). h.source_room) held;
       room = room;
       seen_room = seen_room;
-      place_room = place_room;
+      number_room = number_room;
     }
+
+-- before the first edit nothing is put by
+pub nothing_put_by : (groups sources : ℕ) → put_by_rows (empty_state groups sources) ≡ 0
+nothing_put_by groups sources = let none = map.len-empty nat_cmp ScheduledGroup in omega arith
 
 -- the groups are fit to be worked on, and there is room for each
 pub ready_in : {K : Type 0} (status : Setting) (storage : Storage K) → IsFaultless status.config → AreSound status storage.held.groups → HasRoom status.config.limits.group_sources storage.work → IsReady storage
@@ -66,11 +70,6 @@ ready_in status storage faultless sound room = record {
       let wide = room.group in
       record { held = as_held.held; fits = as_held.fits; room_for = omega arith };
 }
-
--- places that were lent come back as many
-pub places_back : (n : ℕ) (lent stored : List ℕ) → length lent ≡ length stored → n ≡ length stored → length (take n (lent ++ drop (length lent) stored)) ≡ length stored
-places_back n lent stored same all =
-    simp (length-take, length-append, length-drop) (omega arith)
 
 -- before the next moment no group has anything due
 none_reached : (now : ℕ) (ms : List ℕ) → AllAbove now ms → list_any (λ t. leb t now) ms ≡ false
@@ -86,16 +85,16 @@ none_due state now before group e is =
     none_reached now (moments_of e) (from-each (λ _ e. AllAbove now (moments_of e)) (map.entries state.groups) each group e (sym (map.get-entries state.groups group) ∙ is))
 
 -- what is stored after a call: the groups are sound still, and the rooms stay
-pub stored_next : {K : Type 0} (status after : Setting) (storage next : Storage K) (seen next_seen : SeenState) (places next_places : List ℕ)
-    → IsStored status storage seen places → after.config ≡ status.config → AreSound after next.held.groups → KeepsRooms storage next
-    → next_seen.room ≡ seen.room → length next_places ≡ length places → IsStored after next next_seen next_places
-stored_next status after storage next seen next_seen places next_places was same sound kept seen_same place_same =
-    subst (λ (c : Configuration). HasRoom c.limits.group_sources next.work → IsStored after next next_seen next_places) same (λ room.
+pub stored_next : {K : Type 0} (status after : Setting) (storage next : Storage K) (seen next_seen : SeenState) (numbers next_numbers : Numbers)
+    → IsStored status storage seen numbers → after.config ≡ status.config → AreSound after next.held.groups → KeepsRooms storage next
+    → next_seen.room ≡ seen.room → KeepsSpace numbers next_numbers → IsStored after next next_seen next_numbers
+stored_next status after storage next seen next_seen numbers next_numbers was same sound kept seen_same space =
+    subst (λ (c : Configuration). HasRoom c.limits.group_sources next.work → HasSpace c.limits.groups next_numbers → IsStored after next next_seen next_numbers) same (λ room number_room.
     record {
       sound = sound;
       group_room = kept.groups ∙ was.group_room ∙ ap (λ (c : Configuration). c.limits.groups) (sym same);
       source_room = kept.sources ∙ was.source_room ∙ ap (λ (c : Configuration). c.limits.sources) (sym same);
       room = room;
       seen_room = let n = was.seen_room in omega (arith, n, seen_same);
-      place_room = place_same ∙ was.place_room ∙ ap (λ (c : Configuration). c.limits.groups) (sym same);
-    }) (still_room status.config.limits.group_sources was.room kept.work)
+      number_room = number_room;
+    }) (still_room status.config.limits.group_sources was.room kept.work) (still_space status.config.limits.groups was.number_room space)

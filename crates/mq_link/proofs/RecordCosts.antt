@@ -1,13 +1,12 @@
 -- What a record takes, with what is left for the records behind it, is no more than what was left before it and what it
 -- brings.
-use Rattle.std.proofs.Common.{◌≡◌, ℕ, ◌+◌, ◌-◌, ◌*◌, ◌≤◌, Bool, true, false, cond, ◌&&◌, refl, List, [], ◌∷◌, length, Option, None, Some, IfSome, sym, ap, ◌∙◌, subst, arith, leb, add_assoc, add-zero, zero-add}
+use Rattle.std.proofs.Common.{◌≡◌, ℕ, ◌+◌, ◌-◌, ◌*◌, ◌≤◌, Bool, true, false, cond, ◌&&◌, refl, List, [], ◌∷◌, length, Option, None, Some, IfSome, sym, ◌∙◌, subst, arith, leb, add_assoc, add-zero, zero-add}
 use Rattle.std.proofs.Math.Nat.{mul-le-mul_right}
 use Rattle.std.proofs.lemmas.Bool.{leb-false}
 use Rattle.std.proofs.lemmas.List.Sums.{sum_by-cons}
 use Rattle.std.specs.FinMap as map
 use Rattle.std.specs.FinSet as set
 use Rattle.std.specs.List.{sum_by}
-use Rattle.std.specs.Option.{unwrap_or}
 use Rattle.mq_count.specs.Spending.{Spends}
 use Rattle.mq_count.proofs.Spent.{Spends-none, Spends-join, Spends-within}
 use Rattle.mq_sets.specs.Search.{bitlen}
@@ -19,8 +18,7 @@ use Rattle.mq_table.specs.Table.{GroupChange}
 use Rattle.mq_table.specs.OlderHosts.{hosts_of}
 use Rattle.mq_sched.specs.Schedule.{ScheduledGroup}
 use Rattle.mq_sched.specs.Election.{is_querier}
-use Rattle.mq_held.proofs.Amounts.{no_sources, own_sources}
-use Rattle.mq_held.proofs.Places.{absent-place, goes-absent}
+use Rattle.mq_held.proofs.Amounts.{own_sources}
 use Rattle.mq_link.specs.declared.answers.Refusal.{Refusal}
 use Rattle.mq_link.specs.declared.answers.Refusal.TheVariants.{Repeated}
 use Rattle.mq_link.specs.Cost.{search_cost, work_cost, cost_by, record_cost, own_cost}
@@ -28,8 +26,9 @@ use Rattle.mq_link.specs.Counters.{Refused}
 use Rattle.mq_link.specs.Family.{v1_mutes_leave}
 use Rattle.mq_link.specs.LeastCost.{least_judged, least_all}
 use Rattle.mq_link.specs.Record.{Setting, RecordOf, leaving, unless_passed, changed_by, after_sending, sent_at_once, changed_or_refused, change_in, is_muted, limit_passed, stated, Seen, met, Entrance, Stops, GoesOn, entrance, seen_by, seen_after, judged_from, judged}
-use Rattle.mq_link.specs.State.{Groups, unheld, group_at, with_group, sources_of, sources_in}
+use Rattle.mq_link.specs.State.{Groups, group_at, with_group, sources_of, sources_in}
 use Rattle.mq_link.proofs.ChangedSizes.{translated_few}
+use Rattle.mq_link.proofs.KeptGroups.{absent_sources}
 use Rattle.mq_link.proofs.MadeEntries.{round_keeps_size}
 use Rattle.mq_link.proofs.Potential.{left_for, potential, potential-empty, potential-le, potential-falls, changed_left}
 use Rattle.mq_link.proofs.StatedSteps.{asked_few}
@@ -74,7 +73,7 @@ pub record_pays : (at : Setting) (seen : Seen) (r : RecordView ℕ) (groups : Gr
 unfolding judged
 record_pays at seen r groups few_groups few_seen = by_entrance (entrance at.config r)
   where
-    search : search_cost groups seen ≤ 48
+    search : search_cost groups seen ≤ 66
     search = omega (arith, few_digits (map.len groups) few_groups, few_digits (map.len seen) few_seen)
 
     by_tests : (kind : Kind) (held four : Bool) → map.contains_key groups r.group ≡ held → leb 4 (met seen r.group) ≡ four →
@@ -90,8 +89,7 @@ record_pays at seen r groups few_groups few_seen = by_entrance (entrance at.conf
         let own = four_times (met (again seen r.group) r.group) (length r.sources) in
         omega (arith, search, falls, left, own)
     by_tests kind false four absent _ =
-        let none = absent-place groups r.group absent in
-        let small = ap (λ (e : Option ScheduledGroup). sources_of (unwrap_or e unheld)) (goes-absent groups r.group none.0 none.1) ∙ no_sources in
+        let small = absent_sources groups r.group absent in
         let left = stated_left at seen r.group kind r.sources groups in
         let own = four_times (met seen r.group) (length r.sources) in
         omega (arith, search, small, left, own)
@@ -143,7 +141,7 @@ report_within (r ∷ rs) =
     omega (arith, rest, sum_by-cons own_cost r rs, sum_by-cons (λ (r : RecordView ℕ). 8 + 4 * length r.sources) r rs)
 
 pub statement_within : (groups : Groups) (group least from m : ℕ) → map.len groups ≤ 65535
-    → Spends least (6 * sources_of (group_at groups group) + 12 + 2 * bitlen (map.len groups)) from m
+    → Spends least (6 * sources_of (group_at groups group) + 14 + 3 * bitlen (map.len groups)) from m
     → Spends least (24 * sources_in groups + 20 * map.len groups + 64 * 8) from m
 statement_within groups group least from m few spent =
     Spends-within least _ spent (omega arith) (omega (arith, few_digits (map.len groups) few, own_sources groups group))

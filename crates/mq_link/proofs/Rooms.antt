@@ -1,9 +1,10 @@
 -- What keeps room for groups and their sources.
 use Rattle.std.proofs.Common.{◌≡◌, ℕ, refl, ◌∙◌, arith}
 use Rattle.mq_sets.specs.SourceSets.{SetState}
+use Rattle.mq_link.specs.declared.storage.Numbers.{Numbers}
 use Rattle.mq_link.specs.declared.storage.Storage.{Storage}
 use Rattle.mq_link.specs.declared.storage.Workspace.{Workspace}
-use Rattle.mq_link.specs.Storage.{HasRoom, IsReady, KeepsRoom, KeepsRooms, has_counted}
+use Rattle.mq_link.specs.Storage.{HasRoom, HasSpace, IsReady, KeepsRoom, KeepsRooms, KeepsSpace, has_counted}
 
 pub room_stays : {K : Type 0} (w : Workspace K) → KeepsRoom w w
 room_stays w = record { group = omega arith; named = refl; asked = omega arith }
@@ -14,6 +15,10 @@ rooms_stay s = record { groups = refl; sources = refl; work = room_stays s.work 
 -- counting takes no room
 pub rooms_counted : {K : Type 0} (s : Storage K) (spent : ℕ) → KeepsRooms s (has_counted s spent)
 rooms_counted s spent = record { groups = refl; sources = refl; work = record { group = omega arith; named = refl; asked = omega arith } }
+
+-- nor does counting what is moved
+pub rooms_moved : {K : Type 0} (s : Storage K) (spent moved : ℕ) → KeepsRooms s (record s { work = record s.work { meter = spent; moves = moved } })
+rooms_moved s spent moved = record { groups = refl; sources = refl; work = record { group = omega arith; named = refl; asked = omega arith } }
 
 -- nor does clearing the sources that are named
 pub rooms_cleared : {K : Type 0} (s : Storage K) (named : SetState K) (spent : ℕ) → named.room ≡ s.work.named.room → KeepsRooms s (record s { work = record s.work { named = named; meter = spent } })
@@ -44,3 +49,15 @@ still_room n room kept =
     let fifth = room.asked in
     let sixth = kept.asked in
     record { group = omega arith; named = omega arith; asked = omega arith }
+
+-- and for the numbers of groups
+pub space_stays : (numbers : Numbers) → KeepsSpace numbers numbers
+space_stays numbers = record { due = omega arith; spare = refl }
+
+pub still_space : (n : ℕ) {a b : Numbers} → HasSpace n a → KeepsSpace a b → HasSpace n b
+still_space n space kept =
+    let first = space.due in
+    let second = kept.due in
+    let third = space.spare in
+    let fourth = kept.spare in
+    record { due = omega arith; spare = omega arith }

@@ -1,10 +1,7 @@
 -- What a statement comes to, step by step, by what was done to its group.
-use Rattle.std.proofs.Common.{◌≡◌, ℕ, ◌+◌, ◌<◌, ◌≤◌, Bool, true, false, Option, None, Some, IfSome, is_some, Result, Ok, Err, MatchResult, List, length, sym, ap, ◌∙◌, subst, arith}
+use Rattle.std.proofs.Common.{◌≡◌, ℕ, ◌+◌, ◌<◌, ◌≤◌, Bool, true, false, Option, None, Some, IfSome, List, length, sym, ap, ◌∙◌, subst, arith}
 use Rattle.std.specs.FinMap as map
-use Rattle.std.specs.Result.{is_ok}
 use Rattle.mq_sets.specs.Ascending.{set_of}
-use Rattle.mq_held.specs.Places.{HasPlace, GoesAt}
-use Rattle.mq_held.proofs.Places.{goes-absent, place-contained}
 use Rattle.mq_held.proofs.Amounts.{sources-with_group}
 use Rattle.mq_table.specs.declared.timing.Timing.{Timing}
 use Rattle.mq_table.specs.Group.{GroupState, is_vacant, IsWellFormed as IsHeld}
@@ -30,11 +27,6 @@ pub record IsChanged (at : Setting) (group : ℕ) (st : Statement) (groups : Gro
   pub change_is : change_stated (v1_mutes_leave at.config.family) (is_muted at.config group st) at.election.timing at.now st before.group ≡ Some change
   pub asked_is : asked ≡ after_change (is_querier at.election.role) at.election.timing at.now change before.schedule
   pub passed_is : passed ≡ limit_passed at.config.limits (with_group groups group (after_round at.election.timing at.now asked)) (after_round at.election.timing at.now asked)
-
--- the place of a group says whether it is held
-pub held_by_place : (groups : Groups) (group : ℕ) (found : Result ℕ ℕ) → MatchResult found (HasPlace groups group) (GoesAt groups group) → map.contains_key groups group ≡ is_ok found
-held_by_place groups group (Ok place) h = place-contained groups group place h
-held_by_place groups group (Err place) h = ap is_some (goes-absent groups group place h)
 
 pub stated_ignored : (at : Setting) (group : ℕ) (st : Statement) (groups : Groups) (before : ScheduledGroup) → before ≡ group_at groups group
     → change_stated (v1_mutes_leave at.config.family) (is_muted at.config group st) at.election.timing at.now st before.group ≡ None

@@ -22,7 +22,7 @@ use Rattle.mq_link.specs.State.{Groups}
 use Rattle.mq_link.specs.Tick.{group_expired, if_held, moments_of, groups_expired, groups_after_round, queries_due}
 use Rattle.mq_link.proofs.Entries.{filtered, entries-kept}
 use Rattle.mq_link.proofs.Quiet.{AllAbove, beyond, same_group, same_round}
-use Rattle.mq_link.proofs.DoneEntries.{GroupEntries, IsPassed, IsDoneTo, done_to_all}
+use Rattle.mq_link.proofs.PassedEntries.{GroupEntries, IsPassed}
 
 -- what a tick makes of a group, and what it sends for it
 abbrev pub ticked_group : Timing → (now : ℕ) → ℕ → ScheduledGroup → Option ScheduledGroup
@@ -30,9 +30,6 @@ ticked_group timing now group e = option_map (after_round timing now) (if_held (
 
 abbrev pub queries_at : (per_query : ℕ) → Timing → (now : ℕ) → ℕ × ScheduledGroup → List SentQuery
 queries_at n timing now e = messages_due n timing now e.0 (group_expired now e.1)
-
-abbrev pub IsTickedTo : (per_query : ℕ) → Timing → (now : ℕ) → GroupEntries → ℕ → GroupEntries → List SentQuery → ℕ → Type 0
-IsTickedTo n timing now = IsDoneTo (ticked_group timing now) (queries_at n timing now)
 
 -- a group that isn't held after its timers were ended has nothing to send
 no_keys : (test : ℕ → Bool) (ks : List ℕ) → length ks ≡ 0 → list_any test ks ≡ false
@@ -89,14 +86,6 @@ groups_ticked timing now groups = same_sources _ _ (λ q.
     twice : (q : ℕ) (e : Option ScheduledGroup) → option_and_then (λ e. Some (after_round timing now e)) (option_and_then (λ e. if_held (group_expired now e)) e) ≡ option_and_then (ticked_group timing now q) e
     twice q None = refl
     twice q (Some e) = once (if_held (group_expired now e))
-
--- when all places are done, it is what a tick leaves and sends
-pub ticked_to_all : (family : Family) (timing : Timing) (now : ℕ) (groups after : Groups) (sent : List SentQuery) (gone : ℕ)
-    → IsTickedTo (per_query family) timing now (map.entries groups) (length (map.entries groups)) (map.entries after) sent gone
-    → (after ≡ groups_after_round timing now (groups_expired now groups)) × (sent ≡ queries_due family timing now (groups_expired now groups))
-ticked_to_all family timing now groups after sent gone so_far =
-    let all = done_to_all (ticked_group timing now) (queries_at (per_query family) timing now) groups after sent gone so_far in
-    (all.0 ∙ sym (groups_ticked timing now groups), all.1 ∙ sym (queries_of_entries family timing now groups))
 
 -- a group none of whose moments has come is passed over
 pub beyond_passed : (n : ℕ) (timing : Timing) (now group : ℕ) (e : ScheduledGroup) → IsHeld e.group → IsScheduleOf e.group e.schedule → AllAbove now (moments_of e) → IsPassed (ticked_group timing now) (queries_at n timing now) (group, e)

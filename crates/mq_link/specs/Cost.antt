@@ -17,7 +17,7 @@ cost_of length held = 64 * (length + held) + 64
 
 -- What it takes at most to look for a group, to count that it was met, and to find its next moment again.
 abbrev pub search_cost : Groups → Seen → ℕ
-search_cost groups seen = 2 * bitlen (map.len groups) + bitlen (map.len seen)
+search_cost groups seen = 3 * bitlen (map.len groups) + 2 + bitlen (map.len seen)
 
 -- What the work on a record takes at most: six for each source of its group, 17 for each that it names, and twelve.
 abbrev pub work_cost : Groups → RecordView ℕ → ℕ
@@ -37,7 +37,7 @@ record_cost config seen r groups = cost_by (entrance config r) seen r groups
 
 -- What a record takes at most beside the work on sources that were held before the datagram.
 abbrev pub own_cost : RecordView ℕ → ℕ
-own_cost r = 60 + 41 * length r.sources
+own_cost r = 78 + 41 * length r.sources
 
 -- No message like this is spelled by fewer bytes, in either family.
 abbrev pub least_length : Message ℕ → ℕ

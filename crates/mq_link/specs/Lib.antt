@@ -16,6 +16,7 @@ pub mod Judging
 pub mod Entering
 pub mod Status
 pub mod Storage
+pub mod Moved
 pub mod Limits
 pub mod Seen
 pub mod Serving

@@ -8,11 +8,12 @@ use Rattle.mq_link.specs.Run.{Ticks, Receives}
 use Rattle.mq_link.specs.Sent.{Outgoing}
 use Rattle.mq_link.specs.State.{LinkState}
 
--- Its configuration, its state, and how many comparisons its calls have made.
+-- Its configuration, its state, how many comparisons its calls have made, and how many items of lists they have moved.
 pub record LinkValue : Type 0 where
   pub config : Configuration
   pub state : LinkState
   pub spent : ℕ
+  pub moved : ℕ
 
 -- A tick at a moment, with the messages that the outlet was handed by it and its answers.
 pub record HasTicked {O : Type 0} (takes : O → ℕ → List ℕ → Bool → O → Type 0) (now : ℕ) (before after : LinkValue) (old new : O) : Type 0 where

@@ -76,10 +76,10 @@ role_code = code_by (Bool × (ℕ × ℕ)) (coded× coded_bool (coded× coded_�
 
 abbrev pub link_code : Coded FilterMode → Coded SourceTimer → Coded QuerySchedule → Coded LinkValue
 link_code mode timer query =
-    code_by ((Configuration × (Groups × (Role × Variables))) × (ℕ × (Counters × ℕ)))
+    code_by ((Configuration × (Groups × (Role × Variables))) × (ℕ × (Counters × (ℕ × ℕ))))
     (coded× (coded× configuration_code (coded× (map.code coded_ℕ (scheduled_code mode timer query)) (coded× role_code variables_code)))
-    (coded× coded_ℕ (coded× counters_code coded_ℕ)))
-    (λ v. ((v.config, (v.state.groups, (v.state.election.role, v.state.election.timing))), (v.state.last, (v.state.counters, v.spent))))
+    (coded× coded_ℕ (coded× counters_code (coded× coded_ℕ coded_ℕ))))
+    (λ v. ((v.config, (v.state.groups, (v.state.election.role, v.state.election.timing))), (v.state.last, (v.state.counters, (v.spent, v.moved)))))
     (λ p. record {
       config = p.0.0;
       state = record {
@@ -88,20 +88,23 @@ link_code mode timer query =
         last = p.1.0;
         counters = p.1.1.0;
       };
-      spent = p.1.1.1;
+      spent = p.1.1.1.0;
+      moved = p.1.1.1.1;
     })
     (λ _. refl)
 
--- the inside of a link, as the link around it and the groups that were met
+-- the inside of a link, as the link around it, the groups that were met, and what is put by
 abbrev pub router_code : Coded FilterMode → Coded SourceTimer → Coded QuerySchedule → Coded RouterValue
 router_code mode timer query =
-    code_by (LinkValue × Seen) (coded× (link_code mode timer query) (map.code coded_ℕ coded_ℕ))
-    (λ r. (link_of r, r.met))
+    code_by (LinkValue × (Seen × ℕ)) (coded× (link_code mode timer query) (coded× (map.code coded_ℕ coded_ℕ) coded_ℕ))
+    (λ r. (link_of r, (r.met, r.put_by)))
     (λ p. record {
       at = record { config = p.0.config; election = p.0.state.election; now = p.0.state.last };
       groups = p.0.state.groups;
       counters = p.0.state.counters;
-      met = p.1;
+      met = p.1.0;
       spent = p.0.spent;
+      moved = p.0.moved;
+      put_by = p.1.1;
     })
     (λ _. refl)

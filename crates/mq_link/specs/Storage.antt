@@ -1,11 +1,13 @@
 -- The storage of the groups, and what the work on one of them takes.
-use Rattle.std.specs.Prelude.{◌≡◌, ℕ, ◌*◌, ◌≤◌, vec_capacity, MatchResult}
+use Rattle.std.specs.Prelude.{◌≡◌, ℕ, ◌+◌, ◌-◌, ◌*◌, ◌/◌, ◌≤◌, min, length, vec_capacity, MatchResult}
 use Rattle.std.specs.FinMap as map
+use Rattle.mq_sets.specs.NumberedKeys.{IsSpotFor}
 use Rattle.mq_table.specs.Group.{GroupState}
 use Rattle.mq_table.specs.Stored.{timers_in}
 use Rattle.mq_held.specs.declared.held_group.HeldGroup.{HeldGroup}
-use Rattle.mq_held.specs.Groups.{Groups}
-use Rattle.mq_held.specs.Places.{HasPlace, GoesAt}
+use Rattle.mq_held.specs.Groups.{running_in, sources_in}
+use Rattle.mq_held.specs.Held.{HeldState, HasNumber}
+use Rattle.mq_link.specs.declared.storage.Numbers.{Numbers}
 use Rattle.mq_link.specs.declared.storage.Sought.{Sought}
 use Rattle.mq_link.specs.declared.storage.Storage.{Storage}
 use Rattle.mq_link.specs.declared.storage.Workspace.{Workspace}
@@ -35,7 +37,7 @@ pub record KeepsRoom {K : Type 0} (old new : Workspace K) : Type 0 where
 
 -- nor is there less room for groups and their sources
 pub record KeepsRooms {K : Type 0} (old new : Storage K) : Type 0 where
-  pub groups : new.held.group_room ≡ old.held.group_room
+  pub groups : new.held.order.room ≡ old.held.order.room
   pub sources : new.held.source_room ≡ old.held.source_room
   pub work : KeepsRoom old.work new.work
 
@@ -48,7 +50,23 @@ pub record IsReady {K : Type 0} (s : Storage K) : Type 0 where
 abbrev pub has_counted : {K : Type 0} → Storage K → (spent : ℕ) → Storage K
 has_counted s spent = record s { work = record s.work { meter = spent } }
 
--- a group that was looked for has its place, or would go there
-abbrev pub IsSought : {K : Type 0} → (K → ℕ) → Groups → Sought K → Type 0
-IsSought number groups sought =
-    MatchResult sought.place (HasPlace groups (number sought.address)) (GoesAt groups (number sought.address))
+-- a group that was looked for has its number, or would go to the spot
+abbrev pub IsSought : {K : Type 0} → (K → ℕ) → HeldState → Sought K → Type 0
+IsSought number held sought =
+    MatchResult sought.found (HasNumber held (number sought.address)) (IsSpotFor held.order.items held.order.pages (number sought.address))
+
+-- room for the numbers of so many groups, twice
+pub record HasSpace (groups : ℕ) (numbers : Numbers) : Type 0 where
+  pub due : groups ≤ vec_capacity numbers.due
+  pub spare : groups ≤ length numbers.spare.items
+
+-- there is no less room for numbers
+pub record KeepsSpace (old new : Numbers) : Type 0 where
+  pub due : vec_capacity old.due ≤ vec_capacity new.due
+  pub spare : length new.spare.items ≡ length old.spare.items
+
+-- What is put by for the rows of sources to be packed again: four for each source that was written behind the last one since they
+-- were, but no more than packing them moves.
+abbrev pub put_by_rows : HeldState → ℕ
+put_by_rows s = let slack = s.source_room / 4 + s.order.room in
+    min (4 * (slack - s.ahead)) (sources_in s.groups + running_in s.groups)

@@ -10,6 +10,7 @@ ghost use Rattle.mq_link.specs.LeastCost.{least_after, least_of, least_received}
 ghost use Rattle.mq_link.specs.Link.{HasReceived};
 ghost use Rattle.mq_link.specs.Reading.{numbered_read, most_records, records_in, IsCarriedIn};
 ghost use Rattle.mq_link.specs.Receive as spec;
+ghost use Rattle.mq_link.specs.Moved.{HasMoved, most_moved};
 ghost use Rattle.mq_link.specs.Router.{HasReceipt, link_of, silent_step, state_of};
 ghost use Rattle.mq_link.specs.Sender.{TakesQuery};
 ghost use Rattle.mq_link.specs.State.{held_of};
@@ -75,6 +76,9 @@ impl<F: Family> Router<F> {
         ensures spent { let said = numbered_message F.Address.number message.now in
             let groups = self.old.groups in
             Spends (least_of self.old.at said groups) (24 * sources_in groups + 20 * map.len groups + 64 * least_length said) self.old.spent self.new.spent }
+        ensures moved { let said = numbered_message F.Address.number message.now in
+            let groups = self.old.groups in
+            HasMoved (24 * sources_in groups + 22 * map.len groups + 256 * least_length said) self.old self.new }
     {
         self.lemma_is_stored();
         match message {
@@ -112,6 +116,8 @@ impl<F: Family> Router<F> {
             let read = spec.read_of F.FAMILY (spec.pseudo_of F.FAMILY around body.now) body.now in
             let groups = self.old.groups in
             Spends (least_after self.old.at around read groups) (24 * sources_in groups + 20 * map.len groups + 64 * length body.now) self.old.spent self.new.spent }
+        ensures moved { let groups = self.old.groups in
+            HasMoved (24 * sources_in groups + 22 * map.len groups + 256 * length body.now) self.old self.new }
     {
         let read = F::read(envelope, body);
         self.count_read(&read);
@@ -141,6 +147,7 @@ impl<F: Family> Router<F> {
         ensures same_outlet { sender.new.outlet.ghost_name ≡ sender.old.outlet.ghost_name }
         ensures spent { let least = least_received self.old.at.config (F.envelope_of envelope.now) body.now now (state_of self.old) in
             Spends (2 + least) (cost_of (length body.now) (held_of (state_of self.old))) self.old.spent self.new.spent }
+        ensures moved { Spends 0 (most_moved (length body.now) (held_of (state_of self.old))) self.old.moved self.new.moved }
     {
         self.lemma_is_stored();
         self.come_to(now, sender);

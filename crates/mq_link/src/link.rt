@@ -12,6 +12,7 @@ ghost use Rattle.mq_held.specs.Places.{HasPlace};
 ghost use Rattle.mq_link.specs.Cost.{cost_of};
 ghost use Rattle.mq_link.specs.LeastCost.{least_received, least_ticked};
 ghost use Rattle.mq_link.specs.Link.{HasTicked, HasReceived};
+ghost use Rattle.mq_link.specs.Moved.{most_moved};
 ghost use Rattle.mq_link.specs.State as state;
 ghost use Rattle.mq_link.specs.State.{held_of, link_at, IsWellFormed};
 ghost use Rattle.mq_link.specs.Tick.{moment_of, tick_of, next_of};
@@ -59,7 +60,7 @@ impl<F: Family> Link<F> {
     /// refused: only `new` can run out of memory.
     pub fn new(alloc: Global, config: Config<F>, start: Moment) -> Result<Link<F>, Memory>
         requires in_range { start ≤ 2 ^ 53 }
-        ensures { IfOk result (λ link. link ≡ record { config = config; state = link_at config start; spent = 0 }) }
+        ensures { IfOk result (λ link. link ≡ record { config = config; state = link_at config start; spent = 0; moved = 0 }) }
     {
         Ok(Link {
             router: Router::new(alloc, config, start)?,
@@ -70,7 +71,8 @@ impl<F: Family> Link<F> {
     /// the other querier's deadline ends; the general query is sent, if it is due; then what is due for the groups (RFC 3376
     /// sections 6.5, 6.6.2 and 6.6.3, RFC 3810 sections 7.5, 7.6.2 and 7.6.3). However late it is called, each goes once.
     /// Behind it the next moment is later than `now`. At least one comparison for each group that has something to do, and two
-    /// more; at most four for each source, 27 for each group and three more; before the next moment, three at most.
+    /// more; at most four for each source, 44 for each group and three more; before the next moment, three at most. What is
+    /// moved to keep the groups is at most six for each source and 136 for each group; before the next moment nothing.
     pub fn tick<O: Outlet<F::Address>>(&mut self, now: Moment, outlet: &mut O)
         requires in_range { now ≤ 2 ^ 53 }
         ensures config { self.new.config ≡ self.old.config }
@@ -79,11 +81,15 @@ impl<F: Family> Link<F> {
         ensures later { now < next_of self.new.state }
         ensures spent { let groups = self.old.state.groups in
             let least = least_ticked (moment_of self.old.state now) groups in
-            Spends (2 + least) (4 * sources_in groups + 27 * map.len groups + 3) self.old.spent self.new.spent }
+            Spends (2 + least) (4 * sources_in groups + 44 * map.len groups + 3) self.old.spent self.new.spent }
         ensures bounded { Spends 0 (cost_of 0 (held_of self.old.state)) self.old.spent self.new.spent }
         ensures quiet { moment_of self.old.state now < next_of self.old.state → Spends 2 3 self.old.spent self.new.spent }
+        ensures moved { let groups = self.old.state.groups in
+            Spends 0 (6 * sources_in groups + 136 * map.len groups) self.old.moved self.new.moved }
+        ensures still { moment_of self.old.state now < next_of self.old.state → self.new.moved ≡ self.old.moved }
     {
         self.is_well_formed();
+        self.router.lemma_is_stored();
         let mut terms = QueryTerms::of(self.router.config());
         let mut sender = Sender::new(&mut terms, outlet);
         self.router.tick(now, &mut sender);
@@ -94,7 +100,8 @@ impl<F: Family> Link<F> {
     /// taken. Answers what became of it. The envelope is what its packet says of it, the body its bytes without the IP
     /// header (RFC 3376 sections 4, 6.4 and 7.3.2, RFC 3810 sections 5, 7.4 and 8.3.2). At most 64 comparisons for each
     /// byte of the body and for each group and source that is held as it comes, and 64 more, whatever its records are; at
-    /// least two, and what its records take.
+    /// least two, and what its records take. What is moved to keep the groups is at most 256 for each byte of the body and for
+    /// each group and source.
     pub fn receive<O: Outlet<F::Address>>(
         &mut self,
         envelope: &F::Envelope,
@@ -109,6 +116,7 @@ impl<F: Family> Link<F> {
         ensures formed { IsWellFormed self.new.config self.new.state }
         ensures spent { let least = least_received self.old.config (F.envelope_of envelope.now) body.now now self.old.state in
             Spends (2 + least) (cost_of (length body.now) (held_of self.old.state)) self.old.spent self.new.spent }
+        ensures moved { Spends 0 (most_moved (length body.now) (held_of self.old.state)) self.old.moved self.new.moved }
     {
         let mut terms = QueryTerms::of(self.router.config());
         let mut sender = Sender::new(&mut terms, outlet);
@@ -152,6 +160,13 @@ impl<F: Family> Link<F> {
         ensures { result ≡ self.now.spent }
     {
         self.router.spent()
+    }
+
+    /// How many items of lists `tick` and `receive` have moved to keep the groups. It stays at the greatest u64.
+    pub fn moved(&self) -> u64
+        ensures { result ≡ self.now.moved }
+    {
+        self.router.moved()
     }
 
     /// Whether it is querier (RFC 3376 section 6.6.2, RFC 3810 section 7.6.2).
@@ -224,7 +239,7 @@ impl<F: Family> Link<F> {
         let mut m = Meter::new();
         let held = self.router.held();
         match held.find(group, &mut m) {
-            Ok(place) => held.entry(place).forwards(source, &mut m),
+            Ok(number) => held.entry_of(number).forwards(source, &mut m),
             Err(_) => false,
         }
     }

@@ -1,6 +1,6 @@
 //! The inside of a link, as one object.
 
-ghost use Rattle.std.specs.Prelude.{◌≡◌, ◌^◌, ◌<◌, ◌≤◌, IfOk};
+ghost use Rattle.std.specs.Prelude.{◌≡◌, ◌+◌, ◌^◌, ◌<◌, ◌≤◌, IfOk};
 ghost use Rattle.std.specs.FinMap as map;
 ghost use Rattle.mq_count.specs.Streams.{counted_on};
 ghost use Rattle.mq_link.specs.Counters as counters;
@@ -10,6 +10,7 @@ ghost use Rattle.mq_table.specs.Variables.{AreInRange};
 ghost use Rattle.mq_sched.specs.Election.{election_at};
 ghost use Rattle.mq_link.specs.Configuration.{IsFaultless};
 ghost use Rattle.mq_link.specs.Sound.{AreSound};
+ghost use Rattle.mq_link.specs.State.{sources_in};
 
 use crate::answers::DropReason;
 use crate::config::Config;
@@ -18,7 +19,7 @@ use crate::family::Family;
 use crate::met::MetGroups;
 use crate::statement::Verdict;
 use crate::status::Status;
-use crate::storage::Storage;
+use crate::storage::{Numbers, Storage};
 use mq_count::Moment;
 use mq_held::HeldGroups;
 use mq_sched::Election;
@@ -31,7 +32,7 @@ use std::marker::Model;
 const MOST_RECORDS: usize = 65535;
 
 /// All that the calls of a link work on: the router's status, the groups with their storage, what was counted, the groups
-/// that the records of a datagram have met, and the places of those that are due. What is due, a query that is heard, a
+/// that the records of a datagram have met, and room for the numbers of those that are due. What is due, a query that is heard, a
 /// statement and a record are its steps. A contract sees a `RouterValue`, and each is one that a router may be.
 #[derive(Drop)]
 pub(crate) struct Router<F: Family> {
@@ -39,7 +40,7 @@ pub(crate) struct Router<F: Family> {
     pub(crate) storage: Storage<F::Address>,
     pub(crate) counts: Counts,
     pub(crate) met: MetGroups<F::Address>,
-    pub(crate) places: Vec<usize>,
+    pub(crate) numbers: Numbers,
 }
 
 impl<F: Family> Model for Router<F> {
@@ -55,7 +56,7 @@ impl<F: Family> Model for Router<F> {
 
     ghost view = { λ r. router_of r.status r.storage r.counts r.met };
 
-    ghost invariant = { λ r. IsStored r.status r.storage r.met r.places.items };
+    ghost invariant = { λ r. IsStored r.status r.storage r.met r.numbers };
 }
 
 impl<F: Family> Router<F> {
@@ -68,12 +69,14 @@ impl<F: Family> Router<F> {
           counters = no_counts;
           met = map.empty;
           spent = 0;
+          moved = 0;
+          put_by = 0;
         }) }
     {
         config.is_faultless();
         let limits = config.limits();
         let groups = limits.groups as usize;
-        let places = vec![in alloc; 0; groups]?;
+        let numbers = Numbers::with_room(alloc, groups)?;
         let met = MetGroups::with_room(alloc, MOST_RECORDS)?;
         let storage = Storage::with_room(alloc, &limits)?;
         Ok(Router {
@@ -81,13 +84,14 @@ impl<F: Family> Router<F> {
             storage,
             counts: Counts::none(),
             met,
-            places,
+            numbers,
         })
     }
 
-    /// What each is: its groups are sound, its status is one that a router may have. It does nothing: its contract is the
-    /// fact.
+    /// What each is: its groups are sound, its status is one that a router may have, and no more is put by than packing its rows
+    /// moves. It does nothing: its contract is the fact.
     pub(crate) fn lemma_is_stored(&self)
+        ensures put_by { self.now.put_by ≤ sources_in self.now.groups + map.len self.now.groups }
         ensures sound { AreSound self.now.at self.now.groups }
         ensures faultless { IsFaultless self.now.at.config }
         ensures family { self.now.at.config.family ≡ F.FAMILY }
@@ -138,6 +142,13 @@ impl<F: Family> Router<F> {
         ensures { result ≡ self.now.spent }
     {
         self.storage.work.meter.spent()
+    }
+
+    /// How many items it has moved to keep its lists.
+    pub(crate) fn moved(&self) -> u64
+        ensures { result ≡ self.now.moved }
+    {
+        self.storage.work.moves.made()
     }
 
     /// Counts so many queries that were sent, and so many that were not.

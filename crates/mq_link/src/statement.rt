@@ -18,6 +18,7 @@ ghost use Rattle.mq_link.specs.Judging.{verdict_of};
 ghost use Rattle.mq_link.specs.LeastCost.{least_merge, least_work};
 ghost use Rattle.mq_link.specs.Record as record_spec;
 ghost use Rattle.mq_link.specs.Record.{change_stated, stated};
+ghost use Rattle.mq_link.specs.Moved.{MovesWithin, moved_by_edit};
 ghost use Rattle.mq_link.specs.Router.{HasOutcome};
 ghost use Rattle.mq_link.specs.Sound.{AreSound};
 ghost use Rattle.mq_link.specs.Storage.{HasRoom, HasRoomFor, group_stored, IsSought, KeepsRoom, KeepsRooms};
@@ -122,6 +123,7 @@ impl<K: Key> Workspace<K> {
         ensures held { OnSome result ((s : ℕ) → set_of K.number self.new.asked.items s ≡ true → IsSome (timer_at self.new.group.state s)) }
         ensures named { length self.new.named.members ≤ length self.old.named.members }
         ensures kept { KeepsRoom self.old self.new }
+        ensures unmoved { self.new.moves ≡ self.old.moves }
 
         // At most two comparisons, and one for each source of the group and of the statement; at least one for each of
         // those that are fewer, the sources of the group or those that count.
@@ -167,6 +169,7 @@ impl<K: Key> Workspace<K> {
             e ≡ after_change at.now.is_querier at.now.timing at.now.moment change schedule.old }
         ensures named { self.new.named ≡ self.old.named }
         ensures kept { KeepsRoom self.old self.new }
+        ensures unmoved { self.new.moves ≡ self.old.moves }
         ensures spent { Spends 0 (2 * size_of self.old.group.state + 1) self.old.meter self.new.meter }
     {
         schedule.settle(&self.group);
@@ -202,7 +205,7 @@ impl<F: Family> Status<F> {
     /// What a statement does for a group that is admitted and was looked for: it is ignored where older hosts or the
     /// source-specific range mute it; refused where what it would leave passes a limit, and then nothing is changed or
     /// sent; else applied, and what it asks for is sent at once. The sources that it names stand in the workspace. At most
-    /// six comparisons for each source of the group and each that it names, twelve more, and one for each binary digit of
+    /// six comparisons for each source of the group and each that it names, twelve more, and two for each binary digit of
     /// how many groups there are; at least one for each of those that are fewer, the sources of the group or those that
     /// count.
     pub(crate) fn apply<S: Sink<F::Address>>(
@@ -214,10 +217,10 @@ impl<F: Family> Status<F> {
     ) -> Verdict
         requires admitted { is_admitted self.now.config.family (F.Address.number sought.address) ≡ true }
         requires sound { AreSound self.now storage.old.held.groups }
-        requires sought { IsSought F.Address.number storage.old.held.groups sought }
+        requires sought { IsSought F.Address.number storage.old.held sought }
         requires room { HasRoom self.now.config.limits.group_sources storage.old.work }
         requires named { length storage.old.work.named.members ≤ self.now.config.limits.group_sources }
-        requires group_room { storage.old.held.group_room ≡ self.now.config.limits.groups }
+        requires group_room { storage.old.held.order.room ≡ self.now.config.limits.groups }
         requires source_room { storage.old.held.source_room ≡ self.now.config.limits.sources }
 
         ensures outcome { let said_so = statement_of said (named_in F.Address.number storage.old.work.named.members) in
@@ -226,9 +229,12 @@ impl<F: Family> Status<F> {
         ensures rooms { KeepsRooms storage.old storage.new }
         ensures spent { let said_so = statement_of said (named_in F.Address.number storage.old.work.named.members) in
             let sizes = sources_of (group_at storage.old.held.groups (F.Address.number sought.address)) + length storage.old.work.named.members in
-            Spends (least_work self.now (F.Address.number sought.address) said_so storage.old.held.groups) (6 * sizes + 12 + bitlen (map.len storage.old.held.groups)) storage.old.work.meter storage.new.work.meter }
+            Spends (least_work self.now (F.Address.number sought.address) said_so storage.old.held.groups) (6 * sizes + 12 + 2 * bitlen (map.len storage.old.held.groups)) storage.old.work.meter storage.new.work.meter }
+        ensures moved { let sizes = sources_of (group_at storage.old.held.groups (F.Address.number sought.address)) + length storage.old.work.named.members in
+            MovesWithin (5 * sizes + moved_by_edit) storage.old storage.new }
     {
         self.lemma_is_sound();
+        storage.held.lemma_is_numbered();
         let at = self.in_force();
         let limits = self.config().limits();
         let muting = MutingRules {
@@ -242,7 +248,7 @@ impl<F: Family> Status<F> {
         let mut schedule = stored.schedule;
         storage.work.ask(&mut schedule, asks_group, &at);
         let change = Change {
-            is_held: sought.place.is_ok(),
+            is_held: sought.found.is_ok(),
             sources: stored.sources.len(),
             before: stored.schedule,
             schedule,

@@ -5,21 +5,22 @@ ghost use Rattle.std.specs.Prelude.{◌≡◌, ℕ, ◌+◌, ◌-◌, ◌*◌, �
 ghost use Rattle.std.specs.FinMap as map;
 ghost use Rattle.mq_count.specs.Spending.{Spends};
 ghost use Rattle.mq_sets.specs.Search.{bitlen};
-ghost use Rattle.mq_table.specs.Group.{is_vacant};
 ghost use Rattle.mq_table.specs.Stored.{size_of};
 ghost use Rattle.mq_sched.specs.Election.{ticked, general_messages};
 ghost use Rattle.mq_sched.specs.Schedule.{ScheduledGroup};
 ghost use Rattle.mq_sched.specs.Sending.{GeneralQuery, messages_due, after_round};
 ghost use Rattle.mq_sched.specs.Sink.{Sends};
-ghost use Rattle.mq_held.specs.Groups.{group_at, sources_of, sources_in, with_group};
-ghost use Rattle.mq_held.specs.Places.{HasPlace, has_due};
+ghost use Rattle.mq_held.specs.Groups.{group_at, kept_as, sources_of, sources_in};
+ghost use Rattle.mq_held.specs.Held.{HasNumber, IsNumber};
+ghost use Rattle.mq_held.specs.Places.{has_due};
 ghost use Rattle.mq_wire.specs.Family.{Family};
 ghost use Rattle.mq_link.specs.Family as definitions;
 ghost use Rattle.mq_link.specs.LeastCost.{least_ticked};
 ghost use Rattle.mq_link.specs.Link.{HasTicked};
+ghost use Rattle.mq_link.specs.Moved.{HasMoved, MovesWithin, most_moved_by_tick};
 ghost use Rattle.mq_link.specs.Router.{HasStep, link_of, state_of};
 ghost use Rattle.mq_link.specs.Sender.{TakesQuery, begun};
-ghost use Rattle.mq_link.specs.Storage.{IsReady, KeepsRoom, KeepsRooms};
+ghost use Rattle.mq_link.specs.Storage.{HasSpace, IsReady, KeepsRoom, KeepsRooms, KeepsSpace};
 ghost use Rattle.mq_link.specs.Tick.{group_expired, groups_expired, queries_due, groups_after_round, moment_of, next_of, tick_of};
 
 use crate::family::Family;
@@ -27,7 +28,7 @@ use crate::outlet::Outlet;
 use crate::router::Router;
 use crate::sender::Sender;
 use crate::status::{InForce, Status};
-use crate::storage::{Storage, Workspace};
+use crate::storage::{Numbers, Storage, Workspace};
 use mq_count::{Meter, Moment};
 use mq_sched::{Schedule, Sink};
 use mq_wire::WireKey;
@@ -43,6 +44,7 @@ impl<K: WireKey> Workspace<K> {
             let e : ScheduledGroup = record { group = self.new.group.state; schedule = schedule.new } in
             e ≡ after_round at.now.timing at.now.moment ended }
         ensures room { KeepsRoom self.old self.new }
+        ensures unmoved { self.new.moves ≡ self.old.moves }
         ensures spent { Spends 0 (3 * size_of self.old.group.state + 6) self.old.meter self.new.meter }
     {
         self.group.expire(at.moment, &mut self.meter);
@@ -60,61 +62,78 @@ impl<K: WireKey> Workspace<K> {
 }
 
 impl<K: WireKey> Storage<K> {
-    /// Serves the group at a place, and puts it back, or takes it out where it is INCLUDE without sources then; answers
-    /// whether it was taken out. At most four comparisons for each of its sources, ten more, and one for each binary
-    /// digit of how many other groups there are.
-    fn tick_place<S: Sink<K>>(&mut self, place: usize, at: &InForce, sink: &mut S) -> bool
+    /// Serves the group of a number, and puts it back; one that is INCLUDE without sources then stays until it is taken out.
+    /// At most four comparisons for each of its sources, ten more, and one for each binary digit of how many groups there are.
+    fn tick_group<S: Sink<K>>(&mut self, number: u16, at: &InForce, sink: &mut S)
         requires in_range { at.now.moment ≤ 2 ^ 53 }
-        requires place { place < map.len self.old.held.groups }
-        requires room { (address : ℕ) → HasPlace self.old.held.groups address place →
+        requires number { IsNumber self.old.held number }
+        requires room { (address : ℕ) → HasNumber self.old.held address number →
             sources_of (group_at self.old.held.groups address) ≤ self.old.work.group.room }
-        ensures groups { (address : ℕ) → HasPlace self.old.held.groups address place →
+        ensures groups { (address : ℕ) → HasNumber self.old.held address number →
             let ended = group_expired at.now.moment (group_at self.old.held.groups address) in
-            self.new.held.groups ≡ with_group self.old.held.groups address (after_round at.now.timing at.now.moment ended) }
-        ensures gone { (address : ℕ) → HasPlace self.old.held.groups address place →
-            let ended = group_expired at.now.moment (group_at self.old.held.groups address) in
-            result ≡ is_vacant ended.group }
-        ensures sent { (address : ℕ) → HasPlace self.old.held.groups address place →
+            self.new.held.groups ≡ map.insert self.old.held.groups address (kept_as (after_round at.now.timing at.now.moment ended)) }
+        ensures order { self.new.held.order ≡ self.old.held.order }
+        ensures sent { (address : ℕ) → HasNumber self.old.held address number →
             let ended = group_expired at.now.moment (group_at self.old.held.groups address) in
             Sends S.takes sink.old (messages_due K.PER_QUERY at.now.timing at.now.moment address ended) sink.new }
         ensures rooms { KeepsRooms self.old self.new }
-        ensures spent { (address : ℕ) → HasPlace self.old.held.groups address place →
+        ensures spent { (address : ℕ) → HasNumber self.old.held address number →
             let own = 4 * sources_of (group_at self.old.held.groups address) in
-            Spends 0 (own + 10 + bitlen (map.len self.old.held.groups - 1)) self.old.work.meter self.new.work.meter }
+            Spends 0 (own + 10 + bitlen (map.len self.old.held.groups)) self.old.work.meter self.new.work.meter }
+        ensures moved { (address : ℕ) → HasNumber self.old.held address number →
+            let own = sources_of (group_at self.old.held.groups address) in
+            MovesWithin (5 * own + 5 + bitlen (map.len self.old.held.groups)) self.old self.new }
     {
-        let address = self.held.address(place);
-        let mut schedule = self.held.load(place, &mut self.work.group);
+        self.held.lemma_is_numbered();
+        let address = self.held.address(number);
+        let mut schedule = self.held.load(number, &mut self.work.group);
         self.work.serve(address, &mut schedule, at, sink);
         self.lemma_sources_fit();
-        self.put_or_remove(place, schedule)
+        self.put(number, schedule);
     }
 
     /// Ends what has run out of the groups, and sends what is due for them, by ascending group. Those that have no moment
     /// at or before it are left alone. At least one comparison for each group that has such a moment, and one more, where
-    /// there is another group; at most four for each source, 27 for each group and one more; where no group has such a
+    /// there is another group; at most four for each source, 44 for each group and one more; where no group has such a
     /// moment, one at most.
-    fn tick_groups<S: Sink<K>>(&mut self, places: &mut [usize], at: &InForce, sink: &mut S)
+    fn tick_groups<S: Sink<K>>(&mut self, numbers: &mut Numbers, at: &InForce, sink: &mut S)
         requires in_range { at.now.moment ≤ 2 ^ 53 }
-        requires space { map.len self.old.held.groups ≤ length places.old }
+        requires space { HasSpace (map.len self.old.held.groups) numbers.old }
         requires ready { IsReady self.old }
         ensures groups { self.new.held.groups ≡ groups_after_round at.now.timing at.now.moment (groups_expired at.now.moment self.old.held.groups) }
         ensures sent { (family : Family) → K.PER_QUERY ≡ definitions.per_query family →
             Sends S.takes sink.old (queries_due family at.now.timing at.now.moment (groups_expired at.now.moment self.old.held.groups)) sink.new }
         ensures rooms { KeepsRooms self.old self.new }
+        ensures space { KeepsSpace numbers.old numbers.new }
         ensures spent { let groups = self.old.held.groups in
             let least = least_ticked at.now.moment groups in
-            Spends least (4 * sources_in groups + 27 * map.len groups + 1) self.old.work.meter self.new.work.meter }
+            Spends least (4 * sources_in groups + 44 * map.len groups + 1) self.old.work.meter self.new.work.meter }
         ensures quiet { let none_is_due =
             (address : ℕ) (e : ScheduledGroup) → map.get self.old.held.groups address ≡ Some e → has_due at.now.moment e ≡ false in
             none_is_due → Spends 0 1 self.old.work.meter self.new.work.meter }
+        ensures moved { let groups = self.old.held.groups in
+            MovesWithin (most_moved_by_tick groups) self.old self.new }
+        ensures still { let none_is_due =
+            (address : ℕ) (e : ScheduledGroup) → map.get self.old.held.groups address ≡ Some e → has_due at.now.moment e ≡ false in
+            none_is_due → self.new.work.moves ≡ self.old.work.moves }
     {
-        let count = self.held.due(at.moment, places, &mut self.work.meter);
-        let mut gone = 0;
-        for place in &places[..count] {
-            if self.tick_place(*place - gone, at, sink) {
-                gone += 1;
-            }
+        self.held.lemma_is_numbered();
+        self.held.due(
+            at.moment,
+            &mut numbers.due,
+            &mut numbers.spare,
+            &mut self.work.meter,
+            &mut self.work.moves,
+        );
+        for number in numbers.due.as_slice() {
+            self.tick_group(*number, at, sink);
         }
+        self.held.take_out_vacant(
+            &mut numbers.due,
+            &mut numbers.spare,
+            &mut self.work.meter,
+            &mut self.work.moves,
+        );
     }
 }
 
@@ -137,17 +156,17 @@ fn send_general<F: Family, O: Outlet<F::Address>>(is_due: bool, sender: &mut Sen
 
 /// Does what is due at or before `now`, in this order: the end of the other querier's deadline; the general query; the
 /// end of timers, and what is due for the groups. The sender begins anew, on the terms that are in force then. At least one
-/// comparison for each group that has such a moment, and one more; at most four for each source, 27 for each group and two
+/// comparison for each group that has such a moment, and one more; at most four for each source, 44 for each group and two
 /// more; where no group has such a moment, two at most.
 fn do_due<F: Family, O: Outlet<F::Address>>(
     status: &mut Status<F>,
     storage: &mut Storage<F::Address>,
-    places: &mut [usize],
+    numbers: &mut Numbers,
     now: Moment,
     sender: &mut Sender<F, O>,
 )
     requires in_range { now ≤ 2 ^ 53 }
-    requires space { map.len storage.old.held.groups ≤ length places.old }
+    requires space { HasSpace (map.len storage.old.held.groups) numbers.old }
     requires ready { IsReady storage.old }
     ensures status { status.new ≡ record status.old { election = ticked status.old.config.timing now status.old.election; now = now } }
     ensures groups { let in_force = (ticked status.old.config.timing now status.old.election).timing in
@@ -159,23 +178,27 @@ fn do_due<F: Family, O: Outlet<F::Address>>(
         ++ queries_due F.FAMILY in_force now (groups_expired now storage.old.held.groups))
         sender.new }
     ensures rooms { KeepsRooms storage.old storage.new }
+    ensures space { KeepsSpace numbers.old numbers.new }
     ensures spent { let groups = storage.old.held.groups in
         let least = least_ticked now groups in
-        Spends (1 + least) (4 * sources_in groups + 27 * map.len groups + 2) storage.old.work.meter storage.new.work.meter }
+        Spends (1 + least) (4 * sources_in groups + 44 * map.len groups + 2) storage.old.work.meter storage.new.work.meter }
+    ensures moved { MovesWithin (most_moved_by_tick storage.old.held.groups) storage.old storage.new }
     ensures quiet { let is_quiet = (address : ℕ) (e : ScheduledGroup) → map.get storage.old.held.groups address ≡ Some e → has_due now e ≡ false in
         is_quiet → Spends 1 2 storage.old.work.meter storage.new.work.meter }
+    ensures still { let is_quiet = (address : ℕ) (e : ScheduledGroup) → map.get storage.old.held.groups address ≡ Some e → has_due now e ≡ false in
+        is_quiet → storage.new.work.moves ≡ storage.old.work.moves }
 {
     let is_due = status.tick(now, &mut storage.work.meter);
     status.lemma_is_sound();
     let at = status.in_force();
     sender.begin(status.config(), at.timing);
     send_general(is_due, sender);
-    storage.tick_groups(places, &at, sender);
+    storage.tick_groups(numbers, &at, sender);
 }
 
 impl<F: Family> Router<F> {
     /// Does what is due at or before `now`; a moment before the last one counts as the last one. At least one comparison for
-    /// each group that has something to do, and two more; at most four for each source, 27 for each group and three more;
+    /// each group that has something to do, and two more; at most four for each source, 44 for each group and three more;
     /// before the next moment, three at most.
     pub(crate) fn come_to<O: Outlet<F::Address>>(&mut self, now: Moment, sender: &mut Sender<F, O>)
         requires in_range { now ≤ 2 ^ 53 }
@@ -183,16 +206,19 @@ impl<F: Family> Router<F> {
             HasStep (TakesQuery O.takes F.FAMILY) step self.old self.new (begun self.old.at.config step.timing sender.old) sender.new }
         ensures spent { let groups = self.old.groups in
             let least = least_ticked (moment_of (state_of self.old) now) groups in
-            Spends (2 + least) (4 * sources_in groups + 27 * map.len groups + 3) self.old.spent self.new.spent }
+            Spends (2 + least) (4 * sources_in groups + 44 * map.len groups + 3) self.old.spent self.new.spent }
         ensures quiet { let state = state_of self.old in
             moment_of state now < next_of state → Spends 2 3 self.old.spent self.new.spent }
+        ensures moved { HasMoved (most_moved_by_tick self.old.groups) self.old self.new }
+        ensures still { let state = state_of self.old in
+            moment_of state now < next_of state → self.new.moved ≡ self.old.moved }
     {
         self.status.lemma_is_sound();
         let now = later(self.status.moment(), now, &mut self.storage.work.meter);
         do_due(
             &mut self.status,
             &mut self.storage,
-            &mut self.places,
+            &mut self.numbers,
             now,
             sender,
         );
@@ -206,9 +232,12 @@ impl<F: Family> Router<F> {
         ensures same_outlet { sender.new.outlet.ghost_name ≡ sender.old.outlet.ghost_name }
         ensures spent { let groups = self.old.groups in
             let least = least_ticked (moment_of (state_of self.old) now) groups in
-            Spends (2 + least) (4 * sources_in groups + 27 * map.len groups + 3) self.old.spent self.new.spent }
+            Spends (2 + least) (4 * sources_in groups + 44 * map.len groups + 3) self.old.spent self.new.spent }
         ensures quiet { let state = state_of self.old in
             moment_of state now < next_of state → Spends 2 3 self.old.spent self.new.spent }
+        ensures moved { HasMoved (most_moved_by_tick self.old.groups) self.old self.new }
+        ensures still { let state = state_of self.old in
+            moment_of state now < next_of state → self.new.moved ≡ self.old.moved }
     {
         self.lemma_is_stored();
         self.come_to(now, sender);

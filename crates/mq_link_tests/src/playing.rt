@@ -106,6 +106,7 @@ struct Play<F: Written> {
     told: usize,
     tally: Tally,
     spent_before: u64,
+    moved_before: u64,
     /// How many calls were made.
     calls: u32,
     /// How many comparisons the last call of the link before made.
@@ -116,6 +117,7 @@ impl<F: Written> Play<F> {
     /// Before a call.
     fn begin(&mut self) {
         self.spent_before = self.link.spent();
+        self.moved_before = self.link.moved();
         self.calls = self.calls.saturating_add(1);
     }
 
@@ -288,6 +290,14 @@ impl<F: Written> Play<F> {
         )
     }
 
+    fn has_moved(&self, low: u32, high: u32) -> Option<&'static str> {
+        let moved = self.link.moved().saturating_sub(self.moved_before);
+        unless(
+            u64::from(low) <= moved && moved <= u64::from(high),
+            "other moves",
+        )
+    }
+
     fn has_spent_fewer(&self, count: u32) -> Option<&'static str> {
         unless(
             self.spent_last().saturating_add(u64::from(count)) <= self.by_other,
@@ -323,6 +333,7 @@ impl<F: Written> Play<F> {
             Fact::Force(robustness, seconds) => self.are_in_force(robustness, seconds),
             Fact::Next(ms) => unless(is_at(self.link.next_deadline(), ms), "another moment"),
             Fact::Spends(low, high) => self.has_spent(low, high),
+            Fact::Moves(low, high) => self.has_moved(low, high),
             Fact::Fewer(count) => self.has_spent_fewer(count),
             Fact::Spelled(kind, count) => self.are_spelled(kind, count),
         }
@@ -379,6 +390,7 @@ fn begun<F: Written>(alloc: Global, line: &str, answer: bool) -> Result<Play<F>,
         told: 0,
         tally: Tally::none(),
         spent_before: 0,
+        moved_before: 0,
         calls: 0,
         by_other: 0,
     })

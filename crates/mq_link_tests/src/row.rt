@@ -21,6 +21,7 @@
 //! | `force ROBUSTNESS SECONDS` | the robustness variable and the query interval that are in force |
 //! | `next MS` | when there is something to do next |
 //! | `spends LOW HIGH` | how many comparisons the last call made, at least and at most |
+//! | `moves LOW HIGH` | how many items of lists the last call moved, at least and at most |
 //! | `fewer COUNT` | the last call made at least so many comparisons fewer than the last one of the link before |
 //! | `spelled NAME COUNT` | how many messages of a kind were spelled, dropped ones included |
 //!
@@ -93,6 +94,7 @@ pub enum Fact<'a> {
     Force(u32, u32),
     Next(u32),
     Spends(u32, u32),
+    Moves(u32, u32),
     Fewer(u32),
     Spelled(MessageKind, u32),
 }
@@ -216,6 +218,7 @@ pub fn fact_of<'a>(line: &'a str) -> Option<Fact<'a>> {
         "force" => Some(Fact::Force(number(words)?, number(words)?)),
         "next" => Some(Fact::Next(number(words)?)),
         "spends" => Some(Fact::Spends(number(words)?, number(words)?)),
+        "moves" => Some(Fact::Moves(number(words)?, number(words)?)),
         "fewer" => Some(Fact::Fewer(number(words)?)),
         "spelled" => Some(Fact::Spelled(kind_of(words.next()?)?, number(words)?)),
         _ => None,

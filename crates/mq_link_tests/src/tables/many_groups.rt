@@ -18,10 +18,12 @@ static ROWS: [&str; 1] = [
     next 260500
     tick 260499
     spends 0 4
+    moves 0 0
     number 1024
     forwards 239.0.0.1 10.0.0.1
     tick 260500
     spends 0 256
+    moves 6 1600
     number 1023
     blocks 239.0.0.1 10.0.0.1
     forwards 239.0.0.2 10.0.0.1

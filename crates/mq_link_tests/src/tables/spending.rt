@@ -51,6 +51,7 @@ static OF_IGMP: [&str; 8] = [
     number 1024
     comes 2000 22005a6500001ffe,8190*06000000ef090909 taken 8190 0
     spends 8190 4259392
+    moves 0 0
     number 1024
     blocks 239.9.9.9 10.0.0.1",
     "a late tick, at which all that a full link holds ends
@@ -64,6 +65,7 @@ static OF_IGMP: [&str; 8] = [
     sends 600000 general
     quiet
     spends 2 1114176
+    moves 8192 4456448
     number 0",
     "2 sources between those that are held take at least 1 comparison more than 2 behind them
     link

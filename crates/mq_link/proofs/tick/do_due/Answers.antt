@@ -56,7 +56,7 @@ pub returns-clause-spent : goal.returns-clause-spent
 returns-clause-spent g c =
     let groups = c.args.storage.now.held.groups in
     let moment = ap (λ (f : InForce). f.moment) c.in_force-at.ensures.in_force ∙ ap (λ (s : Setting). s.now) c.tick-is_due.ensures.ticked in
-    let served = subst (λ n. Spends (least_ticked n groups) (4 * sources_in groups + 27 * map.len groups + 1) c.tick-is_due.new.m c.tick_groups.new.self.work.meter) moment c.tick_groups.ensures.spent in
+    let served = subst (λ n. Spends (least_ticked n groups) (4 * sources_in groups + 44 * map.len groups + 1) c.tick-is_due.new.m c.tick_groups.new.self.work.meter) moment c.tick_groups.ensures.spent in
     Spends-join_within (1 + least_ticked c.args.now groups) _ c.tick-is_due.ensures.spent served (omega arith) (omega arith)
 
 pub returns-clause-quiet : goal.returns-clause-quiet
@@ -64,3 +64,9 @@ returns-clause-quiet g c none =
     let moment = ap (λ (f : InForce). f.moment) c.in_force-at.ensures.in_force ∙ ap (λ (s : Setting). s.now) c.tick-is_due.ensures.ticked in
     let none_then = subst (λ n. (address : ℕ) (e : ScheduledGroup) → map.get c.args.storage.now.held.groups address ≡ Some e → has_due n e ≡ false) (sym moment) none in
     Spends-join_within 1 2 c.tick-is_due.ensures.spent (c.tick_groups.ensures.quiet none_then) (omega arith) (omega arith)
+
+pub returns-clause-still : goal.returns-clause-still
+returns-clause-still g c none =
+    let moment = ap (λ (f : InForce). f.moment) c.in_force-at.ensures.in_force ∙ ap (λ (s : Setting). s.now) c.tick-is_due.ensures.ticked in
+    let none_then = subst (λ n. (address : ℕ) (e : ScheduledGroup) → map.get c.args.storage.now.held.groups address ≡ Some e → has_due n e ≡ false) (sym moment) none in
+    c.tick_groups.ensures.still none_then

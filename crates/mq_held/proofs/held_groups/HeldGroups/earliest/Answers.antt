@@ -1,4 +1,4 @@
-use Rattle.mq_held.proofs.Inside.{earliest-held, some-held}
+use Rattle.mq_held.proofs.EarliestHeld.{earliest-held, some-held}
 use Rattle.mq_held.proofs.held_groups.HeldGroups.earliest.Goals as goal
 
 pub returns-clause-some : goal.returns-clause-some

@@ -4,9 +4,11 @@ use Rattle.mq_count.specs.Spending.{Spends}
 use Rattle.mq_wire.specs.Canon.{source_count}
 use Rattle.mq_wire.specs.Numbered.{numbered_query}
 use Rattle.mq_link.specs.Heard.{query_heard}
+use Rattle.mq_link.specs.Moved.{IsPaid}
 use Rattle.mq_link.specs.Record.{Setting}
 use Rattle.mq_link.specs.Router.{Leaves, RouterValue, router_of, state_of}
 use Rattle.mq_link.specs.State.{sources_in}
+use Rattle.mq_link.specs.Storage.{put_by_rows}
 use Rattle.mq_link.proofs.Faultless.{few_sources, timing_in_range}
 use Rattle.mq_link.proofs.LinkStored.{ready_in, stored_next}
 use Rattle.mq_link.proofs.RouterSteps.{sound_heard}
@@ -24,10 +26,10 @@ invariant_of-self g c =
     let inside = router_of parts.status parts.storage parts.counts parts.met in
     let sure = c.lemma_is_sound.ensures in
     let heard = c.hear_query.ensures in
-    stored_next parts.status c.hear_query.new.self parts.storage c.hear_query.new.storage parts.met parts.met parts.places.items parts.places.items c.self.invariant
+    stored_next parts.status c.hear_query.new.self parts.storage c.hear_query.new.storage parts.met parts.met parts.numbers (record parts.numbers { due = c.hear_query.new.numbers }) c.self.invariant
     (ap (λ (s : Setting). s.config) heard.election)
     (sound_heard inside _ (numbered_query g.F.Address.Key.number c.args.query.now) c.hear_query.new.self c.hear_query.new.storage.held.groups (timing_in_range inside.at.config sure.faultless) c.requires.carried sure.timing c.self.invariant.sound heard.election heard.groups)
-    heard.rooms refl refl
+    heard.rooms refl (record { due = heard.capacity; spare = refl })
 
 pub returns-clause-leaves : goal.returns-clause-leaves
 returns-clause-leaves g c =
@@ -42,4 +44,12 @@ returns-clause-leaves g c =
 
 pub returns-clause-spent : goal.returns-clause-spent
 returns-clause-spent g c =
-    subst (λ (r : RouterValue). Spends 1 (2 * sources_in r.groups + 20 * map.len r.groups + 12 * source_count c.args.query.now.version + 38) r.spent c.hear_query.new.storage.work.meter) c.self.view_is c.hear_query.ensures.spent
+    subst (λ (r : RouterValue). Spends 1 (2 * sources_in r.groups + 20 * map.len r.groups + 12 * source_count c.args.query.now.version + 40) r.spent c.hear_query.new.storage.work.meter) c.self.view_is c.hear_query.ensures.spent
+
+pub hear_query-requires-clause-space : goal.hear_query-requires-clause-space
+hear_query-requires-clause-space g c = omega (arith, c.self.invariant.sound.within.group_count, c.self.invariant.number_room.due)
+
+pub returns-clause-moved : goal.returns-clause-moved
+returns-clause-moved g c =
+    let left = c.hear_query.new.storage in
+    subst (λ (r : RouterValue). IsPaid (10 * sources_in r.groups + 22 * map.len r.groups + 21) r.put_by (put_by_rows left.held) r.moved left.work.moves) c.self.view_is c.hear_query.ensures.moved

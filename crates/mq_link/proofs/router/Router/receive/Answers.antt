@@ -10,7 +10,7 @@ use Rattle.mq_link.specs.State.{LinkState, held_of}
 use Rattle.mq_link.proofs.HandedOut.{with_answers}
 use Rattle.mq_link.proofs.HandedOver.{same_outlet}
 use Rattle.mq_link.proofs.LinkReceived.{has_received, read_in}
-use Rattle.mq_link.proofs.TickedSizes.{received_within, least_after_tick}
+use Rattle.mq_link.proofs.TickedSizes.{received_within, moved_within, least_after_tick}
 use Rattle.mq_link.proofs.router.Router.receive.Given.{Over}
 use Rattle.mq_link.proofs.router.Router.receive.Goals as goal
 
@@ -45,3 +45,14 @@ returns-clause-spent g c =
     in
     let so = subst (λ n. Spends (2 + n) (cost_of (length c.args.body.now) (held_of (state_of before))) before.spent c.take_in-received.new.self.spent) least spent in
     subst (Spends _ _ before.spent) (sym (ap (λ (r : RouterValue). r.spent) (counted g c))) so
+
+pub returns-clause-moved : goal.returns-clause-moved
+returns-clause-moved g c =
+    let before = c.args.self.now in
+    let between = c.come_to.new.self in
+    let left = c.take_in-received.new.self in
+    let config = before.at.config in
+    let moment = max before.at.now c.args.now in
+    let leaves = c.come_to.ensures.step.leaves in
+    let moved = moved_within (ticked config.timing moment before.at.election).timing moment before.groups between.groups (length c.args.body.now) _ _ _ _ _ _ (ap (λ (s : LinkState). s.groups) leaves.state_is) c.lemma_is_stored.ensures.put_by c.come_to.ensures.moved c.take_in-received.ensures.moved in
+    subst (Spends _ _ before.moved) (sym (ap (λ (r : RouterValue). r.moved) (counted g c))) moved

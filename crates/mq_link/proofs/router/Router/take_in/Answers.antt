@@ -1,4 +1,4 @@
-use Rattle.std.proofs.Common.{◌≡◌, ◌+◌, ◌*◌, ℕ, List, None, Some, Result, Ok, sym, ap, ◌∙◌, subst, arith}
+use Rattle.std.proofs.Common.{◌≡◌, ◌+◌, ◌*◌, ℕ, List, length, None, Some, Result, Ok, sym, ap, ◌∙◌, subst, arith}
 use Rattle.std.specs.FinMap as map
 use Rattle.mq_count.specs.Spending.{Spends}
 use Rattle.mq_count.proofs.Spent.{Spends-within, Spends-none}
@@ -8,6 +8,7 @@ use Rattle.mq_wire.specs.Numbered.{numbered_message}
 use Rattle.mq_link.specs.declared.answers.Received.TheVariants.{Dropped}
 use Rattle.mq_link.specs.Cost.{least_length}
 use Rattle.mq_link.specs.LeastCost.{least_of, least_unless, least_after}
+use Rattle.mq_link.specs.Moved.{HasMoved}
 use Rattle.mq_link.specs.Reading.{numbered_read}
 use Rattle.mq_link.specs.Receive.{Envelope, Receipt, taken_in, count_read, pseudo_of, read_of, receipt_after, drop_reason}
 use Rattle.mq_link.specs.Router.{HasReceipt, RouterValue, silent_step, state_of}
@@ -15,6 +16,7 @@ use Rattle.mq_link.specs.Sender.{TakesQuery}
 use Rattle.mq_link.specs.State.{sources_in}
 use Rattle.mq_link.proofs.LeastLengths.{long_where_read}
 use Rattle.mq_link.proofs.LinkReceived.{is_dropped, is_taken}
+use Rattle.mq_link.proofs.Moved.{paid_none, paid_within}
 use Rattle.mq_link.proofs.Receipts.{IsCarriedWhere, carried_where_read}
 use Rattle.mq_link.proofs.RecordsRead.{few_where_read}
 use Rattle.mq_link.proofs.router.Router.take_in.Given.{Over}
@@ -109,3 +111,17 @@ returns-clause-spent g c =
     in
     let spent = subst (λ (r : RouterValue). Spends (least_of r.at said r.groups) (24 * sources_in r.groups + 20 * map.len r.groups + 64 * least_length said) r.spent c.take_message.new.self.spent) c.count_read.ensures c.take_message.ensures.spent in
     Spends-within _ _ spent (omega (arith, least)) (omega (arith, long))
+
+pub returns-in-Some-clause-moved : goal.returns-in-Some-clause-moved
+returns-in-Some-clause-moved g c =
+    let before = c.args.self.now in
+    let none = paid_within (24 * sources_in before.groups + 22 * map.len before.groups + 256 * length c.args.body.now) (paid_none before.put_by before.moved) (omega arith) in
+    rw (c.count_dropped.ensures, c.count_read.ensures) none
+
+pub returns-clause-moved : goal.returns-clause-moved
+returns-clause-moved g c =
+    let around = g.F.Family.envelope_of c.args.envelope.now in
+    let said = numbered_message g.F.Address.Key.number c.in-Ok.message in
+    let long = long_where_read g.F.Family.FAMILY (pseudo_of g.F.Family.FAMILY around c.args.body.now) c.args.body.now said (taken g c).0 in
+    let moved = subst (λ (r : RouterValue). HasMoved (24 * sources_in r.groups + 22 * map.len r.groups + 256 * least_length said) r c.take_message.new.self) c.count_read.ensures c.take_message.ensures.moved in
+    paid_within _ moved (omega (arith, long))

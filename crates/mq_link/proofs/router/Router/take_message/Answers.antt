@@ -1,8 +1,11 @@
 use Rattle.std.proofs.Common.{◌≤◌, refl, arith}
 use Rattle.std.specs.FinMap as map
 use Rattle.mq_count.proofs.Spent.{Spends-within}
+use Rattle.mq_held.proofs.Amounts.{own_sources}
 use Rattle.mq_link.specs.Receive.{taken_in}
 use Rattle.mq_link.proofs.Faultless.{few_groups}
+use Rattle.mq_link.proofs.Moved.{paid_within}
+use Rattle.mq_link.proofs.MovedRecords.{report_moves_within}
 use Rattle.mq_link.proofs.RecordCosts.{report_within, statement_within}
 use Rattle.mq_link.proofs.router.Router.take_message.Goals as goal
 
@@ -39,3 +42,20 @@ returns-in-Leave-clause-spent g c =
 pub returns-in-Report-clause-spent : goal.returns-in-Report-clause-spent
 returns-in-Report-clause-spent g c =
     rw c.in-Report.is (Spends-within _ _ c.take_records.ensures.spent (omega arith) (omega (arith, report_within c.in-Report.records)))
+
+pub returns-in-Query-clause-moved : goal.returns-in-Query-clause-moved
+returns-in-Query-clause-moved g c = rw c.in-Query.is (paid_within _ c.hear.ensures.moved (omega arith))
+
+pub returns-in-OldReport-clause-moved : goal.returns-in-OldReport-clause-moved
+returns-in-OldReport-clause-moved g c =
+    let own = own_sources c.args.self.now.groups (g.F.Address.Key.number c.in-OldReport.group) in
+    rw c.in-OldReport.is (paid_within _ c.take_statement.ensures.moved (omega (arith, own)))
+
+pub returns-in-Leave-clause-moved : goal.returns-in-Leave-clause-moved
+returns-in-Leave-clause-moved g c =
+    let own = own_sources c.args.self.now.groups (g.F.Address.Key.number c.in-Leave.group) in
+    rw c.in-Leave.is (paid_within _ c.take_statement-in-Leave.ensures.moved (omega (arith, own)))
+
+pub returns-in-Report-clause-moved : goal.returns-in-Report-clause-moved
+returns-in-Report-clause-moved g c =
+    rw c.in-Report.is (paid_within _ c.take_records.ensures.moved (omega (arith, report_moves_within c.in-Report.records)))

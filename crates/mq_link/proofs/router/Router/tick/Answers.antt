@@ -1,5 +1,6 @@
 use Rattle.std.proofs.Common.{◌≡◌, ap, ◌∙◌, sym, subst}
 use Rattle.mq_count.specs.Spending.{Spends}
+use Rattle.mq_link.specs.Moved.{HasMoved, most_moved_by_tick}
 use Rattle.mq_link.specs.Router.{RouterValue}
 use Rattle.mq_link.proofs.HandedOut.{with_answers}
 use Rattle.mq_link.proofs.HandedOver.{same_outlet}
@@ -27,3 +28,9 @@ returns-clause-spent g c = subst (Spends _ _ c.args.self.now.spent) (sym (ap (λ
 
 pub returns-clause-quiet : goal.returns-clause-quiet
 returns-clause-quiet g c before = subst (Spends 2 3 c.args.self.now.spent) (sym (ap (λ (r : RouterValue). r.spent) (counted g c))) (c.come_to.ensures.quiet before)
+
+pub returns-clause-moved : goal.returns-clause-moved
+returns-clause-moved g c = subst (λ (r : RouterValue). HasMoved (most_moved_by_tick c.args.self.now.groups) c.args.self.now r) (sym (counted g c)) c.come_to.ensures.moved
+
+pub returns-clause-still : goal.returns-clause-still
+returns-clause-still g c before = ap (λ (r : RouterValue). r.moved) (counted g c) ∙ c.come_to.ensures.still before

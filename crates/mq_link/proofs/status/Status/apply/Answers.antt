@@ -20,13 +20,16 @@ use Rattle.mq_link.specs.Changing.{acts_as, statement_of, change_written}
 use Rattle.mq_link.specs.Configuration.{Configuration}
 use Rattle.mq_link.specs.Family.{v1_mutes_leave, per_query}
 use Rattle.mq_link.specs.LeastCost.{least_merge, least_work}
+use Rattle.mq_link.specs.Moved.{IsPaid, moved_by_edit}
 use Rattle.mq_link.specs.Record.{change_stated, is_muted, limit_passed, stated, unless_passed, after_sending, sent_at_once}
-use Rattle.mq_link.specs.Storage.{group_stored, IsSought, KeepsRoom, KeepsRooms}
+use Rattle.mq_link.specs.Storage.{group_stored, IsSought, KeepsRoom, KeepsRooms, put_by_rows}
 use Rattle.mq_link.proofs.Faultless.{few_groups, few_in_all, few_sources}
+use Rattle.mq_link.proofs.KeptGroups.{found_or_not}
 use Rattle.mq_link.proofs.LeastCosts.{worked}
+use Rattle.mq_link.proofs.Moved.{paid_none, paid_within}
 use Rattle.mq_link.proofs.MadeEntries.{round_keeps_size}
 use Rattle.mq_link.proofs.Rooms.{room_on, rooms_counted, rooms_on}
-use Rattle.mq_link.proofs.StatedSteps.{AreFew, IsChanged, held_by_place, stated_ignored, stated_judged, kept_is_held, left_has_place, left_has_room, made_few}
+use Rattle.mq_link.proofs.StatedSteps.{AreFew, IsChanged, stated_ignored, stated_judged, kept_is_held, left_has_place, left_has_room, made_few}
 use Rattle.mq_link.proofs.status.Status.apply.Given.{Over}
 use Rattle.mq_link.proofs.status.Status.apply.Goals as goal
 use Rattle.mq_link.proofs.status.Status.apply.Goals.{After-change, After-ask, After-refusal, After-round}
@@ -90,7 +93,7 @@ changed g c =
     let asked = asked_as c.ask.new.self c.ask.new.schedule in
     let moment = ap (λ (f : InForce). f.moment) c.in_force-at.ensures.in_force in
     let limits = c.limits-limits.ensures ∙ ap (λ (k : Configuration). k.limits) c.config.ensures in
-    let name = c.refusal.ensures.name at.election.timing address (record { is_held = held_by_place groups address c.args.sought.place c.requires.sought ∙ sym c.is_ok.ensures.value; sources = sym c.look-stored.ensures.len; schedule = ap (λ (e : ScheduledGroup). e.schedule) (sym c.look-stored.ensures.group) }) in
+    let name = c.refusal.ensures.name at.election.timing address (record { is_held = found_or_not c.args.storage.now.held address c.args.sought.found c.requires.sought c.lemma_is_numbered.ensures.held c.lemma_is_numbered.ensures.of_one ∙ sym c.is_ok.ensures.value; sources = sym c.look-stored.ensures.len; schedule = ap (λ (e : ScheduledGroup). e.schedule) (sym c.look-stored.ensures.group) }) in
     record {
       before_is = c.look-stored.ensures.group;
       change_is = written g c.before.before.before.before.before.before.before.before.before.before.before.before.before.before ∙ ap (change_written number c.change.new.self.group.state c.change.new.self.asked.items) c.in-Some.is;
@@ -157,7 +160,7 @@ refusal-requires-clause-few g c =
 pub refusal-requires-clause-change : goal.refusal-requires-clause-change
 refusal-requires-clause-change g c =
     let address = g.F.Address.Key.number c.args.sought.address in
-    (address, record { is_held = held_by_place c.args.storage.now.held.groups address c.args.sought.place c.requires.sought ∙ sym c.is_ok.ensures.value; sources = sym c.look-stored.ensures.len; schedule = ap (λ (e : ScheduledGroup). e.schedule) (sym c.look-stored.ensures.group) })
+    (address, record { is_held = found_or_not c.args.storage.now.held address c.args.sought.found c.requires.sought c.lemma_is_numbered.ensures.held c.lemma_is_numbered.ensures.of_one ∙ sym c.is_ok.ensures.value; sources = sym c.look-stored.ensures.len; schedule = ap (λ (e : ScheduledGroup). e.schedule) (sym c.look-stored.ensures.group) })
 
 -- there is as much room as before
 rooms_so : (g : Over) (c : After-refusal g) → KeepsRooms c.args.storage.now c.refusal.new.self
@@ -191,7 +194,7 @@ returns-in-Some-refusal-clause-spent g c =
 
 pub keep-requires-clause-sought : goal.keep-requires-clause-sought
 keep-requires-clause-sought g c =
-    subst (λ (s : Storage _). IsSought g.F.Address.Key.number s.held.groups c.args.sought) (sym c.refusal.ensures.left) c.requires.sought
+    subst (λ (s : Storage _). IsSought g.F.Address.Key.number s.held c.args.sought) (sym c.refusal.ensures.left) c.requires.sought
 
 -- what is left of the group behind the round
 left_is : (g : Over) (c : After-round g) → ◌≡◌ {A = ScheduledGroup} (record { group = c.round.new.group.state; schedule = c.round.new.self }) (after_sending c.args.self.now (asked_as c.ask.new.self c.ask.new.schedule))
@@ -209,7 +212,7 @@ keep-requires-clause-room g c =
     let kept = c.refusal.ensures.left in
     let most = left_has_place _ _ _ c.args.storage.now.held.groups _ _ _ _ (changed g c.before.before.before.before.before.before.before.before.before.before.before) c.lemma_is_sound.ensures.positive c.requires.admitted c.requires.sound c.in_default-refusal.is in
     let same : map.len (with_group c.refusal.new.self.held.groups address _) ≡ map.len (with_group c.args.storage.now.held.groups address _) = λ i. map.len (with_group (kept i).held.groups address (left_is g c.before i)) in
-    let room = ap (λ (s : Storage _). s.held.group_room) kept ∙ c.requires.group_room in
+    let room = ap (λ (s : Storage _). s.held.order.room) kept ∙ c.requires.group_room in
     omega (arith, most, same, room)
 
 pub keep-requires-clause-fits : goal.keep-requires-clause-fits
@@ -255,3 +258,47 @@ returns-clause-spent g c =
     let size_left = ap (λ (e : ScheduledGroup). size_of e.group) (left_is g c.before.before) ∙ round_keeps_size at.election.timing at.now (asked_as c.ask.new.self c.ask.new.schedule) in
     let digits = ap (λ (s : Storage _). bitlen (map.len s.held.groups)) c.refusal.ensures.left in
     Spends-join_within work _ round c.keep.ensures.spent (omega arith) (omega (arith, a, b, size_before, size_left, digits))
+
+-- nothing is moved until it is judged
+unmoved_so : (g : Over) (c : After-refusal g) → c.refusal.new.self.work.moves ≡ c.args.storage.now.work.moves
+unmoved_so g c = ap (λ (s : Storage _). s.work.moves) c.refusal.ensures.left ∙ c.ask.ensures.unmoved ∙ c.change.ensures.unmoved
+
+put_by_so : (g : Over) (c : After-refusal g) → put_by_rows c.refusal.new.self.held ≡ put_by_rows c.args.storage.now.held
+put_by_so g c = ap (λ (s : Storage _). put_by_rows s.held) c.refusal.ensures.left
+
+pub returns-in_default-clause-moved : goal.returns-in_default-clause-moved
+returns-in_default-clause-moved g c =
+    let number = g.F.Address.Key.number in
+    let storage = c.args.storage.now in
+    let most = 5 * (sources_of (group_at storage.held.groups (number c.args.sought.address)) + length storage.work.named.members) + moved_by_edit in
+    subst (IsPaid most (put_by_rows storage.held) (put_by_rows storage.held) storage.work.moves) (sym c.change.ensures.unmoved) (paid_within most (paid_none (put_by_rows storage.held) storage.work.moves) (omega arith))
+
+pub returns-in-Some-refusal-clause-moved : goal.returns-in-Some-refusal-clause-moved
+returns-in-Some-refusal-clause-moved g c =
+    let number = g.F.Address.Key.number in
+    let storage = c.args.storage.now in
+    let most = 5 * (sources_of (group_at storage.held.groups (number c.args.sought.address)) + length storage.work.named.members) + moved_by_edit in
+    subst (λ m. IsPaid most (put_by_rows storage.held) (put_by_rows c.refusal.new.self.held) storage.work.moves m) (sym (unmoved_so g c.before))
+    (subst (λ p. IsPaid most (put_by_rows storage.held) p storage.work.moves storage.work.moves) (sym (put_by_so g c.before)) (paid_within most (paid_none (put_by_rows storage.held) storage.work.moves) (omega arith)))
+
+pub returns-clause-moved : goal.returns-clause-moved
+returns-clause-moved g c =
+    let number = g.F.Address.Key.number in
+    let at = c.args.self.now in
+    let storage = c.args.storage.now in
+    let left = c.keep.new.self in
+    let few = few_so g c.before.before.before.before.before.before.before.before.before.before.before.before.before.before.before.before.before.before.before.before in
+    let a = few.changed in
+    let b = few.asked in
+    let size_before = ap (λ (e : ScheduledGroup). size_of e.group) c.look-stored.ensures.group in
+    let size_left = ap (λ (e : ScheduledGroup). size_of e.group) (left_is g c.before.before) ∙ round_keeps_size at.election.timing at.now (asked_as c.ask.new.self c.ask.new.schedule) in
+    let most = 5 * (sources_of (group_at storage.held.groups (number c.args.sought.address)) + length storage.work.named.members) + moved_by_edit in
+    let judging = c.before.before.before.before.before.before.before.before.before.before.before.before in
+    let kept = paid_within most c.keep.ensures.moved (omega (arith, a, b, size_before, size_left)) in
+    subst (λ m. IsPaid most (put_by_rows storage.held) (put_by_rows left.held) m left.work.moves) (unmoved_so g judging)
+    (subst (λ p. IsPaid most p (put_by_rows left.held) c.refusal.new.self.work.moves left.work.moves) (put_by_so g judging) kept)
+
+pub keep-requires-clause-few : goal.keep-requires-clause-few
+keep-requires-clause-few g c =
+    let room = ap (λ (s : Storage _). s.held.order.room) c.refusal.ensures.left ∙ c.requires.group_room in
+    omega (arith, room, few_groups c.args.self.now.config c.lemma_is_sound.ensures.faultless)

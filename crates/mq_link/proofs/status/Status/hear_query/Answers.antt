@@ -9,9 +9,11 @@ use Rattle.mq_wire.specs.Numbered.{numbered_query}
 use Rattle.mq_link.specs.declared.status.InForce.{InForce}
 use Rattle.mq_link.specs.declared.storage.Storage.{Storage}
 use Rattle.mq_link.specs.Heard.{groups_cleared, groups_lowered}
+use Rattle.mq_link.specs.Moved.{MovesWithin}
 use Rattle.mq_link.specs.Record.{Setting}
-use Rattle.mq_link.specs.Storage.{IsReady}
+use Rattle.mq_link.specs.Storage.{IsReady, put_by_rows}
 use Rattle.mq_link.proofs.HeardGroups.{cleared_ready, cleared_sources, cleared_small}
+use Rattle.mq_link.proofs.Moved.{paid_none, paid_within, paid_join}
 use Rattle.mq_link.proofs.Rooms.{ready_counted, rooms_counted, rooms_on}
 use Rattle.mq_link.proofs.status.Status.hear_query.Goals as goal
 use Rattle.mq_link.proofs.status.Status.hear_query.Goals.{then-hear, else-hear}
@@ -24,7 +26,7 @@ lower_held-requires-clause-ready g c = elim c.if-hear.branch [
 ]
 
 pub clear_groups-requires : goal.clear_groups-requires
-clear_groups-requires g c = record { ready = ready_counted c.args.storage.now c.hear.new.m c.requires.ready }
+clear_groups-requires g c = record { space = c.requires.space; ready = ready_counted c.args.storage.now c.hear.new.m c.requires.ready }
 
 pub lower_held-requires-clause-small : goal.lower_held-requires-clause-small
 lower_held-requires-clause-small g c address = elim c.if-hear.branch [
@@ -77,3 +79,18 @@ returns-clause-spent g c =
     ] in
     let own = own_sources c.if-hear.storage.held.groups asked in
     Spends-join_within _ _ (Spends-join c.hear.ensures.spent between) c.lower_held.ensures.spent (omega arith) (omega (arith, own, fewer))
+
+pub returns-clause-moved : goal.returns-clause-moved
+returns-clause-moved g c =
+    let groups = c.args.storage.now.held.groups in
+    let asked = g.F.Address.Key.number c.args.query.now.group in
+    let between : MovesWithin (5 * sources_in groups + 22 * map.len groups) c.args.storage.now c.if-hear.storage = elim c.if-hear.branch [
+      | then-hear w ↦ rw w.storage-is w.clear_groups.ensures.moved
+      | else-hear w ↦ rw w.storage-is (paid_within (5 * sources_in groups + 22 * map.len groups) (paid_none (put_by_rows c.args.storage.now.held) c.args.storage.now.work.moves) (omega arith))
+    ] in
+    let fewer : sources_in c.if-hear.storage.held.groups ≤ sources_in groups = elim c.if-hear.branch [
+      | then-hear w ↦ rw (w.storage-is, w.clear_groups.ensures.groups) (cleared_sources groups)
+      | else-hear w ↦ rw w.storage-is (omega arith)
+    ] in
+    let own = own_sources c.if-hear.storage.held.groups asked in
+    paid_join _ between c.lower_held.ensures.moved (omega (arith, own, fewer))
