@@ -1,10 +1,11 @@
 """Edits of functions: where each stands, and whether what a check says refuses it."""
 
 import glob
+import itertools
 import os
 import re
 
-from repository import TOP, put, text_of
+from repository import STRICT, TOP, put, text_of
 
 FUNCTION = re.compile(r"\bfn (\w+)")
 NOTE = re.compile(r"(?:note: )?(?:\./)?((?:src|proofs)/\S+?):(\d+):\d+: (.*)")
@@ -14,7 +15,13 @@ TOLD = re.compile(r"fn (\S+): (proved|not proved|no proof|could not tell)(.*)")
 # A proof file that names what the edit took away, and what cites that proof: this says little of the contract.
 NAMES = re.compile(r"has no field|\(nearest: |is not in scope|has no `|was not admitted|was rejected, was not checked")
 # An answer that finds no goal of its name any more.
-LOST = re.compile(r"module `[^`]*\.Goals` has no `")
+LOST = re.compile(r"module `[^`]*\.Goals` has no `([^`]+)`")
+# A goal's place, and what is to hold there.
+PLACED = re.compile(r"(.*?)-(clause-.*|requires(?:-clause-.*)?)")
+# A name of a proof, with what stands before it.
+NAME = re.compile(r"(.?)(?<![^\s(){}\[\],;:←∙.])([^\s(){}\[\],;:←∙.]+)")
+# So many places may exchange their names.
+MOST_PLACES = 3
 
 
 def first_line(text, head):
@@ -42,11 +49,49 @@ def once(text, pairs):
         text = text.replace(old, new)
 
 
+def lines_of(said, is_strict):
+    """The lines of a check. What a long name lacks is said on the line behind it; where that is to tell nothing, they are one."""
+    return (said.replace("\n  has no ", " has no ") if is_strict else said).splitlines()
+
+
+def placed(goal):
+    at = PLACED.fullmatch(goal)
+    return (at[1], at[2]) if at else (goal, "")
+
+
+def ways_of(lost, new):
+    """Each way in which the places of goals that lost their answers may be those of goals that are new: maps of places."""
+    was, now = (list(dict.fromkeys(placed(it)[0] for it in goals)) for goals in (lost, new))
+    held = {place: {what for at, what in map(placed, [*lost, *new]) if at == place} for place in {*was, *now}}
+    if len(was) > MOST_PLACES:
+        return []
+    ways = [dict(zip(was, places)) for places in itertools.permutations(now, len(was))]
+    return [way for way in ways if all(held[it] & held[to] for it, to in way.items())]
+
+
+def renamed(text, way):
+    """The text of a proof whose goals, and the fields and places that it names, have other places."""
+    tokens = {}
+    for was, now in way.items():
+        one, other = was.split("-"), now.split("-")
+        tokens |= dict(zip(one, other)) if len(one) == len(other) else {}
+
+    def other(at):
+        place, what = placed(at[2])
+        if place in way:
+            return at[1] + "-".join(filter(None, (way[place], what)))
+        is_field = at[1] == "." or at[2].startswith("After-")
+        return at[1] + ("-".join(tokens.get(it, it) for it in at[2].split("-")) if is_field else at[2])
+
+    return NAME.sub(other, text)
+
+
 class Edit:
     """An edit of one function: the crate, the file, the texts, and where the function stands."""
 
     def __init__(self, crate, path):
         self.crate, self.path, self.is_right = crate, os.path.relpath(path, TOP), "/right-bodies/" in path
+        self.is_strict = crate in STRICT
         self.name = f"{crate}/{os.path.basename(path).removesuffix('.edit')}"
         self.file, self.pairs = read_edit(path)
         text = text_of(f"{TOP}/crates/{crate}/{self.file}")
@@ -58,12 +103,16 @@ class Edit:
         begins = [*(first_line(text, it) for it in heads), text.count("\n") + 2]
         self.function, self.lines = heads[at][1], range(begins[at], begins[at + 1])
         self.text = "\n".join(text.split("\n")[begins[at] - 1 : begins[at + 1] - 1]).strip()
+        # The folder of its answers, where some lost their goals, and the ways in which they may be renamed that aren't tried yet.
+        self.answers, self.ways = None, []
 
     def apply(self, folder):
         text = text_of(f"{folder}/{self.file}")
         for old, new in self.pairs:
             text = text.replace(old, new)
         put(f"{folder}/{self.file}", text)
+        for file in glob.glob(f"{folder}/{self.answers}/*.antt") if self.ways else []:
+            put(file, renamed(text_of(file), self.ways[0]))
 
     def is_of_its_proof(self, file):
         return file.startswith("proofs/") and file.split("/")[-2].lstrip("+") == self.function
@@ -97,7 +146,7 @@ class Edit:
         """Whether a goal of the edit's function is refused, by the lines of a check. Where an answer lost its goal, one that is
         new by its name tells nothing: `goals_of` answers which the function has as it stands. Nor does any where a loop's
         invariant names what the edit took away."""
-        notes = [it for line in said if (it := NOTE.match(line)) and self.is_of_its_proof(it[1]) and it[3].startswith("error")]
+        notes = self.notes(said)
         if any(it[1].endswith("/Invariants.antt") and NAMES.search(it[3]) for it in notes):
             return False
         if not all(NAMES.search(it[3]) for it in notes):
@@ -105,6 +154,27 @@ class Edit:
         goals, path = self.unproved(said)
         is_lost = any(LOST.search(it[3]) for it in notes)
         return not goals.isdisjoint(goals_of(path)) if is_lost and path else bool(goals)
+
+    def notes(self, said):
+        """What a check says of the proof of the edit's function."""
+        return [it for line in said if (it := NOTE.match(line)) and self.is_of_its_proof(it[1]) and it[3].startswith("error")]
+
+    def has_another_way(self, is_refused, said, goals_of):
+        """Whether the edit is to be tried once more, with its answers under other names: of a strict crate. Where answers lost
+        their goals, and goals are new for which none is written, the edit is refused only if the answers fail there too, in each
+        way to rename them."""
+        if not self.is_strict:
+            return False
+        if self.answers:
+            self.ways = self.ways[1:] if is_refused else self.ways
+            return is_refused and bool(self.ways)
+        lost = {it: at[1] for at in self.notes(said) for it in LOST.findall(at[3])}
+        goals, path = self.unproved(said)
+        if is_refused or not lost or not path:
+            return False
+        self.answers = os.path.dirname(next(iter(lost.values())))
+        self.ways = ways_of(lost, sorted(goals - goals_of(path)))
+        return bool(self.ways)
 
 
 def edits_of(name, kinds, bad):
