@@ -1,6 +1,6 @@
 -- The moments of numbers, at the leaves of a tree.
-use Rattle.std.proofs.Common.{ℕ, suc, ◌+◌, ◌-◌, ◌*◌, ◌<◌, ◌≤◌, ◌≡◌, ◌==◌, Bool, true, false, cond, arith, refl, List, [], ◌∷◌, ◌++◌, length, get_or, set, map as list_map, drop, Option, None, Some, is_some, sym, ap, ◌∙◌, ⊎_elim, ◌⊎◌, inl, inr, length-append, length-set}
-use Rattle.std.specs.Prelude.{MatchOption, if◌then◌else◌, slice_index}
+use Rattle.std.proofs.Common.{ℕ, suc, ◌+◌, ◌-◌, ◌*◌, ◌<◌, ◌≤◌, ◌≡◌, ◌==◌, Bool, true, false, cond, arith, refl, List, [], ◌∷◌, ◌++◌, length, get_or, set, map as list_map, drop, Option, None, Some, is_some, sym, ap, ◌∙◌, subst, ⊎_elim, ◌⊎◌, inl, inr, length-append, length-set}
+use Rattle.std.specs.Prelude.{MatchOption, if◌then◌else◌, slice_index, nat_le}
 use Rattle.std.specs.List.{All, count_by}
 use Rattle.std.specs.Ordering.{nat_cmp, eq_by_cmp}
 use Rattle.std.specs.Cmp.{nat_cmp_total}
@@ -14,7 +14,7 @@ use Rattle.std.proofs.lemmas.Option.{same_Some}
 use Rattle.mq_sets.specs.Slots.{times}
 use Rattle.mq_table.specs.Maps.{entries_by}
 use Rattle.mq_table.proofs.Maps.{find-entries_by}
-use Rattle.mq_sched.specs.NumberedMoments.{moment_at, moments_at, AreNumbered, IsEarliestMoment, is_number_due}
+use Rattle.mq_sched.specs.NumberedMoments.{moment_at, moments_at, AreNumbered, IsEarliestMoment, has_come, is_number_due}
 use Rattle.mq_sched.specs.DeadlineTree.{IsEarliestLeaf, is_leaf_due, leaf_before, leaf_after}
 use Rattle.mq_sched.proofs.Counts.{count-some, count-none, count-map, count-agree}
 use Rattle.mq_sched.proofs.LeafMoves.{after_given_up, before_given_up}
@@ -106,6 +106,19 @@ module _ (nodes leaves numbers : List ℕ) (count : ℕ) (known : AreNumbered le
       neither : (b : Bool) → cond {A = Option ℕ} b None None ≡ None
       neither true = refl
       neither false = refl
+
+  -- whether a number is due, by the leaf that is told
+  pub due-at : (now q : ℕ) → IsLeafOf numbers count (get_or leaves q 0) q → is_number_due (moments_at nodes leaves numbers count) now q ≡ nat_le (get_or nodes (get_or leaves q 0) 0) now
+  due-at now q is = ap (has_come now) (get-moments_at q ∙ moment-there (get_or leaves q 0) q is)
+
+  pub due-none : (now q : ℕ) → (IsLeafOf numbers count (get_or leaves q 0) q → ⊥) → is_number_due (moments_at nodes leaves numbers count) now q ≡ false
+  due-none now q absent =
+      ap (has_come now)
+      (get-moments_at q
+      ∙ ⊎_elim
+      (λ (there : (leaf : ℕ) × IsLeafOf numbers count leaf q). absurd (absent (subst (λ leaf. IsLeafOf numbers count leaf q) (sym (leaf-told there.0 q there.1)) there.1)))
+      (λ (none : ((leaf : ℕ) → IsLeafOf numbers count leaf q → ⊥) × (moment_at nodes leaves numbers count q ≡ None)). none.1)
+      (moment-cases q))
 
   -- each number that is there stands among them once
   pub numbers-once : (q : ℕ) → times q (drop count numbers) ≡ (if map.contains_key (moments_at nodes leaves numbers count) q then 1 else 0)

@@ -66,6 +66,14 @@ impl DeadlineTree {
         Some(self.nodes[1])
     }
 
+    /// The deadline of a leaf.
+    pub(crate) fn moment(&self, leaf: usize) -> Moment
+        requires leaf { leaf < 2 * self.now.count }
+        ensures { result ≡ slice_index self.now.nodes leaf }
+    {
+        self.nodes[leaf]
+    }
+
     /// One deadline more, at the last leaf. The one at the first leaf, whose node gets two leaves below it, goes to
     /// the leaf before.
     pub(crate) fn grow(&mut self, due: Moment, m: &mut Meter, moves: &mut Moves)

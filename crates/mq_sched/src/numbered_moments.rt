@@ -141,6 +141,20 @@ impl NumberedMoments {
         self.tree.change(leaf, due, m, moves);
     }
 
+    /// Whether a number has a moment at or before `now`. At most one comparison.
+    pub fn is_due(&self, number: u16, now: Moment, m: &mut Meter) -> bool
+        requires number { number < self.now.room }
+        ensures due { result ≡ is_number_due self.now.moments now number }
+        ensures spent { Spends 0 1 m.old m.new }
+    {
+        let leaf = self.leaves[number as usize] as usize;
+        let first = self.numbers.len() / 2;
+        if leaf < first || leaf >= self.numbers.len() || self.numbers[leaf] != number {
+            return false;
+        }
+        m.reached(self.tree.moment(leaf), now)
+    }
+
     /// Writes the numbers whose moments are at or before `now` at the front of `numbers`, each once, in any order, and answers
     /// how many they are. At least one comparison for each of them, and one more where there is another; and at most one more
     /// than, for each of them, one for each binary digit of how many others are there, but none more than there are numbers.

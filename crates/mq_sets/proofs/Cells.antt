@@ -12,7 +12,7 @@ use Rattle.mq_sets.specs.Slots.{SlotListState, item_in, items_in, times, IsCell,
 use Rattle.mq_sets.proofs.Stored.{map-insert, map-remove}
 
 -- two functions that agree at each element
-map-agree : {X Y : Type 0} (f g : X → Y) (xs : List X) → All (λ x. f x ≡ g x) xs → map f xs ≡ map g xs
+pub map-agree : {X Y : Type 0} (f g : X → Y) (xs : List X) → All (λ x. f x ≡ g x) xs → map f xs ≡ map g xs
 map-agree f g [] same = refl
 map-agree f g (x ∷ xs) same =
     rw (All-head (λ y. f y ≡ g y) x xs same, map-agree f g xs (All-tail (λ y. f y ≡ g y) x xs same)) refl

@@ -31,7 +31,8 @@ only (page ∷ []) (suc i) within single = absurd (omega arith)
 only (page ∷ other ∷ pages) i within single = absurd (omega arith)
 
 module _ (pages : List (List ℕ)) (known : AreFilled (map length pages)) where
-  directory : 128 * length pages ≤ length (numbers_in pages) + 128
+  -- how many pages there are
+  pub directory : 128 * length pages ≤ length (numbers_in pages) + 128
   directory = omega (arith, few_pages (map length pages) known.pairs, length-numbers pages, length-map pages length)
 
   several : 2 ≤ length pages → 256 ≤ length (numbers_in pages)

@@ -76,3 +76,15 @@ pub(crate) fn search<K: Key, T: First>(
     }
     Err(low)
 }
+
+/// The place where a number goes whose key is `key`, of numbers with ascending keys none of which has that key. Takes at most
+/// one comparison for each binary digit of how many they are.
+pub(crate) fn place_of<K: Key>(keys: &[K], numbers: &[u16], key: K, m: &mut Meter) -> usize
+    requires ascending { IsAscending (key_at K.number keys.now) numbers.now }
+    requires within { All (λ n. n < length keys.now) numbers.now }
+    requires absent { All (λ n. key_at K.number keys.now n ≡ K.number key → ⊥) numbers.now }
+    ensures place { IsPlaceFor (key_at K.number keys.now) numbers.now (K.number key) result }
+    ensures spent { Spends (min 1 (length numbers.now)) (bitlen (length numbers.now)) m.old m.new }
+{
+    search(keys, numbers, key, m).err().unwrap()
+}

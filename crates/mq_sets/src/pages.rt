@@ -19,6 +19,8 @@ use std::marker::Model;
 pub(crate) const PAGE_ROOM: usize = 511;
 /// How many numbers two neighbouring pages have at least.
 pub(crate) const TWO_PAGES: usize = 256;
+/// How many numbers a page has where all are written anew.
+const FILLED_TO: usize = 384;
 /// How many numbers stay in a full page that is split.
 const FIRST_HALF: usize = 255;
 
@@ -221,6 +223,51 @@ impl Pages {
         } else if spot.page > 0 && self.must_join(spot.page - 1) {
             self.join(spot.page - 1, moves);
         }
+    }
+
+    /// Has these numbers alone, in their order, in pages that are three quarters full but for the last.
+    pub(crate) fn fill(&mut self, numbers: &[u16], moves: &mut Moves)
+        requires some { 1 ≤ self.old.limit }
+        requires room { length numbers.now ≤ 128 * self.old.limit }
+        ensures numbers { numbers_in self.new.pages ≡ numbers.now }
+        ensures filled { AreFilled (map length self.new.pages) }
+        ensures limit { self.new.limit ≡ self.old.limit }
+        ensures moved { let moved = length self.old.pages + length numbers.now + length self.new.pages in
+            Spends moved moved moves.old moves.new }
+    {
+        self.clear(moves);
+        let mut done = numbers.len().min(FILLED_TO);
+        self.append(&numbers[..done], moves);
+        while done < numbers.len() {
+            let next = (done + FILLED_TO).min(numbers.len());
+            self.append(&numbers[done..next], moves);
+            done = next;
+        }
+    }
+
+    /// Leaves no page.
+    fn clear(&mut self, moves: &mut Moves)
+        ensures pages { self.new ≡ record self.old { pages = [] } }
+        ensures moved { let moved = length self.old.pages in Spends moved moved moves.old moves.new }
+    {
+        moves.count(self.used.len());
+        while let Some(mut page) = self.used.pop() {
+            page.clear();
+            self.spare.push(page).unwrap();
+        }
+    }
+
+    /// One page more, behind the others, with these numbers.
+    fn append(&mut self, numbers: &[u16], moves: &mut Moves)
+        requires room { length self.old.pages < self.old.limit }
+        requires within { length numbers.now ≤ 511 }
+        ensures pages { self.new ≡ record self.old { pages = self.old.pages ++ numbers.now ∷ [] } }
+        ensures moved { let moved = length numbers.now + 1 in Spends moved moved moves.old moves.new }
+    {
+        let mut page = self.spare.pop().unwrap();
+        page.extend_from_slice(numbers).unwrap();
+        self.used.push(page).unwrap();
+        moves.count(numbers.len() + 1);
     }
 
     /// Takes the number at a spot out, and nothing else.
