@@ -1,6 +1,6 @@
 -- What a record does to a link, in six steps of which each may end it (RFC 3376 sections 6.4 and 7.3.2, RFC 3810
 -- sections 7.4 and 8.3.2; the limits are this project's).
-use Rattle.std.specs.Prelude.{ℕ, ◌+◌, ◌==◌, Bool, true, false, not, ◌&&◌, nat_lt, nat_le, if◌then◌else◌, List, [], ◌∷◌, ◌++◌, length, Option, None, Some}
+use Rattle.std.specs.Prelude.{◌≡◌, ℕ, ◌+◌, ◌==◌, Bool, true, false, not, ◌&&◌, nat_lt, nat_le, if◌then◌else◌, List, [], ◌∷◌, ◌++◌, length, Option, None, Some}
 use Rattle.std.specs.Option.{unwrap_or}
 use Rattle.std.specs.Ordering.{nat_cmp}
 use Rattle.std.specs.FinMap as map
@@ -183,6 +183,10 @@ judged_from at seen r groups (GoesOn kind) =
 -- what becomes of a record, by all six steps
 unfoldable pub judged : Setting → Seen → RecordView ℕ → Groups → Outcome
 judged at seen r groups = judged_from at seen r groups (entrance at.config r)
+
+-- this becomes of the record
+abbrev pub Judged : Setting → Seen → RecordView ℕ → Groups → Outcome → Type 0
+Judged at seen r groups outcome = outcome ≡ judged at seen r groups
 
 -- What became of some records, the groups that they leave, and the queries that they send, all in their order.
 pub record Outcomes : Type 0 where

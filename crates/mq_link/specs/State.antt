@@ -36,6 +36,9 @@ forwards state group source = forwards_in (group_at state.groups group).group so
 abbrev pub held_of : LinkState → ℕ
 held_of state = map.len state.groups + sources_in state.groups
 
+abbrev pub scheduled_of : LinkState → ℕ
+scheduled_of state = schedules_in state.groups
+
 -- the groups are within the limits
 pub record AreWithin (limits : Limits) (groups : Groups) : Type 0 where
   pub group_count : map.len groups ≤ limits.groups

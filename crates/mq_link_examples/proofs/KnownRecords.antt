@@ -60,6 +60,9 @@ group-known gs group = ap (λ e. unwrap_or e unheld) (get-known gs group) ∙ ei
     either None = refl
     either (Some k) = refl
 
+put-known : (gs : KnownGroups) (group : ℕ) (k : Known) → map.insert (as_groups gs) group (as_held k) ≡ as_groups ((group, k) ∷ gs)
+put-known gs group k = refl
+
 -- these groups in their order
 ordered_groups : (gs : KnownGroups) → as_groups (ordered gs) ≡ as_groups gs
 ordered_groups gs = ap map.from_entries (sym (ordered-with_values as_held gs)) ∙ same gs

@@ -11,5 +11,6 @@ pub mod RecordLists
 pub mod Spans
 pub mod Spelled
 pub mod Sums
+pub mod WideSums
 pub mod Written
 pub mod WrittenParts
