@@ -37,6 +37,7 @@ pub mod CountedRows
 pub mod WithGroup
 pub mod MetNumbers
 pub mod ListedNumbers
+pub mod MetSoFar
 pub mod HeldStays
 pub mod ByDefault
 pub mod LinkStored

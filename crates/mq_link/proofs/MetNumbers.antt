@@ -1,5 +1,5 @@
 -- The counts of groups by number are those by address, whatever records meet.
-use Rattle.std.proofs.Common.{◌≡◌, ◌≢◌, ℕ, ◌+◌, ◌<◌, ◌≤◌, min, Bool, true, false, cond, ◌&&◌, ◌⊎◌, inl, inr, List, length, get_or, set, refl, sym, ap, ◌∙◌, subst, arith, leb}
+use Rattle.std.proofs.Common.{◌≡◌, ◌≢◌, ℕ, ◌+◌, ◌<◌, ◌≤◌, min, Bool, true, false, cond, ◌&&◌, ◌⊎◌, inl, inr, List, length, get_or, set, refl, sym, ap, ◌∙◌, subst, arith, leb, length-set}
 use Rattle.std.specs.Prelude.{slice_index}
 use Rattle.std.specs.Option.{unwrap_or}
 use Rattle.std.specs.Ordering.{nat_cmp, eq_by_cmp}
@@ -64,6 +64,17 @@ module _ (s next : HeldState) (numbered : AreNumbered s) (numbered_next : AreNum
           let same = numbered_next.one address number had.0 has (keeps address had.0 had.1) in
           ap (slice_index counts) same ∙ is.held address had.0 had.1
       by_test address number has false was = new_is_zero address number has was ∙ ap (min 4) (sym (is.absent address was))
+
+-- a group that isn't held was not met
+pub repeats_absent : (s : HeldState) (seen : Seen) (address : ℕ) → map.contains_key s.groups address ≡ false → false ≡ is_repeated s.groups seen address
+repeats_absent s seen address absent = ap (λ b. b && leb 4 (met seen address)) (sym absent)
+
+pub length-counted_again : (counts : List ℕ) (number : ℕ) → length (counted_again counts number) ≡ length counts
+length-counted_again counts number = by_test (leb 4 (slice_index counts number))
+  where
+    by_test : (b : Bool) → length (cond b counts (set counts number (slice_index counts number + 1))) ≡ length counts
+    by_test true = refl
+    by_test false = length-set counts number (slice_index counts number + 1)
 
 -- One record more meets a group that is held.
 module _ (s : HeldState) (numbered : AreNumbered s) (counts : List ℕ) (seen : Seen) (is : AreMet s counts seen) (address number : ℕ) (has : HasNumber s address number) (within : number < length counts) where

@@ -1,6 +1,8 @@
 //! How many records of one datagram have met each group, by the numbers of the groups.
 
 ghost use Rattle.std.specs.Prelude.{◌≡◌, ℕ, ◌<◌, ◌≤◌, nat_le, length, slice_index, IfOk};
+ghost use Rattle.std.specs.List.{All};
+ghost use Rattle.mq_sets.specs.Slots.{times};
 ghost use Rattle.mq_link.specs.Seen.{AreNone, counted_again};
 
 use mq_sets::Memory;
@@ -35,6 +37,18 @@ impl Model for MetGroups {
     ghost invariant = { λ s. AreListed s.counts.items s.numbers.items × (length s.counts.items ≤ vec_capacity s.numbers) };
 }
 
+/// Sets the counts of some numbers to zero, which are all that have another.
+fn set_to_zero(counts: &mut Vec<u8>, numbers: &[u16])
+    requires within { All (λ number. number < length counts.old.items) numbers.now }
+    requires each { (number : ℕ) → 1 ≤ slice_index counts.old.items number → 1 ≤ times number numbers.now }
+    ensures none { AreNone counts.new.items }
+    ensures len { length counts.new.items ≡ length counts.old.items }
+{
+    for number in numbers {
+        counts[*number as usize] = 0;
+    }
+}
+
 impl MetGroups {
     /// No group was met, with memory for so many of them, or `Memory` where that was refused.
     pub(crate) fn with_room(alloc: Global, groups: usize) -> Result<MetGroups, Memory>
@@ -52,9 +66,7 @@ impl MetGroups {
         ensures none { AreNone self.new }
         ensures room { length self.new ≡ length self.old }
     {
-        for number in self.numbers.as_slice() {
-            self.counts[*number as usize] = 0;
-        }
+        set_to_zero(&mut self.counts, &self.numbers);
         self.numbers.clear();
     }
 
@@ -68,10 +80,10 @@ impl MetGroups {
         if before >= MEETINGS {
             return true;
         }
+        self.counts[number as usize] = before + 1;
         if before == 0 {
             self.numbers.push(number).unwrap();
         }
-        self.counts[number as usize] = before + 1;
         false
     }
 }

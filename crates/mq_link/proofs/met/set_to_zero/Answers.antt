@@ -1,0 +1,6 @@
+use Rattle.std.proofs.Common.{◌<◌, sym, ◌∙◌, arith, length}
+use Rattle.mq_link.proofs.ListedNumbers.{IsLeft, one_cleared, all_cleared}
+use Rattle.mq_link.proofs.met.set_to_zero.Goals as goal
+
+pub returns-clause-none : goal.returns-clause-none
+returns-clause-none c = all_cleared c.loop-number.counts.items c.args.numbers.now c.loop-number.number-index c.loop-number-test.false c.loop-number.invariant.0
