@@ -107,4 +107,4 @@ pub stored_forgotten : {K : Type 0} (status : Setting) (storage next : Storage K
 stored_forgotten status storage next seen counted left numbers was sound kept same also none space =
     let there = stored_next status status storage next seen numbers numbers was refl sound kept space in
     let room = there.seen_room in
-    record there { seen_room = omega (arith, room, same, also); none_seen = none }
+    record { sound = there.sound; group_room = there.group_room; source_room = there.source_room; room = there.room; seen_room = omega (arith, room, same, also); none_seen = none; number_room = there.number_room }

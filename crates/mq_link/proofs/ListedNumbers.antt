@@ -110,6 +110,9 @@ module _ (counts numbers : List ℕ) (known : AreListed counts numbers) (number 
 abbrev pub IsLeft : (counts numbers : List ℕ) (index : ℕ) → Type 0
 IsLeft counts numbers index = (n : ℕ) → 1 ≤ slice_index counts n → 1 ≤ times n (drop index numbers)
 
+suc_is : (k : ℕ) → suc k ≡ k + 1
+suc_is k = omega arith
+
 pub one_cleared : (counts numbers : List ℕ) (index : ℕ) → IsLeft counts numbers index → index < length numbers → (d : ℕ) → get_or numbers index d < length counts
     → IsLeft (set counts (get_or numbers index d) 0) numbers (index + 1)
 one_cleared counts numbers index left within d is_within n more = by_number (eq_by_cmp nat_cmp n number) refl
@@ -129,9 +132,6 @@ one_cleared counts numbers index left within d is_within n more = by_number (eq_
         let other = is_cell-other n number (λ same. apart (sym same)) in
         let behind = ap (λ k. times n (drop k numbers)) (suc_is index) in
         omega (arith, had, first, behind, other)
-
-    suc_is : (k : ℕ) → suc k ≡ k + 1
-    suc_is k = omega arith
 
 pub all_cleared : (counts numbers : List ℕ) (index : ℕ) → length numbers ≤ index → IsLeft counts numbers index → AreNone counts
 all_cleared counts numbers index all left n = by_count (cases_lt 0 (slice_index counts n))
