@@ -72,7 +72,8 @@ fn answer_to(received: Received, queries: &Queries<'_>) -> Answer
     }
 }
 
-/// A tick at a moment, with its queries, and how much it compares and moves at most, as of the link; where the memory is as long as the room of a tick, none is left out.
+/// A tick at a moment, with its queries, and how much it compares and moves at most, as of the link; where the memory is as long
+/// as the room of a tick, none is left out.
 fn tick_at<F: Family>(link: &mut Link<F>, now: Moment, out: &mut [u8]) -> Answer
     requires in_range { now ≤ 2 ^ 53 }
     ensures config { link.new.config ≡ link.old.config }
@@ -91,7 +92,8 @@ fn tick_at<F: Family>(link: &mut Link<F>, now: Moment, out: &mut [u8]) -> Answer
     answer_to_tick(&queries)
 }
 
-/// A datagram at a moment, with its queries, and how much it compares and moves at most, as of the link; where the memory is as long as the room of a datagram, none is left out.
+/// A datagram at a moment, with its queries, and how much it compares and moves at most, as of the link; where the memory is as
+/// long as the room of a datagram, none is left out.
 fn receive_at<F: Family>(
     link: &mut Link<F>,
     envelope: &F::Envelope,

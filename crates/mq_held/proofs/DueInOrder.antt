@@ -1,7 +1,7 @@
 -- The due groups by their numbers: put in order, or left of all numbers.
-use Rattle.std.proofs.Common.{ℕ, suc, ◌+◌, ◌-◌, ◌*◌, ◌<◌, ◌≤◌, ◌≡◌, min, Bool, true, false, not, cond, true≢false, refl, List, [], ◌∷◌, length, get_or, take, Some, sym, ap, ◌∙◌, subst, arith, ⊎_elim}
+use Rattle.std.proofs.Common.{ℕ, ◌+◌, ◌-◌, ◌*◌, ◌<◌, ◌≤◌, ◌≡◌, min, Bool, true, false, not, cond, refl, List, [], ◌∷◌, length, get_or, Some, sym, ap, ◌∙◌, subst, arith, ⊎_elim}
 use Rattle.std.specs.Prelude.{map as list_map, filter, slice_get, if◌then◌else◌}
-use Rattle.std.specs.List.{All, AllPairs, count_by}
+use Rattle.std.specs.List.{All}
 use Rattle.std.specs.Option.{unwrap_or}
 use Rattle.std.specs.Ordering.{nat_cmp}
 use Rattle.std.proofs.Math.Nat.{mul-le-mul_left}
@@ -16,13 +16,13 @@ use Rattle.std.specs.FinMap.{FinMap}
 use Rattle.mq_count.specs.Spending.{Spends}
 use Rattle.mq_count.proofs.Spent.{Spends-join_within, Spends-within}
 use Rattle.mq_sets.specs.Ascending.{IsAscending, set_of}
-use Rattle.mq_sets.specs.NumberedKeys.{NumberedKey, NumberedKeysState, key_in}
+use Rattle.mq_sets.specs.NumberedKeys.{NumberedKeysState, key_in}
 use Rattle.mq_sets.specs.Search.{bitlen}
 use Rattle.mq_sets.specs.Slots.{times}
 use Rattle.mq_sets.proofs.Ascents.{IsAscending-head, IsAscending-tail}
 use Rattle.mq_sets.proofs.Bitlen.{bitlen-le}
 use Rattle.mq_sets.proofs.Cells.{is_cell, is_cell-same, is_cell-other, times-some}
-use Rattle.mq_sets.proofs.Counted.{stands, at_counted, length-counted}
+use Rattle.mq_sets.proofs.Counted.{at_counted, length-counted}
 use Rattle.mq_table.specs.declared.sources.Source.{Source}
 use Rattle.mq_sched.specs.NumberedMoments.{is_number_due}
 use Rattle.mq_sched.specs.Schedule.{ScheduledGroup}

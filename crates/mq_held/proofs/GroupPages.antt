@@ -1,9 +1,9 @@
 -- The groups by the pages of their order: the rank of what stands at a place of a page, and the entries from there on.
-use Rattle.std.proofs.Common.{ℕ, ◌+◌, ◌<◌, ◌≤◌, ◌≡◌, List, ◌∷◌, length, get_or, take, drop, sum, sym, ap, ◌∙◌, subst, arith}
+use Rattle.std.proofs.Common.{ℕ, ◌+◌, ◌<◌, ◌≤◌, ◌≡◌, List, ◌∷◌, length, get_or, take, drop, sum, sym, ap, ◌∙◌, arith}
 use Rattle.std.proofs.lemmas.List.{get_or-take, get_or-drop, take_all}
 use Rattle.std.proofs.lemmas.List.Sums.{sum_by_more, sum_by_more_le}
 use Rattle.std.specs.FinMap as map
-use Rattle.mq_sets.specs.NumberedKeys.{AreFilled, NumberedKeysState}
+use Rattle.mq_sets.specs.NumberedKeys.{AreFilled}
 use Rattle.mq_table.specs.Stored.{timers_in}
 use Rattle.mq_sched.specs.Schedule.{ScheduledGroup}
 use Rattle.mq_held.specs.declared.held_group.HeldGroup.{HeldGroup}
@@ -12,7 +12,7 @@ use Rattle.mq_held.specs.Held.{HeldState, HasNumber, IsNumber}
 use Rattle.mq_held.specs.Listed.{entry_in, entries_from, rank_at}
 use Rattle.mq_held.proofs.HeldInOrder.{entry_next}
 use Rattle.mq_held.proofs.KeysByNumber.{numbers_in}
-use Rattle.mq_held.proofs.GroupsInOrder.{IsOrdered, len-ordered, rank-is, number-at_rank}
+use Rattle.mq_held.proofs.GroupsInOrder.{IsOrdered, rank-is, number-at_rank}
 
 -- behind the last place of a page comes the first of the next
 rank-more : (pages : List ℕ) (page : ℕ) → page < length pages → rank_at pages (page + 1) 0 ≡ rank_at pages page (get_or pages page 0)

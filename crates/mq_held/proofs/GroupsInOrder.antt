@@ -1,29 +1,24 @@
 -- The order of the groups as a contract sees it: the rank of each number and of its address.
-use Rattle.std.proofs.Common.{ℕ, ◌+◌, ◌<◌, ◌≤◌, ◌≡◌, Bool, true, refl, List, [], ◌∷◌, length, get_or, Option, Some, sym, ap, ◌∙◌, subst, arith}
-use Rattle.std.specs.Prelude.{map as list_map, filter, slice_get}
-use Rattle.std.specs.List.{All, Contains, count_by}
-use Rattle.std.specs.Option.{unwrap_or}
+use Rattle.std.proofs.Common.{ℕ, ◌<◌, ◌≤◌, ◌≡◌, List, length, get_or, Some, sym, ap, ◌∙◌, subst, arith}
+use Rattle.std.specs.Prelude.{map as list_map, slice_get}
+use Rattle.std.specs.List.{All}
 use Rattle.std.specs.Ordering.{nat_cmp}
 use Rattle.std.proofs.lemmas.List.{get_or-map, get_or_default, length-map}
-use Rattle.std.proofs.lemmas.Option.{slice_get-get_or, slice_get_within, get_or_from_slice_get}
+use Rattle.std.proofs.lemmas.Option.{slice_get-get_or}
 use Rattle.std.specs.FinMap as map
 use Rattle.std.specs.FinMap.{FinMap}
-use Rattle.mq_sets.specs.Ascending.{IsAscending, set_of}
+use Rattle.mq_sets.specs.Ascending.{IsAscending}
 use Rattle.mq_sets.specs.NumberedKeys.{NumberedKey, NumberedKeysState, key_in}
 use Rattle.mq_sets.specs.Slots.{times}
-use Rattle.mq_sets.proofs.Ascents.{IsAscending-map}
 use Rattle.mq_table.specs.declared.sources.Source.{Source}
 use Rattle.mq_sched.specs.Schedule.{ScheduledGroup}
 use Rattle.mq_held.specs.declared.scheduled_head.ScheduledHead.{ScheduledHead}
-use Rattle.mq_held.specs.Groups.{Groups, unheld, group_at}
 use Rattle.mq_held.specs.Held.{HeldState, HasNumber, IsNumber}
 use Rattle.mq_held.specs.Places.{HasPlace}
 use Rattle.mq_held.specs.Stored.{groups_by, IsStored}
-use Rattle.mq_held.proofs.Sorted.{key_of, sorted-ascending}
-use Rattle.mq_held.proofs.Entries.{get-place}
 use Rattle.mq_held.proofs.OrderedGroups.{keys-groups}
 use Rattle.mq_held.proofs.Places.{same-address}
-use Rattle.mq_held.proofs.KeysByNumber.{numbers_in, keys_in, key-of_item, key-contained, keys-by_number, item-of_number, number-is}
+use Rattle.mq_held.proofs.KeysByNumber.{numbers_in, keys_in, key-of_item, key-contained, keys-by_number, number-is}
 
 -- what is so of the order of a storage's groups
 pub record IsOrdered (s : HeldState) : Type 0 where

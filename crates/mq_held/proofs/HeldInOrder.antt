@@ -5,7 +5,7 @@ use Rattle.std.proofs.lemmas.List.{get_or-map}
 use Rattle.std.specs.FinMap as map
 use Rattle.mq_sched.specs.Schedule.{ScheduledGroup}
 use Rattle.mq_held.specs.Groups.{Groups, unheld, group_at}
-use Rattle.mq_held.specs.Places.{HasPlace, group_in}
+use Rattle.mq_held.specs.Places.{HasPlace}
 use Rattle.mq_held.specs.Listed.{entries_from}
 use Rattle.mq_held.proofs.Entries.{place_within, key_at}
 use Rattle.mq_held.proofs.Places.{place-group}

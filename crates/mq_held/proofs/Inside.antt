@@ -1,5 +1,5 @@
 -- What is stored says of the groups that a contract sees.
-use Rattle.std.proofs.Common.{◌≡◌, ◌==◌, ◌&&◌, Bool, not, ℕ, ◌<◌, true, refl, List, [], length, map, get_or, set, sym, ap, ◌∙◌, subst, arith}
+use Rattle.std.proofs.Common.{◌≡◌, ◌==◌, ◌&&◌, Bool, not, ℕ, ◌<◌, true, refl, List, [], length, get_or, set, sym, ap, ◌∙◌, subst, arith}
 use Rattle.std.specs.List.{Contains}
 use Rattle.std.specs.Ordering.{nat_cmp}
 use Rattle.std.specs.FinMap as map

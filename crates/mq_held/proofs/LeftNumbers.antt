@@ -1,13 +1,13 @@
 -- Numbers that are left of a list by a test: a list that is filtered in place, and one whose numbers go to another.
-use Rattle.std.proofs.Common.{ℕ, ◌+◌, ◌<◌, ◌≤◌, ◌≡◌, Bool, true, false, cond, not, refl, List, [], ◌∷◌, ◌++◌, length, get_or, set, take, drop, sym, ap, ◌∙◌, subst, arith, length-set, append-nil}
+use Rattle.std.proofs.Common.{ℕ, ◌+◌, ◌<◌, ◌≡◌, Bool, true, false, cond, List, [], ◌∷◌, ◌++◌, length, get_or, set, take, sym, ap, ◌∙◌, subst, arith, append-nil}
 use Rattle.std.specs.Prelude.{filter}
-use Rattle.std.specs.List.{All, Contains}
-use Rattle.std.proofs.lemmas.List.{get_or-drop, get_or_default, take_more_set}
+use Rattle.std.specs.List.{All}
+use Rattle.std.proofs.lemmas.List.{get_or-drop, take_more_set}
 use Rattle.std.proofs.lemmas.List.Elements.{filter_more}
 use Rattle.std.proofs.lemmas.List.Filters.{FiltersInPlace}
-use Rattle.mq_sets.specs.NumberedKeys.{NumberedKey, key_in}
+use Rattle.mq_sets.specs.NumberedKeys.{key_in}
 use Rattle.mq_held.specs.Held.{HeldState, HasNumber, IsNumber}
-use Rattle.mq_held.proofs.KeysByNumber.{item-of_number, first-item}
+use Rattle.mq_held.proofs.KeysByNumber.{first-item}
 
 -- what is read next has not been written yet
 pub unread : {p : ℕ → Bool} {xs ys : List ℕ} {k i : ℕ} → FiltersInPlace p xs ys k i → (d : ℕ) → get_or ys i d ≡ get_or xs i d

@@ -1,5 +1,5 @@
 -- The vacant groups are taken out: the map without them, and what is stored then.
-use Rattle.std.proofs.Common.{ℕ, ◌+◌, ◌-◌, ◌*◌, ◌/◌, ◌^◌, ◌<◌, ◌≤◌, ◌≡◌, ◌==◌, min, Bool, true, false, true≢false, not, cond, ◌&&◌, refl, List, [], ◌∷◌, length, get_or, Option, None, Some, sym, ap, ◌∙◌, subst, arith, ⊎_elim, ◌⊎◌, inl, inr}
+use Rattle.std.proofs.Common.{ℕ, ◌+◌, ◌*◌, ◌/◌, ◌^◌, ◌<◌, ◌≤◌, ◌≡◌, ◌==◌, min, Bool, true, false, true≢false, not, cond, ◌&&◌, refl, List, [], ◌∷◌, length, get_or, Option, None, Some, sym, ap, ◌∙◌, subst, arith, ⊎_elim, ◌⊎◌, inl, inr}
 use Rattle.std.specs.Prelude.{map as list_map, filter}
 use lib.Dec.{T}
 use Rattle.std.specs.List.{All, Contains, count_by, sum_by}
@@ -32,7 +32,7 @@ use Rattle.mq_held.specs.Held.{HeldState, HasNumber, IsNumber, is_vacant_at}
 use Rattle.mq_held.specs.Stored.{entry_of, entries_of, group_by, groups_by, IsStored}
 use Rattle.mq_held.proofs.Sorted.{first, second, tied, find_below, below-all, all-below, key_of, ascending-sorted, sorted-ascending}
 use Rattle.mq_held.proofs.DueInOrder.{entry-group}
-use Rattle.mq_held.proofs.GroupsInOrder.{IsOrdered, IsOrdered-stored, all-numbers, all-addresses}
+use Rattle.mq_held.proofs.GroupsInOrder.{IsOrdered, IsOrdered-stored, all-addresses}
 use Rattle.mq_held.proofs.Inside.{groups_are, items_are, has, numbered, group-of}
 use Rattle.mq_held.proofs.KeysByNumber.{numbers_in, numbers-ascend, map-filter, filter-agree, key-of_item, number-is}
 use Rattle.mq_held.proofs.LeftNumbers.{number-has}

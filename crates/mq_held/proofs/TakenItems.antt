@@ -1,22 +1,21 @@
 -- Items of numbers that are taken out of an order: what is left of the items.
-use Rattle.std.proofs.Common.{ℕ, zero, suc, ◌+◌, ◌<◌, ◌≤◌, ◌≡◌, ◌==◌, Bool, true, false, not, cond, ◌&&◌, ◌||◌, true≢false, refl, List, [], ◌∷◌, ◌++◌, length, get_or, take, sym, ap, ◌∙◌, subst, arith, ⊎_elim}
-use Rattle.std.specs.Prelude.{map as list_map, filter}
+use Rattle.std.proofs.Common.{ℕ, zero, suc, ◌+◌, ◌<◌, ◌≤◌, ◌≡◌, ◌==◌, Bool, true, false, not, cond, ◌&&◌, ◌||◌, refl, List, [], ◌∷◌, ◌++◌, length, get_or, take, sym, ap, ◌∙◌, subst, arith, ⊎_elim}
+use Rattle.std.specs.Prelude.{filter}
 use Rattle.std.specs.List.{All, Contains, remove, sum_by}
-use Rattle.std.proofs.lemmas.Bool.{eq-eqb, eqb-true, cases_lt}
+use Rattle.std.proofs.lemmas.Bool.{eq-eqb, eqb-true}
 use Rattle.std.proofs.lemmas.Bool.Decides.{eqb_tells}
 use Rattle.std.proofs.lemmas.List.{get_or_default, take_more}
-use Rattle.std.proofs.lemmas.List.Edits.{length-remove}
 use Rattle.std.proofs.lemmas.List.Elements.{All-head, All-tail, All-filter}
 use Rattle.std.proofs.lemmas.List.Folds.{list_any-append, list_any_none, list_any_at}
-use Rattle.std.proofs.lemmas.List.Sums.{sum_by-cons, sum_by_more_le, sum_by-remove, length-filter, count_by-le-length}
+use Rattle.std.proofs.lemmas.List.Sums.{sum_by-cons, sum_by_more_le, length-filter, count_by-le-length}
 use Rattle.std.proofs.lemmas.Map.Views.{any-filter_same}
 use Rattle.mq_sets.specs.Ascending.{set_of}
 use Rattle.mq_sets.specs.NumberedKeys.{NumberedKey, IsWithout, items_by}
 use Rattle.mq_sets.specs.Slots.{times}
 use Rattle.mq_sets.proofs.Ascents.{filter-all}
-use Rattle.mq_sets.proofs.Cells.{is_cell, is_cell-same, is_cell-other, times-some}
-use Rattle.mq_sets.proofs.Counted.{stands, length-counted}
-use Rattle.mq_held.proofs.KeysByNumber.{numbers_in, filter-agree, item-of_number, times-item}
+use Rattle.mq_sets.proofs.Cells.{is_cell, is_cell-same, times-some}
+use Rattle.mq_sets.proofs.Counted.{stands}
+use Rattle.mq_held.proofs.KeysByNumber.{numbers_in, filter-agree, times-item}
 use Rattle.mq_held.proofs.OrderedAmounts.{times-filter}
 
 -- whether a number stands in a list

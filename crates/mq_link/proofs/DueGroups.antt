@@ -1,14 +1,13 @@
 -- The entries of the groups that have a moment at or before one, and what is so of the others.
-use Rattle.std.proofs.Common.{◌≡◌, ◌==◌, cond, ℕ, zero, suc, ◌+◌, ◌<◌, ◌≤◌, Bool, true, false, ◌||◌, not, refl, List, [], ◌∷◌, ◌++◌, length, take, get_or, Option, None, Some, IfSome, is_some, sym, ap, ◌∙◌, subst, arith, leb}
+use Rattle.std.proofs.Common.{◌≡◌, ◌==◌, cond, ℕ, zero, suc, ◌+◌, ◌<◌, ◌≤◌, Bool, true, false, ◌||◌, not, refl, List, [], ◌∷◌, ◌++◌, length, Option, None, Some, IfSome, is_some, sym, ap, ◌∙◌, subst, arith, leb}
 use Rattle.std.specs.Prelude.{map as list_map}
 use Rattle.std.specs.List.{list_any, sum_by, count_by, filter, flat_map}
-use Rattle.std.specs.Option.{option_and_then, unwrap_or}
+use Rattle.std.specs.Option.{option_and_then}
 use Rattle.std.specs.Ordering.{nat_cmp, eq_by_cmp}
 use Rattle.std.specs.FinMap as map
 use Rattle.std.specs.FinMap.{FinMap}
 use Rattle.std.proofs.lemmas.Bool.{true≢false, eq-eqb, ne_eqb}
 use Rattle.std.proofs.lemmas.Bool.Decides.{nat_tests}
-use Rattle.std.proofs.lemmas.List.{length-map}
 use Rattle.std.proofs.lemmas.List.Sums.{length-filter, sum_by-cons}
 use Rattle.mq_sets.specs.Ascending.{IsAscending}
 use Rattle.mq_table.specs.declared.timing.Timing.{Timing}
@@ -17,7 +16,7 @@ use Rattle.mq_table.specs.Maps.{with_entry, kept}
 use Rattle.mq_table.proofs.Maps.{get-kept}
 use Rattle.mq_sched.specs.Schedule.{ScheduledGroup}
 use Rattle.mq_sched.specs.Sending.{SentQuery}
-use Rattle.mq_held.specs.Groups.{unheld, group_at, running_in, sources_of, sources_in}
+use Rattle.mq_held.specs.Groups.{running_in, sources_of}
 use Rattle.mq_held.specs.Moments.{moments_of}
 use Rattle.mq_held.specs.Places.{has_due, addresses_due, due_in}
 use Rattle.mq_held.proofs.Sorted.{tied, ties}

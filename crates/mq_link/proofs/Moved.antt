@@ -1,5 +1,5 @@
 -- How what is moved adds up, with what is put by for the rows of sources to be packed again.
-use Rattle.std.proofs.Common.{◌≡◌, ℕ, ◌+◌, ◌≤◌, sym, arith}
+use Rattle.std.proofs.Common.{◌≡◌, ℕ, ◌+◌, ◌≤◌, arith}
 use Rattle.mq_count.specs.Spending.{Spends}
 use Rattle.mq_count.proofs.Spent.{Spends-none, Spends-within, Spends-join_within}
 use Rattle.mq_link.specs.Moved.{IsPaid}

@@ -1,13 +1,12 @@
 -- What a record takes, with what is left for the records behind it, is no more than what was left before it and what it
 -- brings.
-use Rattle.std.proofs.Common.{◌≡◌, ℕ, ◌+◌, ◌-◌, ◌*◌, ◌≤◌, Bool, true, false, cond, ◌&&◌, refl, List, [], ◌∷◌, length, Option, None, Some, IfSome, sym, ap, ◌∙◌, subst, arith, leb, add_assoc, add-zero, zero-add}
+use Rattle.std.proofs.Common.{◌≡◌, ℕ, ◌+◌, ◌-◌, ◌*◌, ◌≤◌, Bool, true, false, cond, ◌&&◌, refl, List, [], ◌∷◌, length, Option, None, Some, IfSome, sym, ◌∙◌, subst, arith, leb, add_assoc, add-zero, zero-add}
 use Rattle.std.proofs.Math.Nat.{mul-le-mul_right}
 use Rattle.std.proofs.lemmas.Bool.{leb-false}
 use Rattle.std.proofs.lemmas.List.Sums.{sum_by-cons}
 use Rattle.std.specs.FinMap as map
 use Rattle.std.specs.FinSet as set
 use Rattle.std.specs.List.{sum_by}
-use Rattle.std.specs.Option.{unwrap_or}
 use Rattle.mq_count.specs.Spending.{Spends}
 use Rattle.mq_count.proofs.Spent.{Spends-none, Spends-join, Spends-within}
 use Rattle.mq_sets.specs.Search.{bitlen}
@@ -27,7 +26,7 @@ use Rattle.mq_link.specs.Counters.{Refused}
 use Rattle.mq_link.specs.Family.{v1_mutes_leave}
 use Rattle.mq_link.specs.LeastCost.{least_judged, least_all}
 use Rattle.mq_link.specs.Record.{Setting, RecordOf, leaving, unless_passed, changed_by, after_sending, sent_at_once, changed_or_refused, change_in, is_muted, limit_passed, stated, Seen, met, Entrance, Stops, GoesOn, entrance, seen_by, seen_after, judged_from, judged}
-use Rattle.mq_link.specs.State.{Groups, unheld, group_at, with_group, sources_of, sources_in}
+use Rattle.mq_link.specs.State.{Groups, group_at, with_group, sources_of, sources_in}
 use Rattle.mq_link.proofs.ChangedSizes.{translated_few}
 use Rattle.mq_link.proofs.KeptGroups.{absent_sources}
 use Rattle.mq_link.proofs.MadeEntries.{round_keeps_size}

@@ -1,5 +1,5 @@
 -- The groups of a link while those that are due are served one after the other, by the numbers that were handed out.
-use Rattle.std.proofs.Common.{◌≡◌, cond, ℕ, zero, suc, ◌+◌, ◌*◌, ◌<◌, ◌≤◌, Bool, true, false, refl, List, [], ◌∷◌, ◌++◌, length, take, drop, get_or, Option, None, Some, is_some, sym, ap, ◌∙◌, subst, arith, append-nil}
+use Rattle.std.proofs.Common.{◌≡◌, cond, ℕ, ◌+◌, ◌*◌, ◌<◌, ◌≤◌, Bool, true, false, refl, List, [], ◌∷◌, ◌++◌, length, take, drop, get_or, Option, None, Some, is_some, sym, ap, ◌∙◌, subst, arith, append-nil}
 use Rattle.std.specs.Prelude.{map as list_map}
 use Rattle.std.specs.List.{All, sum_by, flat_map}
 use Rattle.std.specs.Option.{option_map, option_and_then, unwrap_or}
@@ -13,7 +13,6 @@ use Rattle.mq_sets.specs.NumberedKeys.{key_in}
 use Rattle.mq_sets.specs.Slots.{times}
 use Rattle.mq_table.specs.declared.timing.Timing.{Timing}
 use Rattle.mq_table.specs.Group.{is_vacant}
-use Rattle.mq_table.specs.Maps.{kept}
 use Rattle.mq_table.proofs.Maps.{get-kept}
 use Rattle.mq_table.proofs.Groups.{same_sources}
 use Rattle.mq_sched.specs.Schedule.{ScheduledGroup}
@@ -26,7 +25,6 @@ use Rattle.mq_held.specs.Places.{addresses_due, has_due}
 use Rattle.mq_link.specs.State.{Groups}
 use Rattle.mq_link.specs.Serving.{AreServed}
 use Rattle.mq_link.specs.Tick.{group_expired, groups_expired, groups_after_round}
-use Rattle.mq_link.proofs.PassedEntries.{GroupEntries}
 use Rattle.mq_link.proofs.DueGroups.{among_due, are_due, due_entries, not_due_passed}
 use Rattle.mq_link.proofs.GroupNumbers.{number_found, is_number_stayed, stands_at}
 use Rattle.mq_link.proofs.HeldAs.{vacant_is}

@@ -15,8 +15,6 @@ mod facts;
 #[cfg(test)]
 mod groups;
 #[cfg(test)]
-mod held_groups;
-#[cfg(test)]
 mod merges;
 #[cfg(test)]
 mod meters;

@@ -1,4 +1,4 @@
-use Rattle.std.proofs.Common.{ℕ, ◌≡◌, ◌+◌, ◌≤◌, sum, take, drop, sym, ap, ◌∙◌, subst, arith, get_or, length, refl}
+use Rattle.std.proofs.Common.{◌≡◌, ◌+◌, sum, take, drop, sym, ap, ◌∙◌, subst, arith, get_or, length, refl}
 use Rattle.std.specs.FinMap as map
 use Rattle.std.proofs.lemmas.List.{drop_all}
 use Rattle.mq_sets.specs.NumberedKeys.{AreFilled}

@@ -1,6 +1,4 @@
-use Rattle.std.proofs.Common.{ℕ, ◌≡◌, ◌<◌, length, get_or, ap, ◌∙◌, sym, subst, arith}
-use Rattle.mq_held.specs.Held.{HasNumber}
-use Rattle.mq_held.specs.Places.{HasPlace}
+use Rattle.std.proofs.Common.{get_or, ap, ◌∙◌, sym, arith}
 use Rattle.mq_held.proofs.KeysByNumber.{numbers_in}
 use Rattle.mq_held.proofs.GroupsInOrder.{IsOrdered-stored, len-view, rank-is, number-at_rank, number-of_place}
 use Rattle.mq_held.proofs.held_groups.HeldGroups.entry.Goals as goal

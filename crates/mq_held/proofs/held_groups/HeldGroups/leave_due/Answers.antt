@@ -1,7 +1,6 @@
-use Rattle.std.proofs.Common.{ℕ, ◌≡◌, ◌<◌, ◌≤◌, ◌∙◌, length, get_or, sym, ap, arith}
+use Rattle.std.proofs.Common.{◌<◌, ◌∙◌, length, sym, arith}
 use Rattle.std.proofs.lemmas.List.Filters.{FiltersInPlace-more_set, FiltersInPlace-more_no}
 use Rattle.mq_count.proofs.Spent.{Spends-join_within}
-use Rattle.mq_sets.specs.NumberedKeys.{key_in}
 use Rattle.mq_held.specs.Held.{IsNumber}
 use Rattle.mq_held.proofs.Inside.{within-rows}
 use Rattle.mq_held.proofs.DueNumbers.{due-number}

@@ -1,7 +1,7 @@
-use Rattle.std.proofs.Common.{ℕ, ◌≡◌, ◌<◌, ◌≤◌, ◌∙◌, length, not, sym, ap, subst, arith}
+use Rattle.std.proofs.Common.{◌<◌, ◌∙◌, length, not, sym, ap, subst, arith}
 use Rattle.mq_count.proofs.Spent.{Spends-join_within}
 use Rattle.mq_sets.specs.NumberedKeys.{key_in}
-use Rattle.mq_held.specs.Held.{IsNumber, is_vacant_at}
+use Rattle.mq_held.specs.Held.{IsNumber}
 use Rattle.mq_held.proofs.KeysByNumber.{numbers_in}
 use Rattle.mq_held.proofs.GroupsInOrder.{IsOrdered-stored, len-view, len-all, all-known}
 use Rattle.mq_held.proofs.LeftNumbers.{number-has, passed_yes, passed_no}

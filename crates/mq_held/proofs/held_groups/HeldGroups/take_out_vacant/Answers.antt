@@ -1,5 +1,4 @@
-use Rattle.std.proofs.Common.{ℕ, ◌≡◌, ◌<◌, ◌≤◌, ◌/◌, ◌^◌, length, not, sym, ap, ◌∙◌, arith}
-use Rattle.std.specs.FinMap as map
+use Rattle.std.proofs.Common.{◌<◌, ◌≤◌, ◌/◌, ◌^◌, length, not, sym, ap, ◌∙◌, arith}
 use Rattle.mq_count.proofs.Spent.{Spends-within, Spends-join, Spends-join_within}
 use Rattle.mq_sets.specs.NumberedKeys.{NumberedKey}
 use Rattle.mq_held.specs.Held.{is_vacant_at}

@@ -1,4 +1,4 @@
-use Rattle.std.proofs.Common.{◌≡◌, ◌+◌, ◌*◌, ◌≤◌, ◌<◌, get_or, length, refl, sym, ap, ◌∙◌, subst, arith}
+use Rattle.std.proofs.Common.{◌≡◌, ◌+◌, ◌*◌, ◌<◌, get_or, length, refl, sym, ap, ◌∙◌, subst, arith}
 use Rattle.std.specs.Prelude.{map as list_map}
 use Rattle.std.specs.List.{All}
 use Rattle.std.specs.FinMap as map
@@ -11,7 +11,7 @@ use Rattle.mq_link.specs.Serving.{IsServed}
 use Rattle.mq_link.specs.Storage.{put_by_rows}
 use Rattle.mq_link.proofs.ClearedGroups.{none_cleared, one_cleared, all_cleared, served_more}
 use Rattle.mq_link.proofs.GroupNumbers.{is_number_stays, number_found, number_stays, number_stayed}
-use Rattle.mq_link.proofs.Moved.{paid_none, paid_by, paid_join, paid_within}
+use Rattle.mq_link.proofs.Moved.{paid_none, paid_by, paid_join}
 use Rattle.mq_link.proofs.PaidEdits.{few_digits}
 use Rattle.mq_link.proofs.ReplacedGroups.{address_of, all_entries, as_many, entry_at, next_group}
 use Rattle.mq_link.proofs.Rooms.{rooms_moved, rooms_on}
