@@ -1,5 +1,4 @@
-use Rattle.std.proofs.Common.{◌<◌, sym, ◌∙◌, arith, length}
-use Rattle.mq_link.proofs.ListedNumbers.{IsLeft, one_cleared, all_cleared}
+use Rattle.mq_link.proofs.ListedNumbers.{all_cleared}
 use Rattle.mq_link.proofs.met.set_to_zero.Goals as goal
 
 pub returns-clause-none : goal.returns-clause-none

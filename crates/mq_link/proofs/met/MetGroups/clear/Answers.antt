@@ -4,6 +4,7 @@ use Rattle.mq_link.proofs.ListedNumbers.{none_listed}
 use Rattle.mq_link.proofs.met.MetGroups.clear.Goals as goal
 
 pub invariant_of-self : goal.invariant_of-self
-invariant_of-self c =
-    (subst (AreListed c.set_to_zero.new.counts.items) (sym c.clear.ensures.items) (none_listed c.set_to_zero.new.counts.items c.set_to_zero.ensures.none),
-     omega (arith, c.self.invariant.1, c.set_to_zero.ensures.len, c.clear.ensures.capacity))
+invariant_of-self c = (
+  subst (AreListed c.set_to_zero.new.counts.items) (sym c.clear.ensures.items) (none_listed c.set_to_zero.new.counts.items c.set_to_zero.ensures.none),
+  omega (arith, c.self.invariant.1, c.set_to_zero.ensures.len, c.clear.ensures.capacity),
+)

@@ -20,9 +20,10 @@ invariant_of-self c =
     let next = c.index-before.result.now + 1 in
     let within : c.args.number < length counts = omega (arith, c.requires.number, ap length c.self.view_is) in
     let none : slice_index counts c.args.number ≡ 0 = get_or_default counts c.args.number 0 c.index-before.result.now within ∙ sym c.index-before.ensures ∙ c.if-before-eq0.true in
-    let pushed = c.push.ensures.items ∙ ap (λ r. cond (is_ok r) (numbers ++ c.args.number ∷ []) numbers) c.unwrap.ensures in
-    (subst (AreListed (set counts c.args.number next)) (sym pushed) (listed_first counts numbers c.self.invariant.0 c.args.number within next (omega arith) none),
-     omega (arith, length-set counts c.args.number next, c.self.invariant.1, c.push.ensures.capacity))
+    let pushed = c.push.ensures.items ∙ ap (λ r. cond (is_ok r) (numbers ++ c.args.number ∷ []) numbers) c.unwrap.ensures in (
+      subst (AreListed (set counts c.args.number next)) (sym pushed) (listed_first counts numbers c.self.invariant.0 c.args.number within next (omega arith) none),
+      omega (arith, length-set counts c.args.number next, c.self.invariant.1, c.push.ensures.capacity),
+    )
 
 pub invariant_of-self-else-before-eq0 : goal.invariant_of-self-else-before-eq0
 invariant_of-self-else-before-eq0 c =
@@ -30,6 +31,7 @@ invariant_of-self-else-before-eq0 c =
     let next = c.index-before.result.now + 1 in
     let within : c.args.number < length counts = omega (arith, c.requires.number, ap length c.self.view_is) in
     let same = get_or_default counts c.args.number 0 c.index-before.result.now within ∙ sym c.index-before.ensures in
-    let some : 1 ≤ slice_index counts c.args.number = omega (arith, same, c.if-before-eq0.false) in
-    (listed_again counts c.self.inside.numbers.items c.self.invariant.0 c.args.number within next (omega arith) some,
-     omega (arith, length-set counts c.args.number next, c.self.invariant.1))
+    let some : 1 ≤ slice_index counts c.args.number = omega (arith, same, c.if-before-eq0.false) in (
+      listed_again counts c.self.inside.numbers.items c.self.invariant.0 c.args.number within next (omega arith) some,
+      omega (arith, length-set counts c.args.number next, c.self.invariant.1),
+    )
