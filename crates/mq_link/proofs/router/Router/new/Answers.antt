@@ -1,4 +1,5 @@
 use Rattle.std.proofs.Common.{ap, subst, sym, arith}
+use Rattle.mq_link.specs.declared.configuration.Limits.{Limits}
 use Rattle.mq_link.specs.Record.{Setting}
 use Rattle.mq_link.specs.Router.{IsStored}
 use Rattle.mq_link.proofs.LinkStored.{stored_at_start}
