@@ -35,7 +35,10 @@ pub mod AllFits
 pub mod Intervals
 pub mod CountedRows
 pub mod WithGroup
-pub mod SeenLists
+pub mod MetNumbers
+pub mod ListedNumbers
+pub mod MetSoFar
+pub mod HeldStays
 pub mod ByDefault
 pub mod LinkStored
 pub mod DueSent

@@ -1,5 +1,5 @@
 -- What is stored of a link, at its start and after its calls.
-use Rattle.std.proofs.Common.{◌≡◌, ℕ, ◌<◌, ◌≤◌, List, [], ◌∷◌, false, Some, refl, sym, ap, ◌∙◌, subst, arith, leb}
+use Rattle.std.proofs.Common.{◌≡◌, ℕ, ◌<◌, ◌≤◌, List, [], ◌∷◌, length, false, Some, refl, sym, ap, ◌∙◌, subst, arith, leb}
 use Rattle.std.specs.List.{list_any}
 use Rattle.std.specs.Option.{unwrap_or}
 use Rattle.std.specs.Ordering.{nat_cmp}
@@ -15,10 +15,9 @@ use Rattle.mq_held.specs.Places.{has_due}
 use Rattle.mq_link.specs.declared.storage.Numbers.{Numbers}
 use Rattle.mq_link.specs.declared.storage.Storage.{Storage}
 use Rattle.mq_link.specs.Configuration.{Configuration, IsFaultless}
-use Rattle.mq_link.specs.Reading.{most_records}
 use Rattle.mq_link.specs.Record.{Setting}
 use Rattle.mq_link.specs.Router.{IsStored, RouterValue, state_of}
-use Rattle.mq_link.specs.Seen.{SeenState}
+use Rattle.mq_link.specs.Seen.{AreNone}
 use Rattle.mq_link.specs.Sound.{AreSound}
 use Rattle.mq_link.specs.State.{LinkState, IsWellFormed, link_at}
 use Rattle.mq_link.specs.Storage.{HasRoom, HasSpace, IsReady, KeepsRooms, KeepsSpace, put_by_rows}
@@ -41,11 +40,11 @@ pub well_formed_at : (r : RouterValue) → AreSound r.at r.groups → AreInRange
 well_formed_at r sound timing = record { groups = sound.all; within = sound.within; timing = timing; silent = sound.silent }
 
 -- the storage of a link at its start
-pub stored_at_start : {K : Type 0} (config : Configuration) (start : ℕ) (storage : Storage K) (seen : SeenState) (numbers : Numbers)
+pub stored_at_start : {K : Type 0} (config : Configuration) (start : ℕ) (storage : Storage K) (seen : List ℕ) (numbers : Numbers)
     → IsFaultless config → storage.held ≡ empty_state config.limits.groups config.limits.sources
-    → HasRoom config.limits.group_sources storage.work → most_records ≤ seen.room → HasSpace config.limits.groups numbers
+    → HasRoom config.limits.group_sources storage.work → config.limits.groups ≤ length seen → AreNone seen → HasSpace config.limits.groups numbers
     → (let status : Setting = record { config = config; election = election_at config.timing start; now = start } in IsStored status storage seen numbers)
-stored_at_start config start storage seen numbers faultless held room seen_room number_room =
+stored_at_start config start storage seen numbers faultless held room seen_room none_seen number_room =
     let status : Setting = record { config = config; election = election_at config.timing start; now = start } in
     record {
       sound = subst (AreSound status) (sym (ap (λ (h : HeldState). h.groups) held)) (sound_in config (link_at config start) (IsWellFormed-link_at config start faultless));
@@ -53,6 +52,7 @@ stored_at_start config start storage seen numbers faultless held room seen_room 
       source_room = ap (λ (h : HeldState). h.source_room) held;
       room = room;
       seen_room = seen_room;
+      none_seen = none_seen;
       number_room = number_room;
     }
 
@@ -85,16 +85,26 @@ none_due state now before group e is =
     none_reached now (moments_of e) (from-each (λ _ e. AllAbove now (moments_of e)) (map.entries state.groups) each group e (sym (map.get-entries state.groups group) ∙ is))
 
 -- what is stored after a call: the groups are sound still, and the rooms stay
-pub stored_next : {K : Type 0} (status after : Setting) (storage next : Storage K) (seen next_seen : SeenState) (numbers next_numbers : Numbers)
+pub stored_next : {K : Type 0} (status after : Setting) (storage next : Storage K) (seen : List ℕ) (numbers next_numbers : Numbers)
     → IsStored status storage seen numbers → after.config ≡ status.config → AreSound after next.held.groups → KeepsRooms storage next
-    → next_seen.room ≡ seen.room → KeepsSpace numbers next_numbers → IsStored after next next_seen next_numbers
-stored_next status after storage next seen next_seen numbers next_numbers was same sound kept seen_same space =
-    subst (λ (c : Configuration). HasRoom c.limits.group_sources next.work → HasSpace c.limits.groups next_numbers → IsStored after next next_seen next_numbers) same (λ room number_room.
+    → KeepsSpace numbers next_numbers → IsStored after next seen next_numbers
+stored_next status after storage next seen numbers next_numbers was same sound kept space =
+    subst (λ (c : Configuration). HasRoom c.limits.group_sources next.work → HasSpace c.limits.groups next_numbers → c.limits.groups ≤ length seen → IsStored after next seen next_numbers) same (λ room number_room seen_room.
     record {
       sound = sound;
       group_room = kept.groups ∙ was.group_room ∙ ap (λ (c : Configuration). c.limits.groups) (sym same);
       source_room = kept.sources ∙ was.source_room ∙ ap (λ (c : Configuration). c.limits.sources) (sym same);
       room = room;
-      seen_room = let n = was.seen_room in omega (arith, n, seen_same);
+      seen_room = seen_room;
+      none_seen = was.none_seen;
       number_room = number_room;
-    }) (still_room status.config.limits.group_sources was.room kept.work) (still_space status.config.limits.groups was.number_room space)
+    }) (still_room status.config.limits.group_sources was.room kept.work) (still_space status.config.limits.groups was.number_room space) was.seen_room
+
+-- and where the groups that were met are forgotten
+pub stored_forgotten : {K : Type 0} (status : Setting) (storage next : Storage K) (seen counted left : List ℕ) (numbers : Numbers)
+    → IsStored status storage seen numbers → AreSound status next.held.groups → KeepsRooms storage next
+    → length counted ≡ length seen → length left ≡ length counted → AreNone left → KeepsSpace numbers numbers → IsStored status next left numbers
+stored_forgotten status storage next seen counted left numbers was sound kept same also none space =
+    let there = stored_next status status storage next seen numbers numbers was refl sound kept space in
+    let room = there.seen_room in
+    record { sound = there.sound; group_room = there.group_room; source_room = there.source_room; room = there.room; seen_room = omega (arith, room, same, also); none_seen = none; number_room = there.number_room }

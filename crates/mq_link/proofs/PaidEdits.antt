@@ -167,20 +167,6 @@ module _ (s : HeldState) (few : map.len s.groups ≤ 65535) (filled : AreFilled 
       let digits = digits_few in
       paid_by (5 * sources_of e + moved_by_edit) moved (omega (arith, paid, same, order, digits))
 
-  -- a group is taken out
-  pub removed_paid : (after : HeldState) (a : ℕ) (old new : ℕ) → after.groups ≡ map.remove s.groups a → after.order.room ≡ s.order.room → after.source_room ≡ s.source_room → after.ahead ≡ s.ahead
-      → Spends 1 (4 + bitlen (running_in s.groups) + (1022 + length s.order.pages)) old new
-      → IsPaid moved_by_edit (put_by_rows s) (put_by_rows after) old new
-  removed_paid after a old new groups_are rooms room_is ahead_is moved =
-      let after_is : put_by_rows after ≡ min (4 * (s.source_room / 4 + s.order.room - s.ahead)) (sources_in (map.remove s.groups a) + running_in (map.remove s.groups a)) =
-      λ i. min (4 * (room_is i / 4 + rooms i - ahead_is i)) (sources_in (groups_are i) + running_in (groups_are i))
-      in
-      let fewer = sources_gone s.groups a in
-      let rests = running_gone s.groups a in
-      let digits = digits_few in
-      let pages = pages_few in
-      paid_by moved_by_edit moved (omega (arith, after_is, fewer, rests, digits, pages))
-
 -- those that are vacant are taken out
 runs_no_more : (k : ℕ) (e : ScheduledGroup) → IfSome (if_running k e) (λ x. runs x ≤ runs e)
 runs_no_more k e = by_test (is_vacant e.group)

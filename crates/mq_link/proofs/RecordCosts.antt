@@ -68,16 +68,16 @@ few_digits n few = bitlen-le 16 n (omega (arith, few))
 pub four_times : (m n : ℕ) → left_for m n ≤ 24 * n
 four_times m n = let few : 4 - m ≤ 4 = omega arith in let most = mul-le-mul_right (6 * n) few in omega (arith, most)
 
-pub record_pays : (at : Setting) (seen : Seen) (r : RecordView ℕ) (groups : Groups) → map.len groups ≤ 65535 → map.len seen ≤ 65535
+pub record_pays : (at : Setting) (seen : Seen) (r : RecordView ℕ) (groups : Groups) → map.len groups ≤ 65535
     → record_cost at.config seen r groups + potential (seen_after at.config r groups seen) (judged at seen r groups).groups ≤ potential seen groups + own_cost r
 unfolding judged
-record_pays at seen r groups few_groups few_seen = by_entrance (entrance at.config r)
+record_pays at seen r groups few_groups = by_entrance (entrance at.config r)
   where
-    search : search_cost groups seen ≤ 66
-    search = omega (arith, few_digits (map.len groups) few_groups, few_digits (map.len seen) few_seen)
+    search : search_cost groups ≤ 34
+    search = omega (arith, few_digits (map.len groups) few_groups)
 
     by_tests : (kind : Kind) (held four : Bool) → map.contains_key groups r.group ≡ held → leb 4 (met seen r.group) ≡ four →
-        cond (held && four) (search_cost groups seen) (work_cost groups r + search_cost groups seen)
+        cond (held && four) (search_cost groups) (work_cost groups r + search_cost groups)
         + potential (cond held (again seen r.group) seen) (cond (held && four) (leaving groups (Refused Repeated)) (stated at r.group (RecordOf kind (set.from_list r.sources)) groups)).groups
         ≤ potential seen groups + own_cost r
     by_tests kind true true held four =
@@ -110,12 +110,12 @@ pub none_paid : (at : Setting) (all : List (RecordView ℕ)) (groups : Groups) (
 none_paid at all groups m = record { least = 0; most = 0; counted = Spends-none m; fewest = sym (zero-add _); enough = omega (arith, potential-empty groups) }
 
 pub one_paid : (at : Setting) (all : List (RecordView ℕ)) (held : Groups) (from : ℕ) (before rest : List (RecordView ℕ)) (r : RecordView ℕ) (seen : Seen) (groups : Groups) (m next : ℕ)
-    → map.len groups ≤ 65535 → map.len seen ≤ 65535
+    → map.len groups ≤ 65535
     → IsPaidSoFar at all held from before seen groups m
     → before ≡ r ∷ rest
     → Spends (least_judged at seen r groups) (record_cost at.config seen r groups) m next
     → IsPaidSoFar at all held from rest (seen_after at.config r groups seen) (judged at seen r groups).groups next
-one_paid at all held from before rest r seen groups m next few_groups few_seen so_far first spent =
+one_paid at all held from before rest r seen groups m next few_groups so_far first spent =
     let h = subst (λ left. IsPaidSoFar at all held from left seen groups m) first so_far in
     let enough = h.enough in
     record {
@@ -123,7 +123,7 @@ one_paid at all held from before rest r seen groups m next few_groups few_seen s
       most = h.most + record_cost at.config seen r groups;
       counted = Spends-join h.counted spent;
       fewest = h.fewest ∙ sym (add_assoc h.least (least_judged at seen r groups) _);
-      enough = omega (arith, enough, record_pays at seen r groups few_groups few_seen, sum_by-cons own_cost r rest);
+      enough = omega (arith, enough, record_pays at seen r groups few_groups, sum_by-cons own_cost r rest);
     }
 
 pub all_paid : (at : Setting) (all : List (RecordView ℕ)) (held : Groups) (from : ℕ) (left : List (RecordView ℕ)) (seen : Seen) (groups : Groups) (m : ℕ) → IsPaidSoFar at all held from left seen groups m → left ≡ [] → Spends (least_all at map.empty all held) (24 * sources_in held + sum_by own_cost all) from m
@@ -141,7 +141,7 @@ report_within (r ∷ rs) =
     omega (arith, rest, sum_by-cons own_cost r rs, sum_by-cons (λ (r : RecordView ℕ). 8 + 4 * length r.sources) r rs)
 
 pub statement_within : (groups : Groups) (group least from m : ℕ) → map.len groups ≤ 65535
-    → Spends least (6 * sources_of (group_at groups group) + 14 + 3 * bitlen (map.len groups)) from m
+    → Spends least (6 * sources_of (group_at groups group) + 14 + 2 * bitlen (map.len groups)) from m
     → Spends least (24 * sources_in groups + 20 * map.len groups + 64 * 8) from m
 statement_within groups group least from m few spent =
     Spends-within least _ spent (omega arith) (omega (arith, few_digits (map.len groups) few, own_sources groups group))

@@ -19,6 +19,7 @@ use Rattle.mq_link.specs.Record.{Statement, Setting, Outcome, leaving, unless_pa
 use Rattle.mq_link.specs.Sound.{AreSound}
 use Rattle.mq_link.specs.State.{Groups, group_at, with_group, sources_of, sources_in}
 use Rattle.mq_link.proofs.ChangedSizes.{stated_few}
+use Rattle.mq_link.proofs.HeldStays.{held_stated, stays_held}
 use Rattle.mq_link.proofs.Recorded.{IsReady, ready, stated_soundly, sound_after, stated_leaves, acted_size, IsSound}
 
 -- What was done to a group: the change, what it asks for, and the test of what it would leave.
@@ -59,6 +60,13 @@ module _ (at : Setting) (group : ℕ) (st : Statement) (groups : Groups) (before
       let held = sound_after at.config group (is_querier at.election.role) at.election.timing at.now change before.schedule positive admitted (sound_change sound) in
       let left_is : left ≡ after_round at.election.timing at.now (after_change (is_querier at.election.role) at.election.timing at.now change before.schedule) = is ∙ ap (after_round at.election.timing at.now) did.asked_is in
       subst (λ (e : ScheduledGroup). is_vacant e.group ≡ false → IsHeld e.group) (sym left_is) (λ v. (held v).held) not_vacant
+
+  -- one that was held before stays
+  pub kept_stays : (left : ScheduledGroup) → left ≡ after_round at.election.timing at.now asked → IsHeld before.group → is_vacant left.group ≡ false
+  kept_stays left is held =
+      let changed_held = subst (λ c. IfSome c (λ (c : GroupChange). IsHeld c.group)) did.change_is (held_stated (v1_mutes_leave at.config.family) (is_muted at.config group st) at.election.timing at.now st before.group held) in
+      let left_is : left ≡ after_round at.election.timing at.now (after_change (is_querier at.election.role) at.election.timing at.now change before.schedule) = is ∙ ap (after_round at.election.timing at.now) did.asked_is in
+      ap (λ (e : ScheduledGroup). is_vacant e.group) left_is ∙ stays_held (is_querier at.election.role) at.election.timing at.now change before.schedule changed_held
 
   module _ (positive : 0 < at.election.timing.robustness) (admitted : is_admitted at.config.family group ≡ true) (sound : AreSound at groups) (none : passed ≡ None) where
     left_sound : AreSound at (with_group groups group (after_sending at asked))

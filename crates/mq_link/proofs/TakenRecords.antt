@@ -33,8 +33,6 @@ pub record IsTakenSoFar {S : Type 0} (takes : S → SentQuery → S → Type 0) 
   pub ignored_are : n.ignored + count_by is_ignored (all_judged at seen left groups).verdicts ≡ count_by is_ignored all.verdicts
   pub refused_are : n.refused + count_by is_refused (all_judged at seen left groups).verdicts ≡ count_by is_refused all.verdicts
   pub sound : AreSound at groups
-  pub few_seen : map.len seen + length left ≤ whole
-  pub few_met : (group : ℕ) → met seen group + length left ≤ whole
   pub few_told : n.applied + n.ignored + n.refused + length left ≤ whole
 
 -- none is taken yet
@@ -48,20 +46,11 @@ none_taken takes at from counters all groups sound = record {
   ignored_are = omega arith;
   refused_are = omega arith;
   sound = sound;
-  few_seen = let none = map.len-empty nat_cmp ℕ in omega (arith, none);
-  few_met = λ group. let none = ap (λ x. unwrap_or x 0) (map.get-empty {X = ℕ} nat_cmp group) in omega (arith, none);
   few_told = omega arith;
 }
 
--- a record counts at most one group more, and one meeting more
+-- a record counts one meeting more
 module _ (seen : Seen) (group : ℕ) where
-  len_again : map.len (map.insert seen group (met seen group + 1)) ≤ map.len seen + 1
-  len_again = by_test (map.contains_key seen group) (map.len-insert nat_cmp_total seen group (met seen group + 1))
-    where
-      by_test : (b : Bool) {n : ℕ} → n ≡ cond b (map.len seen) (map.len seen + 1) → n ≤ map.len seen + 1
-      by_test true is = omega arith
-      by_test false is = omega arith
-
   abbrev pub again : Seen
   again = map.insert seen group (met seen group + 1)
 
@@ -74,34 +63,15 @@ module _ (seen : Seen) (group : ℕ) where
   pub met_once : met again group ≡ met seen group + 1
   met_once = met_again group ∙ ap (λ b. met_where b group) (ties group group refl)
 
+  pub met_other : (other : ℕ) → eq_by_cmp nat_cmp other group ≡ false → met again other ≡ met seen other
+  met_other other differs = met_again other ∙ ap (λ b. met_where b other) differs
+
   pub met_more : (other : ℕ) → (met seen other ≤ met again other) × (met again other ≤ met seen other + 1)
   met_more other = rw (met_again other) (by_test (eq_by_cmp nat_cmp other group) refl)
     where
       by_test : (b : Bool) → eq_by_cmp nat_cmp other group ≡ b → (met seen other ≤ met_where b other) × (met_where b other ≤ met seen other + 1)
       by_test true same = let alike = ap (met seen) (tied other group same) in (omega (arith, alike), omega (arith, alike))
       by_test false differs = (omega arith, omega arith)
-
-len_after : (config : Configuration) (r : RecordView ℕ) (groups : Groups) (seen : Seen) → map.len (seen_after config r groups seen) ≤ map.len seen + 1
-len_after config r groups seen = by_entrance (entrance config r)
-  where
-    by_test : (b : Bool) → map.len (cond b (map.insert seen r.group (met seen r.group + 1)) seen) ≤ map.len seen + 1
-    by_test true = len_again seen r.group
-    by_test false = omega arith
-
-    by_entrance : (entered : Entrance) → map.len (seen_by entered r.group groups seen) ≤ map.len seen + 1
-    by_entrance (Stops verdict) = omega arith
-    by_entrance (GoesOn kind) = by_test (map.contains_key groups r.group)
-
-met_after : (config : Configuration) (r : RecordView ℕ) (groups : Groups) (seen : Seen) (other : ℕ) → met (seen_after config r groups seen) other ≤ met seen other + 1
-met_after config r groups seen other = by_entrance (entrance config r)
-  where
-    by_test : (b : Bool) → met (cond b (map.insert seen r.group (met seen r.group + 1)) seen) other ≤ met seen other + 1
-    by_test true = (met_more seen r.group other).1
-    by_test false = omega arith
-
-    by_entrance : (entered : Entrance) → met (seen_by entered r.group groups seen) other ≤ met seen other + 1
-    by_entrance (Stops verdict) = omega arith
-    by_entrance (GoesOn kind) = by_test (map.contains_key groups r.group)
 
 counted_one : (v : Verdict) → count_by is_applied (v ∷ []) + count_by is_ignored (v ∷ []) + count_by is_refused (v ∷ []) ≡ 1
 counted_one Applied = omega arith
@@ -130,7 +100,6 @@ one_taken takes at all whole from counters before rest r seen groups sink next c
     let v = (judged at seen r groups).verdict in
     let later = all_judged at (seen_after at.config r groups seen) rest (judged at seen r groups).groups in
     let h = subst (λ left. IsTakenSoFar takes at all whole from counters left seen groups sink counted n) first so_far in
-    let few_seen = h.few_seen in
     let few_told = h.few_told in
     record {
       groups_are = h.groups_are;
@@ -140,8 +109,6 @@ one_taken takes at all whole from counters before rest r seen groups sink next c
       ignored_are = counted_first is_ignored n.ignored v later.verdicts ∙ h.ignored_are;
       refused_are = counted_first is_refused n.refused v later.verdicts ∙ h.refused_are;
       sound = judged_leaves at seen r groups positive h.sound;
-      few_seen = omega (arith, few_seen, len_after at.config r groups seen);
-      few_met = λ group. let few_met = h.few_met group in omega (arith, few_met, met_after at.config r groups seen group);
       few_told = omega (arith, few_told, counted_one v);
     }
 

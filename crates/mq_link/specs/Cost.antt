@@ -15,9 +15,9 @@ use Rattle.mq_link.specs.Record.{Seen, Entrance, Stops, GoesOn, entrance, is_rep
 abbrev pub cost_of : (length held : ℕ) → ℕ
 cost_of length held = 64 * (length + held) + 64
 
--- What it takes at most to look for a group, to count that it was met, and to find its next moment again.
-abbrev pub search_cost : Groups → Seen → ℕ
-search_cost groups seen = 3 * bitlen (map.len groups) + 2 + bitlen (map.len seen)
+-- What it takes at most to look for a group, and to find its next moment again.
+abbrev pub search_cost : Groups → ℕ
+search_cost groups = 2 * bitlen (map.len groups) + 2
 
 -- What the work on a record takes at most: six for each source of its group, 17 for each that it names, and twelve.
 abbrev pub work_cost : Groups → RecordView ℕ → ℕ
@@ -29,15 +29,15 @@ abbrev pub cost_by : Entrance → Seen → RecordView ℕ → Groups → ℕ
 cost_by (Stops verdict) seen r groups = 0
 cost_by (GoesOn kind) seen r groups =
     if is_repeated groups seen r.group
-    then search_cost groups seen
-    else work_cost groups r + search_cost groups seen
+    then search_cost groups
+    else work_cost groups r + search_cost groups
 
 abbrev pub record_cost : Configuration → Seen → RecordView ℕ → Groups → ℕ
 record_cost config seen r groups = cost_by (entrance config r) seen r groups
 
 -- What a record takes at most beside the work on sources that were held before the datagram.
 abbrev pub own_cost : RecordView ℕ → ℕ
-own_cost r = 78 + 41 * length r.sources
+own_cost r = 46 + 41 * length r.sources
 
 -- No message like this is spelled by fewer bytes, in either family.
 abbrev pub least_length : Message ℕ → ℕ

@@ -15,7 +15,6 @@ use Rattle.mq_link.specs.Configuration.{Configuration}
 use Rattle.mq_link.specs.Counted.{counters_code}
 use Rattle.mq_link.specs.Counters.{Counters}
 use Rattle.mq_link.specs.Link.{LinkValue}
-use Rattle.mq_link.specs.Record.{Seen}
 use Rattle.mq_link.specs.Router.{RouterValue, link_of}
 
 abbrev pub is_mld : Family → Bool
@@ -93,18 +92,17 @@ link_code mode timer query =
     })
     (λ _. refl)
 
--- the inside of a link, as the link around it, the groups that were met, and what is put by
+-- the inside of a link, as the link around it, and what is put by
 abbrev pub router_code : Coded FilterMode → Coded SourceTimer → Coded QuerySchedule → Coded RouterValue
 router_code mode timer query =
-    code_by (LinkValue × (Seen × ℕ)) (coded× (link_code mode timer query) (coded× (map.code coded_ℕ coded_ℕ) coded_ℕ))
-    (λ r. (link_of r, (r.met, r.put_by)))
+    code_by (LinkValue × ℕ) (coded× (link_code mode timer query) coded_ℕ)
+    (λ r. (link_of r, r.put_by))
     (λ p. record {
       at = record { config = p.0.config; election = p.0.state.election; now = p.0.state.last };
       groups = p.0.state.groups;
       counters = p.0.state.counters;
-      met = p.1.0;
       spent = p.0.spent;
       moved = p.0.moved;
-      put_by = p.1.1;
+      put_by = p.1;
     })
     (λ _. refl)

@@ -26,9 +26,10 @@ MovesWithin budget old new = IsPaid budget (put_by_rows old.held) (put_by_rows n
 abbrev pub HasMoved : ℕ → RouterValue → RouterValue → Type 0
 HasMoved budget old new = IsPaid budget old.put_by new.put_by old.moved new.moved
 
--- What a group that comes or goes moves at most beside its sources: of the order of the addresses 1535, of the moments 20.
+-- What a group that comes moves at most beside its sources: of the order of the addresses 1024, of the moments 20, and one where
+-- the rows are packed.
 abbrev pub moved_by_edit : ℕ
-moved_by_edit = 1555
+moved_by_edit = 1045
 
 -- What a tick moves at most: five for each source that is written again; and for each group 64 to put those that are due in order,
 -- 21 at its moment, and 50 to take out those that ended.

@@ -1,41 +1,37 @@
 -- What a contract sees of the inside of a link, and what a step makes of it.
-use Rattle.std.specs.Prelude.{◌≡◌, ℕ, ◌≤◌, []}
+use Rattle.std.specs.Prelude.{◌≡◌, ℕ, ◌≤◌, List, [], length}
 use Rattle.mq_sched.specs.Sending.{SentQuery}
 use Rattle.mq_sched.specs.Sink.{Sends}
 use Rattle.mq_link.specs.declared.answers.Received.{Received}
 use Rattle.mq_link.specs.declared.storage.Numbers.{Numbers}
 use Rattle.mq_link.specs.declared.storage.Storage.{Storage}
-use Rattle.mq_link.specs.Counters.{Counters, Verdict}
+use Rattle.mq_link.specs.Counters.{Counters, Verdict, count_verdicts}
 use Rattle.mq_link.specs.Link.{LinkValue}
-use Rattle.mq_link.specs.Reading.{most_records}
-use Rattle.mq_link.specs.Receive.{Receipt}
-use Rattle.mq_link.specs.Record.{Outcome, Seen, Setting}
-use Rattle.mq_link.specs.Seen.{SeenState}
+use Rattle.mq_link.specs.Receive.{Receipt, taken}
+use Rattle.mq_link.specs.Record.{Outcome, Outcomes, Setting}
+use Rattle.mq_link.specs.Seen.{AreNone}
 use Rattle.mq_link.specs.Sound.{AreSound}
 use Rattle.mq_link.specs.State.{Groups, LinkState}
 use Rattle.mq_link.specs.Storage.{HasRoom, HasSpace, put_by_rows}
 use Rattle.mq_link.specs.Tick.{Step}
 
--- Its configuration, its election and its last moment; the groups; the counters; how many records of the datagram have
--- met each group; how many comparisons it has made, and how many items of lists it has moved; and what is put by for its
--- rows of sources to be packed again.
+-- Its configuration, its election and its last moment; the groups; the counters; how many comparisons it has made, and how
+-- many items of lists it has moved; and what is put by for its rows of sources to be packed again.
 pub record RouterValue : Type 0 where
   pub at : Setting
   pub groups : Groups
   pub counters : Counters
-  pub met : Seen
   pub spent : ℕ
   pub moved : ℕ
   pub put_by : ℕ
 
 -- as it is stored
-abbrev pub router_of : {K : Type 0} → Setting → Storage K → Counters → SeenState → RouterValue
-router_of at storage counters seen =
+abbrev pub router_of : {K : Type 0} → Setting → Storage K → Counters → RouterValue
+router_of at storage counters =
     record {
       at = at;
       groups = storage.held.groups;
       counters = counters;
-      met = seen.counts;
       spent = storage.work.meter;
       moved = storage.work.moves;
       put_by = put_by_rows storage.held;
@@ -63,6 +59,13 @@ pub record HasOutcome {S : Type 0} (takes : S → SentQuery → S → Type 0) (o
   pub groups_are : left ≡ outcome.groups
   pub sent : Sends takes old outcome.queries new
 
+-- Some records have these outcomes: they are answered and counted so, leave these groups, and a sink takes their queries.
+pub record HaveOutcomes {S : Type 0} (takes : S → SentQuery → S → Type 0) (outcomes : Outcomes) (answer : Received) (left : Groups) (before after : Counters) (old new : S) : Type 0 where
+  pub answer_is : answer ≡ taken outcomes.verdicts
+  pub groups_are : left ≡ outcomes.groups
+  pub counters_are : after ≡ count_verdicts outcomes.verdicts before
+  pub sent : Sends takes old outcomes.queries new
+
 -- A step is done by a router, and a sink takes its queries.
 pub record HasStep {S : Type 0} (takes : S → SentQuery → S → Type 0) (step : Step) (before after : RouterValue) (old new : S) : Type 0 where
   pub leaves : Leaves step.state before after
@@ -73,11 +76,13 @@ pub record HasReceipt {S : Type 0} (takes : S → SentQuery → S → Type 0) (r
   pub step : HasStep takes receipt.step before after old new
   pub answer_is : answer ≡ receipt.answer
 
--- The groups are as the router may hold them, and there is room for what the configuration allows.
-pub record IsStored {K : Type 0} (at : Setting) (storage : Storage K) (seen : SeenState) (numbers : Numbers) : Type 0 where
+-- The groups are as the router may hold them, there is room for what the configuration allows, and no group is met by the
+-- records of a datagram.
+pub record IsStored {K : Type 0} (at : Setting) (storage : Storage K) (seen : List ℕ) (numbers : Numbers) : Type 0 where
   pub sound : AreSound at storage.held.groups
   pub group_room : storage.held.order.room ≡ at.config.limits.groups
   pub source_room : storage.held.source_room ≡ at.config.limits.sources
   pub room : HasRoom at.config.limits.group_sources storage.work
-  pub seen_room : most_records ≤ seen.room
+  pub seen_room : at.config.limits.groups ≤ length seen
+  pub none_seen : AreNone seen
   pub number_room : HasSpace at.config.limits.groups numbers

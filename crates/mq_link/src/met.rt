@@ -1,94 +1,89 @@
-//! How many records of one datagram have met each group.
+//! How many records of one datagram have met each group, by the numbers of the groups.
 
-ghost use Rattle.std.specs.Prelude.{◌≡◌, ◌+◌, ◌^◌, ◌<◌, ◌≤◌, min, IfOk, false};
-ghost use Rattle.std.specs.FinMap as map;
-ghost use Rattle.mq_count.specs.Spending.{Spends};
-ghost use Rattle.mq_sets.specs.Search.{bitlen};
-ghost use Rattle.mq_link.specs.Record.{met};
+ghost use Rattle.std.specs.Prelude.{◌≡◌, ℕ, ◌<◌, ◌≤◌, nat_le, length, slice_index, IfOk};
+ghost use Rattle.std.specs.List.{All};
+ghost use Rattle.mq_sets.specs.Slots.{times};
+ghost use Rattle.mq_link.specs.Seen.{AreNone, counted_again};
 
-use mq_count::{Key, Meter};
-use mq_sets::{Keyed, Memory, find, insert_at_once};
+use mq_sets::Memory;
 use std::alloc::Global;
 use std::marker::Model;
 
-/// A group, and how many records of the datagram have met it while it was held.
-#[derive_where(Clone, Copy)]
-pub(crate) struct MetGroup<K: Key> {
-    group: K,
-    records: u32,
+/// How many records of a datagram may meet a group that is held. Those after them are refused.
+const MEETINGS: u8 = 4;
+
+/// How many records of a datagram have met the group of each number while it was held, as far as that is told apart: of the
+/// fifth it is known that it is one too many. A contract sees the list of these counts, by the number. Nothing is looked for,
+/// compared or moved, and it takes three bytes for each group that may be held.
+#[derive(Drop)]
+pub(crate) struct MetGroups {
+    // By the number.
+    counts: Vec<u8>,
+    // The numbers whose count isn't zero, each once, in the order in which they were met.
+    numbers: Vec<u16>,
 }
 
-impl<K: Key> Keyed<K> for MetGroup<K> {
-    ghost key_number = { λ x. K.number x.group };
+impl Model for MetGroups {
+    ghost use Rattle.std.specs.Prelude.{ℕ, List, ◌≤◌, length, vec_capacity};
+    ghost use Rattle.std.specs.Coded.{coded_ℕ, coded_list};
+    ghost use Rattle.mq_link.specs.Seen.{AreListed};
 
-    fn key(&self) -> K {
-        self.group
+    ghost Value = { List ℕ };
+
+    ghost coded = { coded_list coded_ℕ };
+
+    ghost view = { λ s. s.counts.items };
+
+    ghost invariant = { λ s. AreListed s.counts.items s.numbers.items × (length s.counts.items ≤ vec_capacity s.numbers) };
+}
+
+/// Sets the counts of some numbers to zero, which are all that have another.
+fn set_to_zero(counts: &mut Vec<u8>, numbers: &[u16])
+    requires within { All (λ number. number < length counts.old.items) numbers.now }
+    requires each { (number : ℕ) → 1 ≤ slice_index counts.old.items number → 1 ≤ times number numbers.now }
+    ensures none { AreNone counts.new.items }
+    ensures len { length counts.new.items ≡ length counts.old.items }
+{
+    for number in numbers {
+        counts[*number as usize] = 0;
     }
 }
 
-/// How many records of a datagram have met each group while it was held. A contract sees the map from the groups to
-/// these numbers, and for how many groups memory was reserved.
-#[derive(Drop)]
-pub(crate) struct MetGroups<K: Key> {
-    met: Vec<MetGroup<K>>,
-    room: usize,
-}
-
-impl<K: Key> Model for MetGroups<K> {
-    ghost use Rattle.std.specs.Prelude.{◌≤◌, vec_capacity};
-    ghost use Rattle.mq_sets.specs.Ascending.{IsAscending};
-    ghost use Rattle.mq_link.specs.Seen.{SeenState, counts_in, met_number, seen_code};
-
-    ghost Value = { SeenState };
-
-    ghost coded = { seen_code };
-
-    ghost view = { λ s. record { counts = counts_in K.number s.met.items; room = s.room } };
-
-    ghost invariant = { λ s. IsAscending (met_number K.number) s.met.items × (s.room ≤ vec_capacity s.met) };
-}
-
-impl<K: Key> MetGroups<K> {
+impl MetGroups {
     /// No group was met, with memory for so many of them, or `Memory` where that was refused.
-    pub(crate) fn with_room(alloc: Global, room: usize) -> Result<MetGroups<K>, Memory>
-        ensures { IfOk result (λ s. s ≡ record { counts = map.empty; room = room }) }
+    pub(crate) fn with_room(alloc: Global, groups: usize) -> Result<MetGroups, Memory>
+        ensures room { IfOk result (λ s. length s ≡ groups) }
+        ensures none { IfOk result AreNone }
     {
         Ok(MetGroups {
-            met: Vec::with_capacity(alloc, room)?,
-            room,
+            counts: vec![in alloc; 0; groups]?,
+            numbers: Vec::with_capacity(alloc, groups)?,
         })
     }
 
-    /// Forgets all groups. The room stays.
+    /// Forgets all groups. It looks at those alone that were met.
     pub(crate) fn clear(&mut self)
-        ensures { self.new ≡ record { counts = map.empty; room = self.old.room } }
+        ensures none { AreNone self.new }
+        ensures room { length self.new ≡ length self.old }
     {
-        self.met.clear();
+        set_to_zero(&mut self.counts, &self.numbers);
+        self.numbers.clear();
     }
 
-    /// One record more has met a group; answers how many had before. At most one comparison for each binary digit of how
-    /// many groups were met.
-    pub(crate) fn count(&mut self, group: K, m: &mut Meter) -> u32
-        requires small { met self.old.counts (K.number group) < 2 ^ 16 }
-        requires room { map.contains_key self.old.counts (K.number group) ≡ false → map.len self.old.counts < self.old.room }
-        ensures before { result ≡ met self.old.counts (K.number group) }
-        ensures counts { self.new.counts ≡ map.insert self.old.counts (K.number group) (met self.old.counts (K.number group) + 1) }
-        ensures room { self.new.room ≡ self.old.room }
-        ensures spent { Spends 0 (bitlen (map.len self.old.counts)) m.old m.new }
+    /// One record more meets the group of a number. Answers whether as many as may have met it before.
+    pub(crate) fn meets_again(&mut self, number: u16) -> bool
+        requires number { number < length self.old }
+        ensures again { result ≡ nat_le 4 (slice_index self.old number) }
+        ensures counts { self.new ≡ counted_again self.old number }
     {
-        match find(self.met.as_slice(), group, m) {
-            Ok(place) => {
-                let before = self.met[place];
-                self.met[place] = MetGroup {
-                    group: before.group,
-                    records: before.records + 1,
-                };
-                before.records
-            }
-            Err(place) => {
-                insert_at_once(&mut self.met, place, MetGroup { group, records: 1 });
-                0
-            }
+        let before = self.counts[number as usize];
+        if before >= MEETINGS {
+            return true;
         }
+        self.counts[number as usize] = before + 1;
+        if before == 0 {
+            self.numbers.push(number).unwrap();
+        }
+        false
     }
 }

@@ -27,19 +27,15 @@ use mq_sets::Memory;
 use std::alloc::Global;
 use std::marker::Model;
 
-/// As many records as a Report may have, whose number is told in 16 bits (RFC 3376 section 4.2.3, RFC 3810 section
-/// 5.2.3).
-const MOST_RECORDS: usize = 65535;
-
-/// All that the calls of a link work on: the router's status, the groups with their storage, what was counted, the groups
-/// that the records of a datagram have met, and room for the numbers of those that are due. What is due, a query that is heard, a
-/// statement and a record are its steps. A contract sees a `RouterValue`, and each is one that a router may be.
+/// All that the calls of a link work on: the router's status, the groups with their storage, what was counted, room for the
+/// groups that the records of a datagram meet, and for the numbers of those that are due. What is due, a query that is heard, a
+/// statement and the records of a Report are its steps. A contract sees a `RouterValue`, and each is one that a router may be.
 #[derive(Drop)]
 pub(crate) struct Router<F: Family> {
     pub(crate) status: Status<F>,
     pub(crate) storage: Storage<F::Address>,
     pub(crate) counts: Counts,
-    pub(crate) met: MetGroups<F::Address>,
+    pub(crate) met: MetGroups,
     pub(crate) numbers: Numbers,
 }
 
@@ -54,7 +50,7 @@ impl<F: Family> Model for Router<F> {
 
     ghost coded = { router_code filter_mode.the_row.coded source_timer.the_row.coded query_schedule.the_row.coded };
 
-    ghost view = { λ r. router_of r.status r.storage r.counts r.met };
+    ghost view = { λ r. router_of r.status r.storage r.counts };
 
     ghost invariant = { λ r. IsStored r.status r.storage r.met r.numbers };
 }
@@ -67,7 +63,6 @@ impl<F: Family> Router<F> {
           at = record { config = config; election = election_at config.timing start; now = start };
           groups = map.empty;
           counters = no_counts;
-          met = map.empty;
           spent = 0;
           moved = 0;
           put_by = 0;
@@ -77,7 +72,7 @@ impl<F: Family> Router<F> {
         let limits = config.limits();
         let groups = limits.groups as usize;
         let numbers = Numbers::with_room(alloc, groups)?;
-        let met = MetGroups::with_room(alloc, MOST_RECORDS)?;
+        let met = MetGroups::with_room(alloc, groups)?;
         let storage = Storage::with_room(alloc, &limits)?;
         Ok(Router {
             status: Status::new(config, start),
@@ -170,12 +165,5 @@ impl<F: Family> Router<F> {
         ensures { self.new ≡ record self.old { counters = counters.count_verdict (verdict_of verdict) self.old.counters } }
     {
         self.counts.count_verdict(verdict);
-    }
-
-    /// Forgets which groups the records of the last datagram have met.
-    pub(crate) fn forget_met(&mut self)
-        ensures { self.new ≡ record self.old { met = map.empty } }
-    {
-        self.met.clear();
     }
 }

@@ -20,6 +20,7 @@ ghost use Rattle.mq_link.specs.Record as record_spec;
 ghost use Rattle.mq_link.specs.Record.{change_stated, stated};
 ghost use Rattle.mq_link.specs.Moved.{MovesWithin, moved_by_edit};
 ghost use Rattle.mq_link.specs.Router.{HasOutcome};
+ghost use Rattle.mq_link.specs.Seen.{KeepsNumbers};
 ghost use Rattle.mq_link.specs.Sound.{AreSound};
 ghost use Rattle.mq_link.specs.Storage.{HasRoom, HasRoomFor, group_stored, IsSought, KeepsRoom, KeepsRooms};
 
@@ -205,7 +206,7 @@ impl<F: Family> Status<F> {
     /// What a statement does for a group that is admitted and was looked for: it is ignored where older hosts or the
     /// source-specific range mute it; refused where what it would leave passes a limit, and then nothing is changed or
     /// sent; else applied, and what it asks for is sent at once. The sources that it names stand in the workspace. At most
-    /// six comparisons for each source of the group and each that it names, twelve more, and two for each binary digit of
+    /// six comparisons for each source of the group and each that it names, twelve more, and one for each binary digit of
     /// how many groups there are; at least one for each of those that are fewer, the sources of the group or those that
     /// count.
     pub(crate) fn apply<S: Sink<F::Address>>(
@@ -226,10 +227,11 @@ impl<F: Family> Status<F> {
         ensures outcome { let said_so = statement_of said (named_in F.Address.number storage.old.work.named.members) in
             let outcome = stated self.now (F.Address.number sought.address) said_so storage.old.held.groups in
             HasOutcome S.takes outcome (verdict_of result) storage.new.held.groups sink.old sink.new }
+        ensures numbers { KeepsNumbers storage.old.held storage.new.held }
         ensures rooms { KeepsRooms storage.old storage.new }
         ensures spent { let said_so = statement_of said (named_in F.Address.number storage.old.work.named.members) in
             let sizes = sources_of (group_at storage.old.held.groups (F.Address.number sought.address)) + length storage.old.work.named.members in
-            Spends (least_work self.now (F.Address.number sought.address) said_so storage.old.held.groups) (6 * sizes + 12 + 2 * bitlen (map.len storage.old.held.groups)) storage.old.work.meter storage.new.work.meter }
+            Spends (least_work self.now (F.Address.number sought.address) said_so storage.old.held.groups) (6 * sizes + 12 + bitlen (map.len storage.old.held.groups)) storage.old.work.meter storage.new.work.meter }
         ensures moved { let sizes = sources_of (group_at storage.old.held.groups (F.Address.number sought.address)) + length storage.old.work.named.members in
             MovesWithin (5 * sizes + moved_by_edit) storage.old storage.new }
     {

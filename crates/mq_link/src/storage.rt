@@ -1,6 +1,6 @@
 //! The storage of the groups, and what the work on one of them takes.
 
-ghost use Rattle.std.specs.Prelude.{◌≡◌, ℕ, ◌+◌, ◌-◌, ◌*◌, ◌<◌, ◌≤◌, false, length, min, IfOk, is_ok};
+ghost use Rattle.std.specs.Prelude.{◌≡◌, ℕ, ◌+◌, ◌-◌, ◌*◌, ◌<◌, ◌≤◌, true, false, length, min, IfOk, is_ok};
 ghost use Rattle.std.specs.FinMap as map;
 ghost use Rattle.mq_count.specs.Spending.{Spends};
 ghost use Rattle.mq_sets.specs.Ascending.{IsAscending};
@@ -12,6 +12,7 @@ ghost use Rattle.mq_sets.specs.NumberedKeys.{IsSpotFor};
 ghost use Rattle.mq_held.specs.Groups.{group_at, kept_as, sources_of, sources_in, with_group};
 ghost use Rattle.mq_held.specs.Held.{HasNumber, IsNumber, empty_state};
 ghost use Rattle.mq_link.specs.Moved.{MovesWithin, moved_by_edit};
+ghost use Rattle.mq_link.specs.Seen.{KeepsNumbers};
 ghost use Rattle.mq_link.specs.Storage.{HasRoom, HasSpace, group_stored, IsSought, KeepsRooms};
 
 use crate::configuration::Limits;
@@ -173,32 +174,27 @@ impl<K: Key> Storage<K> {
         );
     }
 
-    /// Keeps the group that was worked on, which was looked for: it is put back, taken out, made, or, where it isn't
-    /// held before or after, left alone. At most one comparison for each of its sources, four more, and two for each binary
-    /// digit of how many groups there are.
+    /// Keeps the group that was worked on, which was looked for: it is put back, made, or, where it isn't held before or
+    /// after, left alone. One that is held stays held. At most one comparison for each of its sources, four more, and one for
+    /// each binary digit of how many groups there are.
     pub(crate) fn keep(&mut self, sought: Sought<K>, schedule: Schedule)
         requires few { self.old.held.order.room ≤ 65535 }
         requires sought { IsSought K.number self.old.held sought }
         requires held { is_vacant self.old.work.group.state ≡ false → IsHeld self.old.work.group.state }
+        requires stays { is_ok sought.found ≡ true → is_vacant self.old.work.group.state ≡ false }
         requires room { let e : ScheduledGroup = record { group = self.old.work.group.state; schedule = schedule } in
             map.len (with_group self.old.held.groups (K.number sought.address) e) ≤ self.old.held.order.room }
         requires fits { sources_in self.old.held.groups + size_of self.old.work.group.state ≤ self.old.held.source_room + sources_of (group_at self.old.held.groups (K.number sought.address)) }
         ensures groups { let e : ScheduledGroup = record { group = self.old.work.group.state; schedule = schedule } in
             self.new.held.groups ≡ with_group self.old.held.groups (K.number sought.address) e }
+        ensures numbers { KeepsNumbers self.old.held self.new.held }
         ensures rooms { KeepsRooms self.old self.new }
-        ensures spent { Spends 0 (size_of self.old.work.group.state + 4 + 2 * bitlen (map.len self.old.held.groups)) self.old.work.meter self.new.work.meter }
+        ensures spent { Spends 0 (size_of self.old.work.group.state + 4 + bitlen (map.len self.old.held.groups)) self.old.work.meter self.new.work.meter }
         ensures moved { MovesWithin (5 * size_of self.old.work.group.state + moved_by_edit) self.old self.new }
     {
         self.held.lemma_is_numbered();
         match sought.found {
-            Ok(number) => {
-                if self.work.group.is_vacant() {
-                    self.held
-                        .remove(number, &mut self.work.meter, &mut self.work.moves);
-                } else {
-                    self.put(number, schedule);
-                }
-            }
+            Ok(number) => self.put(number, schedule),
             Err(spot) => {
                 if !self.work.group.is_vacant() {
                     self.insert(spot, sought.address, schedule);
@@ -216,6 +212,7 @@ impl<K: Key> Storage<K> {
         requires fits { sources_in self.old.held.groups + size_of self.old.work.group.state ≤ self.old.held.source_room }
         ensures groups { let e : ScheduledGroup = record { group = self.old.work.group.state; schedule = schedule } in
             self.new.held.groups ≡ map.insert self.old.held.groups (K.number address) e }
+        ensures numbers { KeepsNumbers self.old.held self.new.held }
         ensures rooms { KeepsRooms self.old self.new }
         ensures spent { Spends 0 (size_of self.old.work.group.state + 4 + bitlen (map.len self.old.held.groups)) self.old.work.meter self.new.work.meter }
         ensures moved { MovesWithin (5 * size_of self.old.work.group.state + moved_by_edit) self.old self.new }

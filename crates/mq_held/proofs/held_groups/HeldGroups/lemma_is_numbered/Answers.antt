@@ -1,7 +1,7 @@
 use Rattle.std.proofs.Common.{length, arith, ap, subst}
 use Rattle.mq_sets.specs.NumberedKeys.{AreFilled}
 use Rattle.mq_held.specs.Held.{HeldState}
-use Rattle.mq_held.proofs.Inside.{contained, known-key, len-held, number-of, room_is, same-address, same-number}
+use Rattle.mq_held.proofs.Inside.{contained, is-number, known-key, len-held, number-of, room_is, same-address, same-number, within-rows}
 use Rattle.mq_held.proofs.held_groups.HeldGroups.lemma_is_numbered.Goals as goal
 
 pub returns-clause-held : goal.returns-clause-held
@@ -20,6 +20,11 @@ returns-clause-known g c address number has = known-key g.K.Key.number c.self.in
 pub returns-clause-one : goal.returns-clause-one
 returns-clause-one g c address number other has also =
     same-number g.K.Key.number c.self.invariant.0 c.self.view_is has also
+
+pub returns-clause-within : goal.returns-clause-within
+returns-clause-within g c address number has =
+    let below = within-rows g.K.Key.number c.self.invariant.0 c.self.view_is number (is-number g.K.Key.number c.self.invariant.0 c.self.view_is has) in
+    omega (arith, below, c.self.invariant.2, room_is g.K.Key.number c.self.invariant.0 c.self.view_is)
 
 pub returns-clause-fits : goal.returns-clause-fits
 returns-clause-fits g c =

@@ -32,24 +32,23 @@ at_moment g c = c.later-now.ensures.later ∙ ap (λ n. max n c.args.now) c.mome
 
 -- what is due then is done
 did : (g : Over) (c : After-do_due g) → (let parts = c.self.inside in
-    HasDone g.O.Outlet.takes g.F.Family.FAMILY c.later-now.result (router_of parts.status parts.storage parts.counts parts.met) (router_of c.do_due.new.status c.do_due.new.storage parts.counts parts.met) c.args.sender.now c.do_due.new.sender)
+    HasDone g.O.Outlet.takes g.F.Family.FAMILY c.later-now.result (router_of parts.status parts.storage parts.counts) (router_of c.do_due.new.status c.do_due.new.storage parts.counts) c.args.sender.now c.do_due.new.sender)
 did g c = let done = c.do_due.ensures in record { status_is = done.status; groups_are = done.groups; counters_are = refl; sent = done.sent }
 
 pub invariant_of-self : goal.invariant_of-self
 invariant_of-self g c =
     let parts = c.self.inside in
     let sure = c.lemma_is_sound.ensures in
-    stored_next parts.status c.do_due.new.status parts.storage c.do_due.new.storage parts.met parts.met parts.numbers _ c.self.invariant
+    stored_next parts.status c.do_due.new.status parts.storage c.do_due.new.storage parts.met parts.numbers _ c.self.invariant
     (does_tick _ _ c.args.now _ _ _ _ _ sure.family (at_moment g c) (did g c)).leaves.config
     (sound_after_tick _ _ c.args.now _ _ _ _ _ sure.family (at_moment g c) (did g c) (timing_in_range parts.status.config sure.faultless) sure.timing c.self.invariant.sound)
     (rooms_on (rooms_counted parts.storage c.later-now.new.m) c.do_due.ensures.rooms)
-    refl
     c.do_due.ensures.space
 
 pub returns-clause-step : goal.returns-clause-step
 returns-clause-step g c =
     let parts = c.self.inside in
-    let after = router_of c.do_due.new.status c.do_due.new.storage parts.counts parts.met in
+    let after = router_of c.do_due.new.status c.do_due.new.storage parts.counts in
     subst (λ (r : RouterValue). let step = tick_of r.at.config c.args.now (state_of r) in HasStep (TakesQuery g.O.Outlet.takes g.F.Family.FAMILY) step r after (begun r.at.config step.timing c.args.sender.now) c.do_due.new.sender) c.self.view_is
     (does_tick _ _ c.args.now _ _ after _ _ c.lemma_is_sound.ensures.family (at_moment g c) (did g c))
 
@@ -64,7 +63,7 @@ returns-clause-spent g c =
 pub returns-clause-quiet : goal.returns-clause-quiet
 returns-clause-quiet g c before =
     let parts = c.self.inside in
-    let inside = router_of parts.status parts.storage parts.counts parts.met in
+    let inside = router_of parts.status parts.storage parts.counts in
     let earlier = subst (λ (r : RouterValue). moment_of (state_of r) c.args.now < next_of (state_of r)) (sym c.self.view_is) before in
     let moment : c.later-now.result < next_of (state_of inside) = subst (λ m. m < next_of (state_of inside)) (sym (at_moment g c)) earlier in
     let spent = Spends-join_within 2 3 c.later-now.ensures.spent (c.do_due.ensures.quiet (none_due (state_of inside) c.later-now.result moment)) (omega arith) (omega arith) in
@@ -86,7 +85,7 @@ returns-clause-moved g c =
 pub returns-clause-still : goal.returns-clause-still
 returns-clause-still g c before =
     let parts = c.self.inside in
-    let inside = router_of parts.status parts.storage parts.counts parts.met in
+    let inside = router_of parts.status parts.storage parts.counts in
     let earlier = subst (λ (r : RouterValue). moment_of (state_of r) c.args.now < next_of (state_of r)) (sym c.self.view_is) before in
     let moment : c.later-now.result < next_of (state_of inside) = subst (λ m. m < next_of (state_of inside)) (sym (at_moment g c)) earlier in
     c.do_due.ensures.still (none_due (state_of inside) c.later-now.result moment) ∙ ap (λ (r : RouterValue). r.moved) c.self.view_is

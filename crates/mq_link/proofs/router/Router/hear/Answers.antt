@@ -23,20 +23,20 @@ hear_query-requires-clause-small g c address = omega (arith, c.self.invariant.so
 pub invariant_of-self : goal.invariant_of-self
 invariant_of-self g c =
     let parts = c.self.inside in
-    let inside = router_of parts.status parts.storage parts.counts parts.met in
+    let inside = router_of parts.status parts.storage parts.counts in
     let sure = c.lemma_is_sound.ensures in
     let heard = c.hear_query.ensures in
-    stored_next parts.status c.hear_query.new.self parts.storage c.hear_query.new.storage parts.met parts.met parts.numbers (record parts.numbers { due = c.hear_query.new.numbers }) c.self.invariant
+    stored_next parts.status c.hear_query.new.self parts.storage c.hear_query.new.storage parts.met parts.numbers (record parts.numbers { due = c.hear_query.new.numbers }) c.self.invariant
     (ap (λ (s : Setting). s.config) heard.election)
     (sound_heard inside _ (numbered_query g.F.Address.Key.number c.args.query.now) c.hear_query.new.self c.hear_query.new.storage.held.groups (timing_in_range inside.at.config sure.faultless) c.requires.carried sure.timing c.self.invariant.sound heard.election heard.groups)
-    heard.rooms refl (record { due = heard.capacity; spare = refl })
+    heard.rooms (record { due = heard.capacity; spare = refl })
 
 pub returns-clause-leaves : goal.returns-clause-leaves
 returns-clause-leaves g c =
     let heard = c.hear_query.ensures in
     let source = g.F.Address.Key.number c.args.source in
     let query = numbered_query g.F.Address.Key.number c.args.query.now in
-    let after = router_of c.hear_query.new.self c.hear_query.new.storage c.self.inside.counts c.self.inside.met in
+    let after = router_of c.hear_query.new.self c.hear_query.new.storage c.self.inside.counts in
     subst (λ (r : RouterValue). Leaves (query_heard r.at.config r.at.now source query (state_of r)) r after) c.self.view_is (record {
       config = ap (λ (s : Setting). s.config) heard.election;
       state_is = λ i. record { groups = heard.groups i; election = (heard.election i).election; last = (heard.election i).now; counters = c.self.inside.counts };

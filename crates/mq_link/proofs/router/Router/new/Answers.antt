@@ -1,7 +1,7 @@
 use Rattle.std.proofs.Common.{ap, subst, sym, arith}
+use Rattle.mq_link.specs.declared.configuration.Limits.{Limits}
 use Rattle.mq_link.specs.Record.{Setting}
 use Rattle.mq_link.specs.Router.{IsStored}
-use Rattle.mq_link.specs.Seen.{SeenState}
 use Rattle.mq_link.proofs.LinkStored.{stored_at_start}
 use Rattle.mq_link.proofs.router.Router.new.Goals as goal
 
@@ -12,5 +12,5 @@ invariant_of-result g c =
     subst (λ (s : Setting). IsStored s c.in_ok-storage.storage c.in_ok-met.met c.in_ok-numbers.numbers) (sym c.new.ensures)
     (stored_at_start c.args.config c.args.start c.in_ok-storage.storage c.in_ok-met.met c.in_ok-numbers.numbers c.is_faultless.ensures.faultless
     (rw limits at made.held) (rw limits at made.room)
-    (let n = ap (λ (s : SeenState). s.room) c.in_ok-met.ensures in omega (arith, n))
+    (let room = c.in_ok-met.ensures.room in let same = ap (λ (l : Limits). l.groups) limits in omega (arith, room, same)) c.in_ok-met.ensures.none
     (rw limits at c.in_ok-numbers.ensures))

@@ -4,6 +4,7 @@ use Rattle.mq_count.specs.Spending.{Spends}
 use Rattle.mq_count.proofs.Spent.{Spends-within, Spends-join_within}
 use Rattle.mq_sets.specs.Search.{bitlen}
 use Rattle.mq_sets.specs.Ascending.{set_of}
+use Rattle.mq_table.specs.Group.{IsWellFormed as IsHeld}
 use Rattle.mq_table.specs.OlderHosts.{hosts_of}
 use Rattle.mq_table.specs.Stored.{named_in, size_of}
 use Rattle.mq_table.specs.Table.{GroupChange}
@@ -22,14 +23,15 @@ use Rattle.mq_link.specs.Family.{v1_mutes_leave, per_query}
 use Rattle.mq_link.specs.LeastCost.{least_merge, least_work}
 use Rattle.mq_link.specs.Moved.{IsPaid, moved_by_edit}
 use Rattle.mq_link.specs.Record.{change_stated, is_muted, limit_passed, stated, unless_passed, after_sending, sent_at_once}
+use Rattle.mq_link.specs.Seen.{KeepsNumbers}
 use Rattle.mq_link.specs.Storage.{group_stored, IsSought, KeepsRoom, KeepsRooms, put_by_rows}
 use Rattle.mq_link.proofs.Faultless.{few_groups, few_in_all, few_sources}
-use Rattle.mq_link.proofs.KeptGroups.{found_or_not}
+use Rattle.mq_link.proofs.KeptGroups.{found_or_not, group_found}
 use Rattle.mq_link.proofs.LeastCosts.{worked}
 use Rattle.mq_link.proofs.Moved.{paid_none, paid_within}
 use Rattle.mq_link.proofs.MadeEntries.{round_keeps_size}
 use Rattle.mq_link.proofs.Rooms.{room_on, rooms_counted, rooms_on}
-use Rattle.mq_link.proofs.StatedSteps.{AreFew, IsChanged, stated_ignored, stated_judged, kept_is_held, left_has_place, left_has_room, made_few}
+use Rattle.mq_link.proofs.StatedSteps.{AreFew, IsChanged, stated_ignored, stated_judged, kept_is_held, kept_stays, left_has_place, left_has_room, made_few}
 use Rattle.mq_link.proofs.status.Status.apply.Given.{Over}
 use Rattle.mq_link.proofs.status.Status.apply.Goals as goal
 use Rattle.mq_link.proofs.status.Status.apply.Goals.{After-change, After-ask, After-refusal, After-round}
@@ -206,6 +208,15 @@ pub keep-requires-clause-held : goal.keep-requires-clause-held
 keep-requires-clause-held g c =
     kept_is_held _ _ _ c.args.storage.now.held.groups _ _ _ _ (changed g c.before.before.before.before.before.before.before.before.before.before.before) c.lemma_is_sound.ensures.positive c.requires.admitted c.requires.sound _ (left_is g c.before)
 
+-- a group that was found is one that is held
+pub keep-requires-clause-stays : goal.keep-requires-clause-stays
+keep-requires-clause-stays g c found =
+    let address = g.F.Address.Key.number c.args.sought.address in
+    let groups = c.args.storage.now.held.groups in
+    let contained = found_or_not c.args.storage.now.held address c.args.sought.found c.requires.sought c.lemma_is_numbered.ensures.held c.lemma_is_numbered.ensures.of_one ∙ found in
+    let held = c.requires.sound.all address (group_at groups address) (group_found groups address contained) in
+    kept_stays _ _ _ groups _ _ _ _ (changed g c.before.before.before.before.before.before.before.before.before.before.before) _ (left_is g c.before) (subst (λ (e : ScheduledGroup). IsHeld e.group) (sym c.look-stored.ensures.group) held.held)
+
 pub keep-requires-clause-room : goal.keep-requires-clause-room
 keep-requires-clause-room g c =
     let address = g.F.Address.Key.number c.args.sought.address in
@@ -258,6 +269,16 @@ returns-clause-spent g c =
     let size_left = ap (λ (e : ScheduledGroup). size_of e.group) (left_is g c.before.before) ∙ round_keeps_size at.election.timing at.now (asked_as c.ask.new.self c.ask.new.schedule) in
     let digits = ap (λ (s : Storage _). bitlen (map.len s.held.groups)) c.refusal.ensures.left in
     Spends-join_within work _ round c.keep.ensures.spent (omega arith) (omega (arith, a, b, size_before, size_left, digits))
+
+-- each group that was held keeps its number
+pub returns-in_default-clause-numbers : goal.returns-in_default-clause-numbers
+returns-in_default-clause-numbers g c address number has = has
+
+pub returns-in-Some-refusal-clause-numbers : goal.returns-in-Some-refusal-clause-numbers
+returns-in-Some-refusal-clause-numbers g c = subst (λ (s : Storage _). KeepsNumbers c.args.storage.now.held s.held) (sym c.refusal.ensures.left) (λ address number has. has)
+
+pub returns-clause-numbers : goal.returns-clause-numbers
+returns-clause-numbers g c = subst (λ (s : Storage _). KeepsNumbers s.held c.keep.new.self.held) c.refusal.ensures.left c.keep.ensures.numbers
 
 -- nothing is moved until it is judged
 unmoved_so : (g : Over) (c : After-refusal g) → c.refusal.new.self.work.moves ≡ c.args.storage.now.work.moves
