@@ -1,0 +1,5 @@
+pub mod Checkings
+pub mod Conversions
+pub mod Replayed
+pub mod Telling
+pub mod Worked
