@@ -1,0 +1,65 @@
+//! The held groups, one after the other.
+
+ghost use Rattle.std.specs.Prelude.{◌≡◌};
+ghost use Rattle.std.specs.Iterator.{YieldsFirstBy, item_count};
+ghost use Rattle.mq_held.specs.Listed.{entry_in, entries_from};
+
+use crate::held_group::HeldGroup;
+use crate::held_groups::HeldGroups;
+use mq_count::Key;
+use std::marker::Model;
+
+/// The held groups from one of them on, by ascending address, each as it stands in the storage. A contract sees the list of
+/// those that are still to come, each with its address. It takes no memory, and compares nothing.
+#[derive(Drop)]
+pub struct HeldEntries<'a, K: Key> {
+    held: &'a HeldGroups<K>,
+    /// The place of the next one.
+    place: usize,
+}
+
+impl<'a, K: Key> Model for HeldEntries<'a, K> {
+    ghost use Rattle.std.specs.Prelude.{ℕ, ◌≤◌, List};
+    ghost use Rattle.std.specs.Coded.{coded×, coded_ℕ, coded_list};
+    ghost use Rattle.std.specs.FinMap as map;
+    ghost use Rattle.mq_table.specs.contracts.timers.FilterMode as filter_mode;
+    ghost use Rattle.mq_table.specs.contracts.timers.SourceTimer as source_timer;
+    ghost use Rattle.mq_sched.specs.contracts.queries.QuerySchedule as query_schedule;
+    ghost use Rattle.mq_sched.specs.Schedule.{ScheduledGroup};
+    ghost use Rattle.mq_held.specs.Held.{scheduled_code};
+    ghost use Rattle.mq_held.specs.Listed.{entries_from};
+
+    ghost Value = { List (ℕ × ScheduledGroup) };
+
+    ghost coded = { coded_list (coded× coded_ℕ (scheduled_code filter_mode.the_row.coded source_timer.the_row.coded query_schedule.the_row.coded)) };
+
+    ghost view = { λ e. entries_from e.place e.held.now.groups };
+
+    ghost invariant = { λ e. e.place ≤ map.len e.held.now.groups };
+}
+
+impl<'a, K: Key> HeldEntries<'a, K> {
+    /// All of them.
+    pub(crate) fn of(held: &'a HeldGroups<K>) -> HeldEntries<'a, K>
+        ensures { result ≡ entries_from 0 held.entry.now.groups }
+    {
+        HeldEntries { held, place: 0 }
+    }
+}
+
+impl<'a, K: Key> Iterator for HeldEntries<'a, K> {
+    type Item = HeldGroup<'a, K>;
+
+    ghost next_gives = { YieldsFirstBy (entry_in K.number) (λ r. r) };
+
+    ghost remaining = { item_count (λ r. r) };
+
+    fn next(&mut self) -> Option<HeldGroup<'a, K>> {
+        if self.place == self.held.len() {
+            return None;
+        }
+        let entry = self.held.entry(self.place);
+        self.place += 1;
+        Some(entry)
+    }
+}
