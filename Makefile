@@ -1,0 +1,81 @@
+# Builds, runs and tests `mquerier`. `rt` is the command of the Rattle toolchain.
+
+PREFIX ?= /usr/local
+SOURCES := crates.txt $(shell find crates/*/src crates/*/specs crates/*/proofs -type f)
+FIRST_PATH := message igmp 1600f8faef010203
+
+.PHONY: all run lib quick test live live-test mutants bench install dist clean
+
+all: bin/mquerier
+
+# Proves the crates that the program stands on, builds it, and runs it once.
+bin/mquerier: $(SOURCES)
+	@tools/build $(FIRST_PATH)
+
+# What a querier makes of a capture of hosts.
+run: bin/mquerier
+	@bin/mquerier replay igmp --own 10.9.0.1 --qri 2000 --lmqi 500 < samples/igmp.pcap
+
+# The links as a library for C: lib/libmquerier.a, whose header is include/mquerier.h.
+lib: lib/libmquerier.a
+
+# The archive of the crate mq_c, with what it needs of the kit inside: the kit lies where the page does that `rt doc` names.
+lib/libmquerier.a: $(SOURCES)
+	@tools/build --library
+	@printf 'create $@.new\naddlib crates/mq_c/out/libmq_c.a\naddlib %s/c/liblibc_c.a\nsave\nend\n' "$$(dirname "$$(rt doc)")" | ar -M
+	@mv $@.new $@
+	@echo "$@ is built"
+
+# Shows that it holds here: proofs, tests, and runs of the program with refused calls. The last line counts what passed.
+test:
+	@tools/gate test
+
+# The same of what changed since a commit, and which wrong bodies of that are refused: `make quick SINCE=COMMIT`. Where none is
+# named, it is the last one of origin/main below HEAD.
+quick:
+	@tools/gate quick $(SINCE)
+
+# Shows that the contracts are strong: each wrong body of crates/*/wrong-bodies is refused.
+mutants:
+	@tools/gate mutants
+
+# A querier on an interface of Linux, over the library: an example in C, outside of the proofs.
+LIVE := $(wildcard examples/live/*.c examples/live/*.h)
+live: bin/mquerier-live
+
+bin/mquerier-live: $(LIVE) include/mquerier.h lib/libmquerier.a
+	@mkdir -p bin
+	$(CC) -std=c99 -O2 -Wall -Wextra -Iinclude $(filter %.c,$^) lib/libmquerier.a -o $@
+
+# The examples in C do what docs/EMBEDDING.md says, and the querier on an interface serves hosts of the Linux kernel. The
+# second wants to be root.
+live-test: live
+	@examples/check
+	@examples/live/test
+
+# How fast captures are listed and replayed, what hostile hosts cost, and how near datagrams come to the sum bound
+# (bench/README.md). It proves nothing. `make bench WRITE=--write` puts the tables into that page.
+bench: bin/mquerier
+	@bench/show $(WRITE)
+	@bench/convert $(WRITE)
+	@bench/replay $(WRITE)
+	@bench/hostile --instructions $(WRITE)
+	@bench/spent $(WRITE)
+
+# The program, the library for C with its header and what pkg-config has to know of it, and the manual pages.
+install: bin/mquerier lib/libmquerier.a
+	install -d $(DESTDIR)$(PREFIX)/bin $(DESTDIR)$(PREFIX)/include $(DESTDIR)$(PREFIX)/lib/pkgconfig
+	install -d $(DESTDIR)$(PREFIX)/share/man/man1 $(DESTDIR)$(PREFIX)/share/man/man3
+	install -m 755 bin/mquerier $(DESTDIR)$(PREFIX)/bin/mquerier
+	install -m 644 lib/libmquerier.a $(DESTDIR)$(PREFIX)/lib/libmquerier.a
+	install -m 644 include/mquerier.h $(DESTDIR)$(PREFIX)/include/mquerier.h
+	sed 's|@PREFIX@|$(PREFIX)|' include/libmquerier.pc.in > $(DESTDIR)$(PREFIX)/lib/pkgconfig/libmquerier.pc
+	install -m 644 man/mquerier.1 $(DESTDIR)$(PREFIX)/share/man/man1/mquerier.1
+	install -m 644 man/libmquerier.3 $(DESTDIR)$(PREFIX)/share/man/man3/libmquerier.3
+
+# The release of this commit, as one archive with its sum: dist/mquerier-VERSION.tar.gz.
+dist: bin/mquerier lib/libmquerier.a
+	@tools/dist
+
+clean:
+	rm -rf bin lib dist crates/*/out

@@ -1,0 +1,5 @@
+mod Arms
+mod InTurn
+mod Kept
+mod Rooms
+mod Taken

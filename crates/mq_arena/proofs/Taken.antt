@@ -1,0 +1,43 @@
+-- The two cases of what `Arena::take` gave: units of memory, or nothing. Assumes `Logic`.
+use Rattle.std.proofs.Common.{◌≡◌, ℕ, ◌*◌, ◌^◌, ◌<◌, ◌≤◌, List, [], ◌∷◌, ◌++◌, length, IfOk, Ok, Err, ap, ◌∙◌}
+use seplogic.Ra.Ura.{Ura}
+use base.Fraction.{full_share}
+use base.Fml.{froom, flft}
+use mir.Syntax.{static}
+use mir.Val.{Val, vstruct, vnil, of_list}
+use types.Logic.{Logic}
+use types.Kit.{Item, Goal, Soaks, Seq, ‵, ◌$◌, move, drop, use0, use1, fsplit, fsplit3, fpick, feq_l}
+use types.Match.{live}
+use denote.RattleType.{RattleType}
+use denote.Builtin.{u128}
+use denote.Index.{opens_slice}
+use denote.Shadow.{pure_l}
+use denote.Slice.{MutSlice, slice_val, mut_slice_at}
+use denote.Steps.{only}
+use Rattle.core.specs.contracts.result.Result as result
+use Rattle.core.specs.contracts.alloc.AllocError as error
+use Rattle.mq_arena.proofs.Rooms.{units, places}
+
+abbrev pub Block : RattleType
+Block = MutSlice static [] u128
+
+abbrev pub Taken : RattleType
+Taken = result.the_row Block error.the_row
+
+abbrev pub Told : ℕ → Taken.Denot → Type 0
+Told n x = IfOk x (λ block. n ≤ 16 * length block.now)
+
+module _ {M : Type 1} {𝓤 : Ura M} {𝓛 : Logic 𝓤} {K : Type 0} {Γ : List (Item 𝓤)} {G : Goal 𝓤 𝓛.H} where
+  pub taken : K → Soaks G → (n : ℕ) (x : Taken.Denot) (v : Val) → Told n x
+      → ((b o m : ℕ) → m < 2 ^ 64 → m * 16 < 2 ^ 63 → n ≤ 16 * m → v ≡ live 0 (of_list (slice_val (b, o) m ∷ [])) → Seq K 𝓛 (‵ (froom (units m) b o) ∷ Γ) G)
+      → (v ≡ live 1 (of_list (vstruct vnil ∷ [])) → Seq K 𝓛 Γ G) → Seq K 𝓛 (‵ (Taken.own_val x (v ∷ [])) ∷ Γ) G
+  taken t z n (Ok r) v told granted refused =
+      fpick t (λ us. fsplit t $ feq_l t (λ e. fpick t (λ vss. fsplit t $ feq_l t (λ e'. fsplit t $ move t (1 ∷ []) $ drop t $ fsplit3 t $ pure_l t (mut_slice_at u128 r vss.0) (λ p.
+      let b = r.ref_ptr.0 in let o = r.ref_ptr.1 in
+      use0 𝓛 (‵ (flft [] full_share)) (𝓛.lfts.lft-nil full_share) $ move t (1 ∷ 2 ∷ 0 ∷ []) $
+      opens_slice t z u128 r.now b o $ move t (1 ∷ []) $ drop t $ move t (1 ∷ []) $ drop t $ move t (1 ∷ []) $ drop t $
+      use1 𝓛 (‵ (froom (units (length r.now)) b o)) (places 𝓛 r.now b o) $
+      granted b o (length r.now) p.1.0 p.1.1 told (ap only e ∙ ap (λ (ws : List Val). live 0 (of_list ws)) (e' ∙ ap (λ (ws : List Val). ws ++ []) p.0)))))))
+  taken t z n (Err r) v told granted refused =
+      fpick t (λ us. fsplit t $ feq_l t (λ e. fpick t (λ vss. fsplit t $ feq_l t (λ e'. fsplit t $ fpick t (λ none. fsplit t $ feq_l t (λ e''. drop t $ drop t $
+      refused (ap only e ∙ ap (λ (ws : List Val). live 1 (of_list ws)) (e' ∙ ap (λ (ws : List Val). ws ++ []) e''))))))))

@@ -1,0 +1,18 @@
+-- What a call has handed into the memory that is lent.
+use Rattle.std.proofs.Common.{◌≡◌, ℕ, Bool, List, [], ◌∷◌, sym, ap, ◌∙◌, subst}
+use Rattle.mq_link.specs.Handing.{HandsOver}
+use Rattle.mq_link.specs.Sent.{Outgoing}
+use Rattle.mq_c.specs.declared.queries.Queries.{Queries}
+use Rattle.mq_c.specs.Queries.{outbox_of, Puts, TakesFramed}
+
+-- all queries were put there, and it is the same memory
+pub handed : (width : ℕ) (old : Queries) (messages : List Outgoing) (answers : List Bool) (new : Queries)
+    → HandsOver (TakesFramed width) old messages answers new
+    → Puts width (outbox_of old) messages answers (outbox_of new) × (new.out.ghost_name ≡ old.out.ghost_name)
+handed width old [] [] new h = (ap outbox_of h, sym (ap (λ (q : Queries). q.out.ghost_name) h))
+handed width old [] (answer ∷ answers) new h = absurd h
+handed width old (message ∷ messages) [] new h = absurd h
+handed width old (message ∷ messages) (answer ∷ answers) new h =
+    let taken = h.1 in
+    let rest = handed width h.0 messages answers new h.2 in
+    ((taken.fits, subst (λ box. Puts width box messages answers (outbox_of new)) taken.puts rest.0), rest.1 ∙ taken.same_out)

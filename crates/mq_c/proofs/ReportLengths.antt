@@ -1,0 +1,75 @@
+-- How many records a datagram has at most, and how many sources they name.
+use Rattle.std.proofs.Common.{◌≡◌, ℕ, zero, suc, ◌+◌, ◌*◌, ◌≤◌, List, [], ◌∷◌, ◌++◌, length, Bool, cond, Ok, drop, replicate, sum, sum_by, ap, ◌∙◌, arith}
+use Rattle.std.proofs.Math.Nat.{add-mul, suc-mul}
+use Rattle.std.proofs.lemmas.List.Sums.{sum_by-cons}
+use Rattle.mq_wire.specs.declared.message.Message.{Message}
+use Rattle.mq_wire.specs.declared.message.Message.TheVariants.{Query, OldReport, Leave, Report}
+use Rattle.mq_wire.specs.declared.records.RecordView.{RecordView}
+use Rattle.mq_wire.specs.Family.{Family, Igmp, Mld, address_width}
+use Rattle.mq_wire.specs.Queries.{older_query, current_query}
+use Rattle.mq_wire.specs.Records.{record_spans, record_end, record_at, record_source_count, auxiliary_length, record_count, records_at, spans_of_records, report_spans, report_records}
+use Rattle.mq_wire.proofs.Addresses.{length_addresses}
+use Rattle.mq_wire.proofs.Spans.{ends_within, sum-append, sum-replicate}
+use Rattle.mq_link.specs.Receive.{read_of}
+use Rattle.mq_link.proofs.SpelledMessages.{AreWhole, where_read}
+use Rattle.mq_c.specs.Rooms.{longest_body, records_in_body, sources_in_body}
+
+-- how many sources a record names
+abbrev pub sources_named : RecordView ℕ → ℕ
+sources_named r = length r.sources
+
+-- the bytes of a record are its head and its addresses at least
+module _ (width : ℕ) (bytes : List ℕ) where
+  record_bytes : (place : ℕ) → 4 + width + record_source_count place bytes * width ≤ sum (record_spans width place bytes)
+  record_bytes place =
+      let n = record_source_count place bytes in
+      let auxiliary = auxiliary_length place bytes in
+      let head = sum-append (1 ∷ 1 ∷ 2 ∷ width ∷ []) (replicate n width ++ auxiliary ∷ []) in
+      let behind = sum-append (replicate n width) (auxiliary ∷ []) in
+      omega (arith, head, behind, sum-replicate n width)
+
+  records_bytes : (count place : ℕ)
+      → (let rs = records_at width count place bytes in
+      length rs * (4 + width) + sum_by sources_named rs * width ≤ sum (spans_of_records width count place bytes))
+  records_bytes zero place = omega arith
+  records_bytes (suc count) place =
+      let next = record_end width place bytes in
+      let r = record_at width place bytes in
+      let rs = records_at width count next bytes in
+      let first = record_bytes place in
+      let rest = records_bytes count next in
+      let all = sum-append (record_spans width place bytes) (spans_of_records width count next bytes) in
+      let heads = suc-mul (length rs) (4 + width) in
+      let named = length_addresses width (record_source_count place bytes) (drop (place + 4 + width) bytes) in
+      let addresses : sum_by sources_named (r ∷ rs) * width ≡ record_source_count place bytes * width + sum_by sources_named rs * width =
+      ap (λ n. n * width) (sum_by-cons sources_named r rs ∙ ap (λ n. n + sum_by sources_named rs) named) ∙ add-mul (record_source_count place bytes) (sum_by sources_named rs) width in
+      omega (arith, first, rest, all, heads, addresses)
+
+-- so much of a message that a body holds
+abbrev pub IsWithin : Family → Message ℕ → Type 0
+IsWithin family (Query query) = Unit {0}
+IsWithin family (OldReport version group) = Unit {0}
+IsWithin family (Leave group) = Unit {0}
+IsWithin family (Report records) = (length records ≤ records_in_body family) × (sum_by sources_named records ≤ sources_in_body family)
+
+few_of : (family : Family) (records named len : ℕ) → records * (4 + address_width family) + named * address_width family ≤ len → len ≤ longest_body
+    → (records ≤ records_in_body family) × (named ≤ sources_in_body family)
+few_of Igmp records named len within short = (omega (arith, within, short), omega (arith, within, short))
+few_of Mld records named len within short = (omega (arith, within, short), omega (arith, within, short))
+
+of_report : (family : Family) (bytes : List ℕ) → AreWhole bytes (report_spans family bytes) → length bytes ≤ longest_body → IsWithin family (Report (report_records family bytes))
+of_report family bytes whole short =
+    let records = spans_of_records (address_width family) (record_count bytes) 8 bytes in
+    let ends = ends_within (length bytes) 0 (report_spans family bytes) (omega arith) whole in
+    let head = sum-append (1 ∷ 1 ∷ 2 ∷ 2 ∷ 2 ∷ []) records in
+    let rs = report_records family bytes in
+    few_of family (length rs) (sum_by sources_named rs) (length bytes)
+    (omega (arith, ends, head, records_bytes (address_width family) bytes (record_count bytes) 8)) short
+
+of_query : (family : Family) (bytes : List ℕ) (b : Bool) → length bytes ≤ longest_body → IsWithin family (Query (cond b (older_query family bytes) (current_query family bytes)))
+of_query family bytes b short = tt
+
+pub within_where_read : (family : Family) (pseudo bytes : List ℕ) (message : Message ℕ) → read_of family pseudo bytes ≡ Ok message → length bytes ≤ longest_body → IsWithin family message
+within_where_read =
+    where_read (λ family bytes message. length bytes ≤ longest_body → IsWithin family message)
+    (λ family bytes b whole. of_query family bytes b) of_report (λ family bytes version whole short. tt) (λ family bytes whole short. tt)

@@ -1,0 +1,29 @@
+-- What few queries take has room.
+use Rattle.std.proofs.Common.{ℕ, ◌+◌, ◌*◌, ◌/◌, ◌≤◌, List, length, sum_by, arith}
+use Rattle.std.proofs.Math.Nat.{mul-le-mul_left}
+use Rattle.std.specs.Prelude.{map as list_map}
+use Rattle.mq_wire.specs.Family.{Family, Igmp, Mld, address_width}
+use Rattle.mq_table.specs.declared.timing.Timing.{Timing}
+use Rattle.mq_sched.specs.Sending.{SentQuery}
+use Rattle.mq_link.specs.Configuration.{Configuration}
+use Rattle.mq_link.specs.Family.{per_query}
+use Rattle.mq_link.specs.Sent.{outgoing}
+use Rattle.mq_c.specs.Rooms.{query_head, room_of}
+use Rattle.mq_c.proofs.QueryCounts.{AreFew}
+use Rattle.mq_c.proofs.QueryLengths.{taken_by_all}
+use Rattle.mq_c.proofs.RoomSuffices.{taken_by}
+
+-- so many runs of so many sources
+at_most : (family : Family) (count runs sources : ℕ) → count * per_query family ≤ runs * per_query family + sources → count ≤ runs + sources / per_query family
+at_most Igmp count runs sources few = omega (arith, few)
+at_most Mld count runs sources few = omega (arith, few)
+
+pub room_taken : (width : ℕ) (config : Configuration) (timing : Timing) (queries : List SentQuery) (runs sources : ℕ) → AreFew (per_query config.family) runs sources queries
+    → sum_by (taken_by width) (list_map (outgoing config timing) queries) ≤ room_of width config.family (runs + sources / per_query config.family) sources
+room_taken width config timing queries runs sources few =
+    let head = width + (2 + query_head config.family) in
+    let bytes = taken_by_all config timing width queries in
+    let count = at_most config.family (length queries) runs sources few.count in
+    let heads = mul-le-mul_left head count in
+    let addresses = mul-le-mul_left (address_width config.family) few.named in
+    omega (arith, bytes, heads, addresses)

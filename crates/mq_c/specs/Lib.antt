@@ -1,0 +1,15 @@
+pub mod Calls
+pub mod Counted
+pub mod Freeing
+pub mod Igmp
+pub mod LineRoom
+pub mod Making
+pub mod Milliseconds
+pub mod Mld
+pub mod OtherQuerier
+pub mod Pages
+pub mod Placing
+pub mod Queries
+pub mod Rooms
+pub mod Rows
+pub mod Statuses

@@ -1,0 +1,31 @@
+-- What C hands over, and what it is handed, of MLD.
+use Rattle.std.specs.Prelude.{ℕ, Bool, List}
+use Rattle.std.specs.Int.{w128, from_be_bytes, to_be_bytes}
+use Rattle.mq_wire.specs.Family.{Mld}
+use Rattle.mq_link.specs.Configuration.{Configuration}
+use Rattle.mq_link.specs.Receive.{Envelope}
+use Rattle.mq_c.specs.declared.forms.MldConfig.{MldConfig}
+use Rattle.mq_c.specs.declared.forms.MldGroup.{MldGroup}
+use Rattle.mq_c.specs.declared.forms.MldSource.{MldSource}
+use Rattle.mq_c.specs.Making.{asked_of}
+
+-- the configuration that is asked for
+abbrev pub asked : MldConfig → Configuration
+asked c = asked_of Mld c.settings (from_be_bytes w128 c.own) c.source_specific
+
+-- what is known of a datagram beside its bytes
+abbrev pub envelope : (source destination : List ℕ) → (hop_limit : ℕ) → (alert : Bool) → Envelope
+envelope source destination hop_limit alert = record {
+  source = from_be_bytes w128 source;
+  destination = from_be_bytes w128 destination;
+  hop_limit = hop_limit;
+  alert = alert;
+}
+
+-- a group that is held, and a source of it; MLD has no version 2 besides
+abbrev pub group_with : (address sources deadline v1 v2 : ℕ) → MldGroup
+group_with address sources deadline v1 v2 =
+    record { address = to_be_bytes w128 address; sources = sources; deadline = deadline; v1 = v1 }
+
+abbrev pub source_with : (address deadline : ℕ) → MldSource
+source_with address deadline = record { address = to_be_bytes w128 address; deadline = deadline }

@@ -1,0 +1,32 @@
+-- Statuses and reasons as numbers.
+use Rattle.std.specs.Prelude.{ℕ}
+use Rattle.mq_link.specs.declared.configuration.LimitName.{LimitName}
+use Rattle.mq_link.specs.declared.configuration.LimitName.TheVariants.{Groups, GroupSources, Sources, Scheduled}
+use Rattle.mq_link.specs.declared.configuration.ConfigFault.{ConfigFault}
+use Rattle.mq_link.specs.declared.configuration.ConfigFault.TheVariants.{Robustness, QueryInterval, ResponseInterval, LastMember, Limit, OwnAddress}
+pub use Rattle.mq_link.specs.Counters.{reason_number, refusal_number, kind_number}
+
+-- all was done; memory ran out; the moment is above 2^53
+abbrev pub all_done : ℕ
+all_done = 0
+
+abbrev pub memory : ℕ
+memory = 100
+
+abbrev pub moment : ℕ
+moment = 101
+
+abbrev pub limit_status : LimitName → ℕ
+limit_status Groups = 51
+limit_status GroupSources = 52
+limit_status Sources = 53
+limit_status Scheduled = 54
+
+-- a fault of a configuration
+abbrev pub status_of : ConfigFault → ℕ
+status_of Robustness = 1
+status_of QueryInterval = 2
+status_of ResponseInterval = 3
+status_of LastMember = 4
+status_of (Limit which) = limit_status which
+status_of OwnAddress = 6

@@ -1,0 +1,65 @@
+//! The object of a link of IGMP, and where C wants it.
+
+ghost use Rattle.std.specs.Prelude.{◌≡◌, Option, Some};
+ghost use Rattle.std.specs.Coded.{coded_option};
+ghost use Rattle.mq_link.specs.Link.{LinkValue};
+ghost use Rattle.mq_c.specs.Rows.{igmp_row};
+
+use crate::loose::Loose;
+use mq_link::{Igmp, Link};
+use std::alloc::Global;
+use std::marker::Model;
+
+/// A link of IGMP as C holds it: a pointer that owns the box of the link.
+#[repr(C)]
+pub struct IgmpObject {
+    pub(crate) at: *mut u8,
+    pub(crate) ghost kept: { LinkValue } by { igmp_row.coded },
+}
+
+impl Model for IgmpObject {
+    ghost use Rattle.std_alloc.specs.Box.Ownership.{box_owns};
+    ghost use Rattle.mq_c.specs.Freeing.{freeing};
+    ghost use Rattle.mq_c.specs.Rows.{igmp_row};
+
+    ghost also_owns = { λ h. box_owns freeing igmp_row h.at h.kept };
+}
+
+impl IgmpObject {
+    /// The link behind its pointer.
+    pub(crate) fn into_loose(self, alloc: Global) -> Loose<Link<Igmp>, Global>
+        ensures { result.value ≡ self.kept }
+    {
+        let IgmpObject { at } = self;
+        Loose {
+            at: at as *mut Link<Igmp>,
+            alloc,
+        }
+    }
+}
+
+/// The place that C hands in: a pointer, which owns the box of a link once one was written there. Nothing is asked of
+/// what stands there before, and it is forgotten.
+#[repr(C)]
+#[derive(Drop)]
+pub struct IgmpPlace {
+    at: *mut u8,
+    pub(crate) ghost kept: { Option LinkValue } by { coded_option igmp_row.coded },
+}
+
+impl Model for IgmpPlace {
+    ghost use Rattle.mq_c.specs.Placing.{placed};
+    ghost use Rattle.mq_c.specs.Rows.{igmp_row};
+
+    ghost also_owns = { λ p. placed igmp_row p.at p.kept };
+}
+
+impl IgmpPlace {
+    /// What stands there once a link is written: its pointer and its box, which are C's from now on.
+    pub(crate) fn of(link: Loose<Link<Igmp>, Global>) -> IgmpPlace
+        ensures { result.kept ≡ Some link.value }
+    {
+        let Loose { at, alloc: _ } = link;
+        IgmpPlace { at: at as *mut u8 }
+    }
+}

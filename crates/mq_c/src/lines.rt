@@ -1,0 +1,45 @@
+//! The lines of messages, in memory that is lent.
+
+ghost use Rattle.std.specs.Prelude.{◌≡◌, ◌-◌, [], is_ok, if◌then◌else◌, length};
+ghost use Rattle.mq_wire.specs.Family.{Igmp, Mld};
+ghost use Rattle.mq_wire.specs.PseudoHeader.{pseudo_header};
+ghost use Rattle.mq_c.specs.LineRoom.{LineStands};
+
+use crate::line_room::{Lent, LineRoom};
+use mq_count::Addr6;
+use mq_replay::{LineFault, igmp_line, mld_line};
+
+/// The line of an IGMP message, as far as there is room for it.
+pub(crate) fn put_igmp_line<L: Lent>(body: &[u8], line: &mut [u8]) -> usize
+    requires lent { line.old ≡ L.before }
+    ensures text { LineStands Igmp [] body.now line.old line.new result }
+{
+    let mut room: LineRoom<'_, L> = LineRoom::new(line);
+    let printed = igmp_line(body, &mut room);
+    without_end(room.written(), printed)
+}
+
+/// The line of an MLD message, as far as there is room for it.
+pub(crate) fn put_mld_line<L: Lent>(
+    source: Addr6,
+    destination: Addr6,
+    body: &[u8],
+    line: &mut [u8],
+) -> usize
+    requires lent { line.old ≡ L.before }
+    ensures text { LineStands Mld (pseudo_header source destination (length body.now)) body.now line.old line.new result }
+{
+    let mut room: LineRoom<'_, L> = LineRoom::new(line);
+    let printed = mld_line(source, destination, body, &mut room);
+    without_end(room.written(), printed)
+}
+
+/// How many of the bytes that are written are the line's, without its end: where all was printed, the last one is the end.
+fn without_end(written: usize, printed: Result<bool, LineFault>) -> usize
+    ensures { result ≡ (if is_ok printed then written - 1 else written) }
+{
+    match printed {
+        Ok(_) => written.saturating_sub(1),
+        Err(_) => written,
+    }
+}

@@ -1,0 +1,35 @@
+//! Statuses as numbers.
+
+ghost use Rattle.std.specs.Prelude.{◌≡◌, ◌<◌};
+ghost use Rattle.mq_c.specs.Statuses as spec;
+
+use mq_link::{ConfigFault, LimitName};
+
+/// All was done.
+pub(crate) const DONE: u32 = 0;
+
+/// Memory ran out.
+pub(crate) const MEMORY: u32 = 100;
+
+/// The moment is above 2^53, and nothing was done.
+pub(crate) const MOMENT: u32 = 101;
+
+/// The status of a fault of a configuration.
+pub(crate) fn status_of(fault: ConfigFault) -> u32
+    ensures number { result ≡ spec.status_of fault }
+    ensures some { 0 < result }
+{
+    match fault {
+        ConfigFault::Robustness => 1,
+        ConfigFault::QueryInterval => 2,
+        ConfigFault::ResponseInterval => 3,
+        ConfigFault::LastMember => 4,
+        ConfigFault::Limit { which } => match which {
+            LimitName::Groups => 51,
+            LimitName::GroupSources => 52,
+            LimitName::Sources => 53,
+            LimitName::Scheduled => 54,
+        },
+        ConfigFault::OwnAddress => 6,
+    }
+}

@@ -1,0 +1,6 @@
+-- Texts that are put together.
+use Rattle.std.proofs.Common.{◌≡◌, refl, ℕ, List, ◌++◌}
+use Rattle.std.proofs.lemmas.List.{append_assoc}
+
+pub four_parts : (old a b c d : List ℕ) → old ++ a ++ b ++ c ++ d ≡ old ++ (a ++ b ++ c ++ d)
+four_parts old a b c d = simp append_assoc refl

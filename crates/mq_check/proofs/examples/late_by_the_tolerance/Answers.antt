@@ -1,0 +1,8 @@
+-- computed
+use Rattle.std.proofs.Common.{refl}
+use Rattle.mq_check.specs.Checking.{settled, told, with_entry, with_general, with_seen, with_wanted}
+use Rattle.mq_check.proofs.examples.late_by_the_tolerance.Goals as goal
+
+pub returns : goal.returns
+unfolding settled told with_entry with_general with_seen with_wanted
+returns c = refl

@@ -1,0 +1,17 @@
+-- A moment, and then a time.
+use Rattle.std.proofs.Common.{codes}
+use Rattle.std.proofs.lemmas.List.{append_assoc}
+use Rattle.mq_check.specs.FindingLines.{at_moment, interval_text}
+use Rattle.mq_check.proofs.finding_lines.put_finding.Goals as goal
+
+pub returns-in-Interval-clause-text : goal.returns-in-Interval-clause-text
+returns-in-Interval-clause-text g c =
+    let it = c.in-Interval in
+    rw (c.in-Interval.is, c.put_interval.ensures.text, c.put_moment-in-Interval.ensures.text)
+    (append_assoc c.args.text.now.items (at_moment it.moment (codes " general after ")) (interval_text it.passed it.wanted))
+
+pub returns-in-Silence-clause-text : goal.returns-in-Silence-clause-text
+returns-in-Silence-clause-text g c =
+    let it = c.in-Silence in
+    rw (c.in-Silence.is, c.put_interval-in-Silence.ensures.text, c.put_moment-in-Silence.ensures.text)
+    (append_assoc c.args.text.now.items (at_moment it.moment (codes " general none for ")) (interval_text it.passed it.wanted))

@@ -1,0 +1,138 @@
+-- What waits while its partner may still come: queries that are wanted and queries that were seen, in the order of their
+-- moments, and what was found of them.
+use Rattle.std.specs.Prelude.{ℕ, ◌+◌, ◌==◌, ◌&&◌, ◌||◌, not, nat_lt, nat_le, Bool, true, false, if◌then◌else◌, List, [], ◌∷◌, ◌++◌, map as list_map, Option, None, Some, is_some}
+use Rattle.std.specs.List.{list_any}
+use Rattle.mq_check.specs.declared.asked.Asked.{Asked}
+use Rattle.mq_check.specs.declared.asked.Asked.TheVariants.{AllGroups, Group, Source}
+use Rattle.mq_check.specs.declared.entry.Entry.{Entry}
+use Rattle.mq_check.specs.declared.entry.Entry.TheVariants.{Wanted, Seen, Interval, Silence}
+use Rattle.mq_check.specs.declared.finding.Difference.{Difference}
+use Rattle.mq_check.specs.declared.finding.Difference.TheVariants as field
+use Rattle.mq_check.specs.declared.finding.Finding.{Finding}
+use Rattle.mq_check.specs.declared.finding.Finding.TheVariants as finding
+use Rattle.mq_check.specs.declared.terms.Terms.{Terms}
+use Rattle.mq_check.specs.declared.terms.QuerierTerms.{QuerierTerms}
+use Rattle.mq_check.specs.Queries.{is_same}
+
+abbrev pub moment_of : Entry ℕ → ℕ
+moment_of (Wanted moment asked terms is_optional is_found) = moment
+moment_of (Seen moment asked terms partner is_querier) = moment
+moment_of (Interval moment after wanted) = moment
+moment_of (Silence moment after wanted) = moment
+
+-- two numbers differ by no more than the tolerance
+abbrev pub is_within : (within a b : ℕ) → Bool
+is_within within a b = nat_le a (b + within) && nat_le b (a + within)
+
+-- what comes now comes too late to be its partner: more than the tolerance lies between
+abbrev pub is_over : (within now : ℕ) → Entry ℕ → Bool
+is_over within now entry = nat_lt (moment_of entry + within) now
+
+-- a wanted query that has no partner yet
+abbrev pub is_free_wanted : Asked ℕ → Entry ℕ → Bool
+is_free_wanted asked (Wanted moment asked' terms is_optional is_found) = is_same asked asked' && not is_found
+is_free_wanted asked (Seen moment asked' terms partner is_querier) = false
+is_free_wanted asked (Interval moment after wanted) = false
+is_free_wanted asked (Silence moment after wanted) = false
+
+-- a query that was seen and has no partner yet
+abbrev pub is_free_seen : Asked ℕ → Entry ℕ → Bool
+is_free_seen asked (Wanted moment asked' terms is_optional is_found) = false
+is_free_seen asked (Seen moment asked' terms partner is_querier) = is_same asked asked' && not (is_some partner)
+is_free_seen asked (Interval moment after wanted) = false
+is_free_seen asked (Silence moment after wanted) = false
+
+abbrev pub terms_in : Entry ℕ → Option (Terms ℕ)
+terms_in (Wanted moment asked terms is_optional is_found) = Some terms
+terms_in (Seen moment asked terms partner is_querier) = Some terms
+terms_in (Interval moment after wanted) = None
+terms_in (Silence moment after wanted) = None
+
+-- an entry that has found its partner, of which a query that was seen keeps the terms
+abbrev pub joined : Terms ℕ → Entry ℕ → Entry ℕ
+joined other (Wanted moment asked terms is_optional is_found) = Wanted moment asked terms is_optional true
+joined other (Seen moment asked terms partner is_querier) = Seen moment asked terms (Some other) is_querier
+joined other (Interval moment after wanted) = Interval moment after wanted
+joined other (Silence moment after wanted) = Silence moment after wanted
+
+-- the terms of the first entry that passes a test, and the entries with that one joined
+abbrev pub first_terms : (Entry ℕ → Bool) → List (Entry ℕ) → Option (Terms ℕ)
+first_terms test [] = None
+first_terms test (entry ∷ entries) = if test entry then terms_in entry else first_terms test entries
+
+abbrev pub first_joined : (Entry ℕ → Bool) → Terms ℕ → List (Entry ℕ) → List (Entry ℕ)
+first_joined test other [] = []
+first_joined test other (entry ∷ entries) =
+    if test entry then joined other entry ∷ entries else entry ∷ first_joined test other entries
+
+-- a query for a group that is wanted at a moment
+abbrev pub is_group_wanted : (moment group : ℕ) → Entry ℕ → Bool
+is_group_wanted moment group (Wanted moment' asked terms is_optional is_found) = is_same (Group group) asked && (moment == moment')
+is_group_wanted moment group (Seen moment' asked terms partner is_querier) = false
+is_group_wanted moment group (Interval moment' after wanted) = false
+is_group_wanted moment group (Silence moment' after wanted) = false
+
+-- A query for sources with S set may be left out where one for their group goes at the same moment (RFC 3376 section
+-- 6.6.3.2, RFC 3810 section 7.6.3.2).
+abbrev pub is_suppressed : Option QuerierTerms → Bool
+is_suppressed None = false
+is_suppressed (Some terms) = terms.suppress
+
+abbrev pub may_be_left_out : (moment : ℕ) → Asked ℕ → Terms ℕ → List (Entry ℕ) → Bool
+may_be_left_out moment AllGroups terms entries = false
+may_be_left_out moment (Group group) terms entries = false
+may_be_left_out moment (Source group source) terms entries =
+    is_suppressed terms.querier && list_any (is_group_wanted moment group) entries
+
+abbrev pub is_unlike : (a b : Bool) → Bool
+is_unlike true b = not b
+is_unlike false b = b
+
+-- Each field of a pair that differs. What only one of the two has isn't compared: the version differs then.
+abbrev pub difference_if : Bool → Difference ℕ → List (Difference ℕ)
+difference_if true difference = difference ∷ []
+difference_if false difference = []
+
+abbrev pub responses_differ : (seen wanted : Option ℕ) → List (Difference ℕ)
+responses_differ None wanted = []
+responses_differ (Some seen) None = []
+responses_differ (Some seen) (Some wanted) = difference_if (not (seen == wanted)) (field.Response seen wanted)
+
+abbrev pub queriers_differ : (seen wanted : Option QuerierTerms) → List (Difference ℕ)
+queriers_differ None wanted = []
+queriers_differ (Some seen) None = []
+queriers_differ (Some seen) (Some wanted) =
+    difference_if (is_unlike seen.suppress wanted.suppress) (field.Suppress seen.suppress wanted.suppress)
+    ++ difference_if (not (seen.robustness == wanted.robustness)) (field.Robustness seen.robustness wanted.robustness)
+    ++ difference_if (not (seen.interval == wanted.interval)) (field.QueryInterval seen.interval wanted.interval)
+
+abbrev pub terms_differ : (seen wanted : Terms ℕ) → List (Difference ℕ)
+terms_differ seen wanted =
+    difference_if (not (seen.version == wanted.version)) (field.Version seen.version wanted.version)
+    ++ responses_differ seen.response wanted.response
+    ++ queriers_differ seen.querier wanted.querier
+    ++ difference_if (not (seen.to == wanted.to)) (field.Destination seen.to wanted.to)
+
+-- whether the role of querier changed within the tolerance of a moment
+abbrev pub is_near_change : (within moment : ℕ) → (changed : Option ℕ) → Bool
+is_near_change within moment None = false
+is_near_change within moment (Some changed) = is_within within moment changed
+
+-- what is found of a pair
+abbrev pub differences_found : (moment : ℕ) → Asked ℕ → (seen wanted : Terms ℕ) → List (Finding ℕ)
+differences_found moment asked seen wanted = list_map (finding.Differs moment asked) (terms_differ seen wanted)
+
+-- A query without a partner is extra, but for one within the tolerance of a change of the role.
+abbrev pub findings_of_seen : (within : ℕ) → (changed : Option ℕ) → (moment : ℕ) → Asked ℕ → Terms ℕ → Option (Terms ℕ) → (is_querier : Bool) → List (Finding ℕ)
+findings_of_seen within changed moment asked terms None is_querier =
+    if is_near_change within moment changed then [] else finding.Extra moment asked is_querier ∷ []
+findings_of_seen within changed moment asked terms (Some wanted) is_querier = differences_found moment asked terms wanted
+
+-- what is found of an entry that is over: the role changed last at `changed`
+abbrev pub findings_of : (within : ℕ) → (changed : Option ℕ) → Entry ℕ → List (Finding ℕ)
+findings_of within changed (Wanted moment asked terms is_optional is_found) =
+    if is_optional || is_found then [] else finding.Missing moment asked ∷ []
+findings_of within changed (Seen moment asked terms partner is_querier) =
+    findings_of_seen within changed moment asked terms partner is_querier
+findings_of within changed (Interval moment after wanted) = finding.Interval moment after wanted ∷ []
+findings_of within changed (Silence moment after wanted) = finding.Silence moment after wanted ∷ []

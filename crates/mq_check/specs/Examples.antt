@@ -1,0 +1,34 @@
+-- What the worked examples begin with: a query for the group 5 of a querier with the default variables, and what becomes of
+-- it where it is wanted and where it was seen. What no longer waits was told when the second of the two came.
+use Rattle.std.specs.Prelude.{ℕ, false, Some}
+use Rattle.mq_table.specs.declared.timing.Timing.{Timing}
+use Rattle.mq_check.specs.declared.asked.Asked.TheVariants.{Group}
+use Rattle.mq_check.specs.declared.terms.Terms.{Terms}
+use Rattle.mq_check.specs.Checking.{Checking, checking_at_start, settled, with_general, with_seen, with_wanted}
+
+abbrev pub timing : Timing
+timing = record { robustness = 2; query_seconds = 125; response_interval = 10000; last_member_interval = 1000 }
+
+abbrev pub a_query : Terms ℕ
+a_query = record {
+  version = 3;
+  response = Some 1000;
+  querier = Some (record { suppress = false; robustness = 2; interval = 125 });
+  to = 5;
+}
+
+-- it is wanted at a moment, and was seen at a later one
+abbrev pub wanted_first : (wanted seen : ℕ) → Checking
+wanted_first wanted seen =
+    with_seen seen a_query (settled 100 seen (with_wanted wanted a_query (checking_at_start timing) (Group 5))) (Group 5)
+
+-- it was seen at a moment, and is wanted at a later one
+abbrev pub seen_first : (seen wanted : ℕ) → Checking
+seen_first seen wanted =
+    with_wanted wanted a_query (settled 100 wanted (with_seen seen a_query (checking_at_start timing) (Group 5))) (Group 5)
+
+-- general queries as they are wanted, at two moments
+abbrev pub two_general : (first second : ℕ) → Checking
+two_general first second =
+    with_general 100 timing second a_query a_query
+    (settled 100 second (with_general 100 timing first a_query a_query (checking_at_start timing)))

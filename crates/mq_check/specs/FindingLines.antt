@@ -1,0 +1,122 @@
+-- The lines of a check, and the sections of the standards that want what a finding says.
+use Rattle.std.specs.Prelude.{ℕ, Bool, true, false, List, ◌++◌, codes}
+use Rattle.std.specs.List.{flat_map}
+use Rattle.std.specs.Fmt.{decimal}
+use Rattle.mq_wire.specs.Family.{Family, Igmp, Mld}
+use Rattle.mq_replay.specs.Text.{address_text}
+pub use Rattle.mq_replay.specs.Text.{flag_text}
+use Rattle.mq_check.specs.declared.asked.Asked.{Asked}
+use Rattle.mq_check.specs.declared.asked.Asked.TheVariants.{AllGroups, Group, Source}
+use Rattle.mq_check.specs.declared.finding.Difference.{Difference}
+use Rattle.mq_check.specs.declared.finding.Difference.TheVariants.{Version, Response, Suppress, Robustness, QueryInterval, Destination}
+use Rattle.mq_check.specs.declared.finding.Finding.{Finding}
+use Rattle.mq_check.specs.declared.finding.Finding.TheVariants.{Missing, Extra, Differs, Interval, Silence}
+use Rattle.mq_check.specs.declared.totals.Totals.{Totals}
+
+-- a group, and of a source its group first; all groups are the group zero
+abbrev pub asked_text : Family → Asked ℕ → List ℕ
+asked_text family AllGroups = address_text family 0
+asked_text family (Group group) = address_text family group
+asked_text family (Source group source) = address_text family group ++ codes " " ++ address_text family source
+
+-- a number as it was seen and as it is wanted, behind a name
+abbrev pub numbers_text : (name : List ℕ) → (seen wanted : ℕ) → List ℕ
+numbers_text name seen wanted = name ++ decimal seen ++ codes ", wanted " ++ decimal wanted
+
+-- a field by the name that it has in the lines of queries, as it was seen and as it is wanted
+abbrev pub difference_text : Family → Difference ℕ → List ℕ
+difference_text family (Version seen wanted) = numbers_text (codes "version ") seen wanted
+difference_text family (Response seen wanted) = numbers_text (codes "response ") seen wanted
+difference_text family (Suppress seen wanted) = codes "s " ++ flag_text seen ++ codes ", wanted " ++ flag_text wanted
+difference_text family (Robustness seen wanted) = numbers_text (codes "qrv ") seen wanted
+difference_text family (QueryInterval seen wanted) = numbers_text (codes "interval ") seen wanted
+difference_text family (Destination seen wanted) =
+    codes "to " ++ address_text family seen ++ codes ", wanted " ++ address_text family wanted
+
+-- a moment, and what stands behind it
+unfoldable pub at_moment : (moment : ℕ) (what : List ℕ) → List ℕ
+at_moment moment what = decimal moment ++ what
+
+-- a time, and the one that is wanted
+unfoldable pub interval_text : (passed wanted : ℕ) → List ℕ
+interval_text passed wanted = decimal passed ++ codes ", wanted " ++ decimal wanted
+
+abbrev pub finding_text : Family → Finding ℕ → List ℕ
+finding_text family (Missing moment asked) = at_moment moment (codes " missing ") ++ asked_text family asked
+finding_text family (Extra moment asked is_querier) = at_moment moment (codes " extra ") ++ asked_text family asked
+finding_text family (Differs moment asked difference) =
+    at_moment moment (codes " differs ") ++ asked_text family asked ++ codes ": " ++ difference_text family difference
+finding_text family (Interval moment after wanted) =
+    at_moment moment (codes " general after ") ++ interval_text after wanted
+finding_text family (Silence moment after wanted) =
+    at_moment moment (codes " general none for ") ++ interval_text after wanted
+
+-- of IGMP, or of MLD
+abbrev pub of_family : {X : Type 0} → Family → (igmp mld : X) → X
+of_family Igmp igmp mld = igmp
+of_family Mld igmp mld = mld
+
+-- how queries for a group and for sources are built and sent (RFC 3376 sections 6.6.3.1 and 6.6.3.2, RFC 3810 sections
+-- 7.6.3.1 and 7.6.3.2), and those for all groups behind the end of the other querier (6.6.2; 7.6.2)
+abbrev pub sending_section : Family → Asked ℕ → List ℕ
+sending_section family AllGroups = of_family family (codes "6.6.2") (codes "7.6.2")
+sending_section family (Group group) = of_family family (codes "6.6.3.1") (codes "7.6.3.1")
+sending_section family (Source group source) = of_family family (codes "6.6.3.2") (codes "7.6.3.2")
+
+-- one that no change wants, or that another querier's election forbids
+abbrev pub extra_section : Family → (is_querier : Bool) → Asked ℕ → List ℕ
+extra_section family true asked = sending_section family asked
+extra_section family false asked = of_family family (codes "6.6.2") (codes "7.6.2")
+
+-- the response of a general query is the query response interval, that of another the last member (last listener) query
+-- interval
+abbrev pub response_section : Family → Asked ℕ → List ℕ
+response_section family AllGroups = of_family family (codes "8.3") (codes "9.3")
+response_section family (Group group) = of_family family (codes "8.8") (codes "9.8")
+response_section family (Source group source) = of_family family (codes "8.8") (codes "9.8")
+
+-- S is set where a query for a group or for sources is built so
+abbrev pub suppress_section : Family → Asked ℕ → List ℕ
+suppress_section family AllGroups = of_family family (codes "4.1.5") (codes "5.1.7")
+suppress_section family (Group group) = sending_section family (Group group)
+suppress_section family (Source group source) = sending_section family (Source group source)
+
+abbrev pub field_section : Family → Asked ℕ → Difference ℕ → List ℕ
+field_section family asked (Version seen wanted) = of_family family (codes "7.1") (codes "8.1")
+field_section family asked (Response seen wanted) = response_section family asked
+field_section family asked (Suppress seen wanted) = suppress_section family asked
+field_section family asked (Robustness seen wanted) = of_family family (codes "4.1.6") (codes "5.1.8")
+field_section family asked (QueryInterval seen wanted) = of_family family (codes "4.1.7") (codes "5.1.9")
+field_section family asked (Destination seen wanted) = of_family family (codes "4.1.12") (codes "5.1.15")
+
+-- the section of RFC 3376 or RFC 3810 that wants it otherwise than a finding says; intervals are the query interval
+abbrev pub section_of : Family → Finding ℕ → List ℕ
+section_of family (Missing moment asked) = sending_section family asked
+section_of family (Extra moment asked is_querier) = extra_section family is_querier asked
+section_of family (Differs moment asked difference) = field_section family asked difference
+section_of family (Interval moment after wanted) = of_family family (codes "8.2") (codes "9.2")
+section_of family (Silence moment after wanted) = of_family family (codes "8.2") (codes "9.2")
+
+-- the standard and its section behind a finding, where they are asked for, and the end of the line
+abbrev pub citation_text : Family → (cite : Bool) → Finding ℕ → List ℕ
+citation_text family false finding = codes "\n"
+citation_text family true finding =
+    codes " (RFC " ++ of_family family (codes "3376") (codes "3810") ++ codes " section " ++ section_of family finding
+    ++ codes ")" ++ codes "\n"
+
+abbrev pub finding_line : Family → (cite : Bool) → Finding ℕ → List ℕ
+finding_line family cite finding = finding_text family finding ++ citation_text family cite finding
+
+-- the lines of findings, in their order
+abbrev pub finding_lines : Family → (cite : Bool) → List (Finding ℕ) → List ℕ
+finding_lines family cite findings = flat_map (finding_line family cite) findings
+
+-- a count behind its name
+unfoldable pub count_text : (name : List ℕ) → (count : ℕ) → List ℕ
+count_text name count = name ++ decimal count
+
+-- how many queries were seen, general ones and others, and how much was found
+abbrev pub totals_line : Totals → List ℕ
+totals_line totals =
+    count_text (codes "checked general ") totals.general ++ count_text (codes " specific ") totals.specific
+    ++ count_text (codes ": ") totals.findings ++ codes " findings\n"

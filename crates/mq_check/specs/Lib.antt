@@ -1,0 +1,9 @@
+pub mod Check
+pub mod Checking
+pub mod Entries
+pub mod Examples
+pub mod FindingLines
+pub mod General
+pub mod Numbered
+pub mod Queries
+pub mod Telling

@@ -1,0 +1,55 @@
+-- What waits and what is found, with its addresses as numbers.
+use Rattle.std.specs.Prelude.{ℕ, Option, None, Some}
+use Rattle.mq_check.specs.declared.asked.Asked.{Asked}
+use Rattle.mq_check.specs.declared.asked.Asked.TheVariants.{AllGroups, Group, Source}
+use Rattle.mq_check.specs.declared.entry.Entry.{Entry}
+use Rattle.mq_check.specs.declared.entry.Entry.TheVariants.{Wanted, Seen, Interval, Silence}
+use Rattle.mq_check.specs.declared.finding.Difference.{Difference}
+use Rattle.mq_check.specs.declared.finding.Difference.TheVariants as difference
+use Rattle.mq_check.specs.declared.finding.Finding.{Finding}
+use Rattle.mq_check.specs.declared.finding.Finding.TheVariants as finding
+use Rattle.mq_check.specs.declared.terms.Terms.{Terms}
+use Rattle.mq_wire.specs.declared.query.Query.{Query}
+use Rattle.mq_wire.specs.Numbered.{numbered_query}
+
+abbrev pub numbered_query_if : {K : Type 0} → (K → ℕ) → Option (Query K) → Option (Query ℕ)
+numbered_query_if number None = None
+numbered_query_if number (Some query) = Some (numbered_query number query)
+
+abbrev pub numbered_asked : {K : Type 0} → (K → ℕ) → Asked K → Asked ℕ
+numbered_asked number AllGroups = AllGroups
+numbered_asked number (Group group) = Group (number group)
+numbered_asked number (Source group source) = Source (number group) (number source)
+
+abbrev pub numbered_terms : {K : Type 0} → (K → ℕ) → Terms K → Terms ℕ
+numbered_terms number terms =
+    record { version = terms.version; response = terms.response; querier = terms.querier; to = number terms.to }
+
+abbrev pub numbered_terms_if : {K : Type 0} → (K → ℕ) → Option (Terms K) → Option (Terms ℕ)
+numbered_terms_if number None = None
+numbered_terms_if number (Some terms) = Some (numbered_terms number terms)
+
+abbrev pub numbered_entry : {K : Type 0} → (K → ℕ) → Entry K → Entry ℕ
+numbered_entry number (Wanted moment asked terms is_optional is_found) =
+    Wanted moment (numbered_asked number asked) (numbered_terms number terms) is_optional is_found
+numbered_entry number (Seen moment asked terms partner is_querier) =
+    Seen moment (numbered_asked number asked) (numbered_terms number terms) (numbered_terms_if number partner) is_querier
+numbered_entry number (Interval moment after wanted) = Interval moment after wanted
+numbered_entry number (Silence moment after wanted) = Silence moment after wanted
+
+abbrev pub numbered_difference : {K : Type 0} → (K → ℕ) → Difference K → Difference ℕ
+numbered_difference number (difference.Version seen wanted) = difference.Version seen wanted
+numbered_difference number (difference.Response seen wanted) = difference.Response seen wanted
+numbered_difference number (difference.Suppress seen wanted) = difference.Suppress seen wanted
+numbered_difference number (difference.Robustness seen wanted) = difference.Robustness seen wanted
+numbered_difference number (difference.QueryInterval seen wanted) = difference.QueryInterval seen wanted
+numbered_difference number (difference.Destination seen wanted) = difference.Destination (number seen) (number wanted)
+
+abbrev pub numbered_finding : {K : Type 0} → (K → ℕ) → Finding K → Finding ℕ
+numbered_finding number (finding.Missing moment asked) = finding.Missing moment (numbered_asked number asked)
+numbered_finding number (finding.Extra moment asked is_querier) =
+    finding.Extra moment (numbered_asked number asked) is_querier
+numbered_finding number (finding.Differs moment asked difference) =
+    finding.Differs moment (numbered_asked number asked) (numbered_difference number difference)
+numbered_finding number (finding.Interval moment after wanted) = finding.Interval moment after wanted
+numbered_finding number (finding.Silence moment after wanted) = finding.Silence moment after wanted

@@ -1,0 +1,88 @@
+//! The families of messages whose queriers are checked.
+
+ghost use Rattle.std.specs.Prelude.{◌≡◌};
+ghost use Rattle.mq_wire.specs.RoundTrip.{response_lowered};
+ghost use Rattle.mq_check.specs.Check.{packet_in, destination4_in, destination_in};
+ghost use Rattle.mq_check.specs.Queries as spec;
+
+use mq_count::{Addr4, Addr6};
+use mq_link::{Igmp, IgmpEnvelope, Mld, MldEnvelope};
+use mq_pcap::{Endian, LinkType};
+use mq_replay::{CapturedFamily, LineKey};
+use mq_wire::{WireKey, code8, code16, resp8, resp16};
+
+/// A family whose queriers are checked.
+pub trait CheckedFamily: CapturedFamily
+where
+    Self::Address: LineKey,
+{
+    /// What is known of a message that the router at `own` sends to an address.
+    fn envelope_sent(own: Self::Address, to: Self::Address) -> Self::Envelope
+        ensures { Self.envelope_of result ≡ spec.envelope_sent Self.FAMILY (Self.Address.number own) (Self.Address.number to) };
+
+    /// Where the packet of a datagram goes that a frame of a capture carries.
+    fn destination(link: LinkType, frame: &[u8], envelope: &Self::Envelope) -> Self::Address
+        ensures { Self.Address.number result ≡ destination_in Self.FAMILY link frame.now (Self.envelope_of envelope.now) };
+
+    /// The response in milliseconds that the code for a response has.
+    fn response_said(response: u32) -> u32
+        ensures { result ≡ response_lowered Self.FAMILY response };
+}
+
+/// The IP packet of a frame, behind an Ethernet header and a tag; nothing of a frame that ends before.
+fn packet_in(link: LinkType, frame: &[u8]) -> &[u8]
+    ensures { result.now ≡ packet_in link frame.now }
+{
+    match link {
+        LinkType::RawIp => frame,
+        LinkType::Ethernet => {
+            if frame.len() < 14 {
+                return &frame[frame.len()..];
+            }
+            if Endian::Big.word(frame, 12) != 0x8100 {
+                return &frame[14..];
+            }
+            if frame.len() < 18 {
+                return &frame[frame.len()..];
+            }
+            &frame[18..]
+        }
+    }
+}
+
+impl CheckedFamily for Igmp {
+    fn envelope_sent(own: Addr4, _to: Addr4) -> IgmpEnvelope {
+        IgmpEnvelope { source: own }
+    }
+
+    fn destination(link: LinkType, frame: &[u8], _envelope: &IgmpEnvelope) -> Addr4 {
+        let packet = packet_in(link, frame);
+        if packet.len() < 20 {
+            return Addr4::default();
+        }
+        Addr4::read(&packet[16..])
+    }
+
+    fn response_said(response: u32) -> u32 {
+        resp8(code8(response / 100)) * 100
+    }
+}
+
+impl CheckedFamily for Mld {
+    fn envelope_sent(own: Addr6, to: Addr6) -> MldEnvelope {
+        MldEnvelope {
+            source: own,
+            destination: to,
+            hop_limit: 1,
+            alert: true,
+        }
+    }
+
+    fn destination(_link: LinkType, _frame: &[u8], envelope: &MldEnvelope) -> Addr6 {
+        envelope.destination
+    }
+
+    fn response_said(response: u32) -> u32 {
+        resp16(code16(response))
+    }
+}

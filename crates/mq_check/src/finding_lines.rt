@@ -1,0 +1,265 @@
+//! The lines of a check.
+
+ghost use Rattle.std.specs.Prelude.{◌≡◌, ◌≤◌, ◌+◌, ◌++◌, length};
+ghost use Rattle.std.specs.Fmt.{decimal};
+ghost use Rattle.arrayvec.specs.ArrayVec.{array_vec_len};
+ghost use Rattle.mq_check.specs.FindingLines as spec;
+ghost use Rattle.mq_check.specs.Numbered.{numbered_asked, numbered_difference, numbered_finding};
+
+use crate::asked::Asked;
+use crate::finding::{Difference, Finding};
+use crate::totals::Totals;
+use mq_count::Moment;
+use mq_link::Family;
+use mq_replay::LineKey;
+use mq_text::{Text, put, put_decimal};
+
+/// Puts a moment at the end, and what stands behind it.
+#[tactic(auto, unfolding(crate::specs::FindingLines::at_moment))]
+fn put_moment(text: &mut Text, moment: Moment, what: &[u8])
+    requires { array_vec_len text.old + 20 + length what.now ≤ 4096 }
+    ensures text { text.new.items ≡ text.old.items ++ spec.at_moment moment what.now }
+    ensures room { array_vec_len text.new ≤ array_vec_len text.old + 20 + length what.now }
+{
+    let mut digits = [0; 20];
+    let count = moment.digits(&mut digits);
+    put(text, &digits[..count]);
+    put(text, what);
+}
+
+/// Puts what a query asks about.
+fn put_asked<F: Family>(text: &mut Text, asked: Asked<F::Address>)
+where
+    F::Address: LineKey,
+    requires { array_vec_len text.old + 81 ≤ 4096 }
+    ensures text { text.new.items ≡ text.old.items ++ spec.asked_text F.Address.family (numbered_asked F.Address.number asked) }
+    ensures room { array_vec_len text.new ≤ array_vec_len text.old + 81 }
+{
+    match asked {
+        Asked::AllGroups => F::unspecified().put(text),
+        Asked::Group(group) => group.put(text),
+        Asked::Source(group, source) => {
+            group.put(text);
+            put(text, b" ");
+            source.put(text);
+        }
+    }
+}
+
+/// Puts two numbers behind a name: as it was seen, and as it is wanted.
+fn put_numbers(text: &mut Text, name: &[u8], seen: u64, wanted: u64)
+    requires { array_vec_len text.old + 49 + length name.now ≤ 4096 }
+    ensures text { text.new.items ≡ text.old.items ++ spec.numbers_text name.now seen wanted }
+    ensures room { array_vec_len text.new ≤ array_vec_len text.old + 49 + length name.now }
+{
+    put(text, name);
+    put_decimal(text, seen);
+    put(text, b", wanted ");
+    put_decimal(text, wanted);
+}
+
+/// Puts 0 or 1.
+fn put_flag(text: &mut Text, flag: bool)
+    requires { array_vec_len text.old + 1 ≤ 4096 }
+    ensures text { text.new.items ≡ text.old.items ++ spec.flag_text flag }
+    ensures room { array_vec_len text.new ≤ array_vec_len text.old + 1 }
+{
+    put(text, if flag { b"1" } else { b"0" });
+}
+
+/// Puts a field that differs.
+fn put_difference<K: LineKey>(text: &mut Text, difference: Difference<K>)
+    requires { array_vec_len text.old + 92 ≤ 4096 }
+    ensures text { text.new.items ≡ text.old.items ++ spec.difference_text K.family (numbered_difference K.number difference) }
+    ensures room { array_vec_len text.new ≤ array_vec_len text.old + 92 }
+{
+    match difference {
+        Difference::Version(seen, wanted) => {
+            put_numbers(text, b"version ", u64::from(seen), u64::from(wanted))
+        }
+        Difference::Response(seen, wanted) => {
+            put_numbers(text, b"response ", u64::from(seen), u64::from(wanted))
+        }
+        Difference::Suppress(seen, wanted) => {
+            put(text, b"s ");
+            put_flag(text, seen);
+            put(text, b", wanted ");
+            put_flag(text, wanted);
+        }
+        Difference::Robustness(seen, wanted) => {
+            put_numbers(text, b"qrv ", u64::from(seen), u64::from(wanted))
+        }
+        Difference::QueryInterval(seen, wanted) => {
+            put_numbers(text, b"interval ", u64::from(seen), u64::from(wanted))
+        }
+        Difference::Destination(seen, wanted) => {
+            put(text, b"to ");
+            seen.put(text);
+            put(text, b", wanted ");
+            wanted.put(text);
+        }
+    }
+}
+
+/// Puts a finding, without the end of its line.
+pub(crate) fn put_finding<F: Family>(text: &mut Text, finding: Finding<F::Address>)
+where
+    F::Address: LineKey,
+    requires { array_vec_len text.old + 204 ≤ 4096 }
+    ensures text { text.new.items ≡ text.old.items ++ spec.finding_text F.Address.family (numbered_finding F.Address.number finding) }
+    ensures room { array_vec_len text.new ≤ array_vec_len text.old + 204 }
+{
+    match finding {
+        Finding::Missing(moment, asked) => {
+            put_moment(text, moment, b" missing ");
+            put_asked::<F>(text, asked);
+        }
+        Finding::Extra(moment, asked, _) => {
+            put_moment(text, moment, b" extra ");
+            put_asked::<F>(text, asked);
+        }
+        Finding::Differs(moment, asked, difference) => {
+            put_moment(text, moment, b" differs ");
+            put_asked::<F>(text, asked);
+            put(text, b": ");
+            put_difference(text, difference);
+        }
+        Finding::Interval(moment, passed, wanted) => {
+            put_moment(text, moment, b" general after ");
+            put_interval(text, passed, wanted);
+        }
+        Finding::Silence(moment, passed, wanted) => {
+            put_moment(text, moment, b" general none for ");
+            put_interval(text, passed, wanted);
+        }
+    }
+}
+
+/// Puts a time, and the one that is wanted.
+#[tactic(auto, unfolding(crate::specs::FindingLines::interval_text))]
+fn put_interval(text: &mut Text, passed: u64, wanted: u64)
+    requires { array_vec_len text.old + 49 ≤ 4096 }
+    ensures text { text.new.items ≡ text.old.items ++ spec.interval_text passed wanted }
+    ensures room { array_vec_len text.new ≤ array_vec_len text.old + 49 }
+{
+    put_decimal(text, passed);
+    put(text, b", wanted ");
+    put_decimal(text, wanted);
+}
+
+/// Puts the section of RFC 3376 or the one of RFC 3810, by the family.
+fn put_of_family<K: LineKey>(text: &mut Text, igmp: &[u8], mld: &[u8])
+    requires { array_vec_len text.old + length igmp.now + length mld.now ≤ 4096 }
+    ensures text { text.new.items ≡ text.old.items ++ spec.of_family K.family igmp.now mld.now }
+    ensures room { array_vec_len text.new ≤ array_vec_len text.old + length igmp.now + length mld.now }
+{
+    put(text, if K::current_version() == 3 { igmp } else { mld });
+}
+
+/// Puts the section about when queries go.
+fn put_sending_section<K: LineKey>(text: &mut Text, asked: Asked<K>)
+    requires { array_vec_len text.old + 14 ≤ 4096 }
+    ensures text { text.new.items ≡ text.old.items ++ spec.sending_section K.family (numbered_asked K.number asked) }
+    ensures room { array_vec_len text.new ≤ array_vec_len text.old + 14 }
+{
+    match asked {
+        Asked::AllGroups => put_of_family::<K>(text, b"6.6.2", b"7.6.2"),
+        Asked::Group(_) => put_of_family::<K>(text, b"6.6.3.1", b"7.6.3.1"),
+        Asked::Source(..) => put_of_family::<K>(text, b"6.6.3.2", b"7.6.3.2"),
+    }
+}
+
+/// Puts the section about a response.
+fn put_response_section<K: LineKey>(text: &mut Text, asked: Asked<K>)
+    requires { array_vec_len text.old + 14 ≤ 4096 }
+    ensures text { text.new.items ≡ text.old.items ++ spec.response_section K.family (numbered_asked K.number asked) }
+    ensures room { array_vec_len text.new ≤ array_vec_len text.old + 14 }
+{
+    match asked {
+        Asked::AllGroups => put_of_family::<K>(text, b"8.3", b"9.3"),
+        _ => put_of_family::<K>(text, b"8.8", b"9.8"),
+    }
+}
+
+/// Puts the section about the S flag.
+fn put_suppress_section<K: LineKey>(text: &mut Text, asked: Asked<K>)
+    requires { array_vec_len text.old + 14 ≤ 4096 }
+    ensures text { text.new.items ≡ text.old.items ++ spec.suppress_section K.family (numbered_asked K.number asked) }
+    ensures room { array_vec_len text.new ≤ array_vec_len text.old + 14 }
+{
+    match asked {
+        Asked::AllGroups => put_of_family::<K>(text, b"4.1.5", b"5.1.7"),
+        other => put_sending_section(text, other),
+    }
+}
+
+/// Puts the section about a field.
+fn put_field_section<K: LineKey>(text: &mut Text, asked: Asked<K>, difference: Difference<K>)
+    requires { array_vec_len text.old + 14 ≤ 4096 }
+    ensures text { text.new.items ≡ text.old.items
+        ++ spec.field_section K.family (numbered_asked K.number asked) (numbered_difference K.number difference) }
+    ensures room { array_vec_len text.new ≤ array_vec_len text.old + 14 }
+{
+    match difference {
+        Difference::Version(..) => put_of_family::<K>(text, b"7.1", b"8.1"),
+        Difference::Response(..) => put_response_section(text, asked),
+        Difference::Suppress(..) => put_suppress_section(text, asked),
+        Difference::Robustness(..) => put_of_family::<K>(text, b"4.1.6", b"5.1.8"),
+        Difference::QueryInterval(..) => put_of_family::<K>(text, b"4.1.7", b"5.1.9"),
+        Difference::Destination(..) => put_of_family::<K>(text, b"4.1.12", b"5.1.15"),
+    }
+}
+
+/// Puts the section that wants it otherwise than a finding says.
+fn put_section<K: LineKey>(text: &mut Text, finding: Finding<K>)
+    requires { array_vec_len text.old + 14 ≤ 4096 }
+    ensures text { text.new.items ≡ text.old.items ++ spec.section_of K.family (numbered_finding K.number finding) }
+    ensures room { array_vec_len text.new ≤ array_vec_len text.old + 14 }
+{
+    match finding {
+        Finding::Missing(_, asked) | Finding::Extra(_, asked, true) => {
+            put_sending_section(text, asked)
+        }
+        Finding::Extra(_, _, false) => put_of_family::<K>(text, b"6.6.2", b"7.6.2"),
+        Finding::Differs(_, asked, difference) => put_field_section(text, asked, difference),
+        Finding::Interval(..) | Finding::Silence(..) => put_of_family::<K>(text, b"8.2", b"9.2"),
+    }
+}
+
+/// Puts the section behind a finding, where it is to stand there, and ends the line.
+pub(crate) fn put_citation<K: LineKey>(text: &mut Text, cite: bool, finding: Finding<K>)
+    requires { array_vec_len text.old + 50 ≤ 4096 }
+    ensures text { text.new.items ≡ text.old.items ++ spec.citation_text K.family cite (numbered_finding K.number finding) }
+    ensures room { array_vec_len text.new ≤ array_vec_len text.old + 50 }
+{
+    if cite {
+        put(text, b" (RFC ");
+        put_of_family::<K>(text, b"3376", b"3810");
+        put(text, b" section ");
+        put_section(text, finding);
+        put(text, b")");
+    }
+    put(text, b"\n");
+}
+
+/// Puts the line of what was counted.
+pub(crate) fn put_totals(text: &mut Text, totals: Totals)
+    requires { array_vec_len text.old + 120 ≤ 4096 }
+    ensures { text.new.items ≡ text.old.items ++ spec.totals_line totals }
+{
+    put_count(text, b"checked general ", totals.general);
+    put_count(text, b" specific ", totals.specific);
+    put_count(text, b": ", totals.findings);
+    put(text, b" findings\n");
+}
+
+/// Puts a count behind its name.
+#[tactic(auto, unfolding(crate::specs::FindingLines::count_text))]
+fn put_count(text: &mut Text, name: &[u8], count: u64)
+    requires { array_vec_len text.old + 20 + length name.now ≤ 4096 }
+    ensures text { text.new.items ≡ text.old.items ++ spec.count_text name.now count }
+    ensures room { array_vec_len text.new ≤ array_vec_len text.old + 20 + length name.now }
+{
+    put(text, name);
+    put_decimal(text, count);
+}

@@ -1,0 +1,43 @@
+//! The queries in a capture of the router that is checked.
+
+ghost use Rattle.std.specs.Prelude.{◌≡◌};
+ghost use Rattle.mq_check.specs.Queries as spec;
+ghost use Rattle.mq_check.specs.Numbered.{numbered_query_if};
+
+use mq_link::{Config, Family};
+use mq_replay::{CapturedDatagram, CapturedFamily, LineKey};
+use mq_wire::{Message, Query};
+
+/// The query that a datagram is, where it comes from the router that is checked and hosts act on it.
+pub(crate) fn query_seen<'a, F: CapturedFamily>(
+    config: &Config<F>,
+    datagram: &CapturedDatagram<'a, F::Envelope>,
+) -> Option<Query<'a, F::Address>>
+where
+    F::Address: LineKey,
+    ensures { numbered_query_if F.Address.number result
+        ≡ spec.query_seen config.now (record { envelope = F.envelope_of datagram.now.envelope; body = datagram.now.body.now }) }
+{
+    config.is_faultless();
+    if !F::is_same(F::source(&datagram.envelope), config.own()) {
+        return None;
+    }
+    if F::envelope_fault(&datagram.envelope).is_some() {
+        return None;
+    }
+    query_spelled::<F>(&datagram.envelope, datagram.body)
+}
+
+/// The query that the bytes of a datagram spell.
+#[tactic(auto, unfolding(crate::specs::Queries::query_spelled))]
+pub(crate) fn query_spelled<'a, F: Family>(
+    envelope: &F::Envelope,
+    body: &'a [u8],
+) -> Option<Query<'a, F::Address>>
+    ensures { numbered_query_if F.Address.number result ≡ spec.query_spelled F.FAMILY (F.envelope_of envelope.now) body.entry.now }
+{
+    match F::read(envelope, body) {
+        Ok(Message::Query(query)) => Some(query),
+        _ => None,
+    }
+}

@@ -1,0 +1,103 @@
+//! Findings on their way to a writer.
+
+ghost use Rattle.std.specs.Prelude.{◌≡◌, ◌+◌, ◌-◌, ◌^◌, ◌||◌, [], ◌∷◌, ◌++◌, IfOk, is_err, min};
+ghost use Rattle.mq_count.specs.Streams.{inner_of, has_failed};
+ghost use Rattle.mq_replay.specs.Printing.{Puts};
+ghost use Rattle.mq_check.specs.FindingLines.{finding_line, totals_line};
+ghost use Rattle.mq_check.specs.Numbered.{numbered_finding};
+ghost use Rattle.mq_check.specs.Checking.{counted_up};
+
+use crate::finding::Finding;
+use crate::finding_lines::{put_citation, put_finding, put_totals};
+use crate::totals::Totals;
+use mq_count::Watched;
+use mq_link::Family;
+use mq_replay::{LineFault, LineKey, flush, make_room};
+use mq_text::Text;
+use std::io::Write;
+use std::marker::Model;
+
+/// The text of findings that isn't written yet, whether the sections stand in it, and how many were told.
+#[derive(Drop)]
+pub(crate) struct Told {
+    buffer: Text,
+    cite: bool,
+    count: u64,
+}
+
+impl Model for Told {
+    ghost use Rattle.mq_check.specs.Telling.{ToldState};
+
+    ghost Value = { ToldState };
+
+    ghost view = { λ t. record { held = t.buffer.items; cite = t.cite; count = t.count } };
+}
+
+impl Told {
+    /// Nothing told.
+    pub(crate) fn new(cite: bool) -> Told
+        ensures { result ≡ record { held = []; cite = cite; count = 0 } }
+    {
+        Told {
+            buffer: Text::new(),
+            cite,
+            count: 0,
+        }
+    }
+
+    /// How many findings were told.
+    pub(crate) fn count(&self) -> u64
+        ensures { result ≡ self.now.count }
+    {
+        self.count
+    }
+
+    /// Tells a finding.
+    pub(crate) fn tell<F: Family, W: Write>(
+        &mut self,
+        finding: Finding<F::Address>,
+        writer: &mut Watched<W>,
+    ) -> Result<(), LineFault>
+    where
+        F::Address: LineKey,
+        ensures text { Puts
+            (W.contents (inner_of writer.old)) (W.contents (inner_of writer.new))
+            self.old.held self.new.held (finding_line F.Address.family self.old.cite (numbered_finding F.Address.number finding)) result }
+        ensures cite { self.new.cite ≡ self.old.cite }
+        ensures count { IfOk result (λ _. self.new.count ≡ counted_up self.old.count) }
+        ensures failed { has_failed writer.new ≡ has_failed writer.old || is_err result }
+    {
+        make_room(&mut self.buffer, writer)?;
+        put_finding::<F>(&mut self.buffer, finding);
+        put_citation(&mut self.buffer, self.cite, finding);
+        self.count = self.count.saturating_add(1);
+        Ok(())
+    }
+
+    /// Tells what was counted.
+    pub(crate) fn tell_totals<W: Write>(
+        &mut self,
+        totals: Totals,
+        writer: &mut Watched<W>,
+    ) -> Result<(), LineFault>
+        ensures text { Puts
+            (W.contents (inner_of writer.old)) (W.contents (inner_of writer.new))
+            self.old.held self.new.held (totals_line totals) result }
+        ensures failed { has_failed writer.new ≡ has_failed writer.old || is_err result }
+    {
+        make_room(&mut self.buffer, writer)?;
+        put_totals(&mut self.buffer, totals);
+        Ok(())
+    }
+
+    /// Writes what isn't written yet.
+    pub(crate) fn finish<W: Write>(&mut self, writer: &mut Watched<W>) -> Result<(), LineFault>
+        ensures text { Puts
+            (W.contents (inner_of writer.old)) (W.contents (inner_of writer.new))
+            self.old.held self.new.held [] result }
+        ensures empty { IfOk result (λ _. self.new.held ≡ []) }
+        ensures failed { has_failed writer.new ≡ has_failed writer.old || is_err result }
+    {
+        flush(&mut self.buffer, writer)
+    }
+}

@@ -1,0 +1,232 @@
+//! The command line of `mquerier`, by `clap`: what it asks for, and its help.
+#![tactic(auto)]
+
+mod convert;
+mod replay;
+
+use clap::builder::ValueParser;
+use clap::error::ErrorKind;
+use clap::{Arg, ArgMatches, Command, Error};
+pub use replay::Settings;
+use std::alloc::{AllocError, Global};
+use std::convert::AsStr;
+
+/// What the command line asks for.
+#[derive(Clone, Copy)]
+pub enum Request<'a> {
+    /// The line of one message, whose bytes are given in hexadecimal.
+    Message {
+        /// The message's protocol.
+        protocol: Protocol,
+        /// The bytes, two digits each.
+        hex: &'a str,
+        /// The source of the packet, where it is given.
+        from: Option<&'a str>,
+        /// The destination of the packet, where it is given.
+        to: Option<&'a str>,
+    },
+    /// The capture as a classic one of Ethernet, as `show` and `replay` read it.
+    Convert {
+        /// The number of the interface whose packets are written, where one is given; else all are.
+        interface: Option<u64>,
+        /// The network that the outermost tag of the packets that are written names, where one is given.
+        vlan: Option<u64>,
+        /// The file that the capture is in.
+        file: Option<&'a str>,
+    },
+    /// The listing of the capture.
+    Show {
+        /// The file that the capture is in.
+        file: Option<&'a str>,
+    },
+    /// What a querier makes of the capture.
+    Replay {
+        /// The querier's protocol.
+        protocol: Protocol,
+        /// The querier's own address.
+        own: &'a str,
+        /// Its variables and limits.
+        settings: Settings,
+        /// The moment up to which it runs at least, in milliseconds from the first packet, where it is given.
+        until: Option<u64>,
+        /// The file that the capture is in.
+        file: Option<&'a str>,
+    },
+}
+
+impl<'a> Request<'a> {
+    /// The name of the file that is asked for in place of standard input.
+    pub fn file(&self) -> Option<&'a str> {
+        let file = match self {
+            Request::Message { .. } => None,
+            Request::Convert { file, .. } | Request::Show { file } | Request::Replay { file, .. } =>
+                { *file }
+        };
+        match file {
+            Some("-") | None => None,
+            Some(name) => Some(name),
+        }
+    }
+}
+
+/// A protocol of messages.
+#[derive(Clone, Copy)]
+pub enum Protocol {
+    Igmp,
+    Mld,
+}
+
+/// What the words ask for, the program's name the first of them, or what `clap` says of them.
+pub fn request_of<'a, S: AsStr>(alloc: Global, words: &'a [S]) -> Result<Request<'a>, Error> {
+    let mut command = command(alloc)?;
+    asked(&mut command, words)
+}
+
+// (The command and what it matched are locals of two functions: a proof over both takes far longer.)
+fn asked<'a, S: AsStr>(command: &mut Command<'a>, words: &'a [S]) -> Result<Request<'a>, Error> {
+    let matches = command.try_get_matches_from_mut(words)?;
+    match request_in(&matches) {
+        Some(request) => Ok(request),
+        None => Err(command.error(ErrorKind::MissingSubcommand, "a command is needed")?),
+    }
+}
+
+/// What the words that matched ask for. (`clap` lets pass none without a command and the words that it needs.)
+fn request_in<'a>(matches: &ArgMatches<'a>) -> Option<Request<'a>> {
+    match matches.subcommand()? {
+        ("message", words) => message_in(words),
+        ("convert", words) => Some(convert::request_in(words)),
+        ("show", words) => Some(Request::Show {
+            file: words.get_str("FILE"),
+        }),
+        (_, words) => replay::request_in(words),
+    }
+}
+
+fn message_in<'a>(words: &ArgMatches<'a>) -> Option<Request<'a>> {
+    Some(Request::Message {
+        protocol: protocol_named(words.get_str("FAMILY")),
+        hex: words.get_str("HEX")?,
+        from: words.get_str("FROM"),
+        to: words.get_str("TO"),
+    })
+}
+
+/// The protocol of a name. (`clap` lets pass only those that are listed.)
+fn protocol_named(name: Option<&str>) -> Protocol {
+    match name {
+        Some("mld") => Protocol::Mld,
+        _ => Protocol::Igmp,
+    }
+}
+
+const ABOUT: &str = "Shows what hosts and routers say to each other about multicast groups.";
+
+const AFTER_HELP: &str = "\
+Examples:
+  mquerier message igmp 1600f8faef010203
+      prints: report v2 group 239.1.2.3
+  mquerier show < capture.pcap
+      prints a line for each packet of the capture
+  mquerier replay igmp --own 10.0.0.9 < capture.pcap
+      prints what a querier at 10.0.0.9 sends and learns, had it been there
+  mquerier convert capture.pcapng | mquerier show
+      the same of a capture in another form, as Wireshark and tcpdump -i any save them
+
+Status: 0 where all is done, 1 where the input is faulty, the output fails or memory runs out, 2
+where the command line is faulty or help is asked for.";
+
+fn command<'a>(alloc: Global) -> Result<Command<'a>, AllocError> {
+    Command::new(alloc, "mquerier")
+        .about(ABOUT)
+        .after_help(AFTER_HELP)
+        .subcommand_required(true)
+        .arg_required_else_help(true)
+        .subcommand(message(alloc)?)?
+        .subcommand(convert::command(alloc)?)?
+        .subcommand(show(alloc)?)?
+        .subcommand(replay::command(alloc)?)
+}
+
+const MESSAGE_ABOUT: &str = "Prints what one message says, or its first fault";
+
+const MESSAGE_AFTER_HELP: &str = "\
+Examples:
+  mquerier message igmp 1600f8faef010203
+      prints: report v2 group 239.1.2.3
+  mquerier message igmp 1700f7faef010203
+      prints: leave group 239.1.2.3
+  mquerier message igmp 2200e5f90000000105000001e80101010a000001
+      prints: report v3 records 1 [ALLOW 232.1.1.1 10.0.0.1]
+  mquerier message mld --from fe80::2 --to ff02::16 8f002efe0000000105000001ff0e\
+000000000000000000000000123420010db8000000000000000000000001
+      prints: report v2 records 1 [ALLOW ff0e::1234 2001:db8::1]
+  mquerier message igmp 1600e9ff
+      prints: fault 1 truncated at 4
+
+The checksum of a message of MLD covers the source and the destination of its packet, so both are
+needed for mld. For igmp they are read, and not used.
+
+A fault is one of: 1 truncated at N, where the field that begins at byte N isn't whole; 2 checksum;
+3 unknown type; 4 query length. Its line goes to standard output too, and the status is then 1.";
+
+fn message<'a>(alloc: Global) -> Result<Command<'a>, AllocError> {
+    Command::new(alloc, "message")
+        .about(MESSAGE_ABOUT)
+        .after_help(MESSAGE_AFTER_HELP)
+        .arg(family(alloc).help("The protocol of the message"))?
+        .arg(hex(alloc))?
+        .arg(address(alloc, "FROM", "from").help("The source of the message's packet"))?
+        .arg(address(alloc, "TO", "to").help("The destination of the message's packet"))
+}
+
+/// An option with an address.
+fn address<'a>(alloc: Global, id: &'a str, name: &'a str) -> Arg<'a> {
+    Arg::new(alloc, id).long(name).value_name("ADDR")
+}
+
+fn family<'a>(alloc: Global) -> Arg<'a> {
+    Arg::new(alloc, "FAMILY")
+        .required(true)
+        .value_parser(ValueParser::Names(FAMILIES.as_slice()))
+}
+
+static FAMILIES: [&str; 2] = ["igmp", "mld"];
+
+fn hex<'a>(alloc: Global) -> Arg<'a> {
+    Arg::new(alloc, "HEX")
+        .required(true)
+        .help("The message in hexadecimal, without the IP header")
+}
+
+const SHOW_ABOUT: &str = "Prints a line for each packet of a capture";
+
+const SHOW_AFTER_HELP: &str = "\
+Example:
+  mquerier show < capture.pcap
+      prints, for a packet: 1 0 10.0.0.1 igmp report v2 group 239.1.2.3
+
+A line begins with the packet's number and its moment, in milliseconds from the first packet. Then comes
+the source of the packet with what its IGMP or MLD message says, or the message's fault; or one of: other,
+for a packet of something else; cut, where the capture has less of it than it says; fragment.
+
+To get a capture:
+  tcpdump -i INTERFACE -w capture.pcap 'igmp or icmp6 or (ip6 and ip6[6] = 0)'
+It has to be a classic capture file of Ethernet or raw IP. mquerier convert makes one of other kinds.
+
+Where the capture has a fault, the lines of all packets before it are printed, standard error says the
+fault, and the status is 1. The fault is one of: 1 a read failed; 2 no capture; 3 another version than
+2.4; 4 another link type; 5 a header is cut; 6 data are cut; 7 a packet of more than 262144 bytes; 8 too
+many packets.";
+
+fn show<'a>(alloc: Global) -> Result<Command<'a>, AllocError> {
+    Command::new(alloc, "show")
+        .about(SHOW_ABOUT)
+        .after_help(SHOW_AFTER_HELP)
+        .arg(file(alloc))
+}
+
+/// The file that a capture is in.
+fn file<'a>(alloc: Global) -> Arg<'a> {
+    Arg::new(alloc, "FILE").help("The capture; - or none is standard input")
+}

@@ -1,0 +1,189 @@
+//! The command `replay`: its options, and what it asks for.
+
+use crate::{Request, address, family, file, protocol_named};
+use clap::{Arg, ArgAction, ArgMatches, Command, value_parser};
+use std::alloc::{AllocError, Global};
+
+/// The variables and limits of a querier, each where it is given.
+#[derive(Clone, Copy)]
+pub struct Settings {
+    /// The Robustness Variable.
+    pub robustness: Option<u32>,
+    /// The Query Interval in seconds.
+    pub query_seconds: Option<u32>,
+    /// The Query Response Interval in milliseconds.
+    pub response_interval: Option<u32>,
+    /// The Last Member (Last Listener) Query Interval in milliseconds.
+    pub last_member_interval: Option<u32>,
+    /// How many groups it may hold.
+    pub groups: Option<u32>,
+    /// How many sources a group may have.
+    pub group_sources: Option<u32>,
+    /// How many sources all groups may have together.
+    pub sources: Option<u32>,
+    /// How many schedules of specific queries there may be.
+    pub scheduled: Option<u32>,
+    /// Whether the source-specific range is kept for source-specific multicast.
+    pub source_specific: bool,
+}
+
+/// What the words of the command ask for.
+pub(crate) fn request_in<'a>(words: &ArgMatches<'a>) -> Option<Request<'a>> {
+    Some(Request::Replay {
+        protocol: protocol_named(words.get_str("FAMILY")),
+        own: words.get_str("own")?,
+        settings: settings_in(words),
+        until: words.get_one::<u64>("until"),
+        file: words.get_str("FILE"),
+    })
+}
+
+fn settings_in(words: &ArgMatches<'_>) -> Settings {
+    Settings {
+        robustness: words.get_one::<u32>("rv"),
+        query_seconds: words.get_one::<u32>("qi"),
+        response_interval: words.get_one::<u32>("qri"),
+        last_member_interval: words.get_one::<u32>("lmqi"),
+        groups: words.get_one::<u32>("groups"),
+        group_sources: words.get_one::<u32>("group-sources"),
+        sources: words.get_one::<u32>("sources"),
+        scheduled: words.get_one::<u32>("scheduled"),
+        source_specific: words.get_flag("ssm"),
+    }
+}
+
+const ABOUT: &str = "Runs a querier over a capture, and prints what it does";
+
+const AFTER_HELP: &str = "\
+Example:
+  mquerier replay igmp --own 10.0.0.9 < capture.pcap
+      prints, where the capture has one packet, a report of 10.0.0.1 for 239.1.2.3:
+          0 send 224.0.0.1 1164ec1e00000000027d0000
+          0 receive 1 10.0.0.1 taken 1 0 0
+          end 0 querier
+          group 239.1.2.3 exclude 260000 v2 260000
+          counts received 1 dropped 0 applied 1 ignored 0 refused 0 sent 1 unsent 0
+
+The querier starts with the first packet, and hears each message of its protocol in the capture. What it
+sends changes nothing in the capture. A moment T is in milliseconds from the first packet.
+
+Lines:
+  T send ADDR HEX               a query that it sends to ADDR, in hexadecimal
+  T receive N ADDR taken A I R  packet N, a message from ADDR: how many of its records are applied, ignored,
+                                and refused since there is a limit
+  T receive N ADDR dropped K    the same, dropped for reason K
+  T skip N WHY                  packet N, which has no message of the protocol: other, cut or fragment
+  end T WHO                     the end, and who is querier then: querier, which is this one, or other
+  group G include ..            a group at the end, in INCLUDE mode
+  group G exclude T ..          or in EXCLUDE mode, with the end of its group timer; then, for both:
+                                  S=T   a source, and when its timer ends
+                                  !S    a source that isn't forwarded
+                                  v1 T  until when there are taken to be hosts of version 1
+                                  v2 T  the same of version 2
+  counts ..                     what was received, and so on, in all
+
+Reasons: 1 cut short; 2 checksum; 3 unknown type; 4 length of a query; 5 source, which for mld has to be
+link-local; 6 hop limit, which for mld has to be 1; 7 no Router Alert, for mld; 8 a query from the querier's
+own address, or from 0.0.0.0; 9 a query of IGMPv1; 10 an older message for a group that no host reports,
+as 224.0.0.1.
+
+A fault of the configuration has status 2. It is the first of: 1 --rv; 2 --qi; 3 --qri; 4 --lmqi; 5 --groups,
+--group-sources, --sources or --scheduled; 6 --own is no address of a router: for igmp 0.0.0.0, or 224.0.0.0
+and above; for mld one outside of fe80::/10.
+
+To get a capture:
+  tcpdump -i INTERFACE -w capture.pcap 'igmp or icmp6 or (ip6 and ip6[6] = 0)'
+It has to be a classic capture file of Ethernet or raw IP. mquerier convert makes one of other kinds.
+
+Where the capture has a fault, the lines of all packets before it are printed, without groups and totals,
+standard error says the fault, and the status is 1. The fault is one of: 1 a read failed; 2 no capture; 3
+another version than 2.4; 4 another link type; 5 a header is cut; 6 data are cut; 7 a packet of more than
+262144 bytes; 8 too many packets. So it is with a gap: a packet, or the end, more than a day behind the packet
+before it. Cut a capture with a gap in two.";
+
+/// The command with its options.
+pub(crate) fn command<'a>(alloc: Global) -> Result<Command<'a>, AllocError> {
+    let command = Command::new(alloc, "replay")
+        .about(ABOUT)
+        .after_help(AFTER_HELP)
+        .arg(family(alloc).help("The querier's protocol"))?
+        .arg(file(alloc))?
+        .arg(own(alloc))?;
+    with_limits(alloc, with_variables(alloc, command)?)?
+        .arg(ssm(alloc))?
+        .arg(until(alloc))
+}
+
+fn own<'a>(alloc: Global) -> Arg<'a> {
+    address(alloc, "own", "own").required(true).help(
+        "The querier's own address; for mld a link-local one, in fe80::/10",
+    )
+}
+
+fn with_variables<'a>(alloc: Global, command: Command<'a>) -> Result<Command<'a>, AllocError> {
+    command
+        .arg(number(alloc, "rv", "N").help(RV_HELP))?
+        .arg(number(alloc, "qi", "S").help(QI_HELP))?
+        .arg(number(alloc, "qri", "MS").help(QRI_HELP))?
+        .arg(number(alloc, "lmqi", "MS").help(LMQI_HELP))
+}
+
+const RV_HELP: &str = "Robustness Variable, 1 to 7 [default: 2]";
+
+const QI_HELP: &str = "Query Interval in seconds, 1 to 31744 [default: 125]";
+
+const QRI_HELP: &str = "\
+Query Response Interval in milliseconds, below --qi; with --qi of 10 or less
+give --qri too; 100 to 3174400 for igmp, 1 to 8387584 for mld
+[default: 10000]";
+
+const LMQI_HELP: &str = "\
+Last Member (mld: Last Listener) Query Interval in milliseconds; 100 to
+3174400 for igmp, 1 to 8387584 for mld [default: 1000]";
+
+fn with_limits<'a>(alloc: Global, command: Command<'a>) -> Result<Command<'a>, AllocError> {
+    command
+        .arg(number(alloc, "groups", "N").help(GROUPS_HELP))?
+        .arg(number(alloc, "group-sources", "N").help(GROUP_SOURCES_HELP))?
+        .arg(number(alloc, "sources", "N").help(SOURCES_HELP))?
+        .arg(number(alloc, "scheduled", "N").help(SCHEDULED_HELP))
+}
+
+const GROUPS_HELP: &str = "Limit of the groups, 1 to 65535 [default: 1024]";
+
+const GROUP_SOURCES_HELP: &str = "\
+Limit of a group's sources, 1 to 1024 [default: 366 for igmp, 89 for mld]";
+
+const SOURCES_HELP: &str = "\
+Limit of all groups' sources together, 1 to 65535 [default: 16384]";
+
+const SCHEDULED_HELP: &str = "\
+Limit of the schedules of specific queries, of which a group has up to two,
+1 to 65535 [default: 256]";
+
+/// An option with a number, whose id is its name.
+fn number<'a>(alloc: Global, name: &'a str, unit: &'a str) -> Arg<'a> {
+    Arg::new(alloc, name)
+        .long(name)
+        .value_name(unit)
+        .value_parser(value_parser!(u32))
+}
+
+fn ssm<'a>(alloc: Global) -> Arg<'a> {
+    Arg::new(alloc, "ssm")
+        .long("ssm")
+        .action(ArgAction::SetTrue)
+        .help(SSM_HELP)
+}
+
+const SSM_HELP: &str = "\
+Keep 232.0.0.0/8 (igmp) or ff3x::/32 (mld) for source-specific multicast:
+EXCLUDE and older messages for groups there are ignored";
+
+fn until<'a>(alloc: Global) -> Arg<'a> {
+    Arg::new(alloc, "until")
+        .long("until")
+        .value_name("MS")
+        .value_parser(value_parser!(u64))
+        .help("Run at least to this moment, at most 2^53 [default: the last packet's]")
+}

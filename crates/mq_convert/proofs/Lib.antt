@@ -1,0 +1,17 @@
+pub mod AsItWas
+pub mod Begun
+pub mod Converted
+pub mod FaultsStay
+pub mod Filled
+pub mod KeptBytes
+pub mod KeptHeader
+pub mod KeptRecords
+pub mod NextBlocks
+pub mod OneFile
+pub mod Options
+pub mod Powers
+pub mod Printed
+pub mod SoFar
+pub mod TagWalk
+pub mod Tallied
+pub mod WholeFiles

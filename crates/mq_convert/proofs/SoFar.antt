@@ -1,0 +1,195 @@
+-- What is known of a file of which some blocks were read, and whose packets were put.
+use Rattle.std.proofs.Common.{◌≡◌, ℕ, ◌+◌, ◌≤◌, List, [], ◌∷◌, ◌++◌, length, take, Option, Some, None, Result, Ok, Err, refl, ap, sym, subst, ◌∙◌, inl, inr, arith, append-nil, append_assoc, length-append}
+use Rattle.std.specs.Prelude.{option_to_list}
+use Rattle.std.specs.List.{flat_map}
+use Rattle.std.proofs.lemmas.Grind.{flat_map-append}
+use Rattle.std.proofs.Math.Bool.{or-false, or-true}
+use Rattle.mq_pcap.specs.Filling.{InputState, Takes}
+use Rattle.mq_pcap.proofs.Filled.{Takes-nil, Takes-trans}
+use Rattle.mq_replay.specs.Printing.{Passes, Puts}
+use Rattle.mq_replay.proofs.Passing.{both_passed, broken_behind}
+use Rattle.mq_convert.specs.declared.choice.Choice.{Choice}
+use Rattle.mq_convert.specs.declared.fault.BlockFault.{BlockFault}
+use Rattle.mq_convert.specs.declared.fault.ConvertFault.{ConvertFault}
+use Rattle.mq_convert.specs.declared.fault.ConvertFault.TheVariants as answer
+use Rattle.mq_convert.specs.declared.packet.Packet.{Packet}
+use Rattle.mq_convert.specs.declared.unread.Unread.{Unread}
+use Rattle.mq_convert.specs.Blocks.{Captured, block_in}
+use Rattle.mq_convert.specs.Contexts.{ContextState, at_start}
+use Rattle.mq_convert.specs.Converting.{IsEndedBy}
+use Rattle.mq_convert.specs.Files.{AreBlocks, EndsBy, endless}
+use Rattle.mq_convert.specs.Putting.{IsPut, PutsCapture, ReadsBlock, block_text, held_of}
+use Rattle.mq_convert.specs.Reading.{NextBlock}
+use Rattle.mq_convert.specs.Records.{converted, file_header, packets_of, record_of, unread_link, unread_links}
+use Rattle.mq_convert.specs.Sizes.{IsWhole}
+use Rattle.mq_convert.specs.Tallies.{Tallies}
+use Rattle.mq_convert.proofs.Begun.{begun_ends}
+use Rattle.mq_convert.proofs.NextBlocks.{some_head}
+
+-- one block more
+AreBlocks-more : (start mid after : ContextState) (bytes first : List ℕ) (blocks : List (Option Captured)) (held : Option Captured)
+    → AreBlocks start bytes blocks mid → IsWhole mid.kind first → block_in mid first ≡ Ok (after, held)
+    → AreBlocks start (bytes ++ first) (blocks ++ (held ∷ [])) after
+AreBlocks-more start mid after bytes first [] held are whole is =
+    let P : ContextState → Type 0 = λ s. AreBlocks s (bytes ++ first) (held ∷ []) after in
+    subst P are.1 (first, [], after, ap (λ (xs : List ℕ). xs ++ first) are.0 ∙ sym (append-nil first), whole, is, (refl, refl))
+AreBlocks-more start mid after bytes first (block ∷ blocks) held are whole is = (
+  are.0,
+  are.1 ++ first,
+  are.2,
+  ap (λ (xs : List ℕ). xs ++ first) are.3 ∙ append_assoc are.0 are.1 first,
+  are.4,
+  are.5,
+  AreBlocks-more are.2 mid after are.1 first blocks held are.6 whole is,
+)
+
+packets_of-more : (blocks : List (Option Captured)) (held : Option Captured) → packets_of (blocks ++ (held ∷ [])) ≡ packets_of blocks ++ option_to_list held
+packets_of-more blocks held =
+    flat_map-append option_to_list blocks (held ∷ []) ∙ ap (λ (xs : List Captured). packets_of blocks ++ xs) (append-nil (option_to_list held))
+
+converted-more : (choice : Choice) (blocks : List (Option Captured)) (held : Option Captured)
+    → converted choice (packets_of (blocks ++ (held ∷ []))) ≡ converted choice (packets_of blocks) ++ block_text choice held
+converted-more choice blocks held =
+    ap (converted choice) (packets_of-more blocks held)
+    ∙ ap (λ (xs : List ℕ). file_header ++ xs) (flat_map-append (record_of choice) (packets_of blocks) (option_to_list held))
+    ∙ sym (append_assoc file_header (flat_map (record_of choice) (packets_of blocks)) (block_text choice held))
+
+links-more : (choice : Choice) (blocks : List (Option Captured)) (held : Option Captured)
+    → unread_links choice (packets_of (blocks ++ (held ∷ []))) ≡ unread_links choice (packets_of blocks) ++ unread_links choice (option_to_list held)
+links-more choice blocks held =
+    ap (unread_links choice) (packets_of-more blocks held) ∙ flat_map-append (unread_link choice) (packets_of blocks) (option_to_list held)
+
+-- so many blocks were read, and those of their packets whose link type isn't read counted
+pub record IsReadTo (choice : Choice) (old new : InputState) (context : ContextState) (number : ℕ) (unread : Unread) : Type 0 where
+  pub bytes : List ℕ
+  pub blocks : List (Option Captured)
+  pub takes : Takes old new bytes
+  pub are_blocks : AreBlocks at_start bytes blocks context
+  pub count : number ≡ length blocks
+  pub tallied : Tallies (unread_links choice (packets_of blocks)) unread
+
+-- the text of what was read
+abbrev pub text_of : (choice : Choice) (old new : InputState) (context : ContextState) (number : ℕ) (unread : Unread) → IsReadTo choice old new context number unread → List ℕ
+text_of choice old new context number unread r = converted choice (packets_of r.blocks)
+
+abbrev pub nothing_read : (choice : Choice) (s : InputState) (context : ContextState) (unread : Unread) → context ≡ at_start → Tallies [] unread → IsReadTo choice s s context 0 unread
+nothing_read choice s context unread is tallied = record {
+  bytes = [];
+  blocks = [];
+  takes = Takes-nil s;
+  are_blocks = (refl, is);
+  count = refl;
+  tallied = tallied;
+}
+
+-- a block more was read and put
+next_read : (choice : Choice) (old mid new : InputState) (context after : ContextState) (number size : ℕ) (unread more : Unread) (buffer : List ℕ) (held : Option Captured)
+    → (r : IsReadTo choice old mid context number unread) → NextBlock context.kind number mid new buffer (Ok (Some size)) → block_in context (take size buffer) ≡ Ok (after, held)
+    → ((links : List ℕ) → Tallies links unread → Tallies (links ++ unread_links choice (option_to_list held)) more)
+    → (s : IsReadTo choice old new after (number + 1) more) × (s.blocks ≡ r.blocks ++ (held ∷ []))
+next_read choice old mid new context after number size unread more buffer held r next is tally = (
+  record {
+    bytes = r.bytes ++ next.bytes;
+    blocks = r.blocks ++ (held ∷ []);
+    takes = Takes-trans old mid new r.bytes next.bytes r.takes next.takes;
+    are_blocks = AreBlocks-more at_start context after r.bytes next.bytes r.blocks held r.are_blocks next.answers.4 (ap (block_in context) next.answers.1 ∙ is);
+    count = let count = r.count in omega (arith, count, length-append r.blocks (held ∷ []));
+    tallied = rw links-more (tally (unread_links choice (packets_of r.blocks)) r.tallied);
+  },
+  refl,
+)
+
+-- what the packets that were read come to, where a call ends
+ended_with : (choice : Choice) (old mid new : InputState) (before after : Option (List ℕ)) (held left : List ℕ) (context : ContextState) (number : ℕ) (unread : Unread) (r : IsReadTo choice old mid context number unread)
+    → (bytes : List ℕ) → Takes mid new bytes → number ≤ endless → (end : Option BlockFault) → EndsBy number context bytes end → (it : Result Unread ConvertFault)
+    → IsEndedBy choice r.blocks end (r.bytes ++ bytes) old new it → IsPut before after held left (converted choice (packets_of r.blocks)) it → PutsCapture choice old new before after held left it
+ended_with choice old mid new before after held left context number unread r bytes takes few end ends it ended put = record {
+  bytes = r.bytes ++ bytes;
+  blocks = r.blocks;
+  end = end;
+  takes = Takes-trans old mid new r.bytes bytes r.takes takes;
+  capture = record {
+    front = r.bytes;
+    rest = bytes;
+    context = context;
+    parts = refl;
+    are_blocks = r.are_blocks;
+    few = rw r.count at few;
+    ends = rw r.count at ends;
+  };
+  ended = ended;
+  put = put;
+}
+
+-- the file ended
+pub ended_well : (choice : Choice) (old mid new : InputState) (before after : Option (List ℕ)) (held left : List ℕ) (context : ContextState) (number : ℕ) (unread : Unread) (buffer : List ℕ) (r : IsReadTo choice old mid context number unread)
+    → Passes before after held left (converted choice (packets_of r.blocks)) → mid.failed ≡ old.failed → number ≤ endless → NextBlock context.kind number mid new buffer (Ok None) → PutsCapture choice old new before after held left (Ok unread)
+ended_well choice old mid new before after held left context number unread buffer r passed same few next =
+    ended_with choice old mid new before after held left context number unread r next.bytes next.takes few None (next.answers.0, next.answers.1) (Ok unread)
+    (refl, next.answers.2, r.tallied, next.failed ∙ or-false mid.failed ∙ same) passed
+
+-- a read failed, or the next block has a fault by its size
+pub ended_faulty : (choice : Choice) (old mid new : InputState) (before after : Option (List ℕ)) (held left : List ℕ) (context : ContextState) (number : ℕ) (unread : Unread) (buffer : List ℕ) (e : ConvertFault) (r : IsReadTo choice old mid context number unread)
+    → Passes before after held left (converted choice (packets_of r.blocks)) → mid.failed ≡ old.failed → number ≤ endless → NextBlock context.kind number mid new buffer (Err e) → PutsCapture choice old new before after held left (Err e)
+ended_faulty choice old mid new before after held left context number unread buffer answer.Read r passed same few next =
+    let begun = begun_ends number context next.bytes next.answers in
+    ended_with choice old mid new before after held left context number unread r next.bytes next.takes few begun.0 begun.1 (Err answer.Read) (next.failed ∙ or-true mid.failed) passed
+ended_faulty choice old mid new before after held left context number unread buffer answer.Write r passed same few next = absurd next.answers
+ended_faulty choice old mid new before after held left context number unread buffer answer.Memory r passed same few next = absurd next.answers
+ended_faulty choice old mid new before after held left context number unread buffer (answer.Block n f) r passed same few next =
+    ended_with choice old mid new before after held left context number unread r next.bytes next.takes few (Some f) (inl next.answers.1) (Err (answer.Block n f))
+    (refl, next.answers.0 ∙ r.count, next.answers.2, next.failed ∙ or-false mid.failed ∙ same) passed
+
+-- the next block was read, and what it holds has a fault
+pub ended_within : (choice : Choice) (old mid new : InputState) (before after : Option (List ℕ)) (held left : List ℕ) (context now : ContextState) (number size : ℕ) (unread : Unread) (buffer : List ℕ) (e : ConvertFault) (r : IsReadTo choice old mid context number unread)
+    → Passes before after held left (converted choice (packets_of r.blocks)) → mid.failed ≡ old.failed → NextBlock context.kind number mid new buffer (Ok (Some size)) → ReadsBlock number context now (take size buffer) (Err e)
+    → PutsCapture choice old new before after held left (Err e)
+ended_within choice old mid new before after held left context now number size unread buffer answer.Read r passed same next reads = absurd reads
+ended_within choice old mid new before after held left context now number size unread buffer answer.Write r passed same next reads = absurd reads
+ended_within choice old mid new before after held left context now number size unread buffer answer.Memory r passed same next reads = absurd reads
+ended_within choice old mid new before after held left context now number size unread buffer (answer.Block n f) r passed same next reads =
+    let few = next.answers.0 in
+    ended_with choice old mid new before after held left context number unread r next.bytes next.takes (omega (arith, few)) (Some f)
+    (inr (next.bytes, [], sym (append-nil next.bytes), few, next.answers.4, ap (block_in context) next.answers.1 ∙ reads.1)) (Err (answer.Block n f))
+    (refl, reads.0 ∙ r.count, λ cut. absurd (cc (cut, reads.2)), next.failed ∙ or-false mid.failed ∙ same) passed
+
+-- the next block was read, and what it holds put
+pub next_put : (T E : Type 0) (choice : Choice) (old mid new : InputState) (before now after : Option (List ℕ)) (held more left : List ℕ) (context behind : ContextState) (number size : ℕ) (unread tally : Unread) (buffer : List ℕ) (packet : Option Packet) (it : T)
+    → (r : IsReadTo choice old mid context number unread) → Passes before now held more (converted choice (packets_of r.blocks)) → NextBlock context.kind number mid new buffer (Ok (Some size))
+    → ReadsBlock number context behind (take size buffer) (Ok packet) → Puts {T = T} {E = E} now after more left (block_text choice (held_of (take size buffer) packet)) (Ok it)
+    → ((links : List ℕ) → Tallies links unread → Tallies (links ++ unread_links choice (option_to_list (held_of (take size buffer) packet))) tally)
+    → (s : IsReadTo choice old new behind (number + 1) tally) × Passes before after held left (converted choice (packets_of s.blocks))
+next_put T E choice old mid new before now after held more left context behind number size unread tally buffer packet it r passed next reads put counted =
+    let found = held_of (take size buffer) packet in
+    let s = next_read choice old mid new context behind number size unread tally buffer found r next reads.0 counted in
+    let both = both_passed before now after held more left (converted choice (packets_of r.blocks)) (block_text choice found) passed put in
+    (s.0, rw (s.1, converted-more choice r.blocks found) both)
+
+-- it was read, and what it holds was not put whole
+pub next_broken : (T E : Type 0) (choice : Choice) (old mid new : InputState) (before now after : Option (List ℕ)) (held more left : List ℕ) (context behind : ContextState) (number size : ℕ) (unread : Unread) (buffer : List ℕ) (packet : Option Packet) (e : E)
+    → (r : IsReadTo choice old mid context number unread) → Passes before now held more (converted choice (packets_of r.blocks)) → NextBlock context.kind number mid new buffer (Ok (Some size))
+    → ReadsBlock number context behind (take size buffer) (Ok packet) → Puts {T = T} {E = E} now after more left (block_text choice (held_of (take size buffer) packet)) (Err e)
+    → PutsCapture choice old new before after held left (Err answer.Write)
+next_broken T E choice old mid new before now after held more left context behind number size unread buffer packet e r passed next reads put =
+    let found = held_of (take size buffer) packet in
+    let begun = begun_ends (number + 1) behind [] (inl (some_head behind.kind)) in
+    let count : number + 1 ≡ length (r.blocks ++ (found ∷ [])) = let count = r.count in omega (arith, count, length-append r.blocks (found ∷ [])) in
+    let few = next.answers.0 in
+    let broken = broken_behind before now after held more (converted choice (packets_of r.blocks)) (block_text choice found) passed put in
+    record {
+      bytes = r.bytes ++ next.bytes;
+      blocks = r.blocks ++ (found ∷ []);
+      end = begun.0;
+      takes = Takes-trans old mid new r.bytes next.bytes r.takes next.takes;
+      capture = record {
+        front = r.bytes ++ next.bytes;
+        rest = [];
+        context = behind;
+        parts = sym (append-nil (r.bytes ++ next.bytes));
+        are_blocks = AreBlocks-more at_start context behind r.bytes next.bytes r.blocks found r.are_blocks next.answers.4 (ap (block_in context) next.answers.1 ∙ reads.0);
+        few = omega (arith, few, count);
+        ends = rw (← count) begun.1;
+      };
+      ended = tt;
+      put = rw (converted-more choice r.blocks found) broken;
+    }

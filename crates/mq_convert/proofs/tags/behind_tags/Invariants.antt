@@ -1,0 +1,9 @@
+use Rattle.std.proofs.Common.{◌≡◌, length}
+use Rattle.mq_convert.specs.Frames.{behind_tags}
+use Rattle.mq_convert.proofs.tags.behind_tags.Given as goal
+
+abbrev pub invariant-loop-addresses : goal.invariant-loop-addresses
+invariant-loop-addresses l = behind_tags l.addresses l.kind l.rest ≡ behind_tags l.addresses l.fn.kind l.payload
+
+abbrev pub decreases-loop-addresses : goal.decreases-loop-addresses
+decreases-loop-addresses l = length l.rest

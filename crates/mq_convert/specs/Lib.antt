@@ -1,0 +1,16 @@
+pub mod Blocks
+pub mod Contexts
+pub mod Converting
+pub mod Faults
+pub mod Files
+pub mod Filling
+pub mod Frames
+pub mod Interfaces
+pub mod Laws
+pub mod Moments
+pub mod Plain
+pub mod Putting
+pub mod Reading
+pub mod Records
+pub mod Sizes
+pub mod Tallies

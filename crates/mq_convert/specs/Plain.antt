@@ -1,0 +1,34 @@
+-- Classic captures that are written as they were: of Ethernet without tags, in nanoseconds, the lowest byte first.
+use Rattle.std.specs.Prelude.{◌≡◌, ℕ, ◌+◌, ◌<◌, nat_lt, Bool, true, not, ◌||◌, List, [], ◌∷◌, ◌++◌, length, slice_range, take, None}
+use Rattle.mq_pcap.specs.declared.form.Endian.TheVariants.{Big, Little}
+use Rattle.mq_pcap.specs.declared.form.Form.{Form}
+use Rattle.mq_pcap.specs.declared.form.Fraction.TheVariants.{Nanoseconds}
+use Rattle.mq_pcap.specs.declared.link_type.LinkType.TheVariants.{Ethernet}
+use Rattle.mq_pcap.specs.Capture.{AreRecords, Captured, field}
+use Rattle.mq_convert.specs.declared.choice.Choice.{Choice}
+use Rattle.mq_convert.specs.Frames.{is_tag}
+use Rattle.mq_convert.specs.Moments.{second}
+
+-- all packets are written
+abbrev pub everything : Choice
+everything = record { interface = None; vlan = None }
+
+-- what the header of such a file says
+abbrev pub plain : Form
+plain = record { order = Little; fraction = Nanoseconds; link = Ethernet }
+
+-- the header of such a file with what is looked at: its magic number, its version, and the low 16 bits of its link type. The time
+-- zone and the accuracy of moments are 0, and the snap length is that of all captures that are written.
+abbrev pub looked_at : List ℕ → List ℕ
+looked_at bytes =
+    take 8 bytes ++ (0 ∷ 0 ∷ 0 ∷ 0 ∷ 0 ∷ 0 ∷ 0 ∷ 0 ∷ 0 ∷ 0 ∷ 4 ∷ 0 ∷ []) ++ slice_range bytes 20 22 ++ (0 ∷ 0 ∷ [])
+
+-- a frame has no tag: it ends before its type, or that is another
+abbrev pub is_untagged : List ℕ → Bool
+is_untagged frame = nat_lt (length frame) 14 || not (is_tag (field Big 12 2 frame))
+
+-- no frame has a tag, and the nanoseconds that a record says are less than a second
+abbrev pub ArePlain : (number : ℕ) (bytes : List ℕ) (packets : List Captured) → AreRecords plain number bytes packets None → Type 0
+ArePlain number bytes [] are = Unit {0}
+ArePlain number bytes (packet ∷ packets) are =
+    (field Little 4 4 are.0 < second) × (is_untagged packet.bytes ≡ true) × ArePlain (number + 1) are.1 packets are.5

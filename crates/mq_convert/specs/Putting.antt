@@ -1,0 +1,51 @@
+-- What the parts of a conversion come to that go to a writer by way of a buffer.
+use Rattle.std.specs.Prelude.{◌≡◌, ℕ, false, List, ◌++◌, Option, None, Some, Result, Ok, Err, option_to_list}
+use Rattle.std.specs.List.{flat_map}
+use Rattle.mq_pcap.specs.Filling.{InputState, Takes}
+use Rattle.mq_replay.specs.Printing.{GrowsByBeginning, Passes}
+use Rattle.mq_convert.specs.declared.choice.Choice.{Choice}
+use Rattle.mq_convert.specs.declared.fault.BlockFault.{BlockFault}
+use Rattle.mq_convert.specs.declared.fault.ConvertFault.{ConvertFault}
+use Rattle.mq_convert.specs.declared.fault.ConvertFault.TheVariants as answer
+use Rattle.mq_convert.specs.declared.packet.Packet.{Packet}
+use Rattle.mq_convert.specs.declared.unread.Unread.{Unread}
+use Rattle.mq_convert.specs.Blocks.{Captured, IsHeldWithin, captured_of, block_in}
+use Rattle.mq_convert.specs.Contexts.{ContextState}
+use Rattle.mq_convert.specs.Converting.{IsEndedBy}
+use Rattle.mq_convert.specs.Faults.{is_cut}
+use Rattle.mq_convert.specs.Files.{Captures}
+use Rattle.mq_convert.specs.Records.{converted, packets_of, record_of}
+
+-- a packet that the code found in a block as such, if it did
+abbrev pub held_of : List ℕ → Option Packet → Option Captured
+held_of block None = None
+held_of block (Some packet) = Some (captured_of block packet)
+
+-- a whole block was read: what it holds, or its fault
+abbrev pub ReadsBlock : (number : ℕ) → (old new : ContextState) → List ℕ → Result (Option Packet) ConvertFault → Type 0
+ReadsBlock number old new block (Ok held) =
+    (block_in old block ≡ Ok (new, held_of block held)) × IsHeldWithin block (Ok held)
+ReadsBlock number old new block (Err (answer.Block n f)) =
+    (n ≡ number) × (block_in old block ≡ Err f) × (is_cut f ≡ false)
+ReadsBlock number old new block (Err answer.Read) = ⊥
+ReadsBlock number old new block (Err answer.Write) = ⊥
+ReadsBlock number old new block (Err answer.Memory) = ⊥
+
+-- what is written of a block
+abbrev pub block_text : Choice → Option Captured → List ℕ
+block_text choice held = flat_map (record_of choice) (option_to_list held)
+
+-- the capture was put, or where a write failed a beginning of it was written
+abbrev pub IsPut : (old new : Option (List ℕ)) → (held left text : List ℕ) → Result Unread ConvertFault → Type 0
+IsPut old new held left text (Err answer.Write) = GrowsByBeginning old new (held ++ text)
+IsPut old new held left text r = Passes old new held left text
+
+-- the capture of the packets of a file was put
+pub record PutsCapture (choice : Choice) (old new : InputState) (before after : Option (List ℕ)) (held left : List ℕ) (r : Result Unread ConvertFault) : Type 0 where
+  pub bytes : List ℕ
+  pub blocks : List (Option Captured)
+  pub end : Option BlockFault
+  pub takes : Takes old new bytes
+  pub capture : Captures bytes blocks end
+  pub ended : IsEndedBy choice blocks end bytes old new r
+  pub put : IsPut before after held left (converted choice (packets_of blocks)) r

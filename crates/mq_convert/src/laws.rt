@@ -1,0 +1,28 @@
+//! What holds of conversions, whoever makes them. The functions do nothing: each contract is a law.
+
+ghost use Rattle.mq_convert.specs.Laws.{AsItWas, FaultsStay, OneConversion, OneFile, WrittenAsItWas};
+
+/// No file is two captures.
+pub fn one_file()
+    ensures { OneFile }
+{}
+
+/// A fault that isn't the end of the file stays one, whatever follows.
+pub fn faults_stay()
+    ensures { FaultsStay }
+{}
+
+/// A classic capture of Ethernet in nanoseconds, without tags, is written as it was, but for its header.
+pub fn as_it_was()
+    ensures { AsItWas }
+{}
+
+/// Two conversions of a file find the same packets.
+pub fn one_conversion()
+    ensures { OneConversion }
+{}
+
+/// So a conversion of such a capture comes to its end, and writes it so.
+pub fn written_as_it_was()
+    ensures { WrittenAsItWas }
+{}

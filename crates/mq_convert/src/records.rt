@@ -1,0 +1,116 @@
+//! The records that are written.
+
+ghost use Rattle.std.specs.Prelude.{◌≡◌, ◌≤◌, ◌+◌, ◌*◌, ◌<◌, ◌^◌, ◌++◌, ◌||◌, is_err, length, slice_range};
+ghost use Rattle.arrayvec.specs.ArrayVec.{array_vec_len};
+ghost use Rattle.mq_count.specs.Streams.{inner_of, has_failed};
+ghost use Rattle.mq_replay.specs.Printing.{Puts};
+ghost use Rattle.mq_convert.specs.Blocks.{captured_of};
+ghost use Rattle.mq_convert.specs.Frames.{framed};
+ghost use Rattle.mq_convert.specs.Records as spec;
+
+use crate::choice::Choice;
+use crate::frames::{Frame, frame_of};
+use crate::moments::SECOND;
+use crate::packet::Packet;
+use crate::pieces::put_bytes;
+use crate::tags::{tag_of, untagged};
+use mq_count::Watched;
+use mq_replay::{LineFault, make_room};
+use mq_text::{Text, put};
+use std::io::Write;
+
+/// The most bytes that a frame carries in a record.
+const GREATEST_PAYLOAD: usize = 262_130;
+
+/// The most bytes that are written of a frame that is cut before the end of its type.
+const BEFORE_TYPE: usize = 13;
+
+/// The header of the capture: its magic number, version 2.4, two fields that are 0, the most bytes that a packet may
+/// have, and the link type of Ethernet.
+pub(crate) const FILE_HEADER: [u8; 24] = [
+    0x4d, 0x3c, 0xb2, 0xa1, 2, 0, 4, 0, 0, 0, 0, 0, 0, 0, 0, 0, 0, 0, 4, 0, 1, 0, 0, 0,
+];
+
+/// Puts the record of a packet of a block, if it is to be written.
+#[inline(always)]
+#[tactic(auto, unfolding(crate::specs::Records::record_of))]
+pub(crate) fn put_record<W: Write>(
+    choice: Choice,
+    packet: Packet,
+    block: &[u8],
+    buffer: &mut Text,
+    writer: &mut Watched<W>,
+) -> Result<(), LineFault>
+    requires { packet.place + packet.length ≤ length block.now }
+    ensures text { Puts
+        (W.contents (inner_of writer.old)) (W.contents (inner_of writer.new))
+        buffer.old.items buffer.new.items (spec.record_of choice (captured_of block.now packet)) result }
+    ensures failed { has_failed writer.new ≡ has_failed writer.old || is_err result }
+{
+    let bytes = &block[packet.place..packet.place + packet.length];
+    let frame = frame_of(packet.link, bytes);
+    if !choice.takes(packet.interface, tag_of(&frame)) {
+        return Ok(());
+    }
+    put_frame(packet, bytes.len(), untagged(frame), buffer, writer)
+}
+
+/// Puts the record of a frame that was made of so many captured bytes.
+#[inline(always)]
+fn put_frame<W: Write>(
+    packet: Packet,
+    captured: usize,
+    frame: Frame<'_>,
+    buffer: &mut Text,
+    writer: &mut Watched<W>,
+) -> Result<(), LineFault>
+    ensures text { Puts
+        (W.contents (inner_of writer.old)) (W.contents (inner_of writer.new))
+        buffer.old.items buffer.new.items
+        (spec.record_with packet.moment packet.original captured (framed frame.entry)) result }
+    ensures failed { has_failed writer.new ≡ has_failed writer.old || is_err result }
+{
+    make_room(buffer, writer)?;
+    match frame {
+        Frame::Whole {
+            addresses,
+            kind,
+            payload,
+        } => {
+            let original = original_of(packet.original, captured, 14 + payload.len());
+            let carried = &payload[..payload.len().min(GREATEST_PAYLOAD)];
+            put_header(packet.moment, 14 + carried.len(), original, buffer);
+            put(buffer, &addresses);
+            put(buffer, &kind.to_be_bytes());
+            put_bytes(carried, buffer, writer)
+        }
+        Frame::Cut(bytes) => {
+            let original = original_of(packet.original, captured, bytes.len());
+            let there = &bytes[..bytes.len().min(BEFORE_TYPE)];
+            put_header(packet.moment, there.len(), original, buffer);
+            put_bytes(there, buffer, writer)
+        }
+    }
+}
+
+/// The original length of a frame that was made of a packet.
+fn original_of(original: u32, captured: usize, size: usize) -> u32
+    ensures { result ≡ spec.original_of original captured size }
+{
+    let whole = (u128::from(original) + size as u128).saturating_sub(captured as u128);
+    whole.min(u128::from(u32::MAX)) as u32
+}
+
+/// Puts the header of a record.
+fn put_header(moment: u64, captured: usize, original: u32, buffer: &mut Text)
+    requires room { array_vec_len buffer.old + 16 ≤ 4096 }
+    requires moment { moment < 2 ^ 32 * 1000000000 }
+    requires few { captured < 2 ^ 32 }
+    ensures text { buffer.new.items ≡ buffer.old.items ++ spec.record_header moment captured original }
+    ensures size { array_vec_len buffer.new ≡ array_vec_len buffer.old + 16 }
+{
+    put(buffer, &((moment / SECOND) as u32).to_le_bytes());
+    put(buffer, &((moment % SECOND) as u32).to_le_bytes());
+    put(buffer, &(captured as u32).to_le_bytes());
+    put(buffer, &original.to_le_bytes());
+}

@@ -1,0 +1,38 @@
+-- Which numbers are due, by the moments that are stored.
+use Rattle.std.proofs.Common.{ℕ, ◌≡◌, false, refl, List, [], ◌∷◌, None, sym, ap, ◌∙◌}
+use Rattle.std.specs.Prelude.{nat_le, if◌then◌else◌}
+use Rattle.std.specs.List.{list_any}
+use Rattle.std.specs.Ordering.{nat_cmp}
+use Rattle.std.specs.FinMap.{FinMap}
+use Rattle.mq_sets.specs.Ascending.{set_of}
+use Rattle.mq_sets.specs.NumberedKeys.{NumberedKeysState, key_in}
+use Rattle.mq_table.specs.declared.sources.Source.{Source}
+use Rattle.mq_sched.specs.NumberedMoments.{has_come, is_number_due}
+use Rattle.mq_held.specs.declared.scheduled_head.ScheduledHead.{ScheduledHead}
+use Rattle.mq_held.specs.Groups.{group_at}
+use Rattle.mq_held.specs.Held.{HeldState, IsNumber}
+use Rattle.mq_held.specs.Moments.{least, moments_of}
+use Rattle.mq_held.specs.Places.{has_due}
+use Rattle.mq_held.specs.Stored.{earliest_of, group_by, groups_by, IsStored}
+use Rattle.mq_held.proofs.LeastMoments.{due-earliest}
+use Rattle.mq_held.proofs.OrderedItems.{number_of}
+use Rattle.mq_held.proofs.Inside.{numbered, group-of}
+use Rattle.mq_held.proofs.LeftNumbers.{number-has}
+
+-- the earliest of some moments has come where some moment has
+pub come-earliest : (now : ℕ) (ms : List ℕ) → has_come now (earliest_of ms) ≡ list_any (λ t. nat_le t now) ms
+come-earliest now [] = refl
+come-earliest now (x ∷ ms) = sym (due-earliest now (x ∷ ms) (least x ms) refl)
+
+module _ {K : Type 0} (number : K → ℕ) {order : NumberedKeysState} {heads : List ScheduledHead} {rows : List (List (Source K))} {moments : FinMap nat_cmp ℕ} {schedules : ℕ} (known : IsStored number order.items heads rows moments schedules) {source_room ahead : ℕ} {state : HeldState} (was : ◌≡◌ {A = HeldState} (record { groups = groups_by number order.items heads rows; order = order; source_room = source_room; ahead = ahead }) state) where
+  -- a number is due where its group is
+  pub due-number : (now n : ℕ) → IsNumber state n → is_number_due moments now n ≡ has_due now (group_at state.groups (key_in state.order.items n))
+  due-number now n is =
+      ap (has_come now) (known.moments_are n ∙ ap (λ b. if b then earliest_of (moments_of (group_by number heads rows n)) else None) (numbered number known was n is))
+      ∙ come-earliest now (moments_of (group_by number heads rows n))
+      ∙ ap (has_due now) (sym (group-of number known was (number-has state n is)))
+
+  -- and a number that no group has is not
+  pub due-unused : (now n : ℕ) → set_of number_of order.items n ≡ false → is_number_due moments now n ≡ false
+  due-unused now n absent =
+      ap (has_come now) (known.moments_are n ∙ ap (λ b. if b then earliest_of (moments_of (group_by number heads rows n)) else None) absent)

@@ -1,0 +1,102 @@
+-- The moments of a group, by the row of its sources.
+use Rattle.std.proofs.Common.{◌≡◌, ℕ, Bool, true, false, cond, refl, List, [], ◌∷◌, ◌++◌, Option, Some, is_some, sym, ap, ◌∙◌, append_assoc, append-nil}
+use Rattle.std.specs.Prelude.{map as list_map}
+use lib.Dec.{T}
+use Rattle.std.specs.Option.{option_to_list}
+use Rattle.std.specs.List.{flat_map}
+use Rattle.std.specs.Ordering.{nat_cmp, eq_by_cmp}
+use Rattle.std.specs.Cmp.{nat_cmp_total}
+use Rattle.std.proofs.lemmas.Bool.{true≢false}
+use Rattle.std.specs.FinMap as map
+use Rattle.std.specs.FinMap.{FinMap, find, is_sorted}
+use Rattle.mq_sets.specs.Ascending.{IsAscending}
+use Rattle.mq_sets.proofs.Ascents.{IsAscending-map}
+use Rattle.mq_table.specs.declared.sources.Source.{Source}
+use Rattle.mq_table.specs.declared.timers.FilterMode.{FilterMode}
+use Rattle.mq_table.specs.declared.timers.FilterMode.TheVariants.{Include, Exclude}
+use Rattle.mq_table.specs.declared.timers.SourceTimer.{SourceTimer}
+use Rattle.mq_table.specs.declared.timers.SourceTimer.TheVariants.{Stopped, Running}
+use Rattle.mq_table.specs.Group.{GroupState, is_running, deadline_of, group_deadline, IsWellFormed}
+use Rattle.mq_table.specs.Stored.{number_in, timers_in}
+use Rattle.mq_sched.specs.Schedule.{ScheduleState}
+use Rattle.mq_sched.specs.Sending.{group_due}
+use Rattle.mq_held.specs.Moments.{those_of, moments_of}
+use Rattle.mq_held.specs.Stored.{earliest_of, timer_moments}
+use Rattle.mq_held.proofs.Sorted.{key_of, sorted-ascending}
+use Rattle.mq_held.proofs.LeastMoments.{earliest-join, earliest-join_right}
+
+-- the entries of the map of a list whose keys rise are the list
+pub entries-from_entries : {X : Type 0} (es : List (ℕ × X)) → T (is_sorted nat_cmp es) → map.entries (map.from_entries {R = nat_cmp} es) ≡ es
+entries-from_entries es sorted =
+    ap map.entries (map.same_map nat_cmp_total map.nat_cmp-IsAntisymmetric (map.from_entries es) (map.from_sorted es) (λ q. map.get-from_entries nat_cmp_total es q ∙ sym (map.get-from_sorted nat_cmp es q sorted)))
+    ∙ map.entries-from_sorted nat_cmp es sorted
+
+-- the deadlines of the timers in an ascending row
+module _ {K : Type 0} (number : K → ℕ) where
+  pub deadlines-row : (row : List (Source K)) → IsAscending (number_in number) row → flat_map (λ timer. option_to_list (deadline_of (Some timer))) (map.values (timers_in number row)) ≡ flat_map timer_moments row
+  deadlines-row row up =
+      let pair : Source K → ℕ × SourceTimer = λ x. (number x.address, x.timer) in
+      let sorted = sorted-ascending (list_map pair row) (IsAscending-map key_of pair row up) in
+      ap (λ (es : List (ℕ × SourceTimer)). flat_map (λ timer. option_to_list (deadline_of (Some timer))) (list_map (λ (e : ℕ × SourceTimer). e.1) es)) (entries-from_entries (list_map pair row) sorted) ∙ each row
+    where
+      each : (row : List (Source K)) → flat_map (λ timer. option_to_list (deadline_of (Some timer))) (list_map (λ (e : ℕ × SourceTimer). e.1) (list_map (λ (x : Source K). let e : ℕ × SourceTimer = (number x.address, x.timer) in e) row)) ≡ flat_map timer_moments row
+      each [] = refl
+      each (x ∷ row) = ap (λ ms. timer_moments x ++ ms) (each row)
+
+-- lists of one earliest are alike
+earliest-alike : (xs ys zs : List ℕ) → earliest_of xs ≡ earliest_of ys → earliest_of (xs ++ zs) ≡ earliest_of (ys ++ zs)
+earliest-alike xs ys zs same =
+    sym (earliest-join xs zs) ∙ ap (λ o. earliest_of (option_to_list o ++ zs)) same ∙ earliest-join ys zs
+
+pub earliest-five : (a b c d e : Option ℕ)
+    → earliest_of (option_to_list (earliest_of (option_to_list a ++ option_to_list (earliest_of (option_to_list b ++ option_to_list c)))) ++ option_to_list (earliest_of (option_to_list d ++ option_to_list e)))
+    ≡ earliest_of (those_of (a ∷ b ∷ c ∷ d ∷ e ∷ []))
+earliest-five a b c d e =
+    let l : Option ℕ → List ℕ = option_to_list in
+    let hosts = earliest_of (l b ++ l c) in
+    let queries = l d ++ l e in
+    earliest-join (l a ++ l hosts) (l (earliest_of queries))
+    ∙ earliest-join_right (l a ++ l hosts) queries
+    ∙ earliest-alike (l a ++ l hosts) (l a ++ (l b ++ l c)) queries (earliest-join_right (l a) (l b ++ l c))
+    ∙ ap earliest_of (simp (append_assoc, append-nil))
+
+-- the moments of a group that is held, of which there is one
+some_right : (xs ys : List ℕ) → is_some (earliest_of ys) ≡ true → is_some (earliest_of (xs ++ ys)) ≡ true
+some_right [] ys is = is
+some_right (x ∷ xs) ys is = refl
+
+some_deadline : (es : List (ℕ × SourceTimer)) (s : ℕ) → is_running (find nat_cmp s es) ≡ true → is_some (earliest_of (flat_map (λ timer. option_to_list (deadline_of (Some timer))) (list_map (λ (e : ℕ × SourceTimer). e.1) es))) ≡ true
+some_deadline [] s is = is
+some_deadline (e ∷ es) s is =
+    by_test (eq_by_cmp nat_cmp s e.0) e.1 is (some_deadline es s)
+  where
+    rest : List ℕ
+    rest = flat_map (λ timer. option_to_list (deadline_of (Some timer))) (list_map (λ (e : ℕ × SourceTimer). e.1) es)
+
+    by_test : (b : Bool) (timer : SourceTimer) → is_running (cond b (Some timer) (find nat_cmp s es)) ≡ true → (is_running (find nat_cmp s es) ≡ true → is_some (earliest_of rest) ≡ true) → is_some (earliest_of (option_to_list (deadline_of (Some timer)) ++ rest)) ≡ true
+    by_test true (Running d n) is behind = refl
+    by_test true Stopped is behind = absurd (true≢false (sym is))
+    by_test false timer is behind = some_right (option_to_list (deadline_of (Some timer))) rest (behind is)
+
+pub held-moment : (g : GroupState) (schedule : ScheduleState) → IsWellFormed g → is_some (earliest_of (moments_of (record { group = g; schedule = schedule }))) ≡ true
+held-moment g schedule held = by_mode g.mode refl
+  where
+    deadlines : List ℕ
+    deadlines = flat_map (λ timer. option_to_list (deadline_of (Some timer))) (map.values g.sources)
+
+    by_mode : (mode : FilterMode) → g.mode ≡ mode → is_some (earliest_of (those_of (group_deadline g.mode ∷ g.v1 ∷ g.v2 ∷ group_due schedule.group_query ∷ schedule.sources_due ∷ []) ++ deadlines)) ≡ true
+    by_mode (Exclude d) is = rw is refl
+    by_mode Include is =
+        let found = held.has_source is in
+        let runs = sym (ap is_running (map.get-entries g.sources found.0)) in
+        some_right (those_of (group_deadline g.mode ∷ g.v1 ∷ g.v2 ∷ group_due schedule.group_query ∷ schedule.sources_due ∷ [])) deadlines (some_deadline (map.entries g.sources) found.0 (runs ∙ found.1))
+
+-- the earliest of all moments of a group, by its row
+pub earliest-group : {K : Type 0} (number : K → ℕ) (g : GroupState) (schedule : ScheduleState) (row : List (Source K)) (first : Option ℕ) → IsAscending (number_in number) row → timers_in number row ≡ g.sources
+    → first ≡ earliest_of (those_of (group_deadline g.mode ∷ g.v1 ∷ g.v2 ∷ group_due schedule.group_query ∷ schedule.sources_due ∷ []))
+    → earliest_of (option_to_list first ++ flat_map timer_moments row) ≡ earliest_of (moments_of (record { group = g; schedule = schedule }))
+earliest-group number g schedule row first up timers is =
+    let head = those_of (group_deadline g.mode ∷ g.v1 ∷ g.v2 ∷ group_due schedule.group_query ∷ schedule.sources_due ∷ []) in
+    ap (λ o. earliest_of (option_to_list o ++ flat_map timer_moments row)) is
+    ∙ earliest-join head (flat_map timer_moments row)
+    ∙ ap (λ ms. earliest_of (head ++ ms)) (sym (deadlines-row number row up) ∙ ap (λ (m : FinMap nat_cmp SourceTimer). flat_map (λ timer. option_to_list (deadline_of (Some timer))) (map.values m)) timers)

@@ -1,0 +1,6 @@
+pub mod Groups
+pub mod Moments
+pub mod Places
+pub mod Held
+pub mod Stored
+pub mod Listed

@@ -1,0 +1,27 @@
+//! The storage of the groups that a link holds.
+//!
+//! ```text
+//! let mut held = HeldGroups::with_room(alloc, 500, 4000)?;
+//! match held.find(address, &mut m) {
+//!     Ok(number) => held.put(number, &group, schedule, &mut m, &mut moves),
+//!     Err(spot) => {
+//!         held.insert(spot, address, &group, schedule, &mut m, &mut moves);
+//!     }
+//! }
+//! held.due(now, &mut numbers, &mut spare, &mut m, &mut moves);
+//! ```
+//!
+//! - `HeldGroups`: the finite map from address to group with its schedule, and what may be asked of it.
+//! - `HeldGroup`: one of them, as it stands there; `HeldEntries`: all, one after the other.
+#![tactic(auto)]
+
+pub mod earliest;
+pub mod held_entries;
+pub mod held_group;
+pub mod held_groups;
+mod scheduled_head;
+
+pub use earliest::count_schedules;
+pub use held_entries::HeldEntries;
+pub use held_group::HeldGroup;
+pub use held_groups::HeldGroups;

@@ -1,0 +1,5 @@
+pub mod ChangedSources
+pub mod Lowered
+pub mod AskedLater
+pub mod Ascending
+pub mod PortionsOfRounds

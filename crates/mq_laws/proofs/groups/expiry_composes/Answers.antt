@@ -1,0 +1,5 @@
+use Rattle.mq_table.proofs.Composed.{expired-expired}
+use Rattle.mq_laws.proofs.groups.expiry_composes.Goals as goal
+
+pub returns : goal.returns
+returns c = expired-expired

@@ -1,0 +1,85 @@
+-- What is stored of a link, at its start and after its calls.
+use Rattle.std.proofs.Common.{◌≡◌, ℕ, ◌*◌, ◌<◌, ◌≤◌, List, [], ◌∷◌, false, Some, refl, sym, ap, ◌∙◌, subst, arith, leb}
+use Rattle.std.specs.List.{list_any}
+use Rattle.std.specs.Option.{unwrap_or}
+use Rattle.std.specs.Ordering.{nat_cmp}
+use Rattle.std.specs.FinMap as map
+use Rattle.mq_table.specs.Group.{forwards_in, is_running}
+use Rattle.mq_table.specs.Variables.{AreInRange}
+use Rattle.mq_sched.specs.Election.{election_at, next_moment}
+use Rattle.mq_sched.specs.Schedule.{ScheduledGroup}
+use Rattle.mq_held.specs.Groups.{Groups, group_at, unheld, sources_of}
+use Rattle.mq_held.specs.Held.{HeldState, empty_state}
+use Rattle.mq_held.specs.Moments.{moments_of, moments_in}
+use Rattle.mq_held.specs.Places.{has_due}
+use Rattle.mq_link.specs.declared.storage.Storage.{Storage}
+use Rattle.mq_link.specs.Configuration.{Configuration, IsFaultless}
+use Rattle.mq_link.specs.Record.{Setting}
+use Rattle.mq_link.specs.Router.{IsStored, RouterValue, state_of}
+use Rattle.mq_link.specs.Sound.{AreSound}
+use Rattle.mq_link.specs.State.{LinkState, IsWellFormed, link_at}
+use Rattle.mq_link.specs.Storage.{IsReady, KeepsRooms, put_by_rows}
+use Rattle.mq_link.specs.Tick.{next_of}
+use Rattle.mq_link.proofs.Faultless.{IsWellFormed-link_at, few_groups}
+use Rattle.mq_link.proofs.Quiet.{AllAbove, above_least, above_values}
+use Rattle.mq_link.proofs.Receipts.{sound_in}
+use Rattle.mq_link.proofs.Silent.{from-each, not_reached}
+
+-- of a group that isn't held nothing is forwarded
+pub none_forwarded : (source : ℕ) → forwards_in unheld.group source ≡ false
+none_forwarded source = ap is_running (map.get-empty nat_cmp source)
+
+pub absent_forwards : (groups : Groups) (group source : ℕ) → group_at groups group ≡ unheld → forwards_in (group_at groups group).group source ≡ false
+absent_forwards groups group source is = ap (λ e. forwards_in e.group source) is ∙ none_forwarded source
+
+-- sound groups are a state that a link may be in
+pub well_formed_at : (r : RouterValue) → AreSound r.at r.groups → AreInRange r.at.election.timing → IsWellFormed r.at.config (state_of r)
+well_formed_at r sound timing = record { groups = sound.all; within = sound.within; timing = timing; silent = sound.silent }
+
+-- the storage of a link at its start
+pub stored_at_start : {K : Type 0} (config : Configuration) (start : ℕ) (storage : Storage K)
+    → IsFaultless config → storage.held ≡ empty_state config.limits.groups config.limits.sources
+    → (let status : Setting = record { config = config; election = election_at config.timing start; now = start } in IsStored status storage)
+stored_at_start config start storage faultless held =
+    let status : Setting = record { config = config; election = election_at config.timing start; now = start } in
+    record {
+      sound = subst (AreSound status) (sym (ap (λ (h : HeldState). h.groups) held)) (sound_in config (link_at config start) (IsWellFormed-link_at config start faultless));
+      group_room = ap (λ (h : HeldState). h.order.room) held;
+      source_room = ap (λ (h : HeldState). h.source_room) held;
+    }
+
+-- before the first edit nothing is put by
+pub nothing_put_by : (groups sources : ℕ) → put_by_rows (empty_state groups sources) ≡ 0
+nothing_put_by groups sources = let none = map.len-empty nat_cmp ScheduledGroup in omega arith
+
+-- the groups are fit to be worked on, and there is room for each
+pub ready_in : {K : Type 0} (status : Setting) (storage : Storage K) → IsFaultless status.config → AreSound status storage.held.groups → (room : ℕ) → 2 * status.config.limits.group_sources ≤ room → IsReady room storage
+ready_in status storage faultless sound room wide = record {
+  few = let n = sound.within.group_count in omega (arith, n, few_groups status.config faultless);
+  served = λ group e is.
+      let as_held = sound.all group e is in
+      let few : sources_of e ≤ status.config.limits.group_sources = subst (λ x. sources_of (unwrap_or x unheld) ≤ status.config.limits.group_sources) is (sound.within.group_sources group) in
+      record { held = as_held.held; fits = as_held.fits; room_for = omega arith };
+}
+
+-- before the next moment no group has anything due
+none_reached : (now : ℕ) (ms : List ℕ) → AllAbove now ms → list_any (λ t. leb t now) ms ≡ false
+none_reached now [] h = refl
+none_reached now (t ∷ ms) h =
+    let later = not_reached now t h.0 in
+    rw later (none_reached now ms h.1)
+
+pub none_due : (state : LinkState) (now : ℕ) → now < next_of state → (group : ℕ) (e : ScheduledGroup) → map.get state.groups group ≡ Some e → has_due now e ≡ false
+none_due state now before group e is =
+    let parts = above_least now (next_moment state.election.role) (moments_in state.groups) before in
+    let each = above_values now moments_of (map.entries state.groups) parts.1 in
+    none_reached now (moments_of e) (from-each (λ _ e. AllAbove now (moments_of e)) (map.entries state.groups) each group e (sym (map.get-entries state.groups group) ∙ is))
+
+-- what is stored after a call: the groups are sound still, and the rooms stay
+pub stored_next : {K : Type 0} (status after : Setting) (storage next : Storage K)
+    → IsStored status storage → after.config ≡ status.config → AreSound after next.held.groups → KeepsRooms storage next → IsStored after next
+stored_next status after storage next was same sound kept = record {
+  sound = sound;
+  group_room = kept.groups ∙ was.group_room ∙ ap (λ (c : Configuration). c.limits.groups) (sym same);
+  source_room = kept.sources ∙ was.source_room ∙ ap (λ (c : Configuration). c.limits.sources) (sym same);
+}

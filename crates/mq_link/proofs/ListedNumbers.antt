@@ -1,0 +1,144 @@
+-- The numbers whose count isn't zero, and the counts.
+use Rattle.std.proofs.Common.{◌≡◌, ◌≢◌, ℕ, suc, ◌+◌, ◌<◌, ◌≤◌, Bool, true, false, cond, ◌⊎◌, inl, inr, List, [], ◌∷◌, ◌++◌, length, get_or, set, replicate, drop, refl, sym, ap, ◌∙◌, arith, ltb, length-set, drop-cons}
+use Rattle.std.specs.Prelude.{slice_index}
+use Rattle.std.specs.List.{All, count_by}
+use Rattle.std.specs.Ordering.{nat_cmp, eq_by_cmp}
+use Rattle.std.proofs.lemmas.Bool.{cases_lt, lt-ltb, true≢false}
+use Rattle.std.proofs.lemmas.List.{get_or-set_same, get_or-set_other, get_or-replicate, get_or_past, length-replicate, length-append, drop_all}
+use Rattle.std.proofs.lemmas.List.Elements.{All-push}
+use Rattle.std.proofs.lemmas.List.Sums.{sum_by-cons, sum_by-append, sum_by-set, count_by-le-length}
+use Rattle.mq_held.proofs.Sorted.{tied, ties}
+use Rattle.mq_sets.specs.Slots.{times}
+use Rattle.mq_sets.proofs.Cells.{is_cell, is_cell-same, is_cell-other}
+use Rattle.mq_link.specs.Seen.{AreListed, AreNone}
+
+abbrev one_or_none : Bool → ℕ
+one_or_none b = cond b 1 0
+
+abbrev counts_so : ℕ → ℕ
+counts_so c = cond (ltb 0 c) 1 0
+
+-- where no count is another, none is listed
+
+none_counted : (counts : List ℕ) → AreNone counts → count_by (ltb 0) counts ≡ 0
+none_counted [] none = omega arith
+none_counted (c ∷ counts) none =
+    let rest = none_counted counts (λ n. none (suc n)) in
+    let first : counts_so c ≡ 0 = ap counts_so (none 0) in
+    omega (arith, rest, first, sum_by-cons counts_so c counts)
+
+pub none_listed : (counts : List ℕ) → AreNone counts → AreListed counts []
+none_listed counts none = record {
+  within = λ k d in_list. absurd (omega (arith, in_list));
+  each = λ number some. absurd (omega (arith, some, none number));
+  count = sym (none_counted counts none);
+}
+
+pub none_at_start : (groups : ℕ) → AreNone (replicate groups 0)
+none_at_start groups number = by_room (cases_lt number groups)
+  where
+    by_room : (number < groups) ⊎ (groups ≤ number) → slice_index (replicate groups 0) number ≡ 0
+    by_room (inl within) = get_or-replicate groups number 0 0 within
+    by_room (inr past) = get_or_past (replicate groups 0) number 0 (let nothing : ℕ = 0 in let long = length-replicate groups nothing in omega (arith, past, long))
+
+module _ (counts numbers : List ℕ) (known : AreListed counts numbers) (number : ℕ) (within : number < length counts) (count : ℕ) (some : 1 ≤ count) where
+  abbrev pub counted : List ℕ
+  counted = set counts number count
+
+  elsewhere : (n : ℕ) → n ≢ number → slice_index counted n ≡ slice_index counts n
+  elsewhere n differs = get_or-set_other counts number n count 0 differs
+
+  still_within : All (λ n. n < length counted) numbers
+  still_within k d in_list = let was = known.within k d in_list in let same = length-set counts number count in omega (arith, was, same)
+
+  has_one : counts_so count ≡ 1
+  has_one = ap one_or_none (lt-ltb 0 count (omega (arith, some)))
+
+  changed : count_by (ltb 0) counted + counts_so (slice_index counts number) ≡ count_by (ltb 0) counts + counts_so count
+  changed = sum_by-set counts_so counts number count 0 within
+
+  -- a number that is listed is counted again
+  pub listed_again : 1 ≤ slice_index counts number → AreListed counted numbers
+  listed_again had = record {
+    within = still_within;
+    each = λ n more. by_number n more (eq_by_cmp nat_cmp n number) refl;
+    count =
+        let one : counts_so (slice_index counts number) ≡ 1 = ap one_or_none (lt-ltb 0 (slice_index counts number) (omega (arith, had))) in
+        let all = known.count in
+        omega (arith, all, changed, has_one, one);
+  }
+    where
+      by_number : (n : ℕ) → 1 ≤ slice_index counted n → (b : Bool) → eq_by_cmp nat_cmp n number ≡ b → 1 ≤ times n numbers
+      by_number n more true same = known.each n (let there = ap (slice_index counts) (tied n number same) in omega (arith, had, there))
+      by_number n more false differs =
+          let there = elsewhere n (λ same. true≢false (sym (ties n number same) ∙ differs)) in
+          known.each n (omega (arith, more, there))
+
+  module _ (none : slice_index counts number ≡ 0) where
+    had_none : counts_so (slice_index counts number) ≡ 0
+    had_none = ap counts_so none
+
+    -- there is room in the list for one that isn't
+    pub room_for_one : length numbers < length counts
+    room_for_one =
+        let all = known.count in
+        let most = count_by-le-length (ltb 0) counted in
+        let same = length-set counts number count in
+        omega (arith, all, changed, has_one, had_none, most, same)
+
+    -- one that isn't is put behind the others
+    pub listed_first : AreListed counted (numbers ++ number ∷ [])
+    listed_first = record {
+      within = All-push (λ n. n < length counted) numbers number still_within (let same = length-set counts number count in omega (arith, within, same));
+      each = λ n more. by_number n more (eq_by_cmp nat_cmp n number) refl;
+      count =
+          let all = known.count in
+          let long = length-append numbers (number ∷ []) in
+          omega (arith, all, changed, has_one, had_none, long);
+    }
+      where
+        by_number : (n : ℕ) → 1 ≤ slice_index counted n → (b : Bool) → eq_by_cmp nat_cmp n number ≡ b → 1 ≤ times n (numbers ++ number ∷ [])
+        by_number n more true same =
+            let here = is_cell-same n number (sym (tied n number same)) in
+            omega (arith, sum_by-append (is_cell n) numbers (number ∷ []), sum_by-cons (is_cell n) number [], here)
+        by_number n more false differs =
+            let there = elsewhere n (λ same. true≢false (sym (ties n number same) ∙ differs)) in
+            let had = known.each n (omega (arith, more, there)) in
+            omega (arith, had, sum_by-append (is_cell n) numbers (number ∷ []))
+
+-- Counts are set to zero, one listed number after the other: what isn't zero is of a number that is left.
+abbrev pub IsLeft : (counts numbers : List ℕ) (index : ℕ) → Type 0
+IsLeft counts numbers index = (n : ℕ) → 1 ≤ slice_index counts n → 1 ≤ times n (drop index numbers)
+
+suc_is : (k : ℕ) → suc k ≡ k + 1
+suc_is k = omega arith
+
+pub one_cleared : (counts numbers : List ℕ) (index : ℕ) → IsLeft counts numbers index → index < length numbers → (d : ℕ) → get_or numbers index d < length counts
+    → IsLeft (set counts (get_or numbers index d) 0) numbers (index + 1)
+one_cleared counts numbers index left within d is_within n more = by_number (eq_by_cmp nat_cmp n number) refl
+  where
+    number : ℕ
+    number = get_or numbers index d
+
+    by_number : (b : Bool) → eq_by_cmp nat_cmp n number ≡ b → 1 ≤ times n (drop (index + 1) numbers)
+    by_number true same =
+        let zero_there = ap (slice_index (set counts number 0)) (tied n number same) ∙ get_or-set_same counts number 0 0 is_within in
+        absurd (omega (arith, more, zero_there))
+    by_number false differs =
+        let apart : n ≢ number = λ same. true≢false (sym (ties n number same) ∙ differs) in
+        let there = get_or-set_other counts number n 0 0 apart in
+        let had = left n (omega (arith, more, there)) in
+        let first = ap (times n) (drop-cons numbers index d within) ∙ sum_by-cons (is_cell n) number (drop (suc index) numbers) in
+        let other = is_cell-other n number (λ same. apart (sym same)) in
+        let behind = ap (λ k. times n (drop k numbers)) (suc_is index) in
+        omega (arith, had, first, behind, other)
+
+pub all_cleared : (counts numbers : List ℕ) (index : ℕ) → length numbers ≤ index → IsLeft counts numbers index → AreNone counts
+all_cleared counts numbers index all left n = by_count (cases_lt 0 (slice_index counts n))
+  where
+    by_count : (0 < slice_index counts n) ⊎ (slice_index counts n ≤ 0) → slice_index counts n ≡ 0
+    by_count (inr none) = omega (arith, none)
+    by_count (inl some) =
+        let had = left n (omega (arith, some)) in
+        let rest = ap (times n) (drop_all index numbers all) in
+        absurd (omega (arith, had, rest))

@@ -1,0 +1,88 @@
+-- Maps in which each value is replaced and none is left out.
+use Rattle.std.proofs.Common.{◌≡◌, ℕ, ◌-◌, ◌+◌, Bool, true, false, cond, is_some, List, [], ◌∷◌, length, refl, sym, ap, ◌∙◌, Option, None, Some, ltb, eqb, ◌&&◌, arith}
+use Rattle.std.proofs.lemmas.Bool.Decides.{nat_tests}
+use Rattle.std.specs.Prelude.{map as list_map}
+use Rattle.std.specs.Option.{option_and_then}
+use Rattle.std.specs.List.{list_any}
+use Rattle.std.specs.Ordering.{nat_cmp}
+use Rattle.std.specs.FinMap as map
+use Rattle.std.specs.FinMap.{FinMap}
+use Rattle.mq_table.specs.declared.sources.Source.{Source}
+use Rattle.mq_table.specs.Maps.{kept}
+use Rattle.mq_table.specs.declared.timers.SourceTimer.{SourceTimer}
+use Rattle.mq_table.specs.declared.timers.SourceTimer.TheVariants.{Stopped, Running}
+use Rattle.mq_table.specs.Group.{GroupState, is_vacant, is_include, sendings_of}
+use Rattle.mq_table.specs.Sendings.{some_source, has_sendings, source_counted, sendings_counted}
+use Rattle.mq_table.specs.Stored.{number_in, timers_in, size_of}
+use Rattle.mq_table.proofs.Maps.{get-kept}
+use Rattle.mq_table.proofs.Rows.{any_in_row}
+use Rattle.mq_table.specs.declared.timing.Timing.{Timing}
+use Rattle.mq_sched.specs.Schedule.{ScheduledGroup}
+use Rattle.mq_sched.specs.Sending.{is_due, sources_due_next, after_round}
+use Rattle.mq_sets.specs.Ascending.{IsAscending}
+use Rattle.mq_link.proofs.Entries.{filtered, entries-kept}
+
+module _ {X : Type 0} (f : ℕ → X → X) where
+  keys-filtered : (es : List (ℕ × X)) → list_map (λ (e : ℕ × X). e.0) (filtered (λ k x. Some (f k x)) es) ≡ list_map (λ (e : ℕ × X). e.0) es
+  keys-filtered [] = refl
+  keys-filtered (e ∷ es) = ap (λ ks. e.0 ∷ ks) (keys-filtered es)
+
+  length-filtered : (es : List (ℕ × X)) → length (filtered (λ k x. Some (f k x)) es) ≡ length es
+  length-filtered [] = refl
+  length-filtered (e ∷ es) = let rest = length-filtered es in omega arith
+
+  pub keys-made : (m : FinMap nat_cmp X) → map.keys (kept (λ k x. Some (f k x)) m) ≡ map.keys m
+  keys-made m = ap (list_map (λ (e : ℕ × X). e.0)) (entries-kept (λ k x. Some (f k x)) m) ∙ keys-filtered (map.entries m)
+
+  pub len-made : (m : FinMap nat_cmp X) → map.len (kept (λ k x. Some (f k x)) m) ≡ map.len m
+  len-made m =
+      map.len-entries (kept (λ k x. Some (f k x)) m)
+      ∙ ap length (entries-kept (λ k x. Some (f k x)) m)
+      ∙ length-filtered (map.entries m)
+      ∙ sym (map.len-entries m)
+
+-- one that has a sending after a count has another beside the next before it
+more_than_one : (timer : Option SourceTimer) → ltb 0 (sendings_of (option_and_then (λ t. Some (source_counted t)) timer)) ≡ ltb 1 (sendings_of timer)
+more_than_one None = refl
+more_than_one (Some Stopped) = refl
+more_than_one (Some (Running d n)) = fewer n
+  where
+    fewer : (n : ℕ) → ltb 0 (n - 1) ≡ ltb 1 n
+    fewer n = grind (arith, nat_tests)
+
+-- the sources of a group have sendings to go after a count where one has another beside the next
+pub some_after_count : {K : Type 0} (number : K → ℕ) (g : GroupState) (row : List (Source K)) → IsAscending (number_in number) row → timers_in number row ≡ g.sources → some_source (has_sendings (sendings_counted g)) (sendings_counted g) ≡ list_any (λ (x : Source K). ltb 1 (sendings_of (Some x.timer))) row
+some_after_count number g row up is =
+    ap (list_any (has_sendings (sendings_counted g))) (keys-made (λ s timer. source_counted timer) g.sources)
+    ∙ (λ i. list_any (λ s. test s i) (map.keys g.sources))
+    ∙ ap (λ (m : FinMap nat_cmp SourceTimer). list_any (λ s. ltb 1 (sendings_of (map.get m s))) (map.keys m)) (sym is)
+    ∙ any_in_row number (λ s timer. ltb 1 (sendings_of timer)) row up
+  where
+    test : (s : ℕ) → has_sendings (sendings_counted g) s ≡ ltb 1 (sendings_of (map.get g.sources s))
+    test s = ap (λ timer. ltb 0 (sendings_of timer)) (get-kept (λ s timer. Some (source_counted timer)) g.sources s) ∙ more_than_one (map.get g.sources s)
+
+-- whether the sources are due again after a round in which they are
+pub due_again : (timing : Timing) (now : ℕ) (g : GroupState) (due : Option ℕ) (some : Bool) → is_due now due ≡ true → some_source (has_sendings (sendings_counted g)) (sendings_counted g) ≡ some → some ≡ is_some (cond (is_due now due) (sources_due_next timing now (cond (is_due now due) (sendings_counted g) g)) due)
+due_again timing now g due some is same =
+    sym same
+    ∙ by_some (some_source (has_sendings (sendings_counted g)) (sendings_counted g))
+    ∙ ap (λ b. is_some (cond b (sources_due_next timing now (cond b (sendings_counted g) g)) due)) (sym is)
+  where
+    by_some : (b : Bool) → b ≡ is_some (cond b (Some (now + timing.last_member_interval)) None)
+    by_some true = refl
+    by_some false = refl
+
+-- a round leaves a group as many sources as it has, and its mode
+pub round_keeps_size : (timing : Timing) (now : ℕ) (e : ScheduledGroup) → size_of (after_round timing now e).group ≡ size_of e.group
+round_keeps_size timing now e = by_due (is_due now e.schedule.sources_due)
+  where
+    by_due : (b : Bool) → size_of (cond b (sendings_counted e.group) e.group) ≡ size_of e.group
+    by_due true = len-made (λ s timer. source_counted timer) e.group.sources
+    by_due false = refl
+
+pub round_keeps_vacant : (timing : Timing) (now : ℕ) (e : ScheduledGroup) → is_vacant (after_round timing now e).group ≡ is_vacant e.group
+round_keeps_vacant timing now e = by_due (is_due now e.schedule.sources_due)
+  where
+    by_due : (b : Bool) → is_vacant (cond b (sendings_counted e.group) e.group) ≡ is_vacant e.group
+    by_due true = ap (λ n. is_include e.group.mode && eqb n 0) (len-made (λ s timer. source_counted timer) e.group.sources)
+    by_due false = refl

@@ -1,0 +1,204 @@
+-- What a group that is put, made or taken out moves is paid by five for each of its sources, and by what is put by.
+use Rattle.std.proofs.Common.{◌≡◌, cond, ℕ, ◌+◌, ◌-◌, ◌*◌, ◌/◌, ◌<◌, ◌≤◌, Bool, true, false, not, min, ⊎_elim, None, Some, IfSome, refl, length, sym, ap, ◌∙◌, arith, leb, ltb, ◌⊎◌, inl, inr}
+use Rattle.std.specs.Prelude.{slice_index}
+use Rattle.std.proofs.Math.Nat.{mul-le-mul_right}
+use Rattle.std.proofs.lemmas.Bool.{cases_lt, le-leb, lt-leb, lt-ltb, le-ltb}
+use Rattle.std.proofs.lemmas.List.{length-map}
+use Rattle.std.proofs.lemmas.List.Sums.{count_by-le-length}
+use Rattle.std.specs.FinMap as map
+use Rattle.mq_count.specs.Spending.{Spends}
+use Rattle.mq_sets.specs.NumberedKeys.{NumberedKeysState, AreFilled, IsSpotFor, moved_by_insert}
+use Rattle.mq_sets.specs.declared.spots.Spot.{Spot}
+use Rattle.mq_sets.specs.Search.{bitlen}
+use Rattle.mq_sets.proofs.Bitlen.{bitlen-le, bitlen-mono}
+use Rattle.mq_table.specs.Group.{is_vacant}
+use Rattle.mq_sched.specs.Schedule.{ScheduledGroup}
+use Rattle.mq_held.specs.Groups.{Groups, unheld, group_at, if_running, kept_as, one_if, running_in, sources_in, sources_of, without_vacant}
+use Rattle.mq_held.specs.Held.{HeldState, ahead_with, moved_by_packing, moved_by_row, moved_by_new_row}
+use Rattle.mq_held.proofs.Amounts.{no_sources, vacant_sources, own_sources, total-with, total-without, total-entries}
+use Rattle.mq_link.specs.Storage.{put_by_rows}
+use Rattle.mq_link.specs.Moved.{IsPaid, moved_by_edit}
+use Rattle.mq_link.proofs.Entries.{total-kept}
+use Rattle.mq_link.proofs.HeldAs.{vacant_is}
+use Rattle.mq_link.proofs.Moved.{paid_by}
+
+-- whether a group has a moment, as a number
+abbrev runs : ScheduledGroup → ℕ
+runs e = one_if (not (is_vacant e.group))
+
+unheld_rests : runs unheld ≡ 0
+unheld_rests = ap (λ b. one_if (not b)) vacant_is
+
+-- how many sources and moments there are once a group is set, or taken out
+module _ (groups : Groups) (a : ℕ) where
+  pub sources_set : (e : ScheduledGroup) → sources_in (map.insert groups a e) + sources_of (group_at groups a) ≡ sources_in groups + sources_of e
+  sources_set e =
+      let total = total-with (λ (x : ℕ × ScheduledGroup). sources_of x.1) groups a no_sources e in
+      omega (arith, total, total-entries sources_of groups, total-entries sources_of (map.insert groups a e))
+
+  pub running_set : (e : ScheduledGroup) → running_in (map.insert groups a e) + runs (group_at groups a) ≡ running_in groups + runs e
+  running_set e =
+      let total = total-with (λ (x : ℕ × ScheduledGroup). runs x.1) groups a unheld_rests e in
+      omega (arith, total, total-entries runs groups, total-entries runs (map.insert groups a e))
+
+  sources_gone : sources_in (map.remove groups a) + sources_of (group_at groups a) ≡ sources_in groups
+  sources_gone =
+      let total = total-without (λ (x : ℕ × ScheduledGroup). sources_of x.1) groups a no_sources in
+      omega (arith, total, total-entries sources_of groups, total-entries sources_of (map.remove groups a))
+
+  running_gone : running_in (map.remove groups a) + runs (group_at groups a) ≡ running_in groups
+  running_gone =
+      let total = total-without (λ (x : ℕ × ScheduledGroup). runs x.1) groups a unheld_rests in
+      omega (arith, total, total-entries runs groups, total-entries runs (map.remove groups a))
+
+pub few_running : (groups : Groups) → running_in groups ≤ map.len groups
+few_running groups =
+    let few = count_by-le-length (λ (e : ScheduledGroup). not (is_vacant e.group)) (map.values groups) in
+    let all = length-map (map.entries groups) (λ (e : ℕ × ScheduledGroup). e.1) in
+    omega (arith, few, all, map.len-entries groups)
+
+-- what is moved for a row is paid, by numbers alone
+row_paid : (limit room cells running ahead had has named left : ℕ) → named ≤ running + 1 → running ≤ room → had ≤ cells → cells + has ≤ limit + had → left ≤ running + 1
+    → (cond (leb has had) has (cond (leb has ahead) has (has + (cells - had + named))))
+    + min (4 * (limit / 4 + room - (cond (leb has had) ahead (cond (leb has ahead) (ahead - has) (limit + limit / 4 + room - (cells - had + has)))))) (cells - had + has + left)
+    ≤ min (4 * (limit / 4 + room - ahead)) (cells + running) + 5 * has + 1
+row_paid limit room cells running ahead had has named left few within part fits more =
+    ⊎_elim
+    (λ (shorter : has ≤ had). rw (le-leb has had shorter) (omega arith))
+    (λ (longer : had < has).
+    ⊎_elim
+    (λ (behind : has ≤ ahead). rw (lt-leb has had longer, le-leb has ahead behind) (omega arith))
+    (λ (past : ahead < has). rw (lt-leb has had longer, lt-leb has ahead past) (omega arith))
+    (cases_or ahead has))
+    (cases_or had has)
+  where
+    cases_or : (a b : ℕ) → (b ≤ a) ⊎ (a < b)
+    cases_or a b = ⊎_elim (λ (below : a < b). inr below) (λ (from : b ≤ a). inl from) (cases_lt a b)
+
+pub few_digits : (n : ℕ) → n ≤ 65535 → bitlen n ≤ 16
+few_digits n few = bitlen-le 16 n (omega (arith, few))
+
+one_few : (b : Bool) → one_if b ≤ 1
+one_few true = omega arith
+one_few false = omega arith
+
+kept_size : (e : ScheduledGroup) → sources_of (kept_as e) ≡ sources_of e
+kept_size e = by_test (is_vacant e.group) refl
+  where
+    by_test : (b : Bool) → is_vacant e.group ≡ b → sources_of (cond b unheld e) ≡ sources_of e
+    by_test true is = no_sources ∙ sym (vacant_sources e is)
+    by_test false is = refl
+
+-- the rows once a group is set, with what is put by then
+set_paid : (s after : HeldState) (a has : ℕ) (named : ℕ) (left : ScheduledGroup) → sources_of left ≡ has → named ≤ running_in s.groups + 1 → map.len s.groups ≤ s.order.room
+    → sources_of (group_at s.groups a) ≤ sources_in s.groups → sources_in s.groups + has ≤ s.source_room + sources_of (group_at s.groups a)
+    → after.groups ≡ map.insert s.groups a left → after.order.room ≡ s.order.room → after.source_room ≡ s.source_room → after.ahead ≡ ahead_with s (sources_of (group_at s.groups a)) has
+    → moved_by_packing named s (sources_of (group_at s.groups a)) has + put_by_rows after ≤ put_by_rows s + 5 * has + 1
+set_paid s after a has named left has_is named_few few own fits groups_are rooms room_is ahead_is =
+    let had = sources_of (group_at s.groups a) in
+    let sizes = sources_set s.groups a left in
+    let total : sources_in (map.insert s.groups a left) ≡ sources_in s.groups - had + has = omega (arith, sizes, has_is, own) in
+    let moments = running_set s.groups a left in
+    let one = one_few (not (is_vacant left.group)) in
+    let all = few_running s.groups in
+    let paid = row_paid s.source_room s.order.room (sources_in s.groups) (running_in s.groups) s.ahead had has named (running_in (map.insert s.groups a left)) named_few (omega (arith, all, few)) own fits (omega (arith, moments, one)) in
+    let after_is : put_by_rows after ≡ min (4 * (s.source_room / 4 + s.order.room - ahead_with s had has)) (sources_in s.groups - had + has + running_in (map.insert s.groups a left)) =
+    λ i. min (4 * (room_is i / 4 + rooms i - ahead_is i)) ((ap sources_in groups_are ∙ total) i + running_in (groups_are i))
+    in
+    omega (arith, paid, after_is)
+
+-- the group of a number is put
+pub put_paid : (s after : HeldState) (a : ℕ) (e : ScheduledGroup) (old new : ℕ) → map.len s.groups ≤ s.order.room
+    → sources_in s.groups + sources_of e ≤ s.source_room + sources_of (group_at s.groups a)
+    → after.groups ≡ map.insert s.groups a (kept_as e) → after.order ≡ s.order → after.source_room ≡ s.source_room
+    → after.ahead ≡ ahead_with s (sources_of (group_at s.groups a)) (sources_of e)
+    → (let before = group_at s.groups a in let rows = moved_by_row s (is_vacant before.group) (sources_of before) (sources_of e) in Spends rows (rows + 4 + bitlen (running_in s.groups - one_if (not (is_vacant before.group)))) old new)
+    → IsPaid (5 * sources_of e + 5 + bitlen (map.len s.groups)) (put_by_rows s) (put_by_rows after) old new
+put_paid s after a e old new few fits groups_are order_is room_is ahead_is moved =
+    let before = group_at s.groups a in
+    let one = one_few (is_vacant before.group) in
+    let rooms = ap (λ (o : NumberedKeysState). o.room) order_is in
+    let paid = set_paid s after a (sources_of e) (running_in s.groups + one_if (is_vacant before.group)) (kept_as e) (kept_size e) (omega (arith, one)) few (own_sources s.groups a) fits groups_are rooms room_is ahead_is in
+    let digits = bitlen-mono (running_in s.groups - one_if (not (is_vacant before.group))) (map.len s.groups) (let all = few_running s.groups in omega (arith, all)) in
+    paid_by (5 * sources_of e + 5 + bitlen (map.len s.groups)) moved (omega (arith, paid, digits))
+
+-- the order of the addresses has few pages, none of which has many
+module _ (s : HeldState) (few : map.len s.groups ≤ 65535) (filled : AreFilled s.order.pages) (few_pages : 128 * length s.order.pages ≤ map.len s.groups + 128) where
+  pages_few : length s.order.pages ≤ 512
+  pages_few = omega (arith, few, few_pages)
+
+  insert_few : (n : ℕ) (spot : Spot) → IsSpotFor s.order.items s.order.pages n spot → moved_by_insert s.order.pages spot ≤ 1024
+  insert_few n spot is =
+      let within : slice_index s.order.pages spot.page ≤ 511 = filled.within spot.page 0 is.page in
+      let place = is.place in
+      let pages = pages_few in
+      by_room (slice_index s.order.pages spot.page) within place
+    where
+      behind : (place : ℕ) → cond (leb place 255) (255 - place + 1) (256 - (place - 255) + 1) ≤ 256
+      behind place = ⊎_elim
+          (λ (above : 255 < place). rw (lt-leb place 255 above) (omega arith))
+          (λ (upto : place ≤ 255). rw (le-leb place 255 upto) (omega arith))
+          (cases_lt 255 place)
+
+      by_room : (count : ℕ) → count ≤ 511 → spot.place ≤ count → cond (ltb count 511) (count - spot.place + 1) (256 + (length s.order.pages - spot.page) + cond (leb spot.place 255) (255 - spot.place + 1) (256 - (spot.place - 255) + 1)) ≤ 1024
+      by_room count within place =
+          let few = behind spot.place in
+          let pages = pages_few in
+          ⊎_elim
+          (λ (room : count < 511). rw (lt-ltb count 511 room) (omega arith))
+          (λ (full : 511 ≤ count). rw (le-ltb count 511 full) (omega (arith, few, pages)))
+          (cases_lt count 511)
+
+  digits_few : bitlen (running_in s.groups) ≤ 16
+  digits_few = few_digits (running_in s.groups) (let all = few_running s.groups in omega (arith, all, few))
+
+  -- a group is made
+  pub made_paid : (after : HeldState) (a : ℕ) (spot : Spot) (e : ScheduledGroup) (old new : ℕ) → map.len s.groups ≤ s.order.room → group_at s.groups a ≡ unheld
+      → IsSpotFor s.order.items s.order.pages a spot → sources_in s.groups + sources_of e ≤ s.source_room
+      → after.groups ≡ map.insert s.groups a e → after.order.room ≡ s.order.room → after.source_room ≡ s.source_room → after.ahead ≡ ahead_with s 0 (sources_of e)
+      → (let own = moved_by_insert s.order.pages spot + moved_by_new_row s (sources_of e) in Spends (own + 4) (own + 4 + bitlen (running_in s.groups)) old new)
+      → IsPaid (5 * sources_of e + moved_by_edit) (put_by_rows s) (put_by_rows after) old new
+  made_paid after a spot e old new room absent is fits groups_are rooms room_is ahead_is moved =
+      let none : sources_of (group_at s.groups a) ≡ 0 = ap sources_of absent ∙ no_sources in
+      let ahead_then : after.ahead ≡ ahead_with s (sources_of (group_at s.groups a)) (sources_of e) = ahead_is ∙ ap (λ n. ahead_with s n (sources_of e)) (sym none) in
+      let paid = set_paid s after a (sources_of e) (running_in s.groups + 1) e refl (omega arith) room (own_sources s.groups a) (omega (arith, fits)) groups_are rooms room_is ahead_then in
+      let same : moved_by_packing (running_in s.groups + 1) s (sources_of (group_at s.groups a)) (sources_of e) ≡ moved_by_new_row s (sources_of e) = ap (λ n. moved_by_packing (running_in s.groups + 1) s n (sources_of e)) none in
+      let order = insert_few a spot is in
+      let digits = digits_few in
+      paid_by (5 * sources_of e + moved_by_edit) moved (omega (arith, paid, same, order, digits))
+
+-- those that are vacant are taken out
+runs_no_more : (k : ℕ) (e : ScheduledGroup) → IfSome (if_running k e) (λ x. runs x ≤ runs e)
+runs_no_more k e = by_test (is_vacant e.group)
+  where
+    by_test : (b : Bool) → IfSome (cond b None (Some e)) (λ x. runs x ≤ runs e)
+    by_test true = tt
+    by_test false = omega arith
+
+sources_no_more : (k : ℕ) (e : ScheduledGroup) → IfSome (if_running k e) (λ x. sources_of x ≤ sources_of e)
+sources_no_more k e = by_test (is_vacant e.group)
+  where
+    by_test : (b : Bool) → IfSome (cond b None (Some e)) (λ x. sources_of x ≤ sources_of e)
+    by_test true = tt
+    by_test false = omega arith
+
+pub taken_out_paid : (s after : HeldState) (budget low old new : ℕ) → after.groups ≡ without_vacant s.groups → after.order.room ≡ s.order.room → after.source_room ≡ s.source_room → after.ahead ≡ s.ahead
+    → Spends low budget old new → IsPaid budget (put_by_rows s) (put_by_rows after) old new
+taken_out_paid s after budget low old new groups_are rooms room_is ahead_is moved =
+    let after_is : put_by_rows after ≡ min (4 * (s.source_room / 4 + s.order.room - s.ahead)) (sources_in (without_vacant s.groups) + running_in (without_vacant s.groups)) =
+    λ i. min (4 * (room_is i / 4 + rooms i - ahead_is i)) (sources_in (groups_are i) + running_in (groups_are i))
+    in
+    let fewer = total-kept sources_of if_running s.groups sources_no_more in
+    let rests : running_in (without_vacant s.groups) ≤ running_in s.groups = total-kept runs if_running s.groups runs_no_more in
+    paid_by budget moved (omega (arith, after_is, fewer, rests))
+
+-- what is put by is no more than what packing moves
+pub put_by_few : (s : HeldState) → put_by_rows s ≤ sources_in s.groups + map.len s.groups
+put_by_few s = let all = few_running s.groups in omega (arith, all)
+
+-- what is spent where there is some is no more than where there is much
+pub some_of : (some most : ℕ) → min 1 some * most ≤ most
+some_of some most = let few : min 1 some ≤ 1 = omega arith in let all = mul-le-mul_right most few in omega (arith, all)
+
+pub none_of_all : (some most : ℕ) → some ≡ 0 → min 1 some * most ≡ 0
+none_of_all some most none = ap (λ n. min 1 n * most) none ∙ omega arith

@@ -1,0 +1,155 @@
+-- The groups of a link while those that are due are served one after the other, by the numbers that were handed out.
+use Rattle.std.proofs.Common.{◌≡◌, cond, ℕ, ◌+◌, ◌*◌, ◌<◌, ◌≤◌, Bool, true, false, refl, List, [], ◌∷◌, ◌++◌, length, take, drop, get_or, Option, None, Some, is_some, sym, ap, ◌∙◌, subst, arith, append-nil}
+use Rattle.std.specs.Prelude.{map as list_map}
+use Rattle.std.specs.List.{All, sum_by, flat_map}
+use Rattle.std.specs.Option.{option_map, option_and_then, unwrap_or}
+use Rattle.std.specs.FinMap as map
+use Rattle.std.proofs.lemmas.Bool.{true≢false, false≢true}
+use Rattle.std.proofs.lemmas.List.{take_more, take_all, length-map}
+use Rattle.std.proofs.lemmas.List.Concat.{flat_map-append}
+use Rattle.mq_count.specs.Spending.{Spends}
+use Rattle.mq_count.proofs.Spent.{Spends-none, Spends-join_within}
+use Rattle.mq_sets.specs.NumberedKeys.{key_in}
+use Rattle.mq_sets.specs.Slots.{times}
+use Rattle.mq_table.specs.declared.timing.Timing.{Timing}
+use Rattle.mq_table.specs.Group.{is_vacant}
+use Rattle.mq_table.proofs.Maps.{get-kept}
+use Rattle.mq_table.proofs.Groups.{same_sources}
+use Rattle.mq_sched.specs.Schedule.{ScheduledGroup}
+use Rattle.mq_sched.specs.Sending.{SentQuery, messages_due, after_round}
+use Rattle.mq_sched.specs.Sink.{Sends}
+use Rattle.mq_sched.proofs.Collecting.{Sends-append}
+use Rattle.mq_held.specs.Groups.{unheld, group_at, if_running, kept_as, sources_of, sources_in, without_vacant}
+use Rattle.mq_held.specs.Held.{HeldState, HasNumber, IsNumber, is_vacant_at}
+use Rattle.mq_held.specs.Places.{addresses_due, has_due}
+use Rattle.mq_link.specs.State.{Groups}
+use Rattle.mq_link.specs.Serving.{AreServed}
+use Rattle.mq_link.specs.Tick.{group_expired, groups_expired, groups_after_round}
+use Rattle.mq_link.proofs.DueGroups.{among_due, are_due, due_entries, not_due_passed}
+use Rattle.mq_link.proofs.GroupNumbers.{number_found, is_number_stayed, stands_at}
+use Rattle.mq_link.proofs.HeldAs.{vacant_is}
+use Rattle.mq_link.proofs.MadeEntries.{round_keeps_vacant}
+use Rattle.mq_link.proofs.Quiet.{not_vacant}
+use Rattle.mq_link.proofs.ReplacedGroups.{IsReplacedTo, addresses_of, among, entry_at, entry_sources, next_group, number_at, one_replaced, one_weighed}
+use Rattle.mq_link.proofs.TickedEntries.{ticked_group, queries_at, groups_ticked}
+
+-- what is put back of a group that is served
+abbrev pub served_as : Timing → (now : ℕ) → ScheduledGroup → ScheduledGroup
+served_as timing now e = kept_as (after_round timing now (group_expired now e))
+
+-- The first i of those that are due are served: what is left of the groups, what was sent for it, and what was counted, by how many
+-- sources these groups had.
+pub record AreTickedTo {S : Type 0} (takes : S → SentQuery → S → Type 0) (n : ℕ) (timing : Timing) (now : ℕ) (groups : Groups) (from_sink : S) (from_count : ℕ) (i : ℕ) (current : Groups) (sink : S) (count weight : ℕ) : Type 0 where
+  pub done : IsReplacedTo (served_as timing now) groups (due_entries now groups) (are_due now groups) i current
+  pub sent : Sends takes from_sink (flat_map (queries_at n timing now) (take i (due_entries now groups))) sink
+  pub weight_is : weight + sum_by entry_sources (drop i (due_entries now groups)) ≤ sources_in groups
+  pub weightless : i ≡ 0 → weight ≡ 0
+  pub spent : Spends 0 (4 * weight + 26 * i) from_count count
+
+module _ (n : ℕ) (timing : Timing) (now : ℕ) (groups : Groups) where
+  -- before the first nothing is done
+  pub none_ticked : {S : Type 0} (takes : S → SentQuery → S → Type 0) (sink : S) (count : ℕ) → AreTickedTo takes n timing now groups sink count 0 groups sink count 0
+  none_ticked takes sink count = record {
+    done = record { at = λ q. refl; len_is = refl };
+    sent = refl;
+    weight_is = let fewer = (are_due now groups).sources in omega arith;
+    weightless = λ first. refl;
+    spent = Spends-none count;
+  }
+
+  module _ {S : Type 0} (takes : S → SentQuery → S → Type 0) (from_sink : S) (from_count i : ℕ) (current : Groups) (sink : S) (count weight : ℕ) (so_far : AreTickedTo takes n timing now groups from_sink from_count i current sink count weight) (within : i < length (due_entries now groups)) where
+    abbrev pub next : ℕ × ScheduledGroup
+    next = entry_at (due_entries now groups) i
+
+    -- the next is served too
+    pub one_ticked : (after : Groups) (new_sink : S) (new_count digits : ℕ)
+        → after ≡ map.insert current next.0 (served_as timing now (group_at current next.0))
+        → Sends takes sink (messages_due n timing now next.0 (group_expired now (group_at current next.0))) new_sink
+        → Spends 0 (4 * sources_of (group_at current next.0) + 10 + digits) count new_count → digits ≤ 16
+        → AreTickedTo takes n timing now groups from_sink from_count (i + 1) after new_sink new_count (weight + sources_of next.1)
+    one_ticked after new_sink new_count digits after_is sends counted few =
+        let es = due_entries now groups in
+        let same = next_group (served_as timing now) groups es (are_due now groups) i current so_far.done within in
+        let size = ap sources_of same in
+        let more : flat_map (queries_at n timing now) (take (i + 1) es) ≡ flat_map (queries_at n timing now) (take i es) ++ queries_at n timing now next =
+        ap (flat_map (queries_at n timing now)) (take_more es i (0, unheld) within)
+        ∙ flat_map-append (queries_at n timing now) (take i es) (next ∷ [])
+        ∙ ap (λ (qs : List SentQuery). flat_map (queries_at n timing now) (take i es) ++ qs) (append-nil (queries_at n timing now next))
+        in
+        let sent = Sends-append takes from_sink sink new_sink (flat_map (queries_at n timing now) (take i es)) (queries_at n timing now next) so_far.sent (subst (λ (e : ScheduledGroup). Sends takes sink (messages_due n timing now next.0 (group_expired now e)) new_sink) same sends) in
+        record {
+          done = one_replaced (served_as timing now) groups es (are_due now groups) i current so_far.done within after after_is;
+          sent = subst (λ (qs : List SentQuery). Sends takes from_sink qs new_sink) (sym more) sent;
+          weight_is = one_weighed (served_as timing now) groups es (are_due now groups) i current so_far.done within weight so_far.weight_is;
+          weightless = λ first. absurd (omega arith);
+          spent = Spends-join_within 0 (4 * (weight + sources_of next.1) + 26 * (i + 1)) so_far.spent counted (omega arith) (omega (arith, size, few));
+        }
+
+-- once all are served, and those that are vacant taken out, the groups are what a tick leaves
+module _ (timing : Timing) (now room : ℕ) (groups : Groups) (are : AreServed room groups) (current : Groups) (i : ℕ) (done : IsReplacedTo (served_as timing now) groups (due_entries now groups) (are_due now groups) i current) (all : length (due_entries now groups) ≤ i) where
+  replaced_at : (q : ℕ) → map.get current q ≡ cond (among (addresses_due now groups) q) (Some (served_as timing now (group_at groups q))) (map.get groups q)
+  replaced_at q = done.at q ∙ ap (λ (ks : List ℕ). cond (among ks q) (Some (served_as timing now (group_at groups q))) (map.get groups q)) (take_all i (addresses_of (due_entries now groups)) (let l = length-map (due_entries now groups) (λ (e : ℕ × ScheduledGroup). e.0) in omega (arith, l, all)))
+
+  running_left : (q : ℕ) (e : ScheduledGroup) → if_running q (served_as timing now e) ≡ ticked_group timing now q e
+  running_left q e = by_vacant (is_vacant (after_round timing now (group_expired now e)).group) refl
+    where
+      left : ScheduledGroup
+      left = after_round timing now (group_expired now e)
+
+      by_vacant : (b : Bool) → is_vacant (after_round timing now (group_expired now e)).group ≡ b
+          → if_running q (cond b unheld (after_round timing now (group_expired now e))) ≡ option_map (after_round timing now) (cond (is_vacant (group_expired now e).group) None (Some (group_expired now e)))
+      by_vacant true is =
+          ap (λ b. cond b None (Some unheld)) vacant_is
+          ∙ ap (λ b. option_map (after_round timing now) (cond b None (Some (group_expired now e)))) (sym is ∙ round_keeps_vacant timing now (group_expired now e))
+      by_vacant false is =
+          ap (λ b. cond b None (Some (after_round timing now (group_expired now e)))) is
+          ∙ ap (λ b. option_map (after_round timing now) (cond b None (Some (group_expired now e)))) (sym is ∙ round_keeps_vacant timing now (group_expired now e))
+
+  one_left : (q : ℕ) (found : Option ScheduledGroup) → map.get groups q ≡ found
+      → option_and_then (if_running q) (cond (is_some (option_and_then (λ e. cond (has_due now e) (Some e) None) found)) (Some (served_as timing now (unwrap_or found unheld))) found) ≡ option_and_then (ticked_group timing now q) found
+  one_left q None is = refl
+  one_left q (Some e) is = by_due (has_due now e) refl
+    where
+      by_due : (b : Bool) → has_due now e ≡ b → option_and_then (if_running q) (cond (is_some (cond b (Some e) None)) (Some (served_as timing now e)) (Some e)) ≡ ticked_group timing now q e
+      by_due true due = running_left q e
+      by_due false due =
+          ap (λ b. cond b None (Some e)) (not_vacant e.group (are q e is).held)
+          ∙ sym (not_due_passed now groups room 0 timing are q e is due).stays
+
+  pub ticked_left : without_vacant current ≡ groups_after_round timing now (groups_expired now groups)
+  ticked_left =
+      same_sources _ _ (λ q.
+      get-kept if_running current q
+      ∙ ap (option_and_then (if_running q)) (replaced_at q ∙ ap (λ b. cond b (Some (served_as timing now (group_at groups q))) (map.get groups q)) (among_due now groups q))
+      ∙ one_left q (map.get groups q) refl
+      ∙ sym (get-kept (ticked_group timing now) groups q))
+      ∙ sym (groups_ticked timing now groups)
+
+  -- a group that is vacant then is one of those that were served
+  pub vacant_served : (q : ℕ) → map.contains_key groups q ≡ true → is_vacant (group_at current q).group ≡ true → among (addresses_due now groups) q ≡ true
+  vacant_served q held vacant = by_test (among (addresses_due now groups) q) refl
+    where
+      by_found : (found : Option ScheduledGroup) → map.get groups q ≡ found → is_some found ≡ true → is_vacant (unwrap_or found unheld).group ≡ true → ⊥
+      by_found None is some here = false≢true some
+      by_found (Some e) is some here = true≢false (sym here ∙ not_vacant e.group (are q e is).held)
+
+      by_test : (b : Bool) → among (addresses_due now groups) q ≡ b → b ≡ true
+      by_test true is = refl
+      by_test false is =
+          let same : map.get current q ≡ map.get groups q = replaced_at q ∙ ap (λ b. cond b (Some (served_as timing now (group_at groups q))) (map.get groups q)) is in
+          absurd (by_found (map.get groups q) refl held (ap (λ (e : Option ScheduledGroup). is_vacant (unwrap_or e unheld).group) (sym same) ∙ vacant))
+
+  -- so it is one of the numbers that were handed out
+  pub vacant_named : (old now_held : HeldState) (numbers : List ℕ) → old.groups ≡ groups → now_held.groups ≡ current → now_held.order ≡ old.order
+      → All (IsNumber old) numbers → list_map (key_in old.order.items) numbers ≡ addresses_due now groups
+      → ((a n : ℕ) → HasNumber old a n → map.contains_key old.groups a ≡ true) → ((a m n : ℕ) → HasNumber old a m → HasNumber old a n → m ≡ n)
+      → (n : ℕ) → IsNumber now_held n → is_vacant_at now_held n ≡ true → 1 ≤ times n numbers
+  vacant_named old now_held numbers groups_are current_is order_is named same of_one one n is vacant =
+      let q = key_in old.order.items n in
+      let has = number_found old n (is_number_stayed old now_held n order_is is) in
+      let held = ap (λ (m : Groups). map.contains_key m q) (sym groups_are) ∙ of_one q n has in
+      let rests : is_vacant (group_at current q).group ≡ true = (λ i. is_vacant (group_at (sym current_is i) (key_in (sym order_is i).items n)).group) ∙ vacant in
+      let found = number_at (key_in old.order.items) numbers (due_entries now groups) same q (vacant_served q held rests) in
+      let k = get_or numbers found.0 0 in
+      let other = subst (λ a. HasNumber old a k) found.2 (number_found old k (named found.0 0 found.1)) in
+      stands_at numbers found.0 n found.1 (one q k n other has)

@@ -1,0 +1,64 @@
+-- A tick leaves no more groups and sources than were held, and so a datagram spends within what was held before both; and
+-- at least what it takes on what the tick leaves.
+use Rattle.std.proofs.Common.{◌≡◌, ℕ, ◌+◌, ◌*◌, ◌≤◌, List, Some, sym, ap, ◌∙◌, subst, arith}
+use Rattle.std.specs.FinMap as map
+use Rattle.mq_count.specs.Spending.{Spends}
+use Rattle.mq_count.proofs.Spent.{Spends-join_within}
+use Rattle.mq_table.specs.declared.timing.Timing.{Timing}
+use Rattle.mq_sched.specs.Sending.{after_round}
+use Rattle.mq_wire.specs.Family.{Family}
+use Rattle.mq_link.specs.Configuration.{Configuration}
+use Rattle.mq_link.specs.Cost.{cost_of}
+use Rattle.mq_link.specs.LeastCost.{least_after, least_received}
+use Rattle.mq_link.specs.Moved.{IsPaid, most_moved, most_moved_by_tick}
+use Rattle.mq_link.specs.Receive.{Envelope, setting_of}
+use Rattle.mq_link.specs.State.{Groups, LinkState, sources_in}
+use Rattle.mq_link.specs.Tick.{group_expired, if_held, groups_expired, groups_after_round, moment_of, tick_at}
+use Rattle.mq_link.proofs.Bounds.{expired_no_more, round_no_more, sources_kept}
+use Rattle.mq_link.proofs.Entries.{len-kept}
+use Rattle.mq_link.proofs.LinkReceived.{read_in}
+use Rattle.mq_link.proofs.Moved.{paid_join, paid_moves}
+
+module _ (timing : Timing) (now : ℕ) (groups : Groups) where
+  abbrev left_groups : Groups
+  left_groups = groups_after_round timing now (groups_expired now groups)
+
+  sources_left : sources_in left_groups ≤ sources_in groups
+  unfolding groups_expired groups_after_round
+  sources_left =
+      let expired = sources_kept (λ group e. if_held (group_expired now e)) groups (λ _ e. expired_no_more now e) in
+      let sent = sources_kept (λ group e. Some (after_round timing now e)) (groups_expired now groups) (λ _ e. round_no_more timing now e) in
+      omega (arith, expired, sent)
+
+  groups_left : map.len left_groups ≤ map.len groups
+  unfolding groups_expired groups_after_round
+  groups_left =
+      let expired = len-kept (λ group e. if_held (group_expired now e)) groups in
+      let sent = len-kept (λ group e. Some (after_round timing now e)) (groups_expired now groups) in
+      omega (arith, expired, sent)
+
+  pub received_within : (after : Groups) (length least old ticked new : ℕ) → after ≡ left_groups
+      → Spends 2 (4 * sources_in groups + 44 * map.len groups + 3) old ticked
+      → Spends least (24 * sources_in after + 20 * map.len after + 64 * length) ticked new
+      → Spends (2 + least) (cost_of length (map.len groups + sources_in groups)) old new
+  received_within after length least old ticked new is due taken =
+      let fewer : sources_in after ≤ sources_in groups = subst (λ g. sources_in g ≤ sources_in groups) (sym is) sources_left in
+      let fewer_groups : map.len after ≤ map.len groups = subst (λ (g : Groups). map.len g ≤ map.len groups) (sym is) groups_left in
+      Spends-join_within (2 + least) _ due taken (omega arith) (omega (arith, fewer, fewer_groups))
+
+  pub moved_within : (after : Groups) (length before between left old ticked new : ℕ) → after ≡ left_groups → before ≤ sources_in groups + map.len groups
+      → IsPaid (most_moved_by_tick groups) before between old ticked
+      → IsPaid (24 * sources_in after + 22 * map.len after + 256 * length) between left ticked new
+      → Spends 0 (most_moved length (map.len groups + sources_in groups)) old new
+  moved_within after length before between left old ticked new is few due taken =
+      let fewer : sources_in after ≤ sources_in groups = subst (λ g. sources_in g ≤ sources_in groups) (sym is) sources_left in
+      let fewer_groups : map.len after ≤ map.len groups = subst (λ (g : Groups). map.len g ≤ map.len groups) (sym is) groups_left in
+      paid_moves (most_moved length (map.len groups + sources_in groups)) (paid_join (most_moved_by_tick groups + (24 * sources_in after + 22 * map.len after + 256 * length)) due taken (omega arith)) (omega (arith, fewer, fewer_groups, few))
+
+-- what a datagram spends at least on what the tick leaves
+pub least_after_tick : (family : Family) (config : Configuration) (envelope : Envelope) (bytes : List ℕ) (now moment : ℕ) (before after : LinkState)
+    → config.family ≡ family → moment ≡ moment_of before now → after ≡ (tick_at config moment before).state
+    → least_after (setting_of config after) envelope (read_in family envelope bytes) after.groups ≡ least_received config envelope bytes now before
+least_after_tick family config envelope bytes now moment before after is_family is_moment ticked =
+    ap (λ (s : LinkState). least_after (setting_of config s) envelope (read_in family envelope bytes) s.groups) ticked
+    ∙ (λ i. least_after (setting_of config (tick_at config (is_moment i) before).state) envelope (read_in (sym is_family i) envelope bytes) (tick_at config (is_moment i) before).state.groups)

@@ -1,0 +1,58 @@
+use Rattle.std.proofs.Common.{◌≡◌, ◌+◌, max, length, refl, ap, ◌∙◌, sym, subst, arith}
+use Rattle.mq_count.specs.Spending.{Spends}
+use Rattle.mq_count.proofs.Spent.{Spends-within}
+use Rattle.mq_sched.specs.Election.{ticked}
+use Rattle.mq_link.specs.Cost.{cost_of}
+use Rattle.mq_link.specs.LeastCost.{least_after}
+use Rattle.mq_link.specs.Record.{Setting}
+use Rattle.mq_link.specs.Router.{RouterValue, state_of}
+use Rattle.mq_link.specs.State.{LinkState, held_of}
+use Rattle.mq_link.proofs.HandedOut.{with_answers}
+use Rattle.mq_link.proofs.HandedOver.{same_outlet}
+use Rattle.mq_link.proofs.LinkReceived.{has_received, read_in}
+use Rattle.mq_link.proofs.TickedSizes.{received_within, moved_within, least_after_tick}
+use Rattle.mq_link.proofs.router.Router.receive.Given.{Over}
+use Rattle.mq_link.proofs.router.Router.receive.Goals as goal
+
+-- the answers are those that the sender has counted
+counted : (g : Over) (c : goal.After-count_answers g) → (let left = c.take_in-received.new in c.count_answers.new.self ≡ record left.self { counters = with_answers left.self.counters left.sender.sent left.sender.unsent })
+counted g c =
+    let left = c.take_in-received.new in
+    c.count_answers.ensures ∙ (λ i. record left.self { counters = with_answers left.self.counters (c.sent.ensures i) (c.unsent.ensures i) })
+
+pub returns-clause-config : goal.returns-clause-config
+returns-clause-config g c = ap (λ (r : RouterValue). r.at.config) (counted g c) ∙ c.take_in-received.ensures.receipt.step.leaves.config ∙ c.come_to.ensures.step.leaves.config
+
+pub returns-clause-receives : goal.returns-clause-receives
+returns-clause-receives g c =
+    has_received g.O.Outlet.takes g.F.Family.FAMILY (g.F.Family.envelope_of c.args.envelope.now) c.args.body.now c.args.now c.args.self.now c.come_to.new.self c.take_in-received.new.self c.count_answers.new.self c.take_in-received.result c.args.sender.now c.come_to.new.sender c.take_in-received.new.sender c.lemma_is_stored.ensures.family c.come_to.ensures.step c.take_in-received.ensures.receipt (counted g c)
+
+pub returns-clause-same_outlet : goal.returns-clause-same_outlet
+returns-clause-same_outlet g c = same_outlet _ _ _ _ _ c.take_in-received.ensures.receipt.step.sent ∙ same_outlet _ _ _ _ _ c.come_to.ensures.step.sent
+
+pub returns-clause-spent : goal.returns-clause-spent
+returns-clause-spent g c =
+    let family = g.F.Family.FAMILY in
+    let before = c.args.self.now in
+    let between = c.come_to.new.self in
+    let config = before.at.config in
+    let envelope = g.F.Family.envelope_of c.args.envelope.now in
+    let moment = max before.at.now c.args.now in
+    let leaves = c.come_to.ensures.step.leaves in
+    let spent = received_within (ticked config.timing moment before.at.election).timing moment before.groups between.groups (length c.args.body.now) _ _ _ _ (ap (λ (s : LinkState). s.groups) leaves.state_is) (Spends-within _ _ c.come_to.ensures.spent (omega arith) (omega arith)) c.take_in-received.ensures.spent in
+    let least = (λ i. let at : Setting = record { config = leaves.config i; election = between.at.election; now = between.at.now } in least_after at envelope (read_in family envelope c.args.body.now) between.groups)
+    ∙ least_after_tick family config envelope c.args.body.now c.args.now moment (state_of before) (state_of between) c.lemma_is_stored.ensures.family refl leaves.state_is
+    in
+    let so = subst (λ n. Spends (2 + n) (cost_of (length c.args.body.now) (held_of (state_of before))) before.spent c.take_in-received.new.self.spent) least spent in
+    subst (Spends _ _ before.spent) (sym (ap (λ (r : RouterValue). r.spent) (counted g c))) so
+
+pub returns-clause-moved : goal.returns-clause-moved
+returns-clause-moved g c =
+    let before = c.args.self.now in
+    let between = c.come_to.new.self in
+    let left = c.take_in-received.new.self in
+    let config = before.at.config in
+    let moment = max before.at.now c.args.now in
+    let leaves = c.come_to.ensures.step.leaves in
+    let moved = moved_within (ticked config.timing moment before.at.election).timing moment before.groups between.groups (length c.args.body.now) _ _ _ _ _ _ (ap (λ (s : LinkState). s.groups) leaves.state_is) c.lemma_is_stored.ensures.put_by c.come_to.ensures.moved c.take_in-received.ensures.moved in
+    subst (Spends _ _ before.moved) (sym (ap (λ (r : RouterValue). r.moved) (counted g c))) moved

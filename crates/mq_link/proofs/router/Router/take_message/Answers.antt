@@ -1,0 +1,61 @@
+use Rattle.std.proofs.Common.{◌≤◌, refl, arith}
+use Rattle.std.specs.FinMap as map
+use Rattle.mq_count.proofs.Spent.{Spends-within}
+use Rattle.mq_held.proofs.Amounts.{own_sources}
+use Rattle.mq_link.specs.Receive.{taken_in}
+use Rattle.mq_link.proofs.Faultless.{few_groups}
+use Rattle.mq_link.proofs.Moved.{paid_within}
+use Rattle.mq_link.proofs.MovedRecords.{report_moves_within}
+use Rattle.mq_link.proofs.RecordCosts.{report_within, statement_within}
+use Rattle.mq_link.proofs.router.Router.take_message.Goals as goal
+
+pub returns-in-Query-clause-receipt : goal.returns-in-Query-clause-receipt
+unfolding taken_in
+returns-in-Query-clause-receipt g c =
+    let source = c.source-source.ensures in
+    rw (c.in-Query.is, ← source) (record { step = record { leaves = c.hear.ensures.leaves; sent = refl }; answer_is = refl })
+
+pub returns-in-OldReport-clause-receipt : goal.returns-in-OldReport-clause-receipt
+unfolding taken_in
+returns-in-OldReport-clause-receipt g c = rw c.in-OldReport.is c.take_statement.ensures.receipt
+
+pub returns-in-Leave-clause-receipt : goal.returns-in-Leave-clause-receipt
+unfolding taken_in
+returns-in-Leave-clause-receipt g c = rw c.in-Leave.is c.take_statement-in-Leave.ensures.receipt
+
+pub returns-in-Report-clause-receipt : goal.returns-in-Report-clause-receipt
+unfolding taken_in
+returns-in-Report-clause-receipt g c = rw c.in-Report.is c.take_records.ensures.receipt
+
+pub returns-in-OldReport-clause-spent : goal.returns-in-OldReport-clause-spent
+returns-in-OldReport-clause-spent g c =
+    let before = c.args.self.now in
+    let few : map.len before.groups ≤ 65535 = omega (arith, c.lemma_is_stored.ensures.sound.within.group_count, few_groups before.at.config c.lemma_is_stored.ensures.faultless) in
+    rw c.in-OldReport.is (statement_within before.groups (g.F.Address.Key.number c.in-OldReport.group) _ _ _ few c.take_statement.ensures.spent)
+
+pub returns-in-Leave-clause-spent : goal.returns-in-Leave-clause-spent
+returns-in-Leave-clause-spent g c =
+    let before = c.args.self.now in
+    let few : map.len before.groups ≤ 65535 = omega (arith, c.lemma_is_stored.ensures.sound.within.group_count, few_groups before.at.config c.lemma_is_stored.ensures.faultless) in
+    rw c.in-Leave.is (statement_within before.groups (g.F.Address.Key.number c.in-Leave.group) _ _ _ few c.take_statement-in-Leave.ensures.spent)
+
+pub returns-in-Report-clause-spent : goal.returns-in-Report-clause-spent
+returns-in-Report-clause-spent g c =
+    rw c.in-Report.is (Spends-within _ _ c.take_records.ensures.spent (omega arith) (omega (arith, report_within c.in-Report.records)))
+
+pub returns-in-Query-clause-moved : goal.returns-in-Query-clause-moved
+returns-in-Query-clause-moved g c = rw c.in-Query.is (paid_within _ c.hear.ensures.moved (omega arith))
+
+pub returns-in-OldReport-clause-moved : goal.returns-in-OldReport-clause-moved
+returns-in-OldReport-clause-moved g c =
+    let own = own_sources c.args.self.now.groups (g.F.Address.Key.number c.in-OldReport.group) in
+    rw c.in-OldReport.is (paid_within _ c.take_statement.ensures.moved (omega (arith, own)))
+
+pub returns-in-Leave-clause-moved : goal.returns-in-Leave-clause-moved
+returns-in-Leave-clause-moved g c =
+    let own = own_sources c.args.self.now.groups (g.F.Address.Key.number c.in-Leave.group) in
+    rw c.in-Leave.is (paid_within _ c.take_statement-in-Leave.ensures.moved (omega (arith, own)))
+
+pub returns-in-Report-clause-moved : goal.returns-in-Report-clause-moved
+returns-in-Report-clause-moved g c =
+    rw c.in-Report.is (paid_within _ c.take_records.ensures.moved (omega (arith, report_moves_within c.in-Report.records)))

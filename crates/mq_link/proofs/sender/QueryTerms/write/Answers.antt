@@ -1,0 +1,24 @@
+use Rattle.std.proofs.Common.{◌≡◌, length, ap, arith}
+use Rattle.mq_wire.specs.Canon.{canon}
+use Rattle.mq_wire.specs.Numbered.{numbered_query}
+use Rattle.mq_sched.specs.Sink.{query_of}
+use Rattle.mq_link.specs.Handing.{Terms, outgoing_on}
+use Rattle.mq_link.specs.Sent.{fields_sent}
+use Rattle.mq_link.proofs.Lengths.{within_longest}
+use Rattle.mq_link.proofs.sender.QueryTerms.write.Goals as goal
+
+pub unreachable-requires : goal.unreachable-requires
+unreachable-requires g c =
+    let family = g.F.Family.FAMILY in
+    let terms : Terms = c.args.self.now in
+    let query = query_of g.F.Address.Key.number c.args.query in
+    let fits = within_longest family terms query c.requires.fits in
+    let short = c.in-Err.ensures in
+    let same_own : g.F.Address.Key.number c.self.inside.own ≡ terms.own = ap (λ (t : Terms). t.own) c.self.view_is in
+    let same_fields : numbered_query g.F.Address.Key.number c.fields-fields.result ≡ fields_sent terms.timing query =
+    c.fields-fields.ensures
+    in
+    let same : canon family (g.F.Address.Key.number c.self.inside.own) (numbered_query g.F.Address.Key.number c.fields-fields.result)
+    ≡ (outgoing_on family terms query).bytes = λ i. canon family (same_own i) (same_fields i) in
+    let long = ap length same in
+    omega (arith, short.0, short.1, long, fits, c.requires.length)

@@ -1,0 +1,170 @@
+use Rattle.std.proofs.Common.{◌≡◌, ◌+◌, ◌*◌, ◌≤◌, ◌<◌, get_or, length, refl, sym, ap, ◌∙◌, subst, arith}
+use Rattle.std.specs.FinMap as map
+use Rattle.std.specs.Prelude.{map as list_map}
+use Rattle.std.specs.List.{All, flat_map}
+use Rattle.std.proofs.lemmas.List.{take_all}
+use Rattle.mq_count.proofs.Spent.{Spends-join, Spends-join_within}
+use Rattle.mq_sets.specs.Ascending.{IsAscending}
+use Rattle.mq_sets.specs.NumberedKeys.{key_in}
+use Rattle.mq_sched.specs.Sink.{Sends}
+use Rattle.mq_held.specs.Groups.{group_at, sources_of}
+use Rattle.mq_held.specs.Held.{HasNumber, IsNumber}
+use Rattle.mq_held.specs.Places.{due_in}
+use Rattle.mq_link.specs.Moved.{most_moved_by_tick}
+use Rattle.mq_link.specs.Storage.{put_by_rows}
+use Rattle.mq_link.proofs.DueGroups.{all_running, are_due, due_entries, none_have, sent_of_due}
+use Rattle.mq_link.proofs.GroupNumbers.{is_number_stays, number_found, number_stays, number_stayed, stands_once}
+use Rattle.mq_link.proofs.Moved.{paid_none, paid_by, paid_join, spends_none}
+use Rattle.mq_link.proofs.PaidEdits.{few_digits, none_of_all, some_of, taken_out_paid}
+use Rattle.mq_link.proofs.ReplacedGroups.{address_of, as_many, entry_at, next_group}
+use Rattle.mq_link.proofs.Rooms.{rooms_on}
+use Rattle.mq_link.proofs.TickedEntries.{queries_at, queries_of_entries}
+use Rattle.mq_link.proofs.TickedNumbers.{served_as, none_ticked, one_ticked, ticked_left, vacant_named}
+use Rattle.mq_link.proofs.storage.Storage.tick_groups.Goals as goal
+
+pub loop-number-init : goal.loop-number-init
+loop-number-init g c =
+    ((0, none_ticked g.K.WireKey.PER_QUERY c.args.at.now.timing c.args.at.now.moment c.args.self.now.held.groups g.S.Sink.takes c.args.sink.now c.due.new.m, paid_none _ _), (λ _. refl), refl, record { groups = refl; sources = refl }, omega arith)
+
+pub tick_group-requires-clause-number : goal.tick_group-requires-clause-number
+tick_group-requires-clause-number g c =
+    let named = subst (All (IsNumber c.args.self.now.held)) (sym c.as_slice-number-items.ensures.value) c.due.ensures.numbers in
+    is_number_stays c.args.self.now.held c.loop-number.self.held _ c.loop-number.invariant.2 (named c.loop-number.number-index 0 c.loop-number-test.true)
+
+pub tick_group-requires-clause-room : goal.tick_group-requires-clause-room
+tick_group-requires-clause-room g c address other =
+    let now = c.args.at.now.moment in
+    let old = c.args.self.now.held in
+    let i = c.loop-number.number-index in
+    let same = ap (list_map (key_in old.order.items)) c.as_slice-number-items.ensures.value ∙ c.due.ensures.due in
+    let within : i < length (due_entries now old.groups) = omega (arith, as_many (key_in old.order.items) _ (due_entries now old.groups) same, c.loop-number-test.true) in
+    let known = c.lemma_is_numbered.ensures.known address _ (number_stayed old c.loop-number.self.held address _ c.loop-number.invariant.2 other) in
+    let key : address ≡ (entry_at (due_entries now old.groups) i).0 = sym known ∙ address_of (key_in old.order.items) _ (due_entries now old.groups) same i c.loop-number-test.true in
+    let group = ap (group_at c.loop-number.self.held.groups) key ∙ next_group (served_as c.args.at.now.timing now) old.groups (due_entries now old.groups) (are_due now old.groups) i c.loop-number.self.held.groups c.loop-number.invariant.0.1.done within in
+    let fits = (c.requires.ready.served _ _ ((are_due now old.groups).held i within)).room_for in
+    omega (arith, ap sources_of group, fits, c.loop-number.invariant.4)
+
+pub loop-number-preserved : goal.loop-number-preserved
+loop-number-preserved g c =
+    let now = c.args.at.now.moment in
+    let timing = c.args.at.now.timing in
+    let old = c.args.self.now.held in
+    let current = c.loop-number.self.held in
+    let es = due_entries now old.groups in
+    let i = c.loop-number.number-index in
+    let so_far = c.loop-number.invariant.0.1 in
+    let same = ap (list_map (key_in old.order.items)) c.as_slice-number-items.ensures.value ∙ c.due.ensures.due in
+    let named = subst (All (IsNumber old)) (sym c.as_slice-number-items.ensures.value) c.due.ensures.numbers in
+    let within : i < length (due_entries now old.groups) = omega (arith, as_many (key_in old.order.items) _ es same, c.loop-number-test.true) in
+    let key = address_of (key_in old.order.items) _ es same i c.loop-number-test.true in
+    let n = get_or c.as_slice-number-items.result.now i 0 in
+    let has = number_stays old current (entry_at es i).0 n c.loop-number.invariant.2 (subst (λ a. HasNumber old a n) key (number_found old n (named i 0 c.loop-number-test.true))) in
+    let size = ap sources_of (next_group (served_as timing now) old.groups es (are_due now old.groups) i current.groups so_far.done within) in
+    let digits = few_digits (map.len current.groups) (omega (arith, so_far.done.len_is, c.requires.ready.few)) in
+    let more = one_ticked g.K.WireKey.PER_QUERY timing now old.groups g.S.Sink.takes c.args.sink.now c.due.new.m i current.groups c.loop-number.sink c.loop-number.self.meter c.loop-number.invariant.0.0 so_far within c.tick_group.new.self.held.groups c.tick_group.new.sink c.tick_group.new.self.meter _ (c.tick_group.ensures.groups _ has) (c.tick_group.ensures.sent _ has) (c.tick_group.ensures.spent _ has) digits in
+    let paid = paid_join (5 * (c.loop-number.invariant.0.0 + sources_of (entry_at es i).1) + 21 * (i + 1)) c.loop-number.invariant.0.2 (c.tick_group.ensures.moved _ has) (omega (arith, size, digits)) in
+    ((c.loop-number.invariant.0.0 + sources_of (entry_at es i).1, more, paid), (λ first. absurd (omega arith)), c.tick_group.ensures.order ∙ c.loop-number.invariant.2, rooms_on c.loop-number.invariant.3 c.tick_group.ensures.rooms, omega (arith, c.loop-number.invariant.4, c.tick_group.ensures.room))
+
+pub take_out_vacant-requires-clause-there : goal.take_out_vacant-requires-clause-there
+take_out_vacant-requires-clause-there g c k d within =
+    is_number_stays c.args.self.now.held c.loop-number.self.held _ c.loop-number.invariant.2 (c.due.ensures.numbers k d within)
+
+pub take_out_vacant-requires-clause-each : goal.take_out_vacant-requires-clause-each
+take_out_vacant-requires-clause-each g c number =
+    let now = c.args.at.now.moment in
+    let old = c.args.self.now.held in
+    stands_once (key_in old.order.items) c.due.new.numbers.items (subst (IsAscending (λ k. k)) (sym c.due.ensures.due) (are_due now old.groups).ascending) number
+
+pub take_out_vacant-requires-clause-vacant : goal.take_out_vacant-requires-clause-vacant
+take_out_vacant-requires-clause-vacant g c number is vacant =
+    let now = c.args.at.now.moment in
+    let old = c.args.self.now.held in
+    let same = ap (list_map (key_in old.order.items)) c.as_slice-number-items.ensures.value ∙ c.due.ensures.due in
+    let all : length (due_entries now old.groups) ≤ c.loop-number.number-index = omega (arith, as_many (key_in old.order.items) _ (due_entries now old.groups) same, c.loop-number-test.false) in
+    let numbered = c.lemma_is_numbered.ensures in
+    vacant_named c.args.at.now.timing now c.args.group.now.room old.groups c.requires.ready.served c.loop-number.self.held.groups c.loop-number.number-index c.loop-number.invariant.0.1.done all
+    old c.loop-number.self.held c.due.new.numbers.items refl refl c.loop-number.invariant.2 c.due.ensures.numbers c.due.ensures.due numbered.of_one numbered.one number is vacant
+
+pub take_out_vacant-requires-clause-space : goal.take_out_vacant-requires-clause-space
+take_out_vacant-requires-clause-space g c =
+    let room = c.requires.space.due in
+    omega (arith, c.loop-number.invariant.0.1.done.len_is, c.due.ensures.capacity, room)
+
+pub returns-clause-groups : goal.returns-clause-groups
+returns-clause-groups g c =
+    let now = c.args.at.now.moment in
+    let old = c.args.self.now.held in
+    let same = ap (list_map (key_in old.order.items)) c.as_slice-number-items.ensures.value ∙ c.due.ensures.due in
+    let all : length (due_entries now old.groups) ≤ c.loop-number.number-index = omega (arith, as_many (key_in old.order.items) _ (due_entries now old.groups) same, c.loop-number-test.false) in
+    c.take_out_vacant.ensures.groups
+    ∙ ticked_left c.args.at.now.timing now c.args.group.now.room old.groups c.requires.ready.served c.loop-number.self.held.groups c.loop-number.number-index c.loop-number.invariant.0.1.done all
+
+pub returns-clause-sent : goal.returns-clause-sent
+returns-clause-sent g c family is =
+    let now = c.args.at.now.moment in
+    let timing = c.args.at.now.timing in
+    let old = c.args.self.now.held in
+    let es = due_entries now old.groups in
+    let same = ap (list_map (key_in old.order.items)) c.as_slice-number-items.ensures.value ∙ c.due.ensures.due in
+    let all : length (due_entries now old.groups) ≤ c.loop-number.number-index = omega (arith, as_many (key_in old.order.items) _ (due_entries now old.groups) same, c.loop-number-test.false) in
+    let queries = ap (flat_map (queries_at g.K.WireKey.PER_QUERY timing now)) (take_all c.loop-number.number-index es all)
+    ∙ sent_of_due now old.groups c.args.group.now.room g.K.WireKey.PER_QUERY timing c.requires.ready.served
+    ∙ ap (λ n. flat_map (queries_at n timing now) (map.entries old.groups)) is
+    ∙ sym (queries_of_entries family timing now old.groups)
+    in
+    subst (λ qs. Sends g.S.Sink.takes c.args.sink.now qs c.loop-number.sink) queries c.loop-number.invariant.0.1.sent
+
+-- how many were handed out, and what was spent on it
+pub returns-clause-spent : goal.returns-clause-spent
+returns-clause-spent g c =
+    let now = c.args.at.now.moment in
+    let old = c.args.self.now.held in
+    let es = due_entries now old.groups in
+    let same = ap (list_map (key_in old.order.items)) c.as_slice-number-items.ensures.value ∙ c.due.ensures.due in
+    let many = as_many (key_in old.order.items) _ es same in
+    let due = are_due now old.groups in
+    let running = all_running c.args.group.now.room old.groups c.requires.ready.served in
+    let so_far = c.loop-number.invariant.0.1 in
+    Spends-join_within _ _ (Spends-join c.due.ensures.spent so_far.spent) c.take_out_vacant.ensures.spent (omega (arith, running))
+    (omega (arith, running, many, due.few, so_far.weight_is, so_far.done.len_is, c.loop-number.auto.number-index-end, some_of (due_in now old.groups) (7 * map.len old.groups), some_of (length c.due.new.numbers.items) (map.len c.loop-number.self.held.groups)))
+
+pub returns-clause-quiet : goal.returns-clause-quiet
+returns-clause-quiet g c quiet =
+    let now = c.args.at.now.moment in
+    let old = c.args.self.now.held in
+    let none = none_have now old.groups quiet in
+    let count = c.due.ensures.count in
+    let nothing : length c.as_slice-number-items.result.now ≡ 0 = ap length c.as_slice-number-items.ensures.value ∙ count ∙ none in
+    let so_far = c.loop-number.invariant.0.1 in
+    let first : c.loop-number.number-index ≡ 0 = omega (arith, nothing, c.loop-number.auto.number-index-end) in
+    let looked = rw none at c.due.ensures.spent in
+    Spends-join_within 0 1 (Spends-join looked so_far.spent) c.take_out_vacant.ensures.spent (omega arith)
+    (omega (arith, first, so_far.weightless first, none_of_all (length c.due.new.numbers.items) (map.len c.loop-number.self.held.groups) (count ∙ none)))
+
+pub returns-clause-moved : goal.returns-clause-moved
+returns-clause-moved g c =
+    let now = c.args.at.now.moment in
+    let old = c.args.self.now.held in
+    let current = c.loop-number.self.held in
+    let es = due_entries now old.groups in
+    let same = ap (list_map (key_in old.order.items)) c.as_slice-number-items.ensures.value ∙ c.due.ensures.due in
+    let many = as_many (key_in old.order.items) _ es same in
+    let due = are_due now old.groups in
+    let so_far = c.loop-number.invariant.0.1 in
+    let looked = paid_by (64 * map.len old.groups) {before = put_by_rows old} {after = put_by_rows old} c.due.ensures.moved (omega (arith, some_of (due_in now old.groups) (64 * map.len old.groups))) in
+    let taken = c.take_out_vacant.ensures in
+    let gone = taken_out_paid current c.take_out_vacant.new.self _ _ _ _ taken.groups taken.room taken.source_room taken.ahead taken.moved in
+    paid_join (most_moved_by_tick old.groups) (paid_join (64 * map.len old.groups + (5 * c.loop-number.invariant.0.0 + 21 * c.loop-number.number-index)) looked c.loop-number.invariant.0.2 (omega arith)) gone
+    (omega (arith, many, due.few, so_far.weight_is, so_far.done.len_is, c.loop-number.auto.number-index-end, some_of (length c.due.new.numbers.items) (50 * map.len current.groups)))
+
+pub returns-clause-still : goal.returns-clause-still
+returns-clause-still g c quiet =
+    let now = c.args.at.now.moment in
+    let old = c.args.self.now.held in
+    let none = none_have now old.groups quiet in
+    let count = c.due.ensures.count in
+    let nothing : length c.as_slice-number-items.result.now ≡ 0 = ap length c.as_slice-number-items.ensures.value ∙ count ∙ none in
+    let first : c.loop-number.number-index ≡ 0 = omega (arith, nothing, c.loop-number.auto.number-index-end) in
+    let looked = spends_none c.due.ensures.moved (none_of_all (due_in now old.groups) (64 * map.len old.groups) none) in
+    let gone = spends_none c.take_out_vacant.ensures.moved (none_of_all (length c.due.new.numbers.items) (50 * map.len c.loop-number.self.held.groups) (count ∙ none)) in
+    gone ∙ c.loop-number.invariant.1 first ∙ looked

@@ -1,0 +1,16 @@
+use Rattle.std.proofs.Common.{◌≡◌, ℕ, ◌+◌, ◌*◌, ◌≤◌}
+use Rattle.mq_link.specs.Moved.{IsPaid}
+use Rattle.mq_link.specs.Storage.{KeepsRooms, put_by_rows}
+use Rattle.mq_link.proofs.TickedNumbers.{AreTickedTo}
+use Rattle.mq_link.proofs.storage.Storage.tick_groups.Given as goal
+
+-- the groups of the numbers so far are served, what was sent for them are the queries, and what was moved for them is paid
+abbrev pub invariant-loop-number : goal.invariant-loop-number
+invariant-loop-number g l =
+    ((weight : ℕ)
+    × AreTickedTo g.S.Sink.takes g.K.WireKey.PER_QUERY l.fn.at.timing l.fn.at.moment l.fn.self.held.groups l.fn.sink l.initial.self.meter l.number-index l.self.held.groups l.sink l.self.meter weight
+    × IsPaid (5 * weight + 21 * l.number-index) (put_by_rows l.fn.self.held) (put_by_rows l.self.held) l.initial.self.moves l.self.moves)
+    × (l.number-index ≡ 0 → l.self.moves ≡ l.initial.self.moves)
+    × (l.self.held.order ≡ l.fn.self.held.order)
+    × KeepsRooms l.fn.self l.self
+    × (l.fn.group.room ≤ l.group.room)

@@ -1,0 +1,32 @@
+-- What a statement comes to in storage: a kind of record, and the lists into which its change is written.
+use Rattle.std.specs.Prelude.{ℕ, Bool, if◌then◌else◌, List, Option, None, Some}
+use Rattle.std.specs.Option.{option_map}
+use Rattle.std.specs.FinSet as set
+use Rattle.mq_sets.specs.Ascending.{set_of}
+use Rattle.mq_table.specs.declared.kind.Kind.{Kind}
+use Rattle.mq_table.specs.declared.kind.Kind.TheVariants.{IsEx, ToIn}
+use Rattle.mq_table.specs.declared.older_hosts.Hosts.{Hosts}
+use Rattle.mq_table.specs.Group.{GroupState}
+use Rattle.mq_table.specs.Table.{NamedSources, GroupChange}
+use Rattle.mq_table.specs.OlderHosts.{translated}
+use Rattle.mq_link.specs.declared.statement.StatementKind.{StatementKind}
+use Rattle.mq_link.specs.declared.statement.StatementKind.TheVariants.{Record, OlderJoin as SaidJoin, OlderLeave as SaidLeave}
+use Rattle.mq_link.specs.Record.{Statement, RecordOf, OlderJoin, OlderLeave}
+
+-- the statement, with the sources that are named apart from it
+abbrev pub statement_of : StatementKind → NamedSources → Statement
+statement_of (Record kind) named = RecordOf kind named
+statement_of (SaidJoin version) named = OlderJoin version
+statement_of SaidLeave named = OlderLeave
+
+-- as a record of which kind and of which sources a statement acts, while these older hosts are there; None where it is
+-- ignored
+abbrev pub acts_as : (v1_mutes_leave muted : Bool) → Hosts → Statement → Option (Kind × NamedSources)
+acts_as mutes muted hosts (RecordOf kind named) = translated mutes muted hosts kind named
+acts_as mutes muted hosts (OlderJoin version) = if muted then None else Some (IsEx, set.empty)
+acts_as mutes muted hosts OlderLeave = translated mutes muted hosts ToIn set.empty
+
+-- the change that is written into a group and a list of sources to ask for, if there is one
+abbrev pub change_written : {K : Type 0} → (K → ℕ) → GroupState → List K → (asks_group : Option Bool) → Option GroupChange
+change_written number group asked asks_group =
+    option_map (λ (q : Bool). record { group = group; query = set_of number asked; query_group = q }) asks_group

@@ -1,0 +1,24 @@
+-- The configuration that is asked for, and what becomes of asking.
+use Rattle.std.specs.Prelude.{◌≡◌, ℕ, Bool, Some, Result, Ok, Err}
+use Rattle.mq_wire.specs.Family.{Family}
+use Rattle.mq_table.specs.Variables.{Variables}
+use Rattle.mq_link.specs.declared.configuration.Limits.{Limits}
+use Rattle.mq_link.specs.declared.configuration.ConfigFault.{ConfigFault}
+use Rattle.mq_link.specs.Configuration.{Configuration, configuration_fault, IsFaultless}
+
+abbrev pub variables : (robustness query_seconds response_interval last_member_interval : ℕ) → Variables
+variables robustness query_seconds response_interval last_member_interval = record {
+  robustness = robustness;
+  query_seconds = query_seconds;
+  response_interval = response_interval;
+  last_member_interval = last_member_interval;
+}
+
+abbrev pub configured : Family → Variables → Limits → (own : ℕ) → Bool → Configuration
+configured family timing limits own source_specific =
+    record { family = family; timing = timing; limits = limits; own = own; source_specific = source_specific }
+
+-- it is given where it has no fault, and else its fault is told
+abbrev pub IsGivenOrFaulty : (asked : Configuration) → Result Configuration ConfigFault → Type 0
+IsGivenOrFaulty asked (Ok config) = IsFaultless asked × (config ≡ asked)
+IsGivenOrFaulty asked (Err fault) = configuration_fault asked ≡ Some fault

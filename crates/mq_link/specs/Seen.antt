@@ -1,0 +1,33 @@
+-- How many records of a datagram have met each group, by the numbers of the groups.
+use Rattle.std.specs.Prelude.{◌≡◌, ℕ, ◌+◌, ◌<◌, ◌≤◌, min, nat_lt, nat_le, false, if◌then◌else◌, List, length, slice_index, slice_set}
+use Rattle.std.specs.FinMap as map
+use Rattle.std.specs.List.{All, count_by}
+use Rattle.mq_sets.specs.Slots.{times}
+use Rattle.mq_held.specs.Held.{HeldState, HasNumber}
+use Rattle.mq_link.specs.Record.{Seen, met}
+
+-- none was met
+abbrev pub AreNone : List ℕ → Type 0
+AreNone counts = (number : ℕ) → slice_index counts number ≡ 0
+
+-- One record more meets the group of a number. More than four aren't told apart.
+abbrev pub counted_again : List ℕ → ℕ → List ℕ
+counted_again counts number =
+    let before = slice_index counts number in
+    if nat_le 4 before then counts else slice_set counts number (before + 1)
+
+-- some numbers are those whose count isn't zero, and each stands there once
+pub record AreListed (counts numbers : List ℕ) : Type 0 where
+  pub within : All (λ number. number < length counts) numbers
+  pub each : (number : ℕ) → 1 ≤ slice_index counts number → 1 ≤ times number numbers
+  pub count : length numbers ≡ count_by (nat_lt 0) counts
+
+-- The counts are those of a map by address: of each group that is held, up to four; no other group was met.
+pub record AreMet (s : HeldState) (counts : List ℕ) (seen : Seen) : Type 0 where
+  pub held : (address number : ℕ) → HasNumber s address number → slice_index counts number ≡ min 4 (met seen address)
+  pub absent : (address : ℕ) → map.contains_key s.groups address ≡ false → met seen address ≡ 0
+  pub unused : (number : ℕ) → 1 ≤ slice_index counts number → (address : ℕ) × HasNumber s address number
+
+-- a group that was held has the number that it had
+abbrev pub KeepsNumbers : (old new : HeldState) → Type 0
+KeepsNumbers old new = (address number : ℕ) → HasNumber old address number → HasNumber new address number

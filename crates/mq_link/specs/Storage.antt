@@ -1,0 +1,73 @@
+-- The storage of the groups, and what the work on one of them takes.
+use Rattle.std.specs.Prelude.{◌≡◌, ℕ, ◌+◌, ◌-◌, ◌*◌, ◌/◌, ◌≤◌, min, length, vec_capacity, MatchResult}
+use Rattle.std.specs.FinMap as map
+use Rattle.mq_sets.specs.NumberedKeys.{IsSpotFor}
+use Rattle.mq_table.specs.Group.{GroupState}
+use Rattle.mq_table.specs.Stored.{timers_in}
+use Rattle.mq_held.specs.declared.held_group.HeldGroup.{HeldGroup}
+use Rattle.mq_held.specs.Groups.{running_in, sources_in}
+use Rattle.mq_held.specs.Held.{HeldState, HasNumber}
+use Rattle.mq_link.specs.declared.storage.Numbers.{Numbers}
+use Rattle.mq_link.specs.declared.storage.Sought.{Sought}
+use Rattle.mq_link.specs.declared.storage.Storage.{Storage}
+use Rattle.mq_link.specs.declared.storage.Scratch.{Scratch}
+use Rattle.mq_link.specs.Serving.{AreServed}
+
+-- a group as it stands in the storage, where its addresses have numbers
+abbrev pub group_stored : {K : Type 0} → (K → ℕ) → HeldGroup K → GroupState
+group_stored number stored =
+    record { mode = stored.mode; sources = timers_in number stored.sources.now; v1 = stored.v1; v2 = stored.v2 }
+
+-- room for a group of so many sources and a record that names no more, for what both may make, and for so many groups to be met
+pub record HasRoom {K : Type 0} (groups sources : ℕ) (w : Scratch K) : Type 0 where
+  pub group : 2 * sources ≤ w.group.room
+  pub named : sources ≤ w.named.room
+  pub asked : 2 * sources ≤ vec_capacity w.asked
+  pub met : groups ≤ length w.met
+
+-- room for a group of so many sources, and for as many to ask for
+pub record HasRoomFor {K : Type 0} (sources : ℕ) (w : Scratch K) : Type 0 where
+  pub group : sources ≤ w.group.room
+  pub asked : sources ≤ vec_capacity w.asked
+
+-- the work left no less room
+pub record KeepsRoom {K : Type 0} (old new : Scratch K) : Type 0 where
+  pub group : old.group.room ≤ new.group.room
+  pub named : new.named.room ≡ old.named.room
+  pub asked : vec_capacity old.asked ≤ vec_capacity new.asked
+  pub met : length new.met ≡ length old.met
+
+-- nor is there less room for groups and their sources
+pub record KeepsRooms {K : Type 0} (old new : Storage K) : Type 0 where
+  pub groups : new.held.order.room ≡ old.held.order.room
+  pub sources : new.held.source_room ≡ old.held.source_room
+
+-- the groups are fit to be worked on one after the other, where there is so much room for each of them
+pub record IsReady {K : Type 0} (room : ℕ) (s : Storage K) : Type 0 where
+  pub few : map.len s.held.groups ≤ 65535
+  pub served : AreServed room s.held.groups
+
+-- nothing differs but what was counted
+abbrev pub has_counted : {K : Type 0} → Storage K → (spent : ℕ) → Storage K
+has_counted s spent = record s { meter = spent }
+
+-- a group that was looked for has its number, or would go to the spot
+abbrev pub IsSought : {K : Type 0} → (K → ℕ) → HeldState → Sought K → Type 0
+IsSought number held sought =
+    MatchResult sought.found (HasNumber held (number sought.address)) (IsSpotFor held.order.items held.order.pages (number sought.address))
+
+-- room for the numbers of so many groups, twice
+pub record HasSpace (groups : ℕ) (numbers : Numbers) : Type 0 where
+  pub due : groups ≤ vec_capacity numbers.due
+  pub spare : groups ≤ length numbers.spare.items
+
+-- there is no less room for numbers
+pub record KeepsSpace (old new : Numbers) : Type 0 where
+  pub due : vec_capacity old.due ≤ vec_capacity new.due
+  pub spare : length new.spare.items ≡ length old.spare.items
+
+-- What is put by for the rows of sources to be packed again: four for each source that was written behind the last one since they
+-- were, but no more than packing them moves.
+abbrev pub put_by_rows : HeldState → ℕ
+put_by_rows s = let slack = s.source_room / 4 + s.order.room in
+    min (4 * (slack - s.ahead)) (sources_in s.groups + running_in s.groups)

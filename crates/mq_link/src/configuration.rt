@@ -1,0 +1,112 @@
+//! What a link is configured with.
+
+ghost use Rattle.std.specs.Prelude.{◌≡◌};
+
+use std::fmt;
+use thiserror::Error;
+
+/// How much a link may hold at most.
+#[derive(Clone, Copy, Debug, PartialEq, Eq)]
+pub struct Limits {
+    /// How many groups, from 1 to 65535.
+    pub groups: u32,
+    /// How many sources a group may have, from 1 to 1024.
+    pub group_sources: u32,
+    /// How many sources all groups may have together, from 1 to 65535.
+    pub sources: u32,
+    /// How many schedules of specific queries there may be, from 1 to 65535. A group has two at most: one
+    /// for itself, and one for its sources.
+    pub scheduled: u32,
+}
+
+/// The default configuration of a link: the variables of RFC 3376 section 8 and RFC 3810 section 9, and the limits.
+#[derive(Clone, Copy, Debug, PartialEq, Eq)]
+pub struct Defaults {
+    /// The Robustness Variable.
+    pub robustness: u32,
+    /// The Query Interval in seconds.
+    pub query_seconds: u32,
+    /// The Query Response Interval in milliseconds.
+    pub response_interval: u32,
+    /// The Last Member (Last Listener) Query Interval in milliseconds.
+    pub last_member_interval: u32,
+    /// How much the link may hold.
+    pub limits: Limits,
+}
+
+impl Defaults {
+    /// The defaults where a group may have so many sources.
+    pub(crate) const fn with_group_sources(group_sources: u32) -> Defaults
+        ensures { result ≡ record {
+          robustness = 2;
+          query_seconds = 125;
+          response_interval = 10000;
+          last_member_interval = 1000;
+          limits = record { groups = 1024; group_sources = group_sources; sources = 16384; scheduled = 256 };
+        } }
+    {
+        Defaults {
+            robustness: 2,
+            query_seconds: 125,
+            response_interval: 10000,
+            last_member_interval: 1000,
+            limits: Limits {
+                groups: 1024,
+                group_sources,
+                sources: 16384,
+                scheduled: 256,
+            },
+        }
+    }
+}
+
+/// The name of a limit.
+#[derive(Clone, Copy, Debug, PartialEq, Eq)]
+pub enum LimitName {
+    /// `groups`.
+    Groups,
+    /// `group_sources`.
+    GroupSources,
+    /// `sources`.
+    Sources,
+    /// `scheduled`.
+    Scheduled,
+}
+
+impl fmt::Display for LimitName {
+    fn fmt<W: fmt::Write>(&self, f: &mut fmt::Formatter<W>) -> fmt::Result {
+        f.write_str(match self {
+            LimitName::Groups => "groups",
+            LimitName::GroupSources => "group_sources",
+            LimitName::Sources => "sources",
+            LimitName::Scheduled => "scheduled",
+        })
+    }
+}
+
+/// A fault of a configuration: the first of these that holds.
+#[derive(Clone, Copy, Debug, PartialEq, Eq, Error)]
+pub enum ConfigFault {
+    /// The robustness variable is outside of 1 to 7.
+    #[error("the robustness variable is not within 1 to 7")]
+    Robustness,
+    /// The query interval is outside of 1 to 31744 seconds.
+    #[error("the query interval is not within 1 to 31744 seconds")]
+    QueryInterval,
+    /// The query response interval is below one unit of its code, not below the query interval, or above the
+    /// greatest value of the code.
+    #[error("the query response interval is not below the query interval, or no code says it")]
+    ResponseInterval,
+    /// The last member query interval is below one unit of its code or above the greatest value of the code.
+    #[error("no code says the last member query interval")]
+    LastMember,
+    /// A limit is out of its range.
+    #[error("the limit {which} is out of its range")]
+    Limit {
+        /// The first such limit.
+        which: LimitName,
+    },
+    /// No router may send queries from the own address.
+    #[error("the router's own address is none that it may send queries from")]
+    OwnAddress,
+}

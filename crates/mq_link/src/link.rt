@@ -1,0 +1,235 @@
+//! The whole of one link.
+
+ghost use Rattle.std.specs.Prelude.{◌≡◌, ℕ, ◌+◌, ◌*◌, ◌<◌, ◌≤◌, ◌^◌, length, IfOk};
+ghost use Rattle.std.specs.FinMap as map;
+ghost use Rattle.mq_count.specs.Spending.{Spends};
+ghost use Rattle.mq_sets.specs.Ascending.{IsAscending};
+ghost use Rattle.mq_table.specs.Stored.{number_in, timers_in};
+ghost use Rattle.mq_sched.specs.Election.{is_querier};
+ghost use Rattle.mq_sched.specs.StoredElection.{IsOtherOf};
+ghost use Rattle.mq_held.specs.Groups.{group_at, sources_of, sources_in};
+ghost use Rattle.mq_held.specs.Places.{HasPlace};
+ghost use Rattle.mq_link.specs.Cost.{cost_of};
+ghost use Rattle.mq_link.specs.LeastCost.{least_received, least_ticked};
+ghost use Rattle.mq_link.specs.Link.{HasTicked, HasReceived};
+ghost use Rattle.mq_link.specs.Moved.{most_moved};
+ghost use Rattle.mq_link.specs.State as state;
+ghost use Rattle.mq_link.specs.State.{held_of, link_at, IsWellFormed};
+ghost use Rattle.mq_link.specs.Tick.{moment_of, tick_of, next_of};
+
+use crate::answers::Received;
+use crate::bare_link::BareLink;
+use crate::config::Config;
+use crate::counts::Counts;
+use crate::family::Family;
+use crate::outlet::Outlet;
+use crate::workspace::Workspace;
+use mq_count::Moment;
+use mq_held::{HeldEntries, HeldGroup};
+use mq_sched::OtherQuerier;
+use mq_sets::Memory;
+use mq_table::Timing;
+use std::alloc::Global;
+use std::marker::Model;
+
+/// One link of a multicast router with a workspace of its own, as the definitions have it: its configuration, its state, and how
+/// many comparisons it has made and items it has moved. All storage is taken by `new`, and no other call takes any.
+#[derive(Drop)]
+pub struct Link<F: Family> {
+    bare: BareLink<F>,
+    workspace: Workspace<F>,
+}
+
+impl<F: Family> Model for Link<F> {
+    ghost use Rattle.std.specs.Prelude.{◌≡◌, true};
+    ghost use Rattle.mq_table.specs.contracts.timers.FilterMode as filter_mode;
+    ghost use Rattle.mq_table.specs.contracts.timers.SourceTimer as source_timer;
+    ghost use Rattle.mq_sched.specs.contracts.queries.QuerySchedule as query_schedule;
+    ghost use Rattle.mq_link.specs.Link.{LinkValue};
+    ghost use Rattle.mq_link.specs.LinkCode.{link_code};
+    ghost use Rattle.mq_link.specs.Workspace.{suffices};
+
+    ghost Value = { LinkValue };
+
+    ghost coded = { link_code filter_mode.the_row.coded source_timer.the_row.coded query_schedule.the_row.coded };
+
+    ghost view = { λ l. l.bare };
+
+    ghost invariant = { λ l. suffices l.bare.config.limits l.workspace ≡ true };
+}
+
+impl<F: Family> Link<F> {
+    /// A link that starts at `start`: nothing is held, and it is querier, with its first general query due (RFC 3376
+    /// section 8.7, RFC 3810 section 9.7). It takes all memory that its limits allow, or answers `Memory` where that was
+    /// refused: only `new` can run out of memory.
+    pub fn new(alloc: Global, config: Config<F>, start: Moment) -> Result<Link<F>, Memory>
+        requires in_range { start ≤ 2 ^ 53 }
+        ensures { IfOk result (λ link. link ≡ record { config = config; state = link_at config start; spent = 0; moved = 0 }) }
+    {
+        let workspace = Workspace::with_room(alloc, &config.limits())?;
+        Ok(Link {
+            bare: BareLink::new(alloc, config, start)?,
+            workspace,
+        })
+    }
+
+    /// Does what is due at or before `now`; a moment before the last one counts as the last one. In this order: timers end;
+    /// the other querier's deadline ends; the general query is sent, if it is due; then what is due for the groups (RFC 3376
+    /// sections 6.5, 6.6.2 and 6.6.3, RFC 3810 sections 7.5, 7.6.2 and 7.6.3). However late it is called, each goes once.
+    /// Behind it the next moment is later than `now`. At least one comparison for each group that has something to do, and two
+    /// more; at most four for each source, 44 for each group and three more; before the next moment, three at most. What is
+    /// moved to keep the groups is at most six for each source and 136 for each group; before the next moment nothing.
+    pub fn tick<O: Outlet<F::Address>>(&mut self, now: Moment, outlet: &mut O)
+        requires in_range { now ≤ 2 ^ 53 }
+        ensures config { self.new.config ≡ self.old.config }
+        ensures ticks { HasTicked O.takes now self.old self.new outlet.old outlet.new }
+        ensures formed { IsWellFormed self.new.config self.new.state }
+        ensures later { now < next_of self.new.state }
+        ensures spent { let groups = self.old.state.groups in
+            let least = least_ticked (moment_of self.old.state now) groups in
+            Spends (2 + least) (4 * sources_in groups + 44 * map.len groups + 3) self.old.spent self.new.spent }
+        ensures bounded { Spends 0 (cost_of 0 (held_of self.old.state)) self.old.spent self.new.spent }
+        ensures quiet { moment_of self.old.state now < next_of self.old.state → Spends 2 3 self.old.spent self.new.spent }
+        ensures moved { let groups = self.old.state.groups in
+            Spends 0 (6 * sources_in groups + 136 * map.len groups) self.old.moved self.new.moved }
+        ensures still { moment_of self.old.state now < next_of self.old.state → self.new.moved ≡ self.old.moved }
+    {
+        self.bare.tick_in(&mut self.workspace, now, outlet);
+    }
+
+    /// Takes a datagram that came at `now`: first it does what a tick does then; then the datagram is read, and dropped, or
+    /// taken. Answers what became of it. The envelope is what its packet says of it, the body its bytes without the IP
+    /// header (RFC 3376 sections 4, 6.4 and 7.3.2, RFC 3810 sections 5, 7.4 and 8.3.2). At most 64 comparisons for each
+    /// byte of the body and for each group and source that is held as it comes, and 64 more, whatever its records are; at
+    /// least two, and what its records take. What is moved to keep the groups is at most 256 for each byte of the body and for
+    /// each group and source.
+    pub fn receive<O: Outlet<F::Address>>(
+        &mut self,
+        envelope: &F::Envelope,
+        body: &[u8],
+        now: Moment,
+        outlet: &mut O,
+    ) -> Received
+        requires in_range { now ≤ 2 ^ 53 }
+        ensures config { self.new.config ≡ self.old.config }
+        ensures receives { HasReceived O.takes (F.envelope_of envelope.now) body.now now result self.old self.new
+            outlet.old outlet.new }
+        ensures formed { IsWellFormed self.new.config self.new.state }
+        ensures spent { let least = least_received self.old.config (F.envelope_of envelope.now) body.now now self.old.state in
+            Spends (2 + least) (cost_of (length body.now) (held_of self.old.state)) self.old.spent self.new.spent }
+        ensures moved { Spends 0 (most_moved (length body.now) (held_of self.old.state)) self.old.moved self.new.moved }
+    {
+        self.bare
+            .receive_in(&mut self.workspace, envelope, body, now, outlet)
+    }
+
+    /// The link's configuration.
+    pub fn config(&self) -> &Config<F>
+        ensures { result.now ≡ self.now.config }
+    {
+        self.bare.config()
+    }
+
+    /// Its state is one that a link may be in, and after a tick its next moment will be later than that of the tick. It does
+    /// nothing: its contract is the fact.
+    pub fn is_well_formed(&self)
+        ensures formed { IsWellFormed self.now.config self.now.state }
+        ensures later { (now : ℕ) → now < next_of (tick_of self.now.config now self.now.state).state }
+    {
+        self.bare.is_well_formed();
+    }
+
+    /// The link's counters; the link is given up.
+    pub fn into_counts(self) -> Counts
+        ensures { result ≡ self.state.counters }
+    {
+        self.bare.into_counts()
+    }
+
+    /// The link's counters.
+    pub fn counts(&self) -> &Counts
+        ensures { result.now ≡ self.now.state.counters }
+    {
+        self.bare.counts()
+    }
+
+    /// How many comparisons `tick` and `receive` have made. It stays at the greatest u64.
+    pub fn spent(&self) -> u64
+        ensures { result ≡ self.now.spent }
+    {
+        self.bare.spent()
+    }
+
+    /// How many items of lists `tick` and `receive` have moved to keep the groups. It stays at the greatest u64.
+    pub fn moved(&self) -> u64
+        ensures { result ≡ self.now.moved }
+    {
+        self.bare.moved()
+    }
+
+    /// Whether it is querier (RFC 3376 section 6.6.2, RFC 3810 section 7.6.2).
+    pub fn is_querier(&self) -> bool
+        ensures { result ≡ is_querier self.now.state.election.role }
+    {
+        self.bare.is_querier()
+    }
+
+    /// The other router that is querier, or None where this one is: the router of a lower address whose query came last.
+    pub fn other_querier(&self) -> Option<OtherQuerier<F::Address>>
+        ensures { IsOtherOf F.Address.number self.now.state.election.role result }
+    {
+        self.bare.other_querier()
+    }
+
+    /// The timing in force: the configured one, but for what was taken over from the queries of other routers (RFC 3376
+    /// sections 4.1.6 and 4.1.7, RFC 3810 sections 5.1.8 and 5.1.9).
+    pub fn timing(&self) -> Timing
+        ensures { result ≡ self.now.state.election.timing }
+    {
+        self.bare.timing()
+    }
+
+    /// All groups that it holds, by ascending address, each as it stands in the storage.
+    pub fn entries(&self) -> HeldEntries<'_, F::Address>
+        ensures { result ≡ map.entries self.now.state.groups }
+    {
+        self.bare.entries()
+    }
+
+    /// How many groups it holds.
+    pub fn len(&self) -> usize
+        ensures { result ≡ map.len self.now.state.groups }
+    {
+        self.bare.len()
+    }
+
+    /// The group at a place, its rank in the ascending list of the addresses of all groups, counted from 0, as it stands in
+    /// the storage.
+    pub fn entry(&self, place: usize) -> HeldGroup<'_, F::Address>
+        requires place { place < map.len self.now.state.groups }
+        ensures place { HasPlace self.now.state.groups (F.Address.number result.address) place }
+        ensures group { (address : ℕ) → HasPlace self.now.state.groups address place →
+            record { group = record { mode = result.mode; sources = timers_in F.Address.number result.sources.now; v1 = result.v1; v2 = result.v2 }; schedule = result.schedule } ≡ group_at self.now.state.groups address }
+        ensures ascending { IsAscending (number_in F.Address.number) result.sources.now }
+        ensures len { (address : ℕ) → HasPlace self.now.state.groups address place →
+            length result.sources.now ≡ sources_of (group_at self.now.state.groups address) }
+    {
+        self.bare.entry(place)
+    }
+
+    /// When a tick has something to do next: the earliest of all deadlines and due moments. It compares two moments on a
+    /// meter of its own: neither `spent` nor the bound counts that.
+    pub fn next_deadline(&self) -> Moment
+        ensures { result ≡ next_of self.now.state }
+    {
+        self.bare.next_deadline()
+    }
+
+    /// Whether what a source sends to a group is forwarded, as of the last moment handed in (RFC 3376 section 6.3, RFC
+    /// 3810 section 7.3). It compares addresses on a meter of its own: neither `spent` nor the bound counts that.
+    pub fn forwards(&self, group: F::Address, source: F::Address) -> bool
+        ensures { result ≡ state.forwards self.now.state (F.Address.number group) (F.Address.number source) }
+    {
+        self.bare.forwards(group, source)
+    }
+}

@@ -1,0 +1,89 @@
+//! How many records of one datagram have met each group, by the numbers of the groups.
+
+ghost use Rattle.std.specs.Prelude.{◌≡◌, ℕ, ◌<◌, ◌≤◌, nat_le, length, slice_index, IfOk};
+ghost use Rattle.std.specs.List.{All};
+ghost use Rattle.mq_sets.specs.Slots.{times};
+ghost use Rattle.mq_link.specs.Seen.{AreNone, counted_again};
+
+use mq_sets::Memory;
+use std::alloc::Global;
+use std::marker::Model;
+
+/// How many records of a datagram may meet a group that is held. Those after them are refused.
+const MEETINGS: u8 = 4;
+
+/// How many records of a datagram have met the group of each number while it was held, as far as that is told apart: of the
+/// fifth it is known that it is one too many. A contract sees the list of these counts, by the number. Nothing is looked for,
+/// compared or moved, and it takes three bytes for each group that may be held.
+#[derive(Drop)]
+pub(crate) struct MetGroups {
+    // By the number.
+    counts: Vec<u8>,
+    // The numbers whose count isn't zero, each once, in the order in which they were met.
+    numbers: Vec<u16>,
+}
+
+impl Model for MetGroups {
+    ghost use Rattle.std.specs.Prelude.{ℕ, List, ◌≤◌, length, vec_capacity};
+    ghost use Rattle.std.specs.Coded.{coded_ℕ, coded_list};
+    ghost use Rattle.mq_link.specs.Seen.{AreListed};
+
+    ghost Value = { List ℕ };
+
+    ghost coded = { coded_list coded_ℕ };
+
+    ghost view = { λ s. s.counts.items };
+
+    ghost invariant = { λ s. AreListed s.counts.items s.numbers.items × (length s.counts.items ≤ vec_capacity s.numbers) };
+}
+
+/// Sets the counts of some numbers to zero, which are all that have another.
+fn set_to_zero(counts: &mut Vec<u8>, numbers: &[u16])
+    requires within { All (λ number. number < length counts.old.items) numbers.now }
+    requires each { (number : ℕ) → 1 ≤ slice_index counts.old.items number → 1 ≤ times number numbers.now }
+    ensures none { AreNone counts.new.items }
+    ensures len { length counts.new.items ≡ length counts.old.items }
+{
+    for number in numbers {
+        counts[*number as usize] = 0;
+    }
+}
+
+impl MetGroups {
+    /// No group was met, with memory for so many of them, or `Memory` where that was refused.
+    pub(crate) fn with_room(alloc: Global, groups: usize) -> Result<MetGroups, Memory>
+        ensures room { IfOk result (λ s. length s ≡ groups) }
+        ensures none { IfOk result AreNone }
+    {
+        Ok(MetGroups {
+            counts: vec![in alloc; 0; groups]?,
+            numbers: Vec::with_capacity(alloc, groups)?,
+        })
+    }
+
+    /// Forgets all groups. It looks at those alone that were met.
+    pub(crate) fn clear(&mut self)
+        ensures none { AreNone self.new }
+        ensures room { length self.new ≡ length self.old }
+    {
+        set_to_zero(&mut self.counts, &self.numbers);
+        self.numbers.clear();
+    }
+
+    /// One record more meets the group of a number. Answers whether as many as may have met it before.
+    pub(crate) fn meets_again(&mut self, number: u16) -> bool
+        requires number { number < length self.old }
+        ensures again { result ≡ nat_le 4 (slice_index self.old number) }
+        ensures counts { self.new ≡ counted_again self.old number }
+    {
+        let before = self.counts[number as usize];
+        if before >= MEETINGS {
+            return true;
+        }
+        self.counts[number as usize] = before + 1;
+        if before == 0 {
+            self.numbers.push(number).unwrap();
+        }
+        false
+    }
+}

@@ -1,0 +1,246 @@
+//! What lies between the schedules of queries and the outlet.
+
+ghost use Rattle.std.specs.Prelude.{◌≡◌, ◌≤◌, ◌==◌, ◌<◌, ◌↔◌, IsTrue, ℕ, false, [], not, if◌then◌else◌, length, take, map};
+ghost use Rattle.mq_count.specs.Streams.{counted_on};
+ghost use Rattle.mq_wire.specs.Numbered.{numbered_query};
+ghost use Rattle.mq_sched.specs.Sending.{GeneralQuery};
+ghost use Rattle.mq_sched.specs.Sink.{query_of};
+ghost use Rattle.mq_link.specs.Family as family;
+ghost use Rattle.mq_link.specs.Handing.{outgoing_on, FitsOne, KeepsIntervals};
+ghost use Rattle.mq_link.specs.Sender.{TakesQuery};
+ghost use Rattle.mq_link.specs.Sent as spec;
+ghost use Rattle.mq_link.specs.State.{one_if};
+
+use crate::config::Config;
+use crate::family::Family;
+use crate::outlet::Outlet;
+use arrayvec::ArrayVec;
+use mq_sched::{QueryParts, Sink};
+use mq_table::Timing;
+use mq_wire::{Qrv, QuerierFields, Query, QueryVersion, Sources, WireKey};
+use std::marker::Model;
+
+/// How many bytes the longest query has, one of IGMP with 366 sources. The longest of MLD, with 89, has 1452.
+const LONGEST: usize = 1476;
+
+/// What all queries of a router have in common: its own address and the timing in force.
+#[derive(Drop)]
+pub(crate) struct QueryTerms<F: Family> {
+    own: F::Address,
+    timing: Timing,
+    response: u32,
+    last_member: u32,
+}
+
+impl<F: Family> Model for QueryTerms<F> {
+    ghost use Rattle.std.specs.Prelude.{◌≡◌};
+    ghost use Rattle.mq_link.specs.Handing.{Terms};
+
+    ghost Value = { Terms };
+
+    ghost view = { λ t. record { own = F.Address.number t.own; timing = t.timing } };
+
+    ghost invariant = { λ t.
+        (t.response ≡ t.timing.response_interval) × (t.last_member ≡ t.timing.last_member_interval) };
+}
+
+impl<F: Family> QueryTerms<F> {
+    /// The terms of a router so configured.
+    pub(crate) fn of(config: &Config<F>) -> QueryTerms<F>
+        ensures { result ≡ record { own = config.now.own; timing = config.now.timing } }
+    {
+        QueryTerms::new(config, config.timing())
+    }
+
+    /// The terms of a router so configured where this timing is in force. Its response interval and its last member
+    /// interval are always the configured ones.
+    fn new(config: &Config<F>, timing: Timing) -> QueryTerms<F>
+        requires { KeepsIntervals config.now.timing timing }
+        ensures { result ≡ record { own = config.now.own; timing = timing } }
+    {
+        QueryTerms {
+            own: config.own(),
+            timing,
+            response: config.response_interval(),
+            last_member: config.last_member_interval(),
+        }
+    }
+
+    /// A query with the variables that are in force.
+    fn query_with<'q>(
+        &self,
+        group: F::Address,
+        response: u32,
+        suppress: bool,
+        sources: &'q [F::Address],
+    ) -> Query<'q, F::Address>
+        ensures { numbered_query F.Address.number result ≡ spec.query_with self.now.timing (F.Address.number group) response
+            suppress (map F.Address.number sources.entry.now) }
+    {
+        self.timing.is_in_range();
+        Query {
+            group,
+            response,
+            version: QueryVersion::Current(QuerierFields {
+                suppress,
+                robustness: Qrv::new(self.timing.robustness() as u8),
+                interval: self.timing.query_seconds(),
+                sources: Sources::lent(sources),
+            }),
+        }
+    }
+
+    /// The fields of a query: a general one asks for group zero with the response interval, any other for its group with
+    /// the last member interval.
+    fn fields<'q>(&self, query: QueryParts<'q, F::Address>) -> Query<'q, F::Address>
+        ensures { numbered_query F.Address.number result
+            ≡ spec.fields_sent self.now.timing (query_of F.Address.number query.entry) }
+    {
+        match query {
+            QueryParts::General => self.query_with(F::unspecified(), self.response, false, &[]),
+            QueryParts::Group { group, s } => self.query_with(group, self.last_member, s, &[]),
+            QueryParts::Sources { group, s, sources } => {
+                self.query_with(group, self.last_member, s, sources)
+            }
+        }
+    }
+
+    /// Writes a query that one message holds to the front, and answers where it goes and how many bytes it has.
+    fn write(&self, query: QueryParts<'_, F::Address>, out: &mut [u8]) -> (F::Address, usize)
+        requires fits { FitsOne F.FAMILY (query_of F.Address.number query) }
+        requires length { length out.old ≡ 1476 }
+        ensures to { F.Address.number result.0
+            ≡ (outgoing_on F.FAMILY self.now (query_of F.Address.number query.entry)).to }
+        ensures within { result.1 ≤ 1476 }
+        ensures len { length out.new ≡ length out.old }
+        ensures bytes { take result.1 out.new
+            ≡ (outgoing_on F.FAMILY self.now (query_of F.Address.number query.entry)).bytes }
+    {
+        let fields = self.fields(query);
+        match F::write(self.own, &fields, out) {
+            Ok(length) => (destination::<F>(fields.group), length),
+            Err(_) => unreachable!(),
+        }
+    }
+}
+
+/// Where a query for a group goes: a general one, for group zero, to all hosts.
+fn destination<F: Family>(group: F::Address) -> F::Address
+    ensures { F.Address.number result
+        ≡ (if F.Address.number group == 0 then family.general_destination F.FAMILY else F.Address.number group) }
+{
+    if F::is_zero(group) {
+        F::general_destination()
+    } else {
+        group
+    }
+}
+
+/// Whether one message holds a query.
+fn fits_one<F: Family>(query: &QueryParts<'_, F::Address>) -> bool
+    ensures { IsTrue result ↔ FitsOne F.FAMILY (query_of F.Address.number query.now) }
+{
+    match query {
+        QueryParts::Sources { sources, .. } => sources.len() <= F::Address::PER_QUERY,
+        _ => true,
+    }
+}
+
+/// An outlet with what its sending needs: the terms of a router, and how many messages it answered by true and by false
+/// since they were set. It hands over each query that one message holds. Both are lent, so that it is known what they
+/// are once it ends.
+#[derive(Drop)]
+pub(crate) struct Sender<'a, F: Family, O> {
+    terms: &'a mut QueryTerms<F>,
+    outlet: &'a mut O,
+    sent: u64,
+    unsent: u64,
+}
+
+impl<'a, F: Family, O: Outlet<F::Address>> Sender<'a, F, O> {
+    /// A sender to this outlet on these terms. Each call of a link sets them anew.
+    pub(crate) fn new(terms: &'a mut QueryTerms<F>, outlet: &'a mut O) -> Sender<'a, F, O>
+        ensures same_terms { result.terms.ghost_name ≡ terms.entry.ghost_name }
+        ensures terms { result.terms.now ≡ terms.old }
+        ensures same_outlet { result.outlet.ghost_name ≡ outlet.entry.ghost_name }
+        ensures outlet { result.outlet.now ≡ outlet.old }
+        ensures sent { result.sent ≡ 0 }
+        ensures unsent { result.unsent ≡ 0 }
+    {
+        Sender {
+            terms,
+            outlet,
+            sent: 0,
+            unsent: 0,
+        }
+    }
+
+    /// From now on queries go on the terms of this router where this timing is in force, and are counted from 0.
+    pub(crate) fn begin(&mut self, config: &Config<F>, timing: Timing)
+        requires { KeepsIntervals config.now.timing timing }
+        ensures { self.new ≡ record self.old {
+          terms = record self.old.terms { now = record { own = config.now.own; timing = timing } };
+          sent = 0;
+          unsent = 0;
+        } }
+    {
+        *self.terms = QueryTerms::new(config, timing);
+        self.sent = 0;
+        self.unsent = 0;
+    }
+
+    /// How many queries were sent so far.
+    pub(crate) fn sent(&self) -> u64
+        ensures { result ≡ self.now.sent }
+    {
+        self.sent
+    }
+
+    /// How many were not.
+    pub(crate) fn unsent(&self) -> u64
+        ensures { result ≡ self.now.unsent }
+    {
+        self.unsent
+    }
+
+    /// Sends a general query.
+    pub(crate) fn send_general<'q>(&'q mut self)
+        ensures { TakesQuery O.takes F.FAMILY self.old GeneralQuery self.new }
+    {
+        let query: QueryParts<'q, F::Address> = QueryParts::General;
+        self.send(query);
+    }
+
+    /// Hands over one datagram, and counts the answer.
+    fn hand_over(&mut self, to: F::Address, bytes: &[u8]) -> bool
+        ensures terms { self.new.terms ≡ self.old.terms }
+        ensures same_outlet { self.new.outlet.ghost_name ≡ self.old.outlet.ghost_name }
+        ensures takes { O.takes self.old.outlet.now (F.Address.number to) bytes.now result self.new.outlet.now }
+        ensures sent { self.new.sent ≡ counted_on self.old.sent (one_if result) }
+        ensures unsent { self.new.unsent ≡ counted_on self.old.unsent (one_if (not result)) }
+    {
+        let answer = self.outlet.datagram(to, bytes);
+        if answer {
+            self.sent = self.sent.saturating_add(1);
+        } else {
+            self.unsent = self.unsent.saturating_add(1);
+        }
+        answer
+    }
+}
+
+impl<'a, F: Family, O: Outlet<F::Address>> Sink<F::Address> for Sender<'a, F, O> {
+    ghost takes = { TakesQuery O.takes F.FAMILY };
+
+    fn send(&mut self, query: QueryParts<'_, F::Address>) -> bool
+        ensures takes { TakesQuery O.takes F.FAMILY self.old (query_of F.Address.number query.entry) self.new }
+        ensures sent { self.new.sent ≡ counted_on self.old.sent (one_if result) }
+    {
+        if !fits_one::<F>(&query) {
+            return false;
+        }
+        let mut out = ArrayVec::from([0; LONGEST]);
+        let (to, length) = self.terms.write(query, out.as_mut_slice());
+        self.hand_over(to, &out.as_slice()[..length])
+    }
+}

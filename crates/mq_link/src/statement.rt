@@ -1,0 +1,277 @@
+//! What a statement for a group does: it is ignored, refused, or applied.
+
+ghost use Rattle.std.specs.Prelude.{◌≡◌, ℕ, ◌+◌, ◌*◌, ◌^◌, ◌<◌, ◌≤◌, true, length, IsSome, OnSome, vec_capacity};
+ghost use Rattle.std.specs.FinMap as map;
+ghost use Rattle.mq_count.specs.Spending.{Spends};
+ghost use Rattle.mq_sets.specs.Ascending.{IsAscending, set_of};
+ghost use Rattle.mq_sets.specs.Search.{bitlen};
+ghost use Rattle.mq_table.specs.Group.{timer_at};
+ghost use Rattle.mq_table.specs.OlderHosts.{hosts_of, with_sources};
+ghost use Rattle.mq_table.specs.Stored.{named_in, number_in, size_of, state_of};
+ghost use Rattle.mq_table.specs.Table.{GroupChange, NamedSources};
+ghost use Rattle.mq_sched.specs.Schedule.{ScheduledGroup};
+ghost use Rattle.mq_sched.specs.Sending.{after_change};
+ghost use Rattle.mq_held.specs.Groups.{group_at, sources_of};
+ghost use Rattle.mq_link.specs.Changing.{statement_of, acts_as, change_written};
+ghost use Rattle.mq_link.specs.Family.{is_admitted};
+ghost use Rattle.mq_link.specs.Judging.{verdict_of};
+ghost use Rattle.mq_link.specs.LeastCost.{least_merge, least_work};
+ghost use Rattle.mq_link.specs.Record as record_spec;
+ghost use Rattle.mq_link.specs.Record.{change_stated, stated};
+ghost use Rattle.mq_link.specs.Moved.{MovesWithin, moved_by_edit};
+ghost use Rattle.mq_link.specs.Router.{HasOutcome};
+ghost use Rattle.mq_link.specs.Seen.{KeepsNumbers};
+ghost use Rattle.mq_link.specs.Sound.{AreSound};
+ghost use Rattle.mq_link.specs.Storage.{HasRoom, HasRoomFor, group_stored, IsSought, KeepsRoom, KeepsRooms};
+
+use crate::answers::Refusal;
+use crate::family::Family;
+use crate::limits::Change;
+use crate::status::{InForce, Status};
+use crate::storage::{Scratch, Sought, Storage, look};
+use mq_count::{Key, Meter, Moment};
+use mq_held::HeldGroup;
+use mq_sched::{Schedule, Sink};
+use mq_table::{Head, Hosts, Kind, OlderVersion, translate};
+use mq_wire::WireKey;
+
+/// What one message says of one group, whose sources are named apart from it.
+#[derive(Clone, Copy)]
+pub(crate) enum StatementKind {
+    /// A record of a Report of IGMPv3 or MLDv2, of a kind that is listed.
+    Record(Kind),
+    /// A Report of an older version.
+    OlderJoin(OlderVersion),
+    /// A Leave or Done of an older version.
+    OlderLeave,
+}
+
+/// What became of a statement.
+#[derive(Clone, Copy)]
+pub(crate) enum Verdict {
+    Applied,
+    Ignored,
+    Refused(Refusal),
+}
+
+/// What is muted in a group, whatever its hosts.
+#[derive(Clone, Copy)]
+pub(crate) struct MutingRules {
+    /// Whether hosts of version 1 mute Leave and TO_IN, as in IGMP (RFC 3376 section 7.3.2).
+    pub(crate) v1_mutes_leave: bool,
+    /// Whether the group is in the range that is kept for source-specific multicast, and the statement is one that
+    /// doesn't count there (RFC 4604 sections 3.1, 3.5 and 3.7).
+    pub(crate) is_muted: bool,
+}
+
+/// A Leave or Done acts as TO_IN of no source.
+fn leave_as(hosts: Hosts, muting: MutingRules) -> Option<(Kind, bool)>
+    ensures { (named : NamedSources) → acts_as muting.v1_mutes_leave muting.is_muted hosts (statement_of StatementKind.OlderLeave named) ≡ with_sources named result }
+{
+    match translate(Kind::ToIn, hosts, muting.v1_mutes_leave, muting.is_muted) {
+        Some((kind, _)) => Some((kind, true)),
+        None => None,
+    }
+}
+
+/// As which record a statement acts in its group, and whether without the sources that are named; None where it is
+/// ignored. At most two comparisons.
+fn acted_as(
+    head: &Head,
+    said: StatementKind,
+    muting: MutingRules,
+    now: Moment,
+    m: &mut Meter,
+) -> Option<(Kind, bool)>
+    ensures acts { (named : NamedSources) → acts_as muting.v1_mutes_leave muting.is_muted (hosts_of (state_of head.now map.empty) now) (statement_of said named) ≡ with_sources named result }
+    ensures spent { Spends 0 2 m.old m.new }
+{
+    match said {
+        StatementKind::Record(kind) => {
+            let hosts = head.compat(now, m);
+            translate(kind, hosts, muting.v1_mutes_leave, muting.is_muted)
+        }
+        StatementKind::OlderJoin(_) => {
+            if muting.is_muted {
+                None
+            } else {
+                Some((Kind::IsEx, true))
+            }
+        }
+        StatementKind::OlderLeave => leave_as(head.compat(now, m), muting),
+    }
+}
+
+impl<K: Key> Scratch<K> {
+    /// What a statement changes of a group, which is read where it stands: the new group is written down,
+    /// and with it the sources to ask for, ascending, each of which the new group has. There is room for the sources of
+    /// the group and of the statement together. Answers whether the group is to be asked for, or None where the statement
+    /// is ignored. The set that is named loses its sources where they don't count.
+    fn change(
+        &mut self,
+        stored: &HeldGroup<'_, K>,
+        said: StatementKind,
+        muting: MutingRules,
+        at: &InForce,
+        m: &mut Meter,
+    ) -> Option<bool>
+        requires in_range { at.now.moment ≤ 2 ^ 53 }
+        requires ascending { IsAscending (number_in K.number) stored.now.sources.now }
+        requires room { HasRoomFor (length stored.now.sources.now + length self.old.named.members) self.old }
+
+        ensures changes { let before = group_stored K.number stored.now in
+            change_stated muting.v1_mutes_leave muting.is_muted at.now.timing at.now.moment (statement_of said (named_in K.number self.old.named.members)) before ≡ change_written K.number self.new.group.state self.new.asked.items result }
+        ensures ascending { OnSome result (IsAscending K.number self.new.asked.items) }
+        ensures held { OnSome result ((s : ℕ) → set_of K.number self.new.asked.items s ≡ true → IsSome (timer_at self.new.group.state s)) }
+        ensures named { length self.new.named.members ≤ length self.old.named.members }
+        ensures kept { KeepsRoom self.old self.new }
+        ensures met { self.new.met ≡ self.old.met }
+
+        // At most two comparisons, and one for each source of the group and of the statement; at least one for each of
+        // those that are fewer, the sources of the group or those that count.
+        ensures spent { let before = group_stored K.number stored.now in
+            let acts = acts_as muting.v1_mutes_leave muting.is_muted (hosts_of before at.now.moment) (statement_of said (named_in K.number self.old.named.members)) in
+            let sizes = size_of before + length self.old.named.members in
+            Spends (least_merge (size_of before) acts) (sizes + 2) m.old m.new }
+    {
+        let head = Head {
+            mode: stored.mode,
+            v1: stored.v1,
+            v2: stored.v2,
+        };
+        let (kind, is_emptied) = acted_as(&head, said, muting, at.moment, m)?;
+        if is_emptied {
+            self.named.clear();
+        }
+        let asks_group = self.group.load_changed(
+            &head,
+            stored.sources,
+            kind,
+            &self.named,
+            at.moment,
+            &at.timing,
+            &mut self.asked,
+            m,
+        );
+        if let StatementKind::OlderJoin(version) = said {
+            self.group.older(version, at.moment, &at.timing);
+        }
+        Some(asks_group)
+    }
+
+    /// Does to the group that has changed, and to its schedule, what the change asks for: what lost its ground is dropped,
+    /// and the querier starts the queries for the group and for the sources to ask for, each of which the group has. At
+    /// most one comparison, and two for each source.
+    fn ask(&mut self, schedule: &mut Schedule, asks_group: bool, at: &InForce, m: &mut Meter)
+        requires in_range { at.now.moment ≤ 2 ^ 53 }
+        requires ascending { IsAscending K.number self.old.asked.items }
+        requires held { (s : ℕ) → set_of K.number self.old.asked.items s ≡ true → IsSome (timer_at self.old.group.state s) }
+        ensures asked { let change : GroupChange = record { group = self.old.group.state; query = set_of K.number self.old.asked.items; query_group = asks_group } in
+            let e : ScheduledGroup = record { group = self.new.group.state; schedule = schedule.new } in
+            e ≡ after_change at.now.is_querier at.now.timing at.now.moment change schedule.old }
+        ensures named { self.new.named ≡ self.old.named }
+        ensures kept { KeepsRoom self.old self.new }
+        ensures met { self.new.met ≡ self.old.met }
+        ensures spent { Spends 0 (2 * size_of self.old.group.state + 1) m.old m.new }
+    {
+        schedule.settle(&self.group);
+        if at.is_querier {
+            if asks_group {
+                schedule.start_group(&mut self.group, at.moment, &at.timing, m);
+            }
+            schedule.start_sources(
+                &mut self.group,
+                self.asked.as_slice(),
+                at.moment,
+                &at.timing,
+                m,
+            );
+        }
+    }
+}
+
+impl<F: Family> Status<F> {
+    /// Whether a statement doesn't count for its group: one of mode EXCLUDE or of an older version in the source-specific
+    /// range, where that is kept (RFC 4604 sections 3.1, 3.5 and 3.7).
+    fn is_muted(&self, group: F::Address, said: StatementKind) -> bool
+        ensures { (named : NamedSources) → result ≡ record_spec.is_muted self.now.config (F.Address.number group) (statement_of said named) }
+    {
+        self.lemma_is_sound();
+        let is_kept = self.config().source_specific() && F::in_source_specific_range(group);
+        match said {
+            StatementKind::Record(kind) => is_kept && matches!(kind, Kind::IsEx | Kind::ToEx),
+            StatementKind::OlderJoin(_) | StatementKind::OlderLeave => is_kept,
+        }
+    }
+
+    /// What a statement does for a group that is admitted and was looked for: it is ignored where older hosts or the
+    /// source-specific range mute it; refused where what it would leave passes a limit, and then nothing is changed or
+    /// sent; else applied, and what it asks for is sent at once. The sources that it names stand in `work`. At most
+    /// six comparisons for each source of the group and each that it names, twelve more, and one for each binary digit of
+    /// how many groups there are; at least one for each of those that are fewer, the sources of the group or those that
+    /// count.
+    pub(crate) fn apply<S: Sink<F::Address>>(
+        &self,
+        storage: &mut Storage<F::Address>,
+        work: &mut Scratch<F::Address>,
+        sought: Sought<F::Address>,
+        said: StatementKind,
+        sink: &mut S,
+    ) -> Verdict
+        requires admitted { is_admitted self.now.config.family (F.Address.number sought.address) ≡ true }
+        requires sound { AreSound self.now storage.old.held.groups }
+        requires sought { IsSought F.Address.number storage.old.held sought }
+        requires room { HasRoom self.now.config.limits.groups self.now.config.limits.group_sources work.old }
+        requires named { length work.old.named.members ≤ self.now.config.limits.group_sources }
+        requires group_room { storage.old.held.order.room ≡ self.now.config.limits.groups }
+        requires source_room { storage.old.held.source_room ≡ self.now.config.limits.sources }
+
+        ensures outcome { let said_so = statement_of said (named_in F.Address.number work.old.named.members) in
+            let outcome = stated self.now (F.Address.number sought.address) said_so storage.old.held.groups in
+            HasOutcome S.takes outcome (verdict_of result) storage.new.held.groups sink.old sink.new }
+        ensures numbers { KeepsNumbers storage.old.held storage.new.held }
+        ensures rooms { KeepsRooms storage.old storage.new }
+        ensures room { KeepsRoom work.old work.new }
+        ensures met { work.new.met ≡ work.old.met }
+        ensures spent { let said_so = statement_of said (named_in F.Address.number work.old.named.members) in
+            let sizes = sources_of (group_at storage.old.held.groups (F.Address.number sought.address)) + length work.old.named.members in
+            Spends (least_work self.now (F.Address.number sought.address) said_so storage.old.held.groups) (6 * sizes + 12 + bitlen (map.len storage.old.held.groups)) storage.old.meter storage.new.meter }
+        ensures moved { let sizes = sources_of (group_at storage.old.held.groups (F.Address.number sought.address)) + length work.old.named.members in
+            MovesWithin (5 * sizes + moved_by_edit) storage.old storage.new }
+    {
+        self.lemma_is_sound();
+        storage.held.lemma_is_numbered();
+        let at = self.in_force();
+        let limits = self.config().limits();
+        let muting = MutingRules {
+            v1_mutes_leave: F::V1_MUTES_LEAVE,
+            is_muted: self.is_muted(sought.address, said),
+        };
+        let stored = look(&storage.held, sought);
+        let Some(asks_group) = work.change(&stored, said, muting, &at, &mut storage.meter) else {
+            return Verdict::Ignored;
+        };
+        let mut schedule = stored.schedule;
+        work.ask(&mut schedule, asks_group, &at, &mut storage.meter);
+        let change = Change {
+            is_held: sought.found.is_ok(),
+            sources: stored.sources.len(),
+            before: stored.schedule,
+            schedule,
+        };
+        if let Some(name) = storage.refusal(&work.group, &change, &limits, at.moment) {
+            return Verdict::Refused(name);
+        }
+        schedule.round(
+            sought.address,
+            &mut work.group,
+            at.moment,
+            &at.timing,
+            F::Address::PER_QUERY,
+            &mut storage.meter,
+            sink,
+        );
+        storage.keep(sought, &work.group, schedule);
+        Verdict::Applied
+    }
+}

@@ -1,0 +1,141 @@
+//! What a router is at a moment: its configuration, who is querier, and the timing in force.
+
+ghost use Rattle.std.specs.Prelude.{◌≡◌, ◌^◌, ◌<◌, ◌≤◌, ◌∷◌, [], if◌then◌else◌, IfSome};
+ghost use Rattle.mq_count.specs.Spending.{Spends};
+ghost use Rattle.mq_sched.specs.Announcement.{IsCarried};
+ghost use Rattle.mq_sched.specs.Election.{election_at, general_messages, heard, is_querier, loses_role, ticked};
+ghost use Rattle.mq_sched.specs.Sending.{GeneralQuery};
+ghost use Rattle.mq_table.specs.Variables.{AreInRange};
+ghost use Rattle.mq_link.specs.Configuration.{IsFaultless};
+ghost use Rattle.mq_link.specs.Handing.{KeepsIntervals};
+
+use crate::config::Config;
+use crate::family::Family;
+use mq_count::{Meter, Moment};
+use mq_sched::{Announced, Election};
+use mq_table::Timing;
+use std::marker::Model;
+
+/// What is in force at a moment: the timing, and whether the router is querier.
+#[derive(Clone, Copy)]
+pub(crate) struct InForce {
+    pub(crate) moment: Moment,
+    pub(crate) timing: Timing,
+    pub(crate) is_querier: bool,
+}
+
+/// The configuration of a router, its election, and the last moment that it was told. A contract sees the `Setting` of
+/// the definitions; every status has a configuration without faults, and an election of that configuration.
+#[derive(Drop)]
+pub(crate) struct Status<F: Family> {
+    config: Config<F>,
+    election: Election<F::Address>,
+    moment: Moment,
+}
+
+impl<F: Family> Model for Status<F> {
+    ghost use Rattle.mq_link.specs.Record.{Setting};
+
+    ghost Value = { Setting };
+
+    ghost use Rattle.mq_link.specs.Status.{IsStatus};
+
+    ghost view = { λ s. record { config = s.config; election = s.election.state; now = s.moment } };
+
+    ghost invariant = { λ s. IsStatus F.FAMILY s.config s.election s.moment };
+}
+
+impl<F: Family> Status<F> {
+    /// That of a router that starts at a moment: it is querier.
+    pub(crate) fn new(config: Config<F>, start: Moment) -> Status<F>
+        requires in_range { start ≤ 2 ^ 53 }
+        ensures { result ≡ record { config = config; election = election_at config.timing start; now = start } }
+    {
+        config.is_faultless();
+        let election = Election::new(config.own(), config.timing(), start);
+        Status {
+            config,
+            election,
+            moment: start,
+        }
+    }
+
+    /// Its configuration has no fault and is one of the family, and the timing in force is in range. It does nothing: its
+    /// contract is the fact.
+    pub(crate) fn lemma_is_sound(&self)
+        ensures faultless { IsFaultless self.now.config }
+        ensures family { self.now.config.family ≡ F.FAMILY }
+        ensures timing { AreInRange self.now.election.timing }
+        ensures positive { 0 < self.now.election.timing.robustness }
+        ensures intervals { KeepsIntervals self.now.config.timing self.now.election.timing }
+        ensures in_range { self.now.now ≤ 2 ^ 53 }
+    {
+        let _moment = self.moment;
+    }
+
+    /// The configuration.
+    pub(crate) fn config(&self) -> &Config<F>
+        ensures { result.now ≡ self.now.config }
+    {
+        &self.config
+    }
+
+    /// The election.
+    pub(crate) fn election(&self) -> &Election<F::Address>
+        ensures { result.now.state ≡ self.now.election }
+    {
+        &self.election
+    }
+
+    /// The last moment that it was told.
+    pub(crate) fn moment(&self) -> Moment
+        ensures { result ≡ self.now.now }
+    {
+        self.moment
+    }
+
+    /// What is in force.
+    pub(crate) fn in_force(&self) -> InForce
+        ensures in_force { result ≡ record {
+          moment = self.now.now;
+          timing = self.now.election.timing;
+          is_querier = is_querier self.now.election.role;
+        } }
+        ensures in_range { result.moment ≤ 2 ^ 53 }
+    {
+        InForce {
+            moment: self.moment,
+            timing: self.election.timing(),
+            is_querier: self.election.is_querier(),
+        }
+    }
+
+    /// A moment comes: what ends then of the election ends. Answers whether a general query is due. One comparison.
+    pub(crate) fn tick(&mut self, now: Moment, m: &mut Meter) -> bool
+        requires in_range { now ≤ 2 ^ 53 }
+        ensures ticked { self.new ≡ record self.old { election = ticked self.old.config.timing now self.old.election; now = now } }
+        ensures sent { general_messages self.old.config.timing now self.old.election ≡ (if result then GeneralQuery ∷ [] else []) }
+        ensures spent { Spends 1 1 m.old m.new }
+    {
+        self.config.is_faultless();
+        self.moment = now;
+        self.election.tick(now, m)
+    }
+
+    /// The election takes note of a query from another router. Answers whether this one loses the role by it. One
+    /// comparison.
+    pub(crate) fn hear(
+        &mut self,
+        source: F::Address,
+        announced: Option<Announced>,
+        m: &mut Meter,
+    ) -> bool
+        requires carried { IfSome announced IsCarried }
+        ensures heard { self.new ≡ record self.old { election = heard self.old.config.timing self.old.config.own self.old.now (F.Address.number source) announced self.old.election } }
+        ensures lost { result ≡ loses_role self.old.config.own (F.Address.number source) self.old.election.role }
+        ensures spent { Spends 1 1 m.old m.new }
+    {
+        self.config.is_faultless();
+        self.election.hear(source, announced, self.moment, m)
+    }
+}

@@ -1,0 +1,11 @@
+pub mod KnownGroups
+pub mod KnownSendings
+pub mod KnownLinks
+pub mod KnownRecords
+pub mod KnownReceipts
+pub mod KnownMoments
+pub mod Worked
+pub mod Alike
+pub mod AlikeGroups
+pub mod AlikeLinks
+pub mod SeveralMessages

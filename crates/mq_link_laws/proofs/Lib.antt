@@ -1,0 +1,5 @@
+pub mod Unchanged
+pub mod Counting
+pub mod Outlets
+pub mod Named
+pub mod Filters

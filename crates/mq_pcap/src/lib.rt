@@ -1,0 +1,20 @@
+//! Captures: the packets of a classic pcap file, and the message that a frame carries.
+#![tactic(auto)]
+
+pub mod fault;
+mod filling;
+pub mod form;
+pub mod frame;
+pub mod laws;
+pub mod link_type;
+mod options;
+pub mod reader;
+pub mod reader_state;
+mod record;
+
+pub use fault::PcapFault;
+pub use form::{Endian, Form, Fraction};
+pub use frame::{Inner, unwrap_frame};
+pub use link_type::LinkType;
+pub use reader_state::{Packet, PcapReader, Progress};
+pub use record::GREATEST_PACKET;

@@ -1,0 +1,75 @@
+-- What a replay comes to doesn't depend on the text before: that stays in front.
+use Rattle.std.proofs.Common.{◌≡◌, ℕ, zero, suc, ◌<◌, ◌≤◌, true, false, refl, List, [], ◌++◌, Option, None, Some, append_assoc, append-nil, sym, ap, ◌∙◌}
+use Rattle.std.specs.Prelude.{nat_lt}
+use Rattle.std.proofs.lemmas.Bool.{lt-ltb, le-ltb}
+use Rattle.mq_pcap.specs.Frame.{Carried}
+use Rattle.mq_link.specs.Configuration.{Configuration}
+use Rattle.mq_link.specs.Receive.{receipt_of}
+use Rattle.mq_link.specs.Sent.{outgoing_of}
+use Rattle.mq_link.specs.Tick.{tick_of, next_of}
+use Rattle.mq_replay.specs.ReplayLines.{query_lines, receipt_line, skip_line}
+use Rattle.mq_replay.specs.Report.{Replayed, after_step, ticked_at, ticked_within, ticked_before, Datagram, datagram_of, received_at, taken_or_skipped, with_packet}
+use Rattle.mq_replay.specs.Steps.{begun_with}
+
+-- a replay behind a text
+abbrev pub behind : List ℕ → Replayed → Replayed
+behind text r = record { link = r.link; text = text ++ r.text }
+
+-- each is behind its own text
+pub as_behind : (r : Replayed) → behind r.text (begun_with r.link) ≡ r
+as_behind r = λ i. record { link = r.link; text = append-nil r.text i }
+
+pub ticked_behind : (config : Configuration) (moment : ℕ) (text : List ℕ) (r : Replayed) → ticked_at config moment (behind text r) ≡ behind text (ticked_at config moment r)
+unfolding ticked_at
+ticked_behind config moment text r = λ i. record {
+  link = (after_step config moment (tick_of config moment r.link) []).link;
+  text = append_assoc text r.text (query_lines config.family moment (outgoing_of config (tick_of config moment r.link))) i;
+}
+
+pub within_behind : (most : ℕ) (config : Configuration) (limit : ℕ) (text : List ℕ) (r : Replayed) → ticked_within most config limit (behind text r) ≡ behind text (ticked_within most config limit r)
+unfolding ticked_within
+within_behind zero config limit text r = refl
+within_behind (suc most) config limit text r =
+    elim (nat_lt (next_of r.link) limit) as (λ b.
+    elim b [ true ↦ ticked_within most config limit (ticked_at config (next_of r.link) (behind text r)) | false ↦ behind text r ]
+    ≡ behind text (elim b [ true ↦ ticked_within most config limit (ticked_at config (next_of r.link) r) | false ↦ r ])) [
+      | true ↦ ap (ticked_within most config limit) (ticked_behind config (next_of r.link) text r) ∙ within_behind most config limit text (ticked_at config (next_of r.link) r)
+      | false ↦ refl
+    ]
+
+pub before_behind : (config : Configuration) (limit : ℕ) (text : List ℕ) (r : Replayed) → ticked_before config limit (behind text r) ≡ behind text (ticked_before config limit r)
+before_behind config limit text r = within_behind limit config limit text r
+
+pub taken_behind : (config : Configuration) (moment number : ℕ) (carried : Carried) (datagram : Option Datagram) (text : List ℕ) (r : Replayed) → taken_or_skipped config moment number carried datagram (behind text r) ≡ behind text (taken_or_skipped config moment number carried datagram r)
+unfolding received_at
+taken_behind config moment number carried (Some datagram) text r =
+    let receipt = receipt_of config datagram.envelope datagram.body moment r.link in
+    let lines = query_lines config.family moment (outgoing_of config receipt.step) in
+    let line = receipt_line config.family moment number datagram.envelope.source receipt.answer in
+    λ i. record {
+      link = (after_step config moment receipt.step []).link;
+      text = (ap (λ (t : List ℕ). t ++ line) (append_assoc text r.text lines) ∙ append_assoc text (r.text ++ lines) line) i;
+    }
+taken_behind config moment number carried None text r = λ i. record { link = r.link; text = append_assoc text r.text (skip_line moment number carried) i }
+
+pub packet_behind : (config : Configuration) (moment number : ℕ) (carried : Carried) (text : List ℕ) (r : Replayed) → with_packet config moment number carried (behind text r) ≡ behind text (with_packet config moment number carried r)
+unfolding with_packet
+packet_behind config moment number carried text r =
+    ap (taken_or_skipped config moment number carried (datagram_of config.family carried)) (before_behind config moment text r)
+    ∙ taken_behind config moment number carried (datagram_of config.family carried) text (ticked_before config moment r)
+
+-- a packet behind what was replayed
+pub next_packet : (config : Configuration) (moment number : ℕ) (carried : Carried) (r : Replayed) → with_packet config moment number carried r ≡ behind r.text (with_packet config moment number carried (begun_with r.link))
+next_packet config moment number carried r = ap (with_packet config moment number carried) (sym (as_behind r)) ∙ packet_behind config moment number carried r.text (begun_with r.link)
+
+-- ticks, one after the other: no tick is left where the next moment isn't before the limit
+pub none_within : (most : ℕ) (config : Configuration) (limit : ℕ) (r : Replayed) → limit ≤ next_of r.link → ticked_within most config limit r ≡ r
+unfolding ticked_within
+none_within zero config limit r reached = refl
+none_within (suc most) config limit r reached =
+    ap (λ b. elim b [ true ↦ ticked_within most config limit (ticked_at config (next_of r.link) r) | false ↦ r ]) (le-ltb (next_of r.link) limit reached)
+
+pub one_within : (most : ℕ) (config : Configuration) (limit : ℕ) (r : Replayed) → next_of r.link < limit → ticked_within (suc most) config limit r ≡ ticked_within most config limit (ticked_at config (next_of r.link) r)
+unfolding ticked_within
+one_within most config limit r due =
+    ap (λ b. elim b [ true ↦ ticked_within most config limit (ticked_at config (next_of r.link) r) | false ↦ r ]) (lt-ltb (next_of r.link) limit due)

@@ -1,0 +1,16 @@
+pub mod Answered
+pub mod EndLines
+pub mod Growing
+pub mod Headers
+pub mod OnePacket
+pub mod OpenedReplays
+pub mod Packets
+pub mod Passing
+pub mod PrintedQueries
+pub mod ReadSoFar
+pub mod ReplayTexts
+pub mod ReplayedSoFar
+pub mod Replays
+pub mod Shown
+pub mod Ticking
+pub mod WrittenReplays

@@ -1,0 +1,51 @@
+-- The texts of a replay, in parts.
+use Rattle.std.proofs.Common.{◌≡◌, ℕ, ◌+◌, List, [], ◌∷◌, ◌++◌, take, drop, refl, sym, ap, ◌∙◌}
+use Rattle.std.specs.Prelude.{map as list_map}
+use Rattle.std.specs.List.{flat_map}
+use Rattle.std.proofs.lemmas.List.Concat.{flat_map-append}
+use Rattle.std.proofs.Math.Seq.{take-add}
+use Rattle.hex.specs.Hex.{encode_with, encode_lower}
+use Rattle.mq_wire.specs.Family.{Family}
+use Rattle.mq_sets.specs.Ascending.{IsAscending}
+use Rattle.mq_sets.proofs.Ascents.{IsAscending-map}
+use Rattle.mq_table.specs.declared.sources.Source.{Source}
+use Rattle.mq_table.specs.declared.timers.SourceTimer.{SourceTimer}
+use Rattle.mq_table.specs.Stored.{number_in, timers_in}
+use Rattle.std.specs.FinMap as map
+use Rattle.mq_held.proofs.HeldMoments.{entries-from_entries}
+use Rattle.mq_held.proofs.Sorted.{key_of, sorted-ascending}
+use Rattle.mq_replay.specs.ReplayLines.{timer_text}
+
+-- the text of one byte
+abbrev pub byte_text : ℕ → List ℕ
+byte_text byte = encode_lower (byte ∷ [])
+
+-- bytes in hexadecimal, one after the other
+pub encode_lower-each : (bytes : List ℕ) → encode_lower bytes ≡ flat_map byte_text bytes
+unfolding encode_with
+encode_lower-each [] = refl
+encode_lower-each (byte ∷ bytes) = ap (λ (rest : List ℕ). byte_text byte ++ rest) (encode_lower-each bytes)
+
+-- and so are some more of them
+pub encode_lower-next : (bytes : List ℕ) (done count : ℕ) → flat_map byte_text (take (done + count) bytes) ≡ flat_map byte_text (take done bytes) ++ encode_lower (take count (drop done bytes))
+encode_lower-next bytes done count =
+    let first : List ℕ = take done bytes in
+    let next : List ℕ = take count (drop done bytes) in
+    ap (flat_map byte_text) (take-add done count bytes) ∙ flat_map-append byte_text first next
+    ∙ ap (λ (t : List ℕ). flat_map byte_text first ++ t) (sym (encode_lower-each next))
+
+-- the sources of a stored group are in the order of their addresses
+module _ {K : Type 0} (number : K → ℕ) (family : Family) where
+  pub timers-row : (row : List (Source K)) → IsAscending (number_in number) row
+      → flat_map (λ (e : ℕ × SourceTimer). timer_text family e.0 e.1) (map.entries (timers_in number row))
+      ≡ flat_map (λ (x : Source K). timer_text family (number x.address) x.timer) row
+  timers-row row up =
+      let pair : Source K → ℕ × SourceTimer = λ x. (number x.address, x.timer) in
+      let sorted = sorted-ascending (list_map pair row) (IsAscending-map key_of pair row up) in
+      ap (λ (es : List (ℕ × SourceTimer)). flat_map (λ (e : ℕ × SourceTimer). timer_text family e.0 e.1) es) (entries-from_entries (list_map pair row) sorted) ∙ each row
+    where
+      each : (row : List (Source K))
+          → flat_map (λ (e : ℕ × SourceTimer). timer_text family e.0 e.1) (list_map (λ (x : Source K). let e : ℕ × SourceTimer = (number x.address, x.timer) in e) row)
+          ≡ flat_map (λ (x : Source K). timer_text family (number x.address) x.timer) row
+      each [] = refl
+      each (x ∷ row) = ap (λ (rest : List ℕ). timer_text family (number x.address) x.timer ++ rest) (each row)

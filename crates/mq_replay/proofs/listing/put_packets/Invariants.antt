@@ -1,0 +1,29 @@
+use Rattle.std.proofs.Common.{◌≡◌, ◌+◌, ◌-◌, ◌<◌, ◌≤◌, length}
+use Rattle.mq_count.specs.Streams.{inner_of, has_failed}
+use Rattle.mq_pcap.specs.declared.reader_state.Progress.TheVariants.{Reading}
+use Rattle.mq_pcap.specs.Capture.{endless, most_bytes}
+use Rattle.mq_pcap.specs.Filling.{input_of}
+use Rattle.mq_pcap.specs.Reading.{form_of, number_of, progress_of}
+use Rattle.mq_replay.specs.Printing.{Passes}
+use Rattle.mq_replay.proofs.ReadSoFar.{IsReadTo}
+use Rattle.mq_replay.proofs.listing.put_packets.Given as goal
+
+-- the packets that were read, and that their lines were put
+abbrev pub invariant-loop-read : goal.invariant-loop-read
+invariant-loop-read g l =
+    let old = input_of g.R.Read.remaining l.fn.reader in
+    let now = input_of g.R.Read.remaining l.reader in
+    record {
+      put : (r : IsReadTo (form_of l.fn.capture) old now l.stamps.first l.stamps.before l.number)
+          × Passes (g.W.Write.contents (inner_of l.fn.writer)) (g.W.Write.contents (inner_of l.writer)) l.fn.buffer.items l.buffer.items r.said;
+      form : form_of l.capture ≡ form_of l.fn.capture;
+      next : number_of l.capture ≡ l.number + 1;
+      reading : progress_of l.capture ≡ Reading;
+      few : l.number < endless;
+      room : most_bytes ≤ length l.packet;
+      read : has_failed l.reader ≡ has_failed l.fn.reader;
+      written : has_failed l.writer ≡ has_failed l.fn.writer;
+    }
+
+abbrev pub decreases-loop-read : goal.decreases-loop-read
+decreases-loop-read g l = endless - l.number

@@ -1,0 +1,15 @@
+use Rattle.std.proofs.Common.{sym, ◌∙◌}
+use Rattle.std.proofs.lemmas.Result.{err_from_is_err_and}
+use Rattle.mq_replay.proofs.WrittenReplays.{flushed, not_put, not_flushed}
+use Rattle.mq_replay.proofs.replaying.replay_on.Goals as goal
+
+pub returns-then-is_failed_write-clause-replays : goal.returns-then-is_failed_write-clause-replays
+returns-then-is_failed_write-clause-replays g c = not_put _ _ _ _ _ _ _ _ _ _ c.new-buffer.ensures (sym c.is_failed_write.ensures ∙ c.if-is_failed_write.true) c.put_replay-answer.ensures.puts
+
+pub returns-in_err-flush-clause-replays : goal.returns-in_err-flush-clause-replays
+returns-in_err-flush-clause-replays g c =
+    let p = err_from_is_err_and c.from_residual.result c.from_residual.ensures.1 in
+    rw (p.1, p.2) (not_flushed _ _ _ _ _ _ _ _ _ _ _ c.new-buffer.ensures (sym c.is_failed_write.ensures ∙ c.if-is_failed_write.false) c.put_replay-answer.ensures.puts c.in_err-flush.ensures.text)
+
+pub returns-clause-replays : goal.returns-clause-replays
+returns-clause-replays g c = flushed _ _ _ _ _ _ _ _ _ _ _ _ c.new-buffer.ensures c.in_ok-flush.ensures.empty (sym c.is_failed_write.ensures ∙ c.if-is_failed_write.false) c.put_replay-answer.ensures.puts c.in_ok-flush.ensures.text

@@ -1,0 +1,13 @@
+pub mod Datagrams
+pub mod Line
+pub mod Listing
+pub mod Numbered
+pub mod Printing
+pub mod Putting
+pub mod PuttingReports
+pub mod QueryLines
+pub mod ReplayLines
+pub mod Replaying
+pub mod Report
+pub mod Steps
+pub mod Text

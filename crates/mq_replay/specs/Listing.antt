@@ -1,0 +1,104 @@
+-- What is printed of a capture: a line for each of its packets.
+use Rattle.std.specs.Prelude.{◌≡◌, ◌⊎◌, ℕ, ◌+◌, ◌-◌, max, Bool, false, true, List, [], ◌∷◌, ◌++◌, length, Option, None, Some, Result, Ok, Err, unwrap_or, codes}
+use Rattle.std.specs.Fmt.{decimal}
+use Rattle.std.specs.Io.KnownBytes.{Appends, IsAtEnd}
+use Rattle.mq_pcap.specs.declared.fault.PcapFault.{PcapFault}
+use Rattle.mq_pcap.specs.declared.fault.PcapFault.TheVariants as fault
+use Rattle.mq_pcap.specs.declared.form.Form.{Form}
+use Rattle.mq_pcap.specs.declared.link_type.LinkType.{LinkType}
+use Rattle.mq_pcap.specs.Capture.{Captured, Captures}
+use Rattle.mq_pcap.specs.Filling.{InputState, Takes}
+use Rattle.mq_pcap.specs.Frame.{Carried, Igmp, Mld, Other, Cut, Fragment, carried_in}
+use Rattle.mq_pcap.specs.Reading.{IsKnownThere}
+use Rattle.mq_wire.specs.Family as family
+use Rattle.mq_wire.specs.PseudoHeader.{pseudo_header}
+use Rattle.mq_replay.specs.declared.replay_fault.ReplayFault.{ReplayFault}
+use Rattle.mq_replay.specs.declared.replay_fault.ReplayFault.TheVariants as answer
+use Rattle.mq_replay.specs.Line.{IsLineOf}
+use Rattle.mq_replay.specs.Printing.{GrowsByBeginning}
+use Rattle.mq_replay.specs.Text.{address_text}
+
+-- what a line says of the message that a packet carries, or why there is none; it ends the line
+abbrev pub IsSaid : Carried → List ℕ → Type 0
+IsSaid (Igmp source body) text =
+    (flag : Bool) × (line : List ℕ) × IsLineOf family.Igmp [] body flag line
+    × (text ≡ address_text family.Igmp source ++ codes " igmp " ++ line)
+IsSaid (Mld source destination hop_limit alert body) text =
+    (flag : Bool) × (line : List ℕ)
+    × IsLineOf family.Mld (pseudo_header source destination (length body)) body flag line
+    × (text ≡ address_text family.Mld source ++ codes " mld " ++ line)
+IsSaid Other text = text ≡ codes "other\n"
+IsSaid Cut text = text ≡ codes "cut\n"
+IsSaid Fragment text = text ≡ codes "fragment\n"
+
+-- the number and the moment of a packet, each before a space
+abbrev pub place_text : (number moment : ℕ) → List ℕ
+place_text number moment = decimal number ++ codes " " ++ decimal moment ++ codes " "
+
+-- the line of a packet
+abbrev pub IsPacketLine : LinkType → (number moment : ℕ) → (frame line : List ℕ) → Type 0
+IsPacketLine link number moment frame line =
+    (said : List ℕ) × IsSaid (carried_in link frame) said × (line ≡ place_text number moment ++ said)
+
+-- The moment of a packet: its stamp less that of the capture's first packet, or the moment of the packet before,
+-- whichever is greater. So that of the first packet is 0.
+abbrev pub moment_of : (first : Option ℕ) (before stamp : ℕ) → ℕ
+moment_of first before stamp = max (stamp - unwrap_or first stamp) before
+
+-- the lines of packets, one after the other: the number of the next, and what its moment is counted from
+abbrev pub AreLines : LinkType → (first : Option ℕ) (before number : ℕ) → List Captured → List ℕ → Type 0
+AreLines link first before number [] text = text ≡ []
+AreLines link first before number (packet ∷ packets) text =
+    let moment = moment_of first before packet.stamp in
+    (line : List ℕ) × (rest : List ℕ) × (text ≡ line ++ rest) × IsPacketLine link number moment packet.bytes line
+    × AreLines link (Some (unwrap_or first packet.stamp)) moment (number + 1) packets rest
+
+-- The listing of a capture: the lines of its packets, numbered from 1. One whose header has a fault has none.
+abbrev pub IsListing : Result Form PcapFault → List Captured → List ℕ → Type 0
+IsListing (Ok form) packets text = AreLines form.link None 0 1 packets text
+IsListing (Err f) packets text = text ≡ []
+
+-- Why a fault of the bytes that were taken is one of the whole file: they end it, or the fault doesn't depend on
+-- what follows.
+abbrev pub IsOfTheFile : Result Form PcapFault → PcapFault → (bytes : List ℕ) → InputState → Type 0
+IsOfTheFile (Ok form) f bytes new = IsKnownThere f new
+IsOfTheFile (Err f') f bytes new = (length bytes ≡ 24) ⊎ IsAtEnd new.ahead
+
+-- what the input does, by the answer
+abbrev pub IsEndedBy : Result Form PcapFault → (packets : List Captured) → (end : Option PcapFault) → (bytes : List ℕ) → (old new : InputState) → Result ℕ ReplayFault → Type 0
+IsEndedBy header packets end bytes old new (Ok count) =
+    (end ≡ None) × IsAtEnd new.ahead × (count ≡ length packets) × (new.failed ≡ old.failed)
+IsEndedBy header packets end bytes old new (Err (answer.Pcap fault.Read)) = new.failed ≡ true
+IsEndedBy header packets end bytes old new (Err (answer.Pcap f)) =
+    (end ≡ Some f) × IsOfTheFile header f bytes new × (new.failed ≡ old.failed)
+IsEndedBy header packets end bytes old new (Err answer.Write) = Unit {0}
+IsEndedBy header packets end bytes old new (Err (answer.Gap number)) = ⊥
+IsEndedBy header packets end bytes old new (Err answer.Memory) = bytes ≡ []
+
+-- what was written of the listing: all of it, or where a write failed a beginning
+abbrev pub IsWritten : (old new : Option (List ℕ)) → List ℕ → Result ℕ ReplayFault → Type 0
+IsWritten old new text (Err answer.Write) = GrowsByBeginning old new text
+IsWritten old new text r = Appends old new text
+
+-- A capture was shown. Some bytes were taken from the input, and what was written is the listing of the capture
+-- that they are, taken as a whole file. They are the whole file, or its beginning up to a fault that what follows
+-- doesn't change, unless a read or a write failed.
+pub record Shows (old new : InputState) (before after : Option (List ℕ)) (r : Result ℕ ReplayFault) : Type 0 where
+  pub bytes : List ℕ
+  pub header : Result Form PcapFault
+  pub packets : List Captured
+  pub end : Option PcapFault
+  pub text : List ℕ
+  pub takes : Takes old new bytes
+  pub capture : Captures bytes header packets end
+  pub listing : IsListing header packets text
+  pub ended : IsEndedBy header packets end bytes old new r
+  pub written : IsWritten before after text r
+
+-- whether an answer, of a listing or of a replay, is a failed write
+abbrev pub is_failed_write : {T : Type 0} → Result T ReplayFault → Bool
+is_failed_write (Ok x) = false
+is_failed_write (Err (answer.Pcap f)) = false
+is_failed_write (Err answer.Write) = true
+is_failed_write (Err (answer.Gap number)) = false
+is_failed_write (Err answer.Memory) = false

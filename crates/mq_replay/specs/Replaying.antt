@@ -1,0 +1,65 @@
+-- What the contract of a replay says, and those of its parts.
+use Rattle.std.specs.Prelude.{◌≡◌, ◌⊎◌, ℕ, ◌≤◌, true, List, [], length, Option, None, Result, Ok, Err}
+use Rattle.std.specs.Io.KnownBytes.{Appends, IsAtEnd}
+use Rattle.mq_pcap.specs.declared.fault.PcapFault.{PcapFault}
+use Rattle.mq_pcap.specs.declared.fault.PcapFault.TheVariants as fault
+use Rattle.mq_pcap.specs.declared.form.Form.{Form}
+use Rattle.mq_pcap.specs.Capture.{Captured, Captures}
+use Rattle.mq_pcap.specs.Filling.{InputState, Takes}
+use Rattle.mq_link.specs.Configuration.{Configuration}
+use Rattle.mq_link.specs.Counters.{Counters}
+use Rattle.mq_replay.specs.declared.replay_fault.ReplayFault.{ReplayFault}
+use Rattle.mq_replay.specs.declared.replay_fault.ReplayFault.TheVariants as answer
+use Rattle.mq_replay.specs.Listing.{IsOfTheFile}
+use Rattle.mq_replay.specs.Printing.{GrowsByBeginning}
+use Rattle.mq_replay.specs.Report.{report_of, so_far}
+
+-- What was read of a capture: its bytes, taken as a whole file.
+pub record ReadCapture : Type 0 where
+  pub bytes : List ℕ
+  pub header : Result Form PcapFault
+  pub packets : List Captured
+  pub end : Option PcapFault
+
+-- The text and the answer of its report, and the text of its packets alone.
+abbrev pub text_of : Configuration → Option ℕ → ReadCapture → List ℕ
+text_of config until c = (report_of config until c.header c.packets c.end).text
+
+abbrev pub answer_of : Configuration → Option ℕ → ReadCapture → Result Counters ReplayFault
+answer_of config until c = (report_of config until c.header c.packets c.end).answer
+
+abbrev pub packets_text : Configuration → ReadCapture → List ℕ
+packets_text config c = so_far config c.header c.packets
+
+-- Why the answer is that of the whole file: the bytes that were read end it, or what follows them doesn't matter.
+abbrev pub IsEndedBy : Configuration → (until : Option ℕ) → ReadCapture → (old new : InputState) → Result Counters ReplayFault → Type 0
+IsEndedBy config until c old new (Ok counters) =
+    (answer_of config until c ≡ Ok counters) × IsAtEnd new.ahead × (new.failed ≡ old.failed)
+IsEndedBy config until c old new (Err (answer.Pcap fault.Read)) = new.failed ≡ true
+IsEndedBy config until c old new (Err (answer.Pcap f)) =
+    (answer_of config until c ≡ Err (answer.Pcap f)) × IsOfTheFile c.header f c.bytes new × (new.failed ≡ old.failed)
+IsEndedBy config until c old new (Err (answer.Gap number)) =
+    (answer_of config until c ≡ Err (answer.Gap number)) × ((number ≤ length c.packets) ⊎ IsAtEnd new.ahead)
+    × (new.failed ≡ old.failed)
+IsEndedBy config until c old new (Err answer.Write) = Unit {0}
+IsEndedBy config until c old new (Err answer.Memory) = c.bytes ≡ []
+
+-- What was written: the text of the report; where a read failed, that of the packets that were read; and where a write
+-- failed, a beginning of that one, or, if the file had ended, of the report.
+abbrev pub IsWritten : Configuration → (until : Option ℕ) → ReadCapture → InputState → (before after : Option (List ℕ)) → Result Counters ReplayFault → Type 0
+IsWritten config until c new before after (Err answer.Write) =
+    GrowsByBeginning before after (packets_text config c)
+    ⊎ ((c.end ≡ None) × IsAtEnd new.ahead × GrowsByBeginning before after (text_of config until c))
+IsWritten config until c new before after (Err (answer.Pcap fault.Read)) = Appends before after (packets_text config c)
+IsWritten config until c new before after (Err answer.Memory) = Appends before after []
+IsWritten config until c new before after r = Appends before after (text_of config until c)
+
+-- A capture was replayed. Some bytes were taken from the input, and what was written and answered is what the report
+-- of the capture has that they are, taken as a whole file.
+pub record Replays (config : Configuration) (until : Option ℕ) (old new : InputState) (before after : Option (List ℕ))
+    (r : Result Counters ReplayFault) : Type 0 where
+  pub read : ReadCapture
+  pub takes : Takes old new read.bytes
+  pub capture : Captures read.bytes read.header read.packets read.end
+  pub ended : IsEndedBy config until read old new r
+  pub written : IsWritten config until read new before after r

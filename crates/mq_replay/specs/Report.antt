@@ -1,0 +1,168 @@
+-- What a replay writes: a line for each query that the link sends and for each packet, and at the end what the link
+-- holds.
+use Rattle.std.specs.Prelude.{ℕ, zero, suc, ◌+◌, max, nat_lt, Bool, true, false, List, [], ◌∷◌, ◌++◌, length, map as list_map, Option, None, Some, Result, Ok, Err, unwrap_or}
+use Rattle.mq_pcap.specs.declared.fault.PcapFault.{PcapFault}
+use Rattle.mq_pcap.specs.declared.form.Form.{Form}
+use Rattle.mq_pcap.specs.declared.link_type.LinkType.{LinkType}
+use Rattle.mq_pcap.specs.Capture.{Captured}
+use Rattle.mq_pcap.specs.Frame.{Carried, Igmp, Mld, carried_in}
+use Rattle.mq_wire.specs.Family.{Family}
+use Rattle.mq_wire.specs.Family as family
+use Rattle.mq_sched.specs.Election.{is_querier}
+use Rattle.mq_link.specs.Configuration.{Configuration}
+use Rattle.mq_link.specs.Counters.{Counters}
+use Rattle.mq_link.specs.Receive.{Envelope, receipt_of}
+use Rattle.mq_link.specs.Run.{answered}
+use Rattle.mq_link.specs.Sent.{Outgoing, outgoing_of}
+use Rattle.mq_link.specs.State.{LinkState, link_at}
+use Rattle.mq_link.specs.Tick.{Step, tick_of, next_of}
+use Rattle.mq_replay.specs.declared.replay_fault.ReplayFault.{ReplayFault}
+use Rattle.mq_replay.specs.declared.replay_fault.ReplayFault.TheVariants.{Pcap, Gap}
+use Rattle.mq_replay.specs.Listing.{moment_of}
+use Rattle.mq_replay.specs.ReplayLines.{query_lines, receipt_line, skip_line, end_lines}
+
+-- A replay under way: the link, and the text so far.
+pub record Replayed : Type 0 where
+  pub link : LinkState
+  pub text : List ℕ
+
+-- the link starts at 0, and nothing is written
+abbrev pub at_the_start : Configuration → Replayed
+at_the_start config = record { link = link_at config 0; text = [] }
+
+-- what the outlet of a replay answers: each message is sent
+abbrev pub all_sent : List Outgoing → List Bool
+all_sent messages = list_map (λ message. true) messages
+
+-- a step of the link at a moment, behind a text: a line for each message
+abbrev pub after_step : Configuration → (moment : ℕ) → Step → (text : List ℕ) → Replayed
+after_step config moment step text =
+    let messages = outgoing_of config step in
+    record { link = answered (all_sent messages) step; text = text ++ query_lines config.family moment messages }
+
+-- a tick at a moment
+unfoldable pub ticked_at : Configuration → (moment : ℕ) → Replayed → Replayed
+ticked_at config moment r = after_step config moment (tick_of config moment r.link) r.text
+
+-- Ticks at the link's next moments, one after the other, as long as these are before a limit; `most` at most.
+unfoldable pub ticked_within : (most : ℕ) → Configuration → (limit : ℕ) → Replayed → Replayed
+ticked_within zero config limit r = r
+ticked_within (suc most) config limit r =
+    elim (nat_lt (next_of r.link) limit) [
+      | true ↦ ticked_within most config limit (ticked_at config (next_of r.link) r)
+      | false ↦ r
+    ]
+
+-- All ticks before a limit. After each the link's next moment is later, so they are no more than the moments before the
+-- limit.
+abbrev pub ticked_before : Configuration → (limit : ℕ) → Replayed → Replayed
+ticked_before config limit r = ticked_within limit config limit r
+
+-- A datagram that the link is handed: what its packet says of it, and its bytes.
+pub record Datagram : Type 0 where
+  pub envelope : Envelope
+  pub body : List ℕ
+
+-- the datagram of a packet that carries a message of the family; of IGMP only the source is looked at
+abbrev pub datagram_of : Family → Carried → Option Datagram
+datagram_of family.Igmp (Igmp source body) =
+    Some (record { envelope = record { source = source; destination = 0; hop_limit = 0; alert = false }; body = body })
+datagram_of family.Igmp carried = None
+datagram_of family.Mld (Mld source destination hop_limit alert body) = Some (record {
+  envelope = record { source = source; destination = destination; hop_limit = hop_limit; alert = alert };
+  body = body;
+})
+datagram_of family.Mld carried = None
+
+-- the datagram of packet `number` at its moment: the messages that the link sends, and then what it answers
+unfoldable pub received_at : Configuration → (moment number : ℕ) → Datagram → Replayed → Replayed
+received_at config moment number datagram r =
+    let receipt = receipt_of config datagram.envelope datagram.body moment r.link in
+    let after = after_step config moment receipt.step r.text in
+    record after {
+      text = after.text ++ receipt_line config.family moment number datagram.envelope.source receipt.answer;
+    }
+
+-- a packet that has a datagram for the link, or is skipped
+abbrev pub taken_or_skipped : Configuration → (moment number : ℕ) → Carried → Option Datagram → Replayed → Replayed
+taken_or_skipped config moment number carried (Some datagram) r = received_at config moment number datagram r
+taken_or_skipped config moment number carried None r =
+    record r { text = r.text ++ skip_line moment number carried }
+
+-- packet `number` at its moment: first what happens before that
+unfoldable pub with_packet : Configuration → (moment number : ℕ) → Carried → Replayed → Replayed
+with_packet config moment number carried r =
+    taken_or_skipped config moment number carried (datagram_of config.family carried) (ticked_before config moment r)
+
+-- a moment lies more than a day behind the moment before it
+abbrev pub is_gap : (before moment : ℕ) → Bool
+is_gap before moment = nat_lt (before + 86400000) moment
+
+-- What packets come to: the replay, the moment of the last one, and where a gap ended it, the number of the packet
+-- behind that gap.
+pub record Course : Type 0 where
+  pub replayed : Replayed
+  pub moment : ℕ
+  pub gap : Option ℕ
+
+-- packets, one after the other, up to the first gap: the number of the next, and what its moment is counted from
+unfoldable pub with_packets : Configuration → LinkType → (first : Option ℕ) → (before number : ℕ) → List Captured → Replayed → Course
+with_packets config link first before number [] r = record { replayed = r; moment = before; gap = None }
+with_packets config link first before number (packet ∷ packets) r =
+    let moment = moment_of first before packet.stamp in
+    elim (is_gap before moment) [
+      | true ↦ record { replayed = r; moment = before; gap = Some number }
+      | false ↦
+          with_packets config link (Some (unwrap_or first packet.stamp)) moment (number + 1) packets
+          (with_packet config moment number (carried_in link packet.bytes) r)
+    ]
+
+-- the packets of a capture, numbered from 1
+abbrev pub with_all_packets : Configuration → Form → List Captured → Course
+with_all_packets config form packets = with_packets config form.link None 0 1 packets (at_the_start config)
+
+-- A report: its text, and the counters at the end of the run, or why it ends before.
+pub record Report : Type 0 where
+  pub text : List ℕ
+  pub answer : Result Counters ReplayFault
+
+-- up to and including a moment, and then what the link is and holds
+unfoldable pub ended_at : Configuration → (moment : ℕ) → Replayed → Report
+ended_at config moment r =
+    let done = ticked_before config (moment + 1) r in
+    record {
+      text =
+          done.text
+          ++ end_lines config.family moment (is_querier done.link.election.role) done.link.groups done.link.counters;
+      answer = Ok done.link.counters;
+    }
+
+-- where a fault or a gap ends it, nothing more is written
+abbrev pub broken_off : ReplayFault → Course → Report
+broken_off fault course = record { text = course.replayed.text; answer = Err fault }
+
+-- the moment at which a replay ends: that of the last packet, or the one that is asked for, if that is later
+abbrev pub last_moment : (until : Option ℕ) → Course → ℕ
+last_moment until course = max course.moment (unwrap_or until 0)
+
+-- what stands behind the packets: the capture's end or its fault, unless a gap comes first; the number of the next packet
+abbrev pub reported : Configuration → (until : Option ℕ) → (number : ℕ) → (end : Option PcapFault) → (gap : Option ℕ) → Course → Report
+reported config until number end (Some gap) course = broken_off (Gap gap) course
+reported config until number (Some fault) None course = broken_off (Pcap fault) course
+reported config until number None None course =
+    elim (is_gap course.moment (last_moment until course)) [
+      | true ↦ broken_off (Gap number) course
+      | false ↦ ended_at config (last_moment until course) course.replayed
+    ]
+
+-- The report of a capture: what its header says, its packets, and its end.
+abbrev pub report_of : Configuration → (until : Option ℕ) → Result Form PcapFault → List Captured → (end : Option PcapFault) → Report
+report_of config until (Err fault) packets end = record { text = []; answer = Err (Pcap fault) }
+report_of config until (Ok form) packets end =
+    let course = with_all_packets config form packets in
+    reported config until (length packets + 1) end course.gap course
+
+-- the text of the packets alone, whatever follows them
+abbrev pub so_far : Configuration → Result Form PcapFault → List Captured → List ℕ
+so_far config (Err fault) packets = []
+so_far config (Ok form) packets = (with_all_packets config form packets).replayed.text

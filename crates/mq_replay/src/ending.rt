@@ -1,0 +1,84 @@
+//! The end of a replay.
+
+ghost use Rattle.std.specs.Prelude.{◌≡◌, ◌≤◌, ◌^◌, ◌||◌, Ok, IfOk, is_err, max, unwrap_or};
+ghost use Rattle.mq_count.specs.Streams.{inner_of, has_failed};
+ghost use Rattle.mq_replay.specs.Printing.{Puts};
+ghost use Rattle.mq_replay.specs.ReplayLines.{group_lines};
+ghost use Rattle.mq_replay.specs.Report as spec;
+ghost use Rattle.mq_replay.specs.Steps.{begun_with};
+
+use crate::buffer::Buffer;
+use crate::captured_family::CapturedFamily;
+use crate::group_line::put_group;
+use crate::line_key::LineKey;
+use crate::printing::LineFault;
+use crate::replay_lines::{put_counts, put_role};
+use crate::ticks::tick_before;
+use mq_count::{Meter, Moment, Span, Watched};
+use mq_link::Link;
+use std::io::Write;
+
+/// How far apart two moments of a replay may be at most, in milliseconds.
+const A_DAY: u32 = 86_400_000;
+
+/// Whether a moment lies more than a day behind the one before it.
+pub(crate) fn is_gap(before: Moment, moment: Moment) -> bool
+    requires { before ≤ 2 ^ 53 }
+    ensures { result ≡ spec.is_gap before moment }
+{
+    let latest = before.after(Span::from_ms(A_DAY));
+    !Meter::new().reached(moment, latest)
+}
+
+/// The moment at which a replay ends: that of the last packet, or the one that is asked for, if that is later.
+pub(crate) fn last_moment(until: Option<Moment>, last: Moment) -> Moment
+    ensures { result ≡ max last (unwrap_or until 0) }
+{
+    match until {
+        Some(until) if !Meter::new().reached(until, last) => until,
+        _ => last,
+    }
+}
+
+/// Does the ticks up to and including the end of a replay, and puts what the link is and holds then.
+pub(crate) fn put_ending<F: CapturedFamily, W: Write>(
+    link: &mut Link<F>,
+    end: Moment,
+    buffer: &mut Buffer,
+    writer: &mut Watched<W>,
+) -> Result<(), LineFault>
+where
+    F::Address: LineKey,
+    requires { end ≤ 2 ^ 53 }
+    ensures text { Puts
+        (W.contents (inner_of writer.old)) (W.contents (inner_of writer.new))
+        buffer.old.items buffer.new.items (spec.ended_at link.old.config end (begun_with link.old.state)).text result }
+    ensures answer { IfOk result (λ _.
+        (spec.ended_at link.old.config end (begun_with link.old.state)).answer ≡ Ok link.new.state.counters) }
+    ensures failed { has_failed writer.new ≡ has_failed writer.old || is_err result }
+{
+    link.config().is_faultless();
+    tick_before(link, end.after(Span::from_ms(1)), buffer, writer)?;
+    put_role(end, link.is_querier(), buffer, writer)?;
+    put_groups(link, buffer, writer)?;
+    put_counts(link.counts(), buffer, writer)
+}
+
+/// Puts the lines of the groups that a link holds.
+fn put_groups<F: CapturedFamily, W: Write>(
+    link: &Link<F>,
+    buffer: &mut Buffer,
+    writer: &mut Watched<W>,
+) -> Result<(), LineFault>
+where
+    F::Address: LineKey,
+    ensures text { Puts
+        (W.contents (inner_of writer.old)) (W.contents (inner_of writer.new))
+        buffer.old.items buffer.new.items (group_lines F.FAMILY link.now.state.groups) result }
+    ensures failed { has_failed writer.new ≡ has_failed writer.old || is_err result }
+{
+    for place in 0..link.len() {
+        put_group(link.entry(place), buffer, writer)?;
+    }
+    Ok(())
+}

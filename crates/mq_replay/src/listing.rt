@@ -1,0 +1,202 @@
+//! The listing of a capture.
+
+ghost use Rattle.std.specs.Prelude.{◌≡◌, ◌≤◌, ◌+◌, ◌++◌, ◌||◌, is_err, length};
+ghost use Rattle.arrayvec.specs.ArrayVec.{array_vec_len};
+ghost use Rattle.mq_count.specs.Streams.{inner_of, has_failed};
+ghost use Rattle.mq_pcap.specs.Capture.{most_bytes};
+ghost use Rattle.mq_pcap.specs.Filling.{input_of};
+ghost use Rattle.mq_pcap.specs.Frame.{carried_in, carried_of};
+ghost use Rattle.mq_pcap.specs.Reading.{form_of, number_of, progress_of};
+ghost use Rattle.mq_pcap.specs.declared.reader_state.Progress.TheVariants.{Reading};
+ghost use Rattle.mq_replay.specs.Listing as spec;
+ghost use Rattle.mq_replay.specs.Listing.{Shows, place_text};
+ghost use Rattle.mq_replay.specs.Putting.{PutsListing, PutsPacket, PutsPackets, PutsSaid};
+ghost use Rattle.mq_replay.specs.Text.{address_text};
+
+use crate::buffer::{Buffer, flush, make_room, put, put_decimal};
+use crate::line_key::LineKey;
+use crate::lines::{put_igmp, put_mld};
+use crate::pieces::put_address;
+use crate::printing::LineFault;
+use crate::replay_fault::{ReplayFault, is_failed_write};
+use crate::stamps::Stamps;
+use mq_count::Watched;
+use mq_pcap::{GREATEST_PACKET, Inner, LinkType, PcapReader, unwrap_frame};
+use std::alloc::Global;
+use std::io::{Read, Write};
+
+/// Writes a line for each packet of a capture, and answers how many they are. Memory for one packet is taken
+/// before anything is read or written. Where the capture has a fault, the lines of all packets before it are
+/// written first.
+pub fn show<R: Read, W: Write>(
+    alloc: Global,
+    reader: &mut Watched<R>,
+    writer: &mut Watched<W>,
+) -> Result<u64, ReplayFault>
+    ensures shows { Shows
+        (input_of R.remaining reader.old) (input_of R.remaining reader.new)
+        (W.contents (inner_of writer.old)) (W.contents (inner_of writer.new))
+        result }
+    ensures failed { has_failed writer.new ≡ has_failed writer.old || spec.is_failed_write result }
+    ensures memory { result ≡ Err ReplayFault.Memory → (reader.new ≡ reader.old) × (writer.new ≡ writer.old) }
+{
+    let mut packet = match vec![in alloc; 0; GREATEST_PACKET] {
+        Ok(packet) => packet,
+        Err(_) => return Err(ReplayFault::Memory),
+    };
+    show_by(packet.as_mut_slice(), reader, writer)
+}
+
+/// The same with room for a packet that is lent.
+fn show_by<R: Read, W: Write>(
+    packet: &mut [u8],
+    reader: &mut Watched<R>,
+    writer: &mut Watched<W>,
+) -> Result<u64, ReplayFault>
+    requires { most_bytes ≤ length packet.old }
+    ensures shows { Shows
+        (input_of R.remaining reader.old) (input_of R.remaining reader.new)
+        (W.contents (inner_of writer.old)) (W.contents (inner_of writer.new))
+        result }
+    ensures failed { has_failed writer.new ≡ has_failed writer.old || spec.is_failed_write result }
+    ensures no_memory { result ≡ Err ReplayFault.Memory → ⊥ }
+{
+    let mut buffer = Buffer::new();
+    let answer = put_listing(packet, &mut buffer, reader, writer);
+    if is_failed_write(&answer) {
+        return answer;
+    }
+    flush(&mut buffer, writer)?;
+    answer
+}
+
+/// Puts the lines of a capture.
+fn put_listing<R: Read, W: Write>(
+    packet: &mut [u8],
+    buffer: &mut Buffer,
+    reader: &mut Watched<R>,
+    writer: &mut Watched<W>,
+) -> Result<u64, ReplayFault>
+    requires { most_bytes ≤ length packet.old }
+    ensures puts { PutsListing
+        (input_of R.remaining reader.old) (input_of R.remaining reader.new)
+        (W.contents (inner_of writer.old)) (W.contents (inner_of writer.new))
+        buffer.old.items buffer.new.items result }
+    ensures failed { has_failed writer.new ≡ has_failed writer.old || spec.is_failed_write result }
+    ensures no_memory { result ≡ Err ReplayFault.Memory → ⊥ }
+{
+    let mut capture = PcapReader::open(reader)?;
+    put_packets(&mut capture, packet, buffer, reader, writer)
+}
+
+/// Puts the lines of the packets of a capture before its first packet was read.
+fn put_packets<R: Read, W: Write>(
+    capture: &mut PcapReader,
+    packet: &mut [u8],
+    buffer: &mut Buffer,
+    reader: &mut Watched<R>,
+    writer: &mut Watched<W>,
+) -> Result<u64, ReplayFault>
+    requires room { most_bytes ≤ length packet.old }
+    requires first { number_of capture.old ≡ 1 }
+    requires reading { progress_of capture.old ≡ Reading }
+    ensures puts { PutsPackets (form_of capture.old)
+        (input_of R.remaining reader.old) (input_of R.remaining reader.new)
+        (W.contents (inner_of writer.old)) (W.contents (inner_of writer.new))
+        buffer.old.items buffer.new.items result }
+    ensures failed { has_failed writer.new ≡ has_failed writer.old || spec.is_failed_write result }
+    ensures no_memory { result ≡ Err ReplayFault.Memory → ⊥ }
+{
+    let mut number = 0;
+    let mut stamps = Stamps::new();
+    while let Some(read) = capture.next(reader, packet)? {
+        number += 1;
+        let moment = stamps.moment_of_next(read.stamp_ms);
+        let frame = &packet[..read.length];
+        put_packet(number, moment, capture.link(), frame, buffer, writer)?;
+    }
+    Ok(number)
+}
+
+/// Puts the line of a packet.
+fn put_packet<W: Write>(
+    number: u64,
+    moment: u64,
+    link: LinkType,
+    frame: &[u8],
+    buffer: &mut Buffer,
+    writer: &mut Watched<W>,
+) -> Result<(), LineFault>
+    ensures line { PutsPacket
+        (W.contents (inner_of writer.old)) (W.contents (inner_of writer.new))
+        buffer.old.items buffer.new.items number moment (carried_in link frame.now) result }
+    ensures failed { has_failed writer.new ≡ has_failed writer.old || is_err result }
+{
+    make_room(buffer, writer)?;
+    put_place(buffer, number, moment);
+    put_said(unwrap_frame(link, frame), buffer, writer)
+}
+
+/// Puts the number and the moment of a packet.
+fn put_place(buffer: &mut Buffer, number: u64, moment: u64)
+    requires { array_vec_len buffer.old + 50 ≤ 4096 }
+    ensures text { buffer.new.items ≡ buffer.old.items ++ place_text number moment }
+    ensures room { array_vec_len buffer.new ≤ array_vec_len buffer.old + 50 }
+{
+    put_decimal(buffer, number);
+    put(buffer, b" ");
+    put_decimal(buffer, moment);
+    put(buffer, b" ");
+}
+
+/// Puts what is said of a packet, to the end of its line.
+fn put_said<W: Write>(
+    inner: Inner<'_>,
+    buffer: &mut Buffer,
+    writer: &mut Watched<W>,
+) -> Result<(), LineFault>
+    requires { array_vec_len buffer.old + 100 ≤ 4096 }
+    ensures line { PutsSaid
+        (W.contents (inner_of writer.old)) (W.contents (inner_of writer.new))
+        buffer.old.items buffer.new.items (carried_of inner.entry) result }
+    ensures failed { has_failed writer.new ≡ has_failed writer.old || is_err result }
+{
+    match inner {
+        Inner::Igmp { source, body } => {
+            put_sender(buffer, source, b" igmp ");
+            put_igmp(body, buffer, writer)?;
+            Ok(())
+        }
+        Inner::Mld {
+            source,
+            destination,
+            body,
+            ..
+        } => {
+            put_sender(buffer, source, b" mld ");
+            put_mld(source, destination, body, buffer, writer)?;
+            Ok(())
+        }
+        Inner::Other => {
+            put(buffer, b"other\n");
+            Ok(())
+        }
+        Inner::Cut => {
+            put(buffer, b"cut\n");
+            Ok(())
+        }
+        Inner::Fragment => {
+            put(buffer, b"fragment\n");
+            Ok(())
+        }
+    }
+}
+
+/// Puts the source of a packet with a message, and the message's protocol.
+fn put_sender<K: LineKey>(buffer: &mut Buffer, source: K, protocol: &[u8])
+    requires { array_vec_len buffer.old + 40 + length protocol.now ≤ 4096 }
+    ensures { buffer.new.items ≡ buffer.old.items ++ (address_text K.family (K.number source) ++ protocol.now) }
+{
+    put_address(buffer, source);
+    put(buffer, protocol);
+}

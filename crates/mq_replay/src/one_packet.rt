@@ -1,0 +1,82 @@
+//! What a replay does with one packet.
+
+ghost use Rattle.std.specs.Prelude.{◌≡◌, ◌≤◌, ◌^◌, ◌||◌, is_err};
+ghost use Rattle.mq_count.specs.Streams.{inner_of, has_failed};
+ghost use Rattle.mq_pcap.specs.Frame.{carried_of};
+ghost use Rattle.mq_replay.specs.Report.{received_at, with_packet};
+ghost use Rattle.mq_replay.specs.Steps.{PutsReplayed, begun_with};
+
+use crate::buffer::Buffer;
+use crate::captured_family::{CapturedDatagram, CapturedFamily};
+use crate::line_key::LineKey;
+use crate::printing::LineFault;
+use crate::replay_lines::{put_receipt, put_skip};
+use crate::sent_queries::receive;
+use crate::ticks::tick_before;
+use mq_count::{Moment, Watched};
+use mq_link::Link;
+use mq_pcap::Inner;
+use std::io::Write;
+
+/// Does the ticks before a packet, and then hands its datagram to the link, or skips it: puts the lines of all this.
+pub(crate) fn replay_packet<F: CapturedFamily, W: Write>(
+    link: &mut Link<F>,
+    moment: Moment,
+    number: u64,
+    inner: &Inner<'_>,
+    buffer: &mut Buffer,
+    writer: &mut Watched<W>,
+) -> Result<(), LineFault>
+where
+    F::Address: LineKey,
+    requires { moment ≤ 2 ^ 53 }
+    ensures puts { PutsReplayed link.old link.new
+        (with_packet link.old.config moment number (carried_of inner.now) (begun_with link.old.state))
+        (W.contents (inner_of writer.old)) (W.contents (inner_of writer.new))
+        buffer.old.items buffer.new.items result }
+    ensures failed { has_failed writer.new ≡ has_failed writer.old || is_err result }
+{
+    link.config().is_faultless();
+    tick_before(link, moment, buffer, writer)?;
+    match F::datagram(inner) {
+        Some(datagram) => hand_over(link, moment, number, datagram, buffer, writer),
+        None => put_skip(moment, number, inner, buffer, writer),
+    }
+}
+
+/// Hands a datagram to a link: puts the lines of the queries that it sends, and that of its answer.
+fn hand_over<F: CapturedFamily, W: Write>(
+    link: &mut Link<F>,
+    moment: Moment,
+    number: u64,
+    datagram: CapturedDatagram<'_, F::Envelope>,
+    buffer: &mut Buffer,
+    writer: &mut Watched<W>,
+) -> Result<(), LineFault>
+where
+    F::Address: LineKey,
+    requires { moment ≤ 2 ^ 53 }
+    ensures puts { PutsReplayed link.old link.new
+        (received_at link.old.config moment number (record { envelope = F.envelope_of datagram.entry.envelope; body = datagram.entry.body.now }) (begun_with link.old.state))
+        (W.contents (inner_of writer.old)) (W.contents (inner_of writer.new))
+        buffer.old.items buffer.new.items result }
+    ensures failed { has_failed writer.new ≡ has_failed writer.old || is_err result }
+{
+    link.config().is_faultless();
+    let answer = receive(
+        link,
+        &datagram.envelope,
+        datagram.body,
+        moment,
+        buffer,
+        writer,
+    )?;
+    put_receipt(
+        moment,
+        number,
+        F::source(&datagram.envelope),
+        answer,
+        buffer,
+        writer,
+    )
+}

@@ -1,0 +1,65 @@
+//! The outlet that prints the queries of a link.
+
+ghost use Rattle.std.specs.Prelude.{◌≡◌};
+
+use crate::buffer::Buffer;
+use crate::line_key::LineKey;
+use crate::printing::LineFault;
+use crate::replay_lines::put_query;
+use mq_count::{Moment, Watched};
+use mq_link::Outlet;
+use std::io::Write;
+
+/// Puts the line of each query at one moment. It answers true where the line was put. Once a write has failed it puts
+/// nothing more.
+#[derive(Drop)]
+pub(crate) struct QueryLines<'a, W> {
+    buffer: &'a mut Buffer,
+    writer: &'a mut Watched<W>,
+    moment: Moment,
+    answer: Result<(), LineFault>,
+}
+
+impl<'a, W: Write> QueryLines<'a, W> {
+    /// For queries at this moment.
+    pub(crate) fn new(
+        buffer: &'a mut Buffer,
+        writer: &'a mut Watched<W>,
+        moment: Moment,
+    ) -> QueryLines<'a, W>
+        ensures same_buffer { result.buffer.ghost_name ≡ buffer.entry.ghost_name }
+        ensures same_writer { result.writer.ghost_name ≡ writer.entry.ghost_name }
+        ensures buffer { result.buffer.now ≡ buffer.old }
+        ensures writer { result.writer.now ≡ writer.old }
+        ensures moment { result.moment ≡ moment }
+        ensures answer { result.answer ≡ Ok tt }
+    {
+        QueryLines {
+            buffer,
+            writer,
+            moment,
+            answer: Ok(()),
+        }
+    }
+
+    /// Whether each line so far was put, or a write failed.
+    pub(crate) fn answer(&self) -> Result<(), LineFault>
+        ensures { result ≡ self.now.answer }
+    {
+        self.answer
+    }
+}
+
+impl<'a, K: LineKey, W: Write> Outlet<K> for QueryLines<'a, W> {
+    ghost use Rattle.mq_replay.specs.QueryLines.{TakesQuery};
+
+    ghost takes = { TakesQuery W.contents K.family };
+
+    fn datagram(&mut self, to: K, bytes: &[u8]) -> bool {
+        if self.answer.is_err() {
+            return false;
+        }
+        self.answer = put_query(self.moment, to, bytes, self.buffer, self.writer);
+        self.answer.is_ok()
+    }
+}

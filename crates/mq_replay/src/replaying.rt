@@ -1,0 +1,182 @@
+//! The replay of a capture.
+
+ghost use Rattle.std.specs.Prelude.{◌≡◌, ◌<◌, ◌≤◌, ◌+◌, ◌^◌, ◌||◌, length, IfSome};
+ghost use Rattle.mq_count.specs.Streams.{inner_of, has_failed};
+ghost use Rattle.mq_link.specs.State.{link_at};
+ghost use Rattle.mq_pcap.specs.declared.reader_state.Progress.TheVariants.{Reading};
+ghost use Rattle.mq_pcap.specs.Capture.{endless, most_bytes};
+ghost use Rattle.mq_pcap.specs.Filling.{input_of};
+ghost use Rattle.mq_pcap.specs.Reading.{form_of, number_of, progress_of};
+ghost use Rattle.mq_replay.specs.Listing as spec;
+ghost use Rattle.mq_replay.specs.PuttingReports.{IsRestPut, PutsRecords, PutsReport, counted, rest_of};
+ghost use Rattle.mq_replay.specs.Replaying.{Replays};
+
+use crate::buffer::{Buffer, flush};
+use crate::captured_family::CapturedFamily;
+use crate::ending::{is_gap, last_moment, put_ending};
+use crate::line_key::LineKey;
+use crate::one_packet::replay_packet;
+use crate::replay_fault::{ReplayFault, is_failed_write};
+use crate::stamps::{Stamps, first_moment};
+use mq_count::{Moment, Watched};
+use mq_link::{Config, Counts, Link};
+use mq_pcap::{GREATEST_PACKET, PcapReader, unwrap_frame};
+use std::alloc::Global;
+use std::io::{Read, Write};
+
+/// Replays a capture: a link so configured, which starts at 0, is handed its datagrams at their moments, with a tick at
+/// each of its next moments between. Writes a line for each query that is sent and for each packet, and at the end what the
+/// link is and holds; and answers what it counted. The end is the moment of the last packet, or `until`, if that is later.
+/// All memory is taken before anything is read or written. Where the capture has a fault or a gap, the lines of all that
+/// comes before it are written first.
+pub fn replay<F: CapturedFamily, R: Read, W: Write>(
+    alloc: Global,
+    config: Config<F>,
+    until: Option<Moment>,
+    reader: &mut Watched<R>,
+    writer: &mut Watched<W>,
+) -> Result<Counts, ReplayFault>
+where
+    F::Address: LineKey,
+    requires { IfSome until (λ moment. moment ≤ 2 ^ 53) }
+    ensures replays { Replays config until
+        (input_of R.remaining reader.old) (input_of R.remaining reader.new)
+        (W.contents (inner_of writer.old)) (W.contents (inner_of writer.new))
+        result }
+    ensures failed { has_failed writer.new ≡ has_failed writer.old || spec.is_failed_write result }
+    ensures memory { result ≡ Err ReplayFault.Memory → (reader.new ≡ reader.old) × (writer.new ≡ writer.old) }
+{
+    let Ok(mut packet) = vec![in alloc; 0; GREATEST_PACKET] else {
+        return Err(ReplayFault::Memory);
+    };
+    let Ok(mut link) = Link::new(alloc, config, first_moment()) else {
+        return Err(ReplayFault::Memory);
+    };
+    replay_on(&mut link, until, packet.as_mut_slice(), reader, writer)?;
+    Ok(link.into_counts())
+}
+
+/// The same on a link that is made, with room for a packet that is lent.
+fn replay_on<F: CapturedFamily, R: Read, W: Write>(
+    link: &mut Link<F>,
+    until: Option<Moment>,
+    packet: &mut [u8],
+    reader: &mut Watched<R>,
+    writer: &mut Watched<W>,
+) -> Result<(), ReplayFault>
+where
+    F::Address: LineKey,
+    requires room { most_bytes ≤ length packet.old }
+    requires in_range { IfSome until (λ moment. moment ≤ 2 ^ 53) }
+    requires starts { link.old.state ≡ link_at link.old.config 0 }
+    ensures replays { Replays link.old.config until
+        (input_of R.remaining reader.old) (input_of R.remaining reader.new)
+        (W.contents (inner_of writer.old)) (W.contents (inner_of writer.new))
+        (counted link.new.state.counters result) }
+    ensures failed { has_failed writer.new ≡ has_failed writer.old || spec.is_failed_write result }
+    ensures no_memory { result ≡ Err ReplayFault.Memory → ⊥ }
+{
+    let mut buffer = Buffer::new();
+    let answer = put_replay(link, until, packet, &mut buffer, reader, writer);
+    if is_failed_write(&answer) {
+        return answer;
+    }
+    flush(&mut buffer, writer)?;
+    answer
+}
+
+/// Puts the lines of a capture.
+fn put_replay<F: CapturedFamily, R: Read, W: Write>(
+    link: &mut Link<F>,
+    until: Option<Moment>,
+    packet: &mut [u8],
+    buffer: &mut Buffer,
+    reader: &mut Watched<R>,
+    writer: &mut Watched<W>,
+) -> Result<(), ReplayFault>
+where
+    F::Address: LineKey,
+    requires room { most_bytes ≤ length packet.old }
+    requires in_range { IfSome until (λ moment. moment ≤ 2 ^ 53) }
+    requires starts { link.old.state ≡ link_at link.old.config 0 }
+    ensures puts { PutsReport link.old.config until
+        (input_of R.remaining reader.old) (input_of R.remaining reader.new)
+        (W.contents (inner_of writer.old)) (W.contents (inner_of writer.new))
+        buffer.old.items buffer.new.items (counted link.new.state.counters result) }
+    ensures failed { has_failed writer.new ≡ has_failed writer.old || spec.is_failed_write result }
+    ensures no_memory { result ≡ Err ReplayFault.Memory → ⊥ }
+{
+    let mut capture = PcapReader::open(reader)?;
+    put_packets(link, until, &mut capture, packet, buffer, reader, writer)
+}
+
+/// Puts the lines of the packets of a capture before its first packet was read, and of the end.
+fn put_packets<F: CapturedFamily, R: Read, W: Write>(
+    link: &mut Link<F>,
+    until: Option<Moment>,
+    capture: &mut PcapReader,
+    packet: &mut [u8],
+    buffer: &mut Buffer,
+    reader: &mut Watched<R>,
+    writer: &mut Watched<W>,
+) -> Result<(), ReplayFault>
+where
+    F::Address: LineKey,
+    requires room { most_bytes ≤ length packet.old }
+    requires first { number_of capture.old ≡ 1 }
+    requires reading { progress_of capture.old ≡ Reading }
+    requires in_range { IfSome until (λ moment. moment ≤ 2 ^ 53) }
+    requires starts { link.old.state ≡ link_at link.old.config 0 }
+    ensures puts { PutsRecords link.old.config until (form_of capture.old)
+        (input_of R.remaining reader.old) (input_of R.remaining reader.new)
+        (W.contents (inner_of writer.old)) (W.contents (inner_of writer.new))
+        buffer.old.items buffer.new.items (counted link.new.state.counters result) }
+    ensures failed { has_failed writer.new ≡ has_failed writer.old || spec.is_failed_write result }
+    ensures no_memory { result ≡ Err ReplayFault.Memory → ⊥ }
+{
+    let mut number = 0;
+    let mut stamps = Stamps::new();
+    let mut last = first_moment();
+    while let Some(read) = capture.next(reader, packet)? {
+        number += 1;
+        let Some(moment) = Moment::from_ms(stamps.moment_of_next(read.stamp_ms)) else {
+            unreachable!()
+        };
+        if is_gap(last, moment) {
+            return Err(ReplayFault::Gap { number });
+        }
+        last = moment;
+        let inner = unwrap_frame(capture.link(), &packet[..read.length]);
+        replay_packet(link, moment, number, &inner, buffer, writer)?;
+    }
+    put_rest(link, until, last, number, buffer, writer)
+}
+
+/// Puts what stands behind the packets of a capture that has ended: what the link is and holds at the end of the replay,
+/// unless there is a gap before that.
+fn put_rest<F: CapturedFamily, W: Write>(
+    link: &mut Link<F>,
+    until: Option<Moment>,
+    last: Moment,
+    number: u64,
+    buffer: &mut Buffer,
+    writer: &mut Watched<W>,
+) -> Result<(), ReplayFault>
+where
+    F::Address: LineKey,
+    requires few { number < endless }
+    requires last_in_range { last ≤ 2 ^ 53 }
+    requires in_range { IfSome until (λ moment. moment ≤ 2 ^ 53) }
+    ensures rest { IsRestPut (rest_of link.old.config until last (number + 1) link.old.state)
+        (W.contents (inner_of writer.old)) (W.contents (inner_of writer.new))
+        buffer.old.items buffer.new.items (counted link.new.state.counters result) }
+    ensures failed { has_failed writer.new ≡ has_failed writer.old || spec.is_failed_write result }
+    ensures no_memory { result ≡ Err ReplayFault.Memory → ⊥ }
+{
+    let end = last_moment(until, last);
+    if is_gap(last, end) {
+        return Err(ReplayFault::Gap { number: number + 1 });
+    }
+    put_ending(link, end, buffer, writer)?;
+    Ok(())
+}

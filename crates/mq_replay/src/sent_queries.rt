@@ -1,0 +1,59 @@
+//! The calls of a link, with the lines of the queries that it sends by them.
+
+ghost use Rattle.std.specs.Prelude.{◌≡◌, ◌≤◌, ◌^◌, ◌||◌, is_err};
+ghost use Rattle.mq_count.specs.Streams.{inner_of, has_failed};
+ghost use Rattle.mq_replay.specs.QueryLines.{ReceivesPrinting, TicksPrinting};
+
+use crate::buffer::Buffer;
+use crate::line_key::LineKey;
+use crate::printing::LineFault;
+use crate::query_outlet::QueryLines;
+use mq_count::{Moment, Watched};
+use mq_link::{Family, Link, Received};
+use std::io::Write;
+
+/// Does what is due at a moment, and puts the line of each query that the link sends.
+pub(crate) fn tick<F: Family, W: Write>(
+    link: &mut Link<F>,
+    now: Moment,
+    buffer: &mut Buffer,
+    writer: &mut Watched<W>,
+) -> Result<(), LineFault>
+where
+    F::Address: LineKey,
+    requires in_range { now ≤ 2 ^ 53 }
+    ensures config { link.new.config ≡ link.old.config }
+    ensures ticks { TicksPrinting F.Address.family now link.old link.new
+        (W.contents (inner_of writer.old)) (W.contents (inner_of writer.new))
+        buffer.old.items buffer.new.items result }
+    ensures failed { has_failed writer.new ≡ has_failed writer.old || is_err result }
+{
+    let mut queries = QueryLines::new(buffer, writer, now);
+    link.tick(now, &mut queries);
+    queries.answer()
+}
+
+/// Hands the link a datagram that came at a moment, and puts the line of each query that it sends then. Answers what
+/// became of the datagram.
+pub(crate) fn receive<F: Family, W: Write>(
+    link: &mut Link<F>,
+    envelope: &F::Envelope,
+    body: &[u8],
+    now: Moment,
+    buffer: &mut Buffer,
+    writer: &mut Watched<W>,
+) -> Result<Received, LineFault>
+where
+    F::Address: LineKey,
+    requires in_range { now ≤ 2 ^ 53 }
+    ensures config { link.new.config ≡ link.old.config }
+    ensures receives { ReceivesPrinting F.Address.family (F.envelope_of envelope.now) body.now now link.old link.new
+        (W.contents (inner_of writer.old)) (W.contents (inner_of writer.new))
+        buffer.old.items buffer.new.items result }
+    ensures failed { has_failed writer.new ≡ has_failed writer.old || is_err result }
+{
+    let mut queries = QueryLines::new(buffer, writer, now);
+    let received = link.receive(envelope, body, now, &mut queries);
+    queries.answer()?;
+    Ok(received)
+}

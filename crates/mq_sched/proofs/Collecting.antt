@@ -1,0 +1,90 @@
+-- Sources that are collected for messages, and what a sink gets of them.
+use Rattle.std.proofs.Common.{◌≡◌, ℕ, ◌+◌, ◌<◌, Bool, true, false, not, ◌&&◌, cond, ltb, List, [], ◌∷◌, ◌++◌, filter, length, drop, get_or, sym, ap, ◌∙◌, subst}
+use Rattle.std.specs.Prelude.{map as list_map}
+use Rattle.std.proofs.lemmas.List.{append_assoc, map-append, length-map, length_push, drop_more}
+use Rattle.std.specs.FinMap as map
+use Rattle.mq_sets.specs.Ascending.{IsAscending}
+use Rattle.mq_table.specs.declared.sources.Source.{Source}
+use Rattle.mq_table.specs.declared.timing.Timing.{Timing}
+use Rattle.mq_table.specs.Sets.{◌∩◌, ◌∖◌}
+use Rattle.mq_table.specs.Group.{GroupState, is_ahead, deadline_of, sendings_of}
+use Rattle.mq_table.specs.Lowering.{lowered_to}
+use Rattle.mq_table.specs.Sendings.{has_sendings, above}
+use Rattle.mq_table.specs.Stored.{number_in, timers_in}
+use Rattle.mq_table.proofs.Rows.{filter_in_row}
+use Rattle.mq_sched.specs.Schedule.{ScheduledGroup}
+use Rattle.mq_sched.specs.Sending.{SentQuery, SourcesQuery, is_due, sources_where, sources_queries, source_messages}
+use Rattle.mq_sched.specs.Sink.{Sends, SendsOn}
+use Rattle.mq_sched.specs.Collected.{goes_with, going_with}
+use Rattle.mq_sched.proofs.InPortions.{first_portion}
+
+-- some queries, and then others
+pub Sends-append : {S : Type 0} (takes : S → SentQuery → S → Type 0) (old between new : S) (queries more : List SentQuery) → Sends takes old queries between → Sends takes between more new → Sends takes old (queries ++ more) new
+Sends-append takes old between new [] more first second = subst (λ s. Sends takes s more new) (sym first) second
+Sends-append takes old between new (query ∷ queries) more first second = (first.0, first.1, Sends-append takes first.0 between new queries more first.2 second)
+
+module _ {K : Type 0} (number : K → ℕ) (n group : ℕ) (flag : Bool) where
+  -- a message that becomes full is the first that goes
+  full_message : (items : List K) (source : K) (rest : List ℕ) → 0 < n → length items + 1 ≡ n → sources_queries n group flag (list_map number items ++ (number source ∷ rest)) ≡ SourcesQuery group flag (list_map number (items ++ source ∷ [])) ∷ sources_queries n group flag rest
+  full_message items source rest positive full =
+      let portion : List ℕ = list_map number (items ++ source ∷ []) in
+      let put : list_map number items ++ (number source ∷ rest) ≡ portion ++ rest = sym (append_assoc (list_map number items) (number source ∷ []) rest) ∙ ap (λ xs. xs ++ rest) (sym (map-append number items (source ∷ []))) in
+      let long : length portion ≡ n = length-map (items ++ source ∷ []) number ∙ length_push items source ∙ full in
+      ap (λ xs. sources_queries n group flag xs) put ∙ ap (list_map (SourcesQuery group flag)) (first_portion n portion rest positive long)
+
+  -- it goes, and the others are still to be sent
+  pub full_is_sent : {S : Type 0} (takes : S → SentQuery → S → Type 0) (old new : S) (items pushed left : List K) (source : K) (rest : List ℕ) → 0 < n → pushed ≡ items ++ source ∷ [] → length pushed ≡ n → left ≡ []
+      → Sends takes old (SourcesQuery group flag (list_map number pushed) ∷ []) new
+      → SendsOn takes old (sources_queries n group flag (list_map number items ++ (number source ∷ rest))) new (sources_queries n group flag (list_map number left ++ rest))
+  full_is_sent {S = S} takes old new items pushed left source rest positive is_pushed full empty sent end later =
+      let length_is : length items + 1 ≡ n = sym (length_push items source) ∙ ap length (sym is_pushed) ∙ full in
+      let first : Sends takes old (SourcesQuery group flag (list_map number (items ++ source ∷ [])) ∷ []) new = subst (λ xs. Sends takes old (SourcesQuery group flag (list_map number xs) ∷ []) new) is_pushed sent in
+      let second : Sends takes new (sources_queries n group flag rest) end = subst (λ xs. Sends takes new (sources_queries n group flag (list_map number xs ++ rest)) end) empty later in
+      subst (λ queries. Sends takes old queries end) (sym (full_message items source rest positive length_is))
+      (Sends-append takes old new end (SourcesQuery group flag (list_map number (items ++ source ∷ [])) ∷ []) (sources_queries n group flag rest) first second)
+
+  -- one that isn't full waits
+  pub waits : {S : Type 0} (takes : S → SentQuery → S → Type 0) (sink : S) (items pushed : List K) (source : K) (rest : List ℕ) → pushed ≡ items ++ source ∷ []
+      → SendsOn takes sink (sources_queries n group flag (list_map number items ++ (number source ∷ rest))) sink (sources_queries n group flag (list_map number pushed ++ rest))
+  waits takes sink items pushed source rest is_pushed end later =
+      subst (λ xs. Sends takes sink (sources_queries n group flag xs) end)
+      (ap (λ xs. list_map number xs ++ rest) is_pushed ∙ ap (λ xs. xs ++ rest) (map-append number items (source ∷ [])) ∙ append_assoc (list_map number items) (number source ∷ []) rest) later
+
+-- the sources that go, one on
+module _ {K : Type 0} (number : K → ℕ) (limit : ℕ) (flag : Bool) (row : List (Source K)) (place : ℕ) (held : Source K) (within : place < length row) (is_held : held ≡ get_or row place held) where
+  front : going_with number limit flag (drop place row) ≡ going_with number limit flag (held ∷ drop (place + 1) row)
+  front = ap (going_with number limit flag) (drop_more row place held within ∙ ap (λ x. x ∷ drop (place + 1) row) (sym is_held))
+
+  pub going_more : goes_with limit flag held ≡ true → going_with number limit flag (drop place row) ≡ number held.address ∷ going_with number limit flag (drop (place + 1) row)
+  going_more goes = front ∙ ap (λ b. list_map (number_in number) (cond b (held ∷ filter (goes_with limit flag) (drop (place + 1) row)) (filter (goes_with limit flag) (drop (place + 1) row)))) goes
+
+  pub going_same : goes_with limit flag held ≡ false → going_with number limit flag (drop place row) ≡ going_with number limit flag (drop (place + 1) row)
+  going_same stays = front ∙ ap (λ b. list_map (number_in number) (cond b (held ∷ filter (goes_with limit flag) (drop (place + 1) row)) (filter (goes_with limit flag) (drop (place + 1) row)))) stays
+
+-- The sources of a group that go with either flag are those of its list that do.
+module _ {K : Type 0} (number : K → ℕ) (timing : Timing) (now : ℕ) (g : GroupState) (row : List (Source K)) (up : IsAscending (number_in number) row) (is : timers_in number row ≡ g.sources) where
+  set_of_row : going_with number (lowered_to timing now) true row ≡ sources_where (has_sendings g ∩ above timing now g) g
+  set_of_row =
+      sym (filter_in_row number (λ s timer. ltb 0 (sendings_of timer) && is_ahead (lowered_to timing now) (deadline_of timer)) row up)
+      ∙ ap (λ m. filter (λ s. ltb 0 (sendings_of (map.get m s)) && is_ahead (lowered_to timing now) (deadline_of (map.get m s))) (map.keys m)) is
+
+  clear_of_row : going_with number (lowered_to timing now) false row ≡ sources_where (has_sendings g ∖ above timing now g) g
+  clear_of_row =
+      sym (filter_in_row number (λ s timer. ltb 0 (sendings_of timer) && not (is_ahead (lowered_to timing now) (deadline_of timer))) row up)
+      ∙ ap (λ m. filter (λ s. ltb 0 (sendings_of (map.get m s)) && not (is_ahead (lowered_to timing now) (deadline_of (map.get m s)))) (map.keys m)) is
+
+-- so what was sent for both is what is due
+pub sources_are_sent : {S K : Type 0} (takes : S → SentQuery → S → Type 0) (old between new : S) (number : K → ℕ) (n : ℕ) (timing : Timing) (now group : ℕ) (e : ScheduledGroup) (limit : ℕ) (row again : List (Source K))
+    → limit ≡ lowered_to timing now → is_due now e.schedule.sources_due ≡ true
+    → IsAscending (number_in number) row → timers_in number row ≡ e.group.sources → IsAscending (number_in number) again → timers_in number again ≡ e.group.sources
+    → Sends takes old (sources_queries n group true (going_with number limit true row)) between → Sends takes between (sources_queries n group false (going_with number limit false again)) new
+    → Sends takes old (source_messages n timing now group e) new
+sources_are_sent takes old between new number n timing now group e limit row again is_limit due up is up_again is_again first second =
+    let g = e.group in
+    let set_first : going_with number limit true row ≡ sources_where (has_sendings g ∩ above timing now g) g = ap (λ l. going_with number l true row) is_limit ∙ set_of_row number timing now g row up is in
+    let then_clear : going_with number limit false again ≡ sources_where (has_sendings g ∖ above timing now g) g = ap (λ l. going_with number l false again) is_limit ∙ clear_of_row number timing now g again up_again is_again in
+    let queries : List SentQuery = sources_queries n group true (sources_where (has_sendings g ∩ above timing now g) g) ++ sources_queries n group false (sources_where (has_sendings g ∖ above timing now g) g) in
+    subst (λ b. Sends takes old (cond b queries []) new) (sym due)
+    (Sends-append takes old between new _ _
+    (subst (λ xs. Sends takes old (sources_queries n group true xs) between) set_first first)
+    (subst (λ xs. Sends takes between (sources_queries n group false xs) new) then_clear second))

@@ -1,0 +1,251 @@
+-- What a round asks for, counts down and leaves.
+use Rattle.std.proofs.Common.{◌≡◌, ℕ, ◌+◌, ◌-◌, ◌<◌, Bool, true, false, cond, not, ◌&&◌, ◌||◌, List, [], ◌∷◌, ◌++◌, filter, Option, None, Some, IfSome, refl, sym, ap, ◌∙◌, arith, eqb, ltb, leb}
+use Rattle.std.proofs.lemmas.Bool.{false≢true, true≢false, and_parts, eqb-true, ltb-true, ltb-false, leb-false, lt-leb}
+use Rattle.std.specs.Prelude.{map as list_map}
+use Rattle.std.specs.List.{list_any, concat}
+use Rattle.std.specs.Option.{option_and_then, option_map, is_some}
+use Rattle.std.specs.Ordering.{nat_cmp}
+use Rattle.std.specs.Cmp.{unsigned_ties}
+use Rattle.std.specs.FinMap as map
+use Rattle.std.specs.FinMap.{FinMap}
+use Rattle.mq_table.specs.declared.timing.Timing.{Timing}
+use Rattle.mq_table.specs.Sets.{Set, ◌∩◌, ◌∖◌}
+use Rattle.mq_table.specs.declared.timers.SourceTimer.{SourceTimer}
+use Rattle.mq_table.specs.declared.timers.SourceTimer.TheVariants.{Stopped, Running}
+use Rattle.mq_table.specs.Group.{GroupState, timer_at, deadline_of, group_deadline, sendings_of, is_ahead}
+use Rattle.mq_table.specs.Lowering.{lowered_to}
+use Rattle.mq_table.proofs.Maps.{get-kept}
+use Rattle.mq_table.specs.Sendings.{some_source, has_sendings, above, source_counted, sendings_counted}
+use Rattle.mq_sched.specs.Schedule.{QuerySchedule, query_sendings, ScheduledGroup, IsScheduleOf}
+use Rattle.mq_sched.specs.Sending.{SentQuery, GeneralQuery, GroupQuery, SourcesQuery, is_due, group_due, sources_where, sources_queries, group_messages, source_messages, messages_due, group_counted, sources_due_next, after_round}
+use Rattle.mq_sched.specs.Portions.{portions_of}
+use Rattle.mq_sched.proofs.InPortions.{together}
+use Rattle.mq_sched.specs.Rounds.{asked_in, asks_group, IsQuietAt}
+
+or-false : (b : Bool) → (b || false) ≡ b
+or-false true = refl
+or-false false = refl
+
+or_assoc : (a b c : Bool) → ((a || b) || c) ≡ (a || (b || c))
+or_assoc true b c = refl
+or_assoc false b c = refl
+
+asked_in-append : (xs ys : List SentQuery) (s : ℕ) → asked_in (xs ++ ys) s ≡ (asked_in xs s || asked_in ys s)
+asked_in-append [] ys s = refl
+asked_in-append (GeneralQuery ∷ xs) ys s = asked_in-append xs ys s
+asked_in-append (GroupQuery g f ∷ xs) ys s = asked_in-append xs ys s
+asked_in-append (SourcesQuery g f ss ∷ xs) ys s = ap (λ b. list_any (λ x. eqb s x) ss || b) (asked_in-append xs ys s) ∙ sym (or_assoc (list_any (λ x. eqb s x) ss) (asked_in xs s) (asked_in ys s))
+
+among-append : (xs ys : List ℕ) (s : ℕ) → list_any (λ x. eqb s x) (xs ++ ys) ≡ (list_any (λ x. eqb s x) xs || list_any (λ x. eqb s x) ys)
+among-append [] ys s = refl
+among-append (x ∷ xs) ys s = ap (λ b. eqb s x || b) (among-append xs ys s) ∙ sym (or_assoc (eqb s x) (list_any (λ x. eqb s x) xs) (list_any (λ x. eqb s x) ys))
+
+asked_in-portions : (group : ℕ) (flag : Bool) (portions : List (List ℕ)) (s : ℕ) → asked_in (list_map (SourcesQuery group flag) portions) s ≡ list_any (λ x. eqb s x) (concat portions)
+asked_in-portions group flag [] s = refl
+asked_in-portions group flag (portion ∷ portions) s = ap (λ b. list_any (λ x. eqb s x) portion || b) (asked_in-portions group flag portions s) ∙ sym (among-append portion (concat portions) s)
+
+asked_in-sources_queries : (n group : ℕ) (flag : Bool) (xs : List ℕ) (s : ℕ) → 0 < n → asked_in (sources_queries n group flag xs) s ≡ list_any (λ x. eqb s x) xs
+asked_in-sources_queries n group flag xs s positive = asked_in-portions group flag (portions_of n xs) s ∙ ap (list_any (λ x. eqb s x)) (together n xs positive)
+
+-- a number is among those that pass a test where it passes and is among all
+among-filter : (p : Set) (ks : List ℕ) (s : ℕ) → list_any (λ x. eqb s x) (filter p ks) ≡ (p s && list_any (λ x. eqb s x) ks)
+among-filter p [] s = and-false (p s)
+  where
+    and-false : (b : Bool) → false ≡ (b && false)
+    and-false true = refl
+    and-false false = refl
+among-filter p (k ∷ ks) s = front (p k) ∙ one_more (eqb s k) _ (p k) (p s) _ (λ e. ap p (sym (eqb-true s k e))) (among-filter p ks s)
+  where
+    front : (b : Bool) → list_any (λ x. eqb s x) (cond b (k ∷ filter p ks) (filter p ks)) ≡ cond b (eqb s k || list_any (λ x. eqb s x) (filter p ks)) (list_any (λ x. eqb s x) (filter p ks))
+    front true = refl
+    front false = refl
+
+    one_more : (t u at_k at_s rest : Bool) → (t ≡ true → at_k ≡ at_s) → u ≡ (at_s && rest) → cond at_k (t || u) u ≡ (at_s && (t || rest))
+    one_more true u at_k true rest same is = ap (λ b. cond b true u) (same refl)
+    one_more true u at_k false rest same is = ap (λ b. cond b true u) (same refl) ∙ is
+    one_more false u true at_s rest same is = is
+    one_more false u false at_s rest same is = is
+
+-- among the keys of a map is what it has
+pub among-keys : {X : Type 0} (m : FinMap nat_cmp X) (s : ℕ) → list_any (λ x. eqb s x) (map.keys m) ≡ is_some (map.get m s)
+among-keys m s = (λ i. list_any (λ x. unsigned_ties s x i) (map.keys m)) ∙ sym (map.contains_key-keys m s)
+
+-- the sources of both queries of a round together are those that have a sending to go
+both_queries : (t : Option SourceTimer) (some up : Bool) → (is_some t ≡ false → some ≡ false) → (((some && up) && is_some t) || ((some && not up) && is_some t)) ≡ some
+both_queries None true up held = absurd (true≢false (held refl))
+both_queries None false up held = refl
+both_queries (Some t) true true held = refl
+both_queries (Some t) true false held = refl
+both_queries (Some t) false up held = refl
+
+no_sendings : (t : Option SourceTimer) → is_some t ≡ false → ltb 0 (sendings_of t) ≡ false
+no_sendings None e = refl
+no_sendings (Some t) e = absurd (true≢false e)
+
+asked_in-sources_where : (n group : ℕ) (flag : Bool) (test : Set) (g : GroupState) (s : ℕ) → 0 < n → asked_in (sources_queries n group flag (sources_where test g)) s ≡ (test s && is_some (timer_at g s))
+asked_in-sources_where n group flag test g s positive =
+    asked_in-sources_queries n group flag (sources_where test g) s positive
+    ∙ among-filter test (map.keys g.sources) s
+    ∙ ap (λ b. test s && b) (among-keys g.sources s)
+
+asked_in-source_messages : (n : ℕ) (timing : Timing) (now group : ℕ) (e : ScheduledGroup) (s : ℕ) → 0 < n → asked_in (source_messages n timing now group e) s ≡ (is_due now e.schedule.sources_due && has_sendings e.group s)
+asked_in-source_messages n timing now group e s positive =
+    by_due (is_due now e.schedule.sources_due) _
+    (asked_in-append (sources_queries n group true (sources_where (has_sendings g ∩ above timing now g) g)) (sources_queries n group false (sources_where (has_sendings g ∖ above timing now g) g)) s
+    ∙ (λ i. asked_in-sources_where n group true (has_sendings g ∩ above timing now g) g s positive i || asked_in-sources_where n group false (has_sendings g ∖ above timing now g) g s positive i)
+    ∙ both_queries (timer_at g s) (has_sendings g s) (above timing now g s) (no_sendings (timer_at g s)))
+  where
+    g : GroupState
+    g = e.group
+
+    queries : List SentQuery
+    queries = sources_queries n group true (sources_where (has_sendings g ∩ above timing now g) g) ++ sources_queries n group false (sources_where (has_sendings g ∖ above timing now g) g)
+
+    by_due : (due b : Bool) → asked_in queries s ≡ b → asked_in (cond due queries []) s ≡ (due && b)
+    by_due true b is = is
+    by_due false b is = refl
+
+asked_in-group_messages : (timing : Timing) (now group : ℕ) (e : ScheduledGroup) (s : ℕ) → asked_in (group_messages timing now group e) s ≡ false
+asked_in-group_messages timing now group e s = by_due (is_due now (group_due e.schedule.group_query))
+  where
+    by_due : (b : Bool) → asked_in (cond b (GroupQuery group (is_ahead (lowered_to timing now) (group_deadline e.group.mode)) ∷ []) []) s ≡ false
+    by_due true = refl
+    by_due false = refl
+
+-- a round asks for the sources that have a sending to go, where they are due
+pub asked_in-messages_due : (n : ℕ) (timing : Timing) (now group : ℕ) (e : ScheduledGroup) (s : ℕ) → 0 < n → asked_in (messages_due n timing now group e) s ≡ (is_due now e.schedule.sources_due && has_sendings e.group s)
+asked_in-messages_due n timing now group e s positive =
+    asked_in-append (group_messages timing now group e) (source_messages n timing now group e) s
+    ∙ (λ i. asked_in-group_messages timing now group e s i || asked_in-source_messages n timing now group e s positive i)
+
+asks_group-append : (xs ys : List SentQuery) → asks_group (xs ++ ys) ≡ (asks_group xs || asks_group ys)
+asks_group-append [] ys = refl
+asks_group-append (GeneralQuery ∷ xs) ys = asks_group-append xs ys
+asks_group-append (GroupQuery g f ∷ xs) ys = refl
+asks_group-append (SourcesQuery g f ss ∷ xs) ys = asks_group-append xs ys
+
+no_group_query : (group : ℕ) (flag : Bool) (portions : List (List ℕ)) → asks_group (list_map (SourcesQuery group flag) portions) ≡ false
+no_group_query group flag [] = refl
+no_group_query group flag (portion ∷ portions) = no_group_query group flag portions
+
+-- a round asks the group where its query is due
+pub asks_group-messages_due : (n : ℕ) (timing : Timing) (now group : ℕ) (e : ScheduledGroup) → asks_group (messages_due n timing now group e) ≡ is_due now (group_due e.schedule.group_query)
+asks_group-messages_due n timing now group e =
+    asks_group-append (group_messages timing now group e) (source_messages n timing now group e)
+    ∙ (λ i. first (is_due now (group_due e.schedule.group_query)) i || second (is_due now e.schedule.sources_due) i)
+    ∙ or-false (is_due now (group_due e.schedule.group_query))
+  where
+    g : GroupState
+    g = e.group
+
+    first : (b : Bool) → asks_group (cond b (GroupQuery group (is_ahead (lowered_to timing now) (group_deadline e.group.mode)) ∷ []) []) ≡ b
+    first true = refl
+    first false = refl
+
+    second : (b : Bool) → asks_group (cond b (sources_queries n group true (sources_where (has_sendings g ∩ above timing now g) g) ++ sources_queries n group false (sources_where (has_sendings g ∖ above timing now g) g)) []) ≡ false
+    second true = asks_group-append (sources_queries n group true (sources_where (has_sendings g ∩ above timing now g) g)) _ ∙ (λ i. no_group_query group true (portions_of n (sources_where (has_sendings g ∩ above timing now g) g)) i || no_group_query group false (portions_of n (sources_where (has_sendings g ∖ above timing now g) g)) i)
+    second false = refl
+
+abbrev group_after : Bool → GroupState → GroupState
+group_after due g = cond due (sendings_counted g) g
+
+-- the new timer of a source after a round
+pub timer_at-after_round : (timing : Timing) (now : ℕ) (e : ScheduledGroup) (s : ℕ) → timer_at (after_round timing now e).group s ≡ cond (is_due now e.schedule.sources_due) (option_map source_counted (timer_at e.group s)) (timer_at e.group s)
+timer_at-after_round timing now e s = by_due (is_due now e.schedule.sources_due)
+  where
+    as_map : (t : Option SourceTimer) → option_and_then (λ timer. Some (source_counted timer)) t ≡ option_map source_counted t
+    as_map None = refl
+    as_map (Some t) = refl
+
+    by_due : (b : Bool) → timer_at (group_after b e.group) s ≡ cond b (option_map source_counted (timer_at e.group s)) (timer_at e.group s)
+    by_due true = get-kept (λ s timer. Some (source_counted timer)) e.group.sources s ∙ as_map (timer_at e.group s)
+    by_due false = refl
+
+one_fewer : (t : Option SourceTimer) → ltb 0 (sendings_of t) ≡ true → sendings_of (option_map source_counted t) + 1 ≡ sendings_of t
+one_fewer None e = absurd (false≢true e)
+one_fewer (Some Stopped) e = absurd (false≢true e)
+one_fewer (Some (Running d n)) e = omega (arith, ltb-true 0 n e)
+
+none_fewer : (t : Option SourceTimer) → ltb 0 (sendings_of t) ≡ false → option_map source_counted t ≡ t
+none_fewer None e = refl
+none_fewer (Some Stopped) e = refl
+none_fewer (Some (Running d n)) e = let zero : n - 1 ≡ n = omega (arith, ltb-false 0 n e) in ap (λ k. Some (Running d k)) zero
+
+same_deadline : (b : Bool) (t : Option SourceTimer) → deadline_of (cond b (option_map source_counted t) t) ≡ deadline_of t
+same_deadline false t = refl
+same_deadline true None = refl
+same_deadline true (Some Stopped) = refl
+same_deadline true (Some (Running d n)) = refl
+
+-- a source that a round asks for has one sending fewer
+pub counted_down : (n : ℕ) (timing : Timing) (now group : ℕ) (e : ScheduledGroup) (s : ℕ) → 0 < n → asked_in (messages_due n timing now group e) s ≡ true → sendings_of (timer_at (after_round timing now e).group s) + 1 ≡ sendings_of (timer_at e.group s)
+counted_down n timing now group e s positive asked =
+    let parts = and_parts _ _ (sym (asked_in-messages_due n timing now group e s positive) ∙ asked) in
+    ap (λ t. sendings_of t + 1) (timer_at-after_round timing now e s ∙ ap (λ b. cond b (option_map source_counted (timer_at e.group s)) (timer_at e.group s)) parts.0)
+    ∙ one_fewer (timer_at e.group s) parts.1
+
+-- and any other is as it was
+pub others_stay : (n : ℕ) (timing : Timing) (now group : ℕ) (e : ScheduledGroup) (s : ℕ) → 0 < n → asked_in (messages_due n timing now group e) s ≡ false → timer_at (after_round timing now e).group s ≡ timer_at e.group s
+others_stay n timing now group e s positive unasked =
+    timer_at-after_round timing now e s ∙ by_due (is_due now e.schedule.sources_due) (sym (asked_in-messages_due n timing now group e s positive) ∙ unasked)
+  where
+    by_due : (b : Bool) → (b && has_sendings e.group s) ≡ false → cond b (option_map source_counted (timer_at e.group s)) (timer_at e.group s) ≡ timer_at e.group s
+    by_due true is = none_fewer (timer_at e.group s) is
+    by_due false is = refl
+
+pub deadlines_stay : (timing : Timing) (now : ℕ) (e : ScheduledGroup) (s : ℕ) → deadline_of (timer_at (after_round timing now e).group s) ≡ deadline_of (timer_at e.group s)
+deadlines_stay timing now e s = ap deadline_of (timer_at-after_round timing now e s) ∙ same_deadline (is_due now e.schedule.sources_due) (timer_at e.group s)
+
+group_one_fewer : (timing : Timing) (now : ℕ) (q : Option QuerySchedule) → IfSome q (λ q. 0 < q.sendings) → is_due now (group_due q) ≡ true → query_sendings (group_counted timing now q) + 1 ≡ query_sendings q
+group_one_fewer timing now None some due = absurd (false≢true due)
+group_one_fewer timing now (Some q) some due = ap (λ b. query_sendings (cond b (cond (ltb 1 q.sendings) (Some (record { sendings = q.sendings - 1; due = now + timing.last_member_interval })) None) (Some q)) + 1) due ∙ by_sendings (ltb 1 q.sendings) refl
+  where
+    by_sendings : (b : Bool) → ltb 1 q.sendings ≡ b → query_sendings (cond b (Some (record { sendings = q.sendings - 1; due = now + timing.last_member_interval })) None) + 1 ≡ q.sendings
+    by_sendings true e = omega (arith, ltb-true 1 q.sendings e, some)
+    by_sendings false e = omega (arith, ltb-false 1 q.sendings e, some)
+
+pub group_counted_down : (n : ℕ) (timing : Timing) (now group : ℕ) (e : ScheduledGroup) → IsScheduleOf e.group e.schedule → asks_group (messages_due n timing now group e) ≡ true → query_sendings (after_round timing now e).schedule.group_query + 1 ≡ query_sendings e.schedule.group_query
+group_counted_down n timing now group e fits asked = group_one_fewer timing now e.schedule.group_query fits.group_sendings (sym (asks_group-messages_due n timing now group e) ∙ asked)
+
+pub group_stays : (n : ℕ) (timing : Timing) (now group : ℕ) (e : ScheduledGroup) → asks_group (messages_due n timing now group e) ≡ false → (after_round timing now e).schedule.group_query ≡ e.schedule.group_query
+group_stays n timing now group e unasked = by_query e.schedule.group_query (sym (asks_group-messages_due n timing now group e) ∙ unasked)
+  where
+    by_query : (q : Option QuerySchedule) → is_due now (group_due q) ≡ false → group_counted timing now q ≡ q
+    by_query None e = refl
+    by_query (Some q) e = ap (λ b. cond b (cond (ltb 1 q.sendings) (Some (record { sendings = q.sendings - 1; due = now + timing.last_member_interval })) None) (Some q)) e
+
+-- nothing is due after a round
+pub quiet_after_round : (timing : Timing) (now : ℕ) (e : ScheduledGroup) → 0 < timing.last_member_interval → IsQuietAt now (after_round timing now e).schedule
+quiet_after_round timing now e positive = record { group = of_group e.schedule.group_query; sources = of_sources e.schedule.sources_due }
+  where
+    counted_after : (q : QuerySchedule) (b : Bool) → leb q.due now ≡ b → IfSome (cond b (cond (ltb 1 q.sendings) (Some (record { sendings = q.sendings - 1; due = now + timing.last_member_interval })) None) (Some q)) (λ q. now < q.due)
+    counted_after q true e = elim (ltb 1 q.sendings) as (λ b. IfSome (cond b (Some (record { sendings = q.sendings - 1; due = now + timing.last_member_interval })) None) (λ (q : QuerySchedule). now < q.due)) [ true ↦ omega arith | false ↦ tt ]
+    counted_after q false e = leb-false q.due now e
+
+    of_group : (q : Option QuerySchedule) → IfSome (group_counted timing now q) (λ q. now < q.due)
+    of_group None = tt
+    of_group (Some q) = counted_after q (leb q.due now) refl
+
+    of_sources : (due : Option ℕ) → IfSome (cond (is_due now due) (sources_due_next timing now (cond (is_due now due) (sendings_counted e.group) e.group)) due) (λ due. now < due)
+    of_sources None = tt
+    of_sources (Some due) = elim (leb due now) as (λ b. leb due now ≡ b → IfSome (cond b (sources_due_next timing now (cond b (sendings_counted e.group) e.group)) (Some due)) (λ due. now < due)) [
+      | true ↦ λ _. elim (some_source (has_sendings (sendings_counted e.group)) (sendings_counted e.group)) as (λ b. IfSome (cond b (Some (now + timing.last_member_interval)) None) (λ due. now < due)) [ true ↦ omega arith | false ↦ tt ]
+      | false ↦ λ h. leb-false due now h
+    ] refl
+
+-- and what is quiet sends nothing
+pub quiet_is_silent : (n : ℕ) (timing : Timing) (now group : ℕ) (e : ScheduledGroup) → IsQuietAt now e.schedule → messages_due n timing now group e ≡ []
+quiet_is_silent n timing now group e quiet =
+    (λ i. cond (no_group e.schedule.group_query quiet.group i) (GroupQuery group (is_ahead (lowered_to timing now) (group_deadline e.group.mode)) ∷ []) [] ++ source_messages n timing now group e)
+    ∙ silent (is_due now e.schedule.sources_due) _ (no_sources e.schedule.sources_due quiet.sources)
+  where
+    no_group : (q : Option QuerySchedule) → IfSome q (λ q. now < q.due) → is_due now (group_due q) ≡ false
+    no_group None h = refl
+    no_group (Some q) h = lt-leb q.due now h
+
+    no_sources : (due : Option ℕ) → IfSome due (λ due. now < due) → is_due now due ≡ false
+    no_sources None h = refl
+    no_sources (Some due) h = lt-leb due now h
+
+    silent : (b : Bool) (queries : List SentQuery) → b ≡ false → cond b queries [] ≡ []
+    silent b queries e = ap (λ b. cond b queries []) e

@@ -1,0 +1,48 @@
+-- A group that is held stays held, whatever is asked, sent or dropped.
+use Rattle.std.proofs.Common.{◌≡◌, ℕ, Bool, true, false, cond, Some, refl, ltb}
+use Rattle.mq_table.specs.declared.timing.Timing.{Timing}
+use Rattle.mq_table.specs.Sets.{Set}
+use Rattle.mq_table.specs.declared.timers.SourceTimer.{SourceTimer}
+use Rattle.mq_table.specs.declared.timers.SourceTimer.TheVariants.{Stopped, Running}
+use Rattle.mq_table.specs.Group.{is_running, IsWellFormed}
+use Rattle.mq_table.specs.Timing.{last_member_count}
+use Rattle.mq_table.specs.Lowering.{lowered_to}
+use Rattle.mq_table.proofs.Held.{IsWellFormed-replaced, IsWellFormed-group_lowered}
+use Rattle.mq_table.specs.Sendings.{source_cleared, source_asked, source_counted, sendings_counted}
+use Rattle.mq_sched.specs.Schedule.{ScheduledGroup, cleared}
+use Rattle.mq_sched.specs.Sending.{group_asked, sources_asked, acted, is_due, after_round}
+
+asked_runs : (limit count : ℕ) (b : Bool) (t : SourceTimer) → is_running (Some (cond b (source_asked limit count t) t)) ≡ is_running (Some t)
+asked_runs limit count false t = refl
+asked_runs limit count true Stopped = refl
+asked_runs limit count true (Running d n) = by_test (ltb limit d)
+  where
+    by_test : (b : Bool) → is_running (Some (cond b (Running limit count) (Running d n))) ≡ true
+    by_test true = refl
+    by_test false = refl
+
+held_sources_asked : (timing : Timing) (now : ℕ) (asked : Set) (e : ScheduledGroup) → IsWellFormed e.group → IsWellFormed (sources_asked timing now asked e).group
+held_sources_asked timing now asked e = IsWellFormed-replaced e.group e.group.mode (λ s t. cond (asked s) (source_asked (lowered_to timing now) (last_member_count timing) t) t) (λ m. m) (λ s t. asked_runs (lowered_to timing now) (last_member_count timing) (asked s) t)
+
+pub held_acted : (is_querier : Bool) (timing : Timing) (now : ℕ) (query_group : Bool) (query : Set) (e : ScheduledGroup) → IsWellFormed e.group → IsWellFormed (acted is_querier timing now query_group query e).group
+held_acted false timing now query_group query e held = held
+held_acted true timing now false query e held = held_sources_asked timing now query e held
+held_acted true timing now true query e held = held_sources_asked timing now query (group_asked timing now e) (IsWellFormed-group_lowered timing now e.group held)
+
+counted_runs : (t : SourceTimer) → is_running (Some (source_counted t)) ≡ is_running (Some t)
+counted_runs Stopped = refl
+counted_runs (Running d n) = refl
+
+pub held_after_round : (timing : Timing) (now : ℕ) (e : ScheduledGroup) → IsWellFormed e.group → IsWellFormed (after_round timing now e).group
+held_after_round timing now e held = by_due (is_due now e.schedule.sources_due)
+  where
+    by_due : (b : Bool) → IsWellFormed (cond b (sendings_counted e.group) e.group)
+    by_due true = IsWellFormed-replaced e.group e.group.mode (λ s. source_counted) (λ m. m) (λ s t. counted_runs t) held
+    by_due false = held
+
+cleared_runs : (t : SourceTimer) → is_running (Some (source_cleared t)) ≡ is_running (Some t)
+cleared_runs Stopped = refl
+cleared_runs (Running d n) = refl
+
+pub held_cleared : (e : ScheduledGroup) → IsWellFormed e.group → IsWellFormed (cleared e).group
+held_cleared e = IsWellFormed-replaced e.group e.group.mode (λ s. source_cleared) (λ m. m) (λ s t. cleared_runs t)

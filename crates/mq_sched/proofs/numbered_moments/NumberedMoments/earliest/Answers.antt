@@ -1,0 +1,15 @@
+use Rattle.std.proofs.Common.{ap}
+use Rattle.mq_sched.specs.NumberedMoments.{NumberedMomentsState}
+use Rattle.mq_sched.proofs.NumbersAtLeaves.{earliest_of_numbers}
+use Rattle.mq_sched.proofs.numbered_moments.NumberedMoments.earliest.Goals as goal
+
+pub returns : goal.returns
+returns c =
+    let nodes = c.self.inside.tree.nodes in
+    let leaves = c.self.inside.leaves.items in
+    let numbers = c.self.inside.numbers.items in
+    let count = c.self.inside.tree.count in
+    let known = c.self.invariant.0 in
+    let counted = c.self.invariant.1 in
+    let moments = ap (λ (s : NumberedMomentsState). s.moments) c.self.view_is in
+    rw (← moments) (earliest_of_numbers nodes leaves numbers count known c.earliest.result counted c.earliest.ensures)

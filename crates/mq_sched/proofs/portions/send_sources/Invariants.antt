@@ -1,0 +1,20 @@
+use Rattle.std.proofs.Common.{◌≡◌, ◌<◌, ◌++◌, map, drop}
+use Rattle.arrayvec.specs.ArrayVec.{array_vec_len}
+use Rattle.mq_count.specs.Spending.{Spends}
+use Rattle.mq_sched.specs.Sending.{sources_queries}
+use Rattle.mq_sched.specs.Sink.{SendsOn}
+use Rattle.mq_sched.specs.Collected.{going_with}
+use Rattle.mq_sched.proofs.portions.send_sources.Given as goal
+
+-- what is still to go are the sources collected and those ahead that go
+abbrev pub invariant-loop-source : goal.invariant-loop-source
+invariant-loop-source g l = record {
+  group : l.collected.group ≡ l.fn.group;
+  flag : l.collected.s ≡ l.fn.s;
+  per_query : l.collected.per_query ≡ l.fn.per_query;
+  room : array_vec_len l.collected.sources < l.fn.per_query;
+  sent : SendsOn g.S.Sink.takes
+      l.initial.sink (sources_queries l.fn.per_query (g.K.Key.number l.fn.group) l.fn.s (going_with g.K.Key.number l.fn.limit l.fn.s l.row))
+      l.sink (sources_queries l.fn.per_query (g.K.Key.number l.fn.group) l.fn.s (map g.K.Key.number l.collected.sources.items ++ going_with g.K.Key.number l.fn.limit l.fn.s (drop l.source-index l.row)));
+  spent : Spends 0 l.source-index l.initial.m l.m;
+}

@@ -1,0 +1,58 @@
+use Rattle.std.proofs.Common.{◌+◌, ◌*◌, ◌/◌, ◌<◌, ◌≤◌, ◌≡◌, cond, arith, length, get_or, sym, ◌∙◌, length-set, ⊎_elim}
+use Rattle.std.proofs.lemmas.Bool.{cond-true, cond-false, cases_lt}
+use Rattle.std.proofs.lemmas.List.{get_or_read, get_or-set_other}
+use Rattle.mq_count.proofs.Spent.{Spends-join_within, Spends-within}
+use Rattle.mq_sets.proofs.Bitlen.{bitlen-half, bitlen-zero, bitlen-mono}
+use Rattle.mq_sched.proofs.DeadlineTree.{settled_one, next_kept}
+use Rattle.mq_sched.proofs.settling.settle.Goals as goal
+use Rattle.mq_sched.proofs.settling.settle.Goals.{then-is_left, else-is_left}
+
+pub loop-node-preserved : goal.loop-node-preserved
+loop-node-preserved c =
+    let nodes = c.loop-node.nodes in
+    let lefts = c.loop-node.lefts in
+    let i = c.loop-node.node / 2 in
+    let known = c.loop-node.invariant in
+    let b = c.reached-is_left.result in
+    let in_list = known.within (omega arith) in
+    let below : i < length lefts = omega (arith, in_list, known.tree.size) in
+    let left = get_or_read nodes (2 * i) c.index-nodes-node.result (omega (arith, below, known.tree.size)) c.index-nodes-node.is 0 in
+    let right = get_or_read nodes (2 * i + 1) c.index-nodes-node-in-loop-node.result (omega (arith, below, known.tree.size)) c.index-nodes-node-in-loop-node.is 0 in
+    let is : c.if-is_left.nodes ≡ cond b (get_or nodes (2 * i) 0) (get_or nodes (2 * i + 1) 0) = elim c.if-is_left.branch [
+      | then-is_left w ↦ w.nodes-is ∙ left ∙ sym (cond-true b _ _ w.if-is_left.true)
+      | else-is_left w ↦ w.nodes-is ∙ right ∙ sym (cond-false b _ _ w.if-is_left.false)
+    ] in
+    let settled = settled_one nodes lefts i b (omega arith) below (rw (← left, ← right) c.reached-is_left.ensures.answer.1) (rw (← left, ← right) c.reached-is_left.ensures.answer.0) known.tree in
+    record {
+      tree = rw is settled;
+      kept = next_kept nodes lefts i c.if-is_left.nodes b (omega arith) below known.tree;
+      within = λ some. omega (arith, length-set nodes i c.if-is_left.nodes);
+      leaves =
+          λ leaf behind. get_or-set_other nodes i leaf c.if-is_left.nodes 0 (λ same. absurd (omega (arith, below, behind, c.loop-node.auto.lefts))) ∙ known.leaves leaf behind;
+      lower = omega (arith, known.lower);
+      spent = Spends-join_within _ _ known.spent c.reached-is_left.ensures.spent (omega (arith, bitlen-half i (omega arith), bitlen-mono i (c.args.from / 2) (omega (arith, known.lower)))) (omega (arith, bitlen-half i (omega arith), bitlen-mono i (c.args.from / 2) (omega (arith, known.lower))));
+      moves = Spends-join_within _ _ known.moves c.count.ensures (omega arith) (omega (arith, bitlen-half i (omega arith), bitlen-mono i (c.args.from / 2) (omega (arith, known.lower))));
+    }
+
+pub returns-clause-spent : goal.returns-clause-spent
+returns-clause-spent c =
+    let top : c.loop-node.node / 2 ≡ 0 = omega arith in
+    let none = rw (top, bitlen-zero) at c.loop-node.invariant.spent in
+    Spends-within _ _ none
+    (⊎_elim (λ (some : 0 < c.args.from / 2). omega (arith, bitlen-half (c.args.from / 2) some)) (λ (low : c.args.from / 2 ≤ 0). omega arith) (cases_lt 0 (c.args.from / 2)))
+    (omega arith)
+
+pub returns-then-is_left-lefts-clause-spent : goal.returns-then-is_left-lefts-clause-spent
+returns-then-is_left-lefts-clause-spent c =
+    let i = c.loop-node.node / 2 in
+    let known = c.loop-node.invariant in
+    let digits = bitlen-half i (omega arith) in
+    let most = bitlen-mono i (c.args.from / 2) (omega (arith, known.lower)) in
+    Spends-join_within _ _ known.spent c.reached-is_left.ensures.spent (omega arith) (omega (arith, digits, most))
+
+pub returns-clause-moves : goal.returns-clause-moves
+returns-clause-moves c = Spends-within _ _ c.loop-node.invariant.moves (omega arith) (omega arith)
+
+pub returns-then-is_left-lefts-clause-moves : goal.returns-then-is_left-lefts-clause-moves
+returns-then-is_left-lefts-clause-moves c =
+    Spends-within _ _ c.loop-node.invariant.moves (omega arith) (omega arith)

@@ -1,0 +1,20 @@
+use Rattle.std.proofs.Common.{ℕ, ◌-◌, ◌/◌, ◌<◌, ◌≤◌, ◌≡◌, length, get_or}
+use Rattle.mq_count.specs.Spending.{Spends}
+use Rattle.mq_sets.specs.Search.{bitlen}
+use Rattle.mq_sched.specs.DeadlineTree.{IsTreeBut, KeepsOther}
+use Rattle.mq_sched.proofs.settling.settle.Given as goal
+
+abbrev pub invariant-loop-node : goal.invariant-loop-node
+invariant-loop-node l =
+    record {
+      tree : IsTreeBut l.nodes l.lefts (l.node / 2);
+      kept : KeepsOther l.nodes l.lefts l.node;
+      within : 0 < l.node → l.node < length l.nodes;
+      leaves : (leaf : ℕ) → length l.initial.lefts ≤ leaf → get_or l.nodes leaf 0 ≡ get_or l.initial.nodes leaf 0;
+      lower : l.node ≤ l.from;
+      spent : Spends (bitlen (l.from / 2) - bitlen (l.node / 2)) (bitlen (l.from / 2) - bitlen (l.node / 2)) l.initial.m l.m;
+      moves : Spends 0 (bitlen (l.from / 2) - bitlen (l.node / 2)) l.initial.moves l.moves;
+    }
+
+abbrev pub decreases-loop-node : goal.decreases-loop-node
+decreases-loop-node l = l.node

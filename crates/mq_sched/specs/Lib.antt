@@ -1,0 +1,16 @@
+pub mod DeadlineTree
+pub mod Deadlines
+pub mod Schedule
+pub mod StoredSchedule
+pub mod LeafPlaces
+pub mod NumberedMoments
+pub mod PlaceMoves
+pub mod Portions
+pub mod Sending
+pub mod Sink
+pub mod Collected
+pub mod Announcement
+pub mod Election
+pub mod StoredElection
+pub mod Rounds
+pub mod Examples

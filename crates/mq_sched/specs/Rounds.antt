@@ -1,0 +1,34 @@
+-- Words in which rounds are spoken of.
+use Rattle.std.specs.Prelude.{ℕ, ◌<◌, ◌≤◌, length, Bool, true, false, ◌||◌, ◌==◌, List, [], ◌∷◌, IfSome}
+use Rattle.std.specs.List.{list_any}
+use Rattle.mq_table.specs.Sets.{Set}
+use Rattle.mq_sched.specs.Schedule.{ScheduleState}
+use Rattle.mq_sched.specs.Sending.{SentQuery, GeneralQuery, GroupQuery, SourcesQuery}
+
+-- the sources that some query of a round asks for
+abbrev pub asked_in : List SentQuery → Set
+asked_in [] s = false
+asked_in (GeneralQuery ∷ queries) s = asked_in queries s
+asked_in (GroupQuery group flag ∷ queries) s = asked_in queries s
+asked_in (SourcesQuery group flag sources ∷ queries) s =
+    list_any (λ x. s == x) sources || asked_in queries s
+
+-- whether a round has a query to the group alone
+abbrev pub asks_group : List SentQuery → Bool
+asks_group [] = false
+asks_group (GeneralQuery ∷ queries) = asks_group queries
+asks_group (GroupQuery group flag ∷ queries) = true
+asks_group (SourcesQuery group flag sources ∷ queries) = asks_group queries
+
+-- nothing is due at or before a moment
+pub record IsQuietAt (now : ℕ) (schedule : ScheduleState) : Type 0 where
+  pub group : IfSome schedule.group_query (λ q. now < q.due)
+  pub sources : IfSome schedule.sources_due (λ due. now < due)
+
+-- no query has more sources than one message holds
+abbrev pub AllFit : (per_query : ℕ) → List SentQuery → Type 0
+AllFit per_query [] = Unit {0}
+AllFit per_query (GeneralQuery ∷ queries) = AllFit per_query queries
+AllFit per_query (GroupQuery group flag ∷ queries) = AllFit per_query queries
+AllFit per_query (SourcesQuery group flag sources ∷ queries) =
+    (length sources ≤ per_query) × AllFit per_query queries

@@ -1,0 +1,67 @@
+//! What a query says of its querier.
+
+ghost use Rattle.std.specs.Prelude.{◌≡◌};
+ghost use Rattle.std.specs.Option.{SomeIff};
+ghost use Rattle.mq_sched.specs.Announcement.{Announcement, IsCarried};
+
+use std::marker::Model;
+
+/// The Robustness Variable and the Query Interval in whole seconds, as a query of version 3 of IGMP
+/// or version 2 of MLD announces them in QRV and QQIC; 0 stands for none (RFC 3376 sections 4.1.6
+/// and 4.1.7, RFC 3810 sections 5.1.8 and 5.1.9). A contract sees it as these two numbers.
+#[derive(Clone, Copy, Debug, PartialEq, Eq)]
+pub struct Announced {
+    robustness: u32,
+    query_seconds: u32,
+}
+
+impl Model for Announced {
+    ghost use Rattle.mq_sched.specs.Announcement.{Announcement, IsCarried};
+
+    ghost Value = { Announcement };
+
+    ghost view = { λ a. record { robustness = a.robustness; query_seconds = a.query_seconds } };
+
+    ghost invariant = { λ a. IsCarried (record { robustness = a.robustness; query_seconds = a.query_seconds }) };
+
+    ghost inverse = { λ v. record { robustness = v.robustness; query_seconds = v.query_seconds } };
+}
+
+impl Announced {
+    /// What a query with these values announces, or None where a field can't carry one of them: the
+    /// robustness variable at most 7, the query interval at most 31744 seconds.
+    pub fn new(robustness: u32, query_seconds: u32) -> Option<Announced>
+        ensures { let a : Announcement = record { robustness = robustness; query_seconds = query_seconds } in
+            SomeIff result (IsCarried a) a }
+    {
+        if robustness <= 7 && query_seconds <= 31744 {
+            Some(Announced {
+                robustness,
+                query_seconds,
+            })
+        } else {
+            None
+        }
+    }
+
+    /// Each value is one that its field can carry. It does nothing: its contract is the fact.
+    pub fn is_carried(self)
+        ensures { IsCarried self }
+    {
+        let _held = self.robustness;
+    }
+
+    /// The Robustness Variable, or 0 for none.
+    pub fn robustness(self) -> u32
+        ensures { result ≡ self.robustness }
+    {
+        self.robustness
+    }
+
+    /// The Query Interval in seconds, or 0 for none.
+    pub fn query_seconds(self) -> u32
+        ensures { result ≡ self.query_seconds }
+    {
+        self.query_seconds
+    }
+}

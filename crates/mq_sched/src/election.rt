@@ -1,0 +1,192 @@
+//! The election of the querier, and the general queries of the router that is it (RFC 3376 sections
+//! 6.6.2 and 8, RFC 3810 sections 7.6.2 and 9).
+
+ghost use Rattle.std.specs.Prelude.{◌≡◌, ◌^◌, ◌≤◌, ◌<◌, Bool, nat_lt, [], ◌∷◌, if◌then◌else◌};
+ghost use Rattle.mq_count.specs.Spending.{Spends};
+ghost use Rattle.mq_sched.specs.Sending.{GeneralQuery};
+ghost use Rattle.mq_sched.specs.Election.{is_querier, election_at, heard_or, adopted, loses_role, heard, ticked, general_messages, next_moment};
+ghost use Rattle.mq_sched.specs.StoredElection.{IsOtherOf};
+
+use crate::announced::Announced;
+use crate::roles::{OtherQuerier, StoredRole};
+use mq_count::{Key, Meter, Moment};
+use mq_table::Timing;
+use std::cmp::Ordering;
+use std::marker::Model;
+
+/// A router's part in the election of its link's querier, and the moment of its next general query
+/// while it is querier itself. A contract sees its own address, its configured timing, and the state
+/// of the definitions.
+#[derive(Drop)]
+pub struct Election<K: Key> {
+    own: K,
+    configured: Timing,
+    in_force: Timing,
+    role: StoredRole<K>,
+}
+
+impl<K: Key> Model for Election<K> {
+    ghost use Rattle.mq_sched.specs.StoredElection.{RouterElection, role_in};
+
+    ghost Value = { RouterElection };
+
+    ghost view = { λ e. record { own = K.number e.own; configured = e.configured; state = record { role = role_in K.number e.role; timing = e.in_force } } };
+}
+
+/// Whether an address is lower than the router's own. One comparison.
+fn is_lower<K: Key>(source: K, own: K, m: &mut Meter) -> bool
+    ensures answer { result ≡ nat_lt (K.number source) (K.number own) }
+    ensures spent { Spends 1 1 m.old m.new }
+{
+    matches!(source.order(own, m), Ordering::Less)
+}
+
+/// A value that was heard; zero stands for none, and restores the configured one.
+fn heard_or(configured: u32, value: u32) -> u32
+    ensures { result ≡ heard_or configured value }
+{
+    if value == 0 { configured } else { value }
+}
+
+/// The timing in force after a query: the robustness variable that it announces, and the query
+/// interval too where the router isn't querier.
+fn adopted(
+    configured: Timing,
+    is_other: bool,
+    announced: Option<Announced>,
+    in_force: Timing,
+) -> Timing
+    ensures { result ≡ adopted configured is_other announced in_force }
+{
+    match announced {
+        None => in_force,
+        Some(said) => {
+            said.is_carried();
+            configured.is_in_range();
+            in_force.is_in_range();
+            let robustness = heard_or(configured.robustness(), said.robustness());
+            let query_seconds = if is_other {
+                heard_or(configured.query_seconds(), said.query_seconds())
+            } else {
+                in_force.query_seconds()
+            };
+            in_force.adopting(robustness, query_seconds).unwrap()
+        }
+    }
+}
+
+impl<K: Key> Election<K> {
+    /// The election of a router with this address and timing at its start: it is querier, its
+    /// general query is due at once, and all queries of startup are to go.
+    pub fn new(own: K, configured: Timing, start: Moment) -> Election<K>
+        ensures own { result.own ≡ K.number own }
+        ensures configured { result.configured ≡ configured }
+        ensures state { result.state ≡ election_at configured start }
+    {
+        Election {
+            own,
+            configured,
+            in_force: configured,
+            role: StoredRole::Querier(start, configured.startup_count()),
+        }
+    }
+
+    /// Takes note of a query that was heard at `now` from this source, and of what it announces;
+    /// one of an older version announces nothing. Answers whether the router was querier and is no
+    /// longer: its caller then drops what it had to send. One comparison.
+    pub fn hear(
+        &mut self,
+        source: K,
+        announced: Option<Announced>,
+        now: Moment,
+        m: &mut Meter,
+    ) -> bool
+        requires in_range { now ≤ 2 ^ 53 }
+        ensures state { self.new ≡ record self.old { state = heard self.old.configured self.old.own now (K.number source) announced self.old.state } }
+        ensures lost { result ≡ loses_role self.old.own (K.number source) self.old.state.role }
+        ensures spent { Spends 1 1 m.old m.new }
+    {
+        let was_querier = self.is_querier();
+        let lower = is_lower(source, self.own, m);
+        let timing = adopted(
+            self.configured,
+            lower || !was_querier,
+            announced,
+            self.in_force,
+        );
+        if lower {
+            self.role = StoredRole::NonQuerier(OtherQuerier {
+                address: source,
+                deadline: now.after(timing.other_querier_present()),
+            });
+        }
+        self.in_force = timing;
+        was_querier && lower
+    }
+
+    /// Does what is due at or before `now`: the end of the other querier's deadline, after which the
+    /// router is querier again with its configured timing, and the general query. Answers whether a
+    /// general query goes, one however late the call comes. One comparison.
+    pub fn tick(&mut self, now: Moment, m: &mut Meter) -> bool
+        requires in_range { now ≤ 2 ^ 53 }
+        ensures state { self.new ≡ record self.old { state = ticked self.old.configured now self.old.state } }
+        ensures sent { general_messages self.old.configured now self.old.state ≡ (if result then GeneralQuery ∷ [] else []) }
+        ensures spent { Spends 1 1 m.old m.new }
+    {
+        if !m.reached(self.next_moment(), now) {
+            return false;
+        }
+        let startup_queries = match self.role {
+            StoredRole::Querier(_, startup_queries) => startup_queries,
+            StoredRole::NonQuerier(_) => {
+                self.in_force = self.configured;
+                0
+            }
+        };
+        let interval = if 1 < startup_queries {
+            self.in_force.startup_interval()
+        } else {
+            self.in_force.query_interval()
+        };
+        self.role = StoredRole::Querier(now.after(interval), startup_queries.saturating_sub(1));
+        true
+    }
+
+    /// Whether the router is querier.
+    pub fn is_querier(&self) -> bool
+        ensures { result ≡ is_querier self.now.state.role }
+    {
+        match self.role {
+            StoredRole::Querier(_, _) => true,
+            StoredRole::NonQuerier(_) => false,
+        }
+    }
+
+    /// The other router that is querier, or None where this one is.
+    pub fn other_querier(&self) -> Option<OtherQuerier<K>>
+        ensures { IsOtherOf K.number self.now.state.role result }
+    {
+        match self.role {
+            StoredRole::Querier(_, _) => None,
+            StoredRole::NonQuerier(other) => Some(other),
+        }
+    }
+
+    /// The timing in force: the configured one, but for what was taken over from queries.
+    pub fn timing(&self) -> Timing
+        ensures { result ≡ self.now.state.timing }
+    {
+        self.in_force
+    }
+
+    /// When there is something to do next: the general query of the querier, or for any other router
+    /// the end of the other querier's deadline.
+    pub fn next_moment(&self) -> Moment
+        ensures { result ≡ next_moment self.now.state.role }
+    {
+        match self.role {
+            StoredRole::Querier(due, _) => due,
+            StoredRole::NonQuerier(other) => other.deadline,
+        }
+    }
+}

@@ -1,0 +1,47 @@
+//! How numbers get other leaves, and the numbers of leaves.
+
+ghost use Rattle.std.specs.Prelude.{◌≡◌, ℕ, ◌+◌, ◌*◌, ◌<◌, ◌≤◌, length, map, slice_index};
+ghost use Rattle.std.specs.List.{All};
+ghost use Rattle.mq_sched.specs.NumberedMoments.{AreNumbered};
+ghost use Rattle.mq_sched.specs.DeadlineTree.{leaf_after};
+
+use crate::leaf_moves::hand_over;
+
+/// A leaf is given up, and with it the last two of `last + 1` leaves: the number of `later`, which is one of them, has the leaf
+/// given up, and the number of the other one the node above them.
+pub(crate) fn give_up_number(
+    leaves: &mut [u32],
+    numbers: &mut [u16],
+    last: usize,
+    given_up: usize,
+    later: usize,
+)
+    requires numbered { AreNumbered leaves.old numbers.old (last + 1) }
+    requires few { last < 65536 }
+    requires given_up { last < given_up }
+    requires leaf { given_up < 2 * last + 2 }
+    requires tail { 2 * last ≤ later }
+    requires below { later < 2 * last + 2 }
+    ensures size { length numbers.new ≡ length numbers.old }
+    ensures room { length leaves.new ≡ length leaves.old }
+    ensures numbers { (leaf : ℕ) → last < leaf → leaf < 2 * last + 2 → (leaf ≡ given_up → ⊥) →
+        slice_index numbers.new (leaf_after last given_up later leaf) ≡ slice_index numbers.old leaf }
+    ensures leaves { (leaf : ℕ) → last < leaf → leaf < 2 * last + 2 → (leaf ≡ given_up → ⊥) →
+        slice_index leaves.new (slice_index numbers.old leaf) ≡ leaf_after last given_up later leaf }
+{
+    if last == 0 {
+        return;
+    }
+    hand_over(leaves, numbers, later, given_up);
+    hand_over(leaves, numbers, 4 * last + 1 - later, last);
+}
+
+/// Writes over each leaf, which is told by how far it stands behind the first one, its number.
+pub(crate) fn write_numbers(numbers: &[u16], leaves: &mut [u16])
+    requires { All (λ leaf. leaf < length numbers.now) leaves.old }
+    ensures { leaves.new ≡ map (slice_index numbers.now) leaves.old }
+{
+    for leaf in leaves.iter_mut() {
+        *leaf = numbers[*leaf as usize];
+    }
+}

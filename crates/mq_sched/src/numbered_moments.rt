@@ -1,0 +1,174 @@
+//! Which groups are due: an index of their earliest moments, by the numbers of the groups.
+
+ghost use Rattle.std.specs.Prelude.{◌≡◌, ℕ, ◌+◌, ◌-◌, ◌*◌, ◌^◌, ◌<◌, ◌≤◌, min, length, take, drop, true, false, if◌then◌else◌, IfOk, MatchOption};
+ghost use Rattle.std.specs.FinMap as map;
+ghost use Rattle.std.specs.List.{All};
+ghost use Rattle.mq_count.specs.Spending.{Spends};
+ghost use Rattle.mq_sets.specs.Search.{bitlen};
+ghost use Rattle.mq_sets.specs.Slots.{times};
+ghost use Rattle.mq_sched.specs.NumberedMoments.{NumberedMomentsState, IsEarliestMoment, is_number_due};
+
+use crate::deadline_tree::DeadlineTree;
+use crate::leaf_moves::at_or;
+use crate::leaf_numbers::{give_up_number, write_numbers};
+use mq_count::{Meter, Moment, Moves};
+use mq_sets::Memory;
+use std::alloc::Global;
+use std::marker::Model;
+
+/// The earliest moment of each held group, by the number that the group has for as long as it is held. A contract sees the
+/// finite map from these numbers to their moments, and the room: all numbers are below it. `with_room` takes the memory, and no
+/// other call takes any.
+///
+/// The moments stand at the leaves of a tree, which has the earliest at its top. Beside it stand the leaf of each number and the
+/// number of each leaf. No number is changed where another comes or goes: at most two numbers get another leaf.
+#[derive(Drop)]
+pub struct NumberedMoments {
+    tree: DeadlineTree,
+    // By the number; what stands at one that isn't there says nothing.
+    leaves: Vec<u32>,
+    // By the leaf; what stands before the first leaf says nothing.
+    numbers: Vec<u16>,
+    room: usize,
+}
+
+impl Model for NumberedMoments {
+    ghost use Rattle.std.specs.Prelude.{◌≡◌, ◌*◌, ◌^◌, ◌≤◌, length, vec_capacity};
+    ghost use Rattle.std.specs.FinMap as map;
+    ghost use Rattle.mq_sched.specs.NumberedMoments.{NumberedMomentsState, AreNumbered, moments_at, numbered_code};
+
+    ghost Value = { NumberedMomentsState };
+
+    ghost coded = { numbered_code };
+
+    ghost view = { λ n. record { moments = moments_at n.tree.nodes n.leaves.items n.numbers.items n.tree.count; room = n.room } };
+
+    ghost invariant = { λ n. AreNumbered n.leaves.items n.numbers.items n.tree.count
+        × (map.len (moments_at n.tree.nodes n.leaves.items n.numbers.items n.tree.count) ≡ n.tree.count)
+        × (n.tree.room ≡ n.room)
+        × (n.tree.count ≤ n.room)
+        × (length n.leaves.items ≡ n.room)
+        × (n.room ≤ 2 ^ 16)
+        × (2 * n.room ≤ vec_capacity n.numbers) };
+}
+
+impl NumberedMoments {
+    /// No moments, with room for those of the numbers below `room`; or `Memory`, where that memory was refused.
+    pub fn with_room(alloc: Global, room: usize) -> Result<NumberedMoments, Memory>
+        requires numbered { room ≤ 2 ^ 16 }
+        ensures { IfOk result (λ n. n ≡ record { moments = map.empty; room = room }) }
+    {
+        Ok(NumberedMoments {
+            tree: DeadlineTree::with_room(alloc, room)?,
+            leaves: vec![in alloc; 0; room]?,
+            numbers: Vec::with_capacity(alloc, 2 * room)?,
+            room,
+        })
+    }
+
+    /// How many numbers are there.
+    pub fn len(&self) -> usize
+        ensures len { result ≡ map.len self.now.moments }
+        ensures within { result ≤ self.now.room }
+    {
+        self.numbers.len() / 2
+    }
+
+    /// The numbers that are there, each once, in any order.
+    pub fn numbers(&self) -> &[u16]
+        ensures each { (number : ℕ) → times number result.now ≡ (if map.contains_key self.now.moments number then 1 else 0) }
+        ensures within { All (λ number. number < self.now.room) result.now }
+    {
+        let first = self.numbers.len() / 2;
+        &self.numbers[first..]
+    }
+
+    /// The earliest moment, or None where there is none. No comparison.
+    pub fn earliest(&self) -> Option<Moment>
+        ensures { MatchOption result (self.now.moments ≡ map.empty) (IsEarliestMoment self.now.moments) }
+    {
+        self.tree.earliest()
+    }
+
+    /// A number comes, with its moment. At most one comparison for each binary digit of how many are there.
+    pub fn insert(&mut self, number: u16, due: Moment, m: &mut Meter, moves: &mut Moves)
+        requires number { number < self.old.room }
+        requires absent { map.contains_key self.old.moments number ≡ false }
+        requires room { map.len self.old.moments < self.old.room }
+        ensures moments { self.new ≡ record self.old { moments = map.insert self.old.moments number due } }
+        ensures spent { let had = map.len self.old.moments in
+            Spends (min 1 had) (bitlen had) m.old m.new }
+        ensures moves { let had = map.len self.old.moments in
+            Spends 4 (4 + bitlen had) moves.old moves.new }
+    {
+        let count = self.numbers.len() / 2;
+        self.tree.grow(due, m, moves);
+        let first = at_or(&self.numbers, count, number);
+        self.leaves[first as usize] = 2 * count as u32;
+        self.leaves[number as usize] = 2 * count as u32 + 1;
+        self.numbers.push(first).unwrap();
+        self.numbers.push(number).unwrap();
+        moves.count(2);
+    }
+
+    /// A number goes. At most one comparison for each binary digit of how many others are there.
+    pub fn remove(&mut self, number: u16, m: &mut Meter, moves: &mut Moves)
+        requires there { map.contains_key self.old.moments number ≡ true }
+        ensures moments { self.new ≡ record self.old { moments = map.remove self.old.moments number } }
+        ensures spent { let others = map.len self.old.moments - 1 in
+            Spends 0 (bitlen others) m.old m.new }
+        ensures moves { let others = map.len self.old.moments - 1 in
+            Spends 4 (4 + bitlen others) moves.old moves.new }
+    {
+        let last = self.numbers.len() / 2 - 1;
+        let leaf = self.leaves[number as usize] as usize;
+        let later = self.tree.shrink(leaf, m, moves);
+        give_up_number(&mut self.leaves, &mut self.numbers, last, leaf, later);
+        self.numbers.truncate(2 * last);
+        moves.count(2);
+    }
+
+    /// A number has another moment. At most one comparison for each binary digit of how many others are there.
+    pub fn change(&mut self, number: u16, due: Moment, m: &mut Meter, moves: &mut Moves)
+        requires there { map.contains_key self.old.moments number ≡ true }
+        ensures moments { self.new ≡ record self.old { moments = map.insert self.old.moments number due } }
+        ensures spent { let others = map.len self.old.moments - 1 in
+            Spends (min 1 others) (bitlen others) m.old m.new }
+        ensures moves { let others = map.len self.old.moments - 1 in
+            Spends 1 (1 + bitlen others) moves.old moves.new }
+    {
+        let leaf = self.leaves[number as usize] as usize;
+        self.tree.change(leaf, due, m, moves);
+    }
+
+    /// Whether a number has a moment at or before `now`. At most one comparison.
+    pub fn is_due(&self, number: u16, now: Moment, m: &mut Meter) -> bool
+        requires number { number < self.now.room }
+        ensures due { result ≡ is_number_due self.now.moments now number }
+        ensures spent { Spends 0 1 m.old m.new }
+    {
+        let leaf = self.leaves[number as usize] as usize;
+        let first = self.numbers.len() / 2;
+        if leaf < first || leaf >= self.numbers.len() || self.numbers[leaf] != number {
+            return false;
+        }
+        m.reached(self.tree.moment(leaf), now)
+    }
+
+    /// Writes the numbers whose moments are at or before `now` at the front of `numbers`, each once, in any order, and answers
+    /// how many they are. At least one comparison for each of them, and one more where there is another; and at most one more
+    /// than, for each of them, one for each binary digit of how many others are there, but none more than there are numbers.
+    pub fn due(&self, now: Moment, numbers: &mut [u16], m: &mut Meter) -> usize
+        requires space { map.len self.now.moments ≤ length numbers.old }
+        ensures within { result ≤ map.len self.now.moments }
+        ensures due { (number : ℕ) → times number (take result numbers.new) ≡ (if is_number_due self.now.moments now number then 1 else 0) }
+        ensures behind { drop result numbers.new ≡ drop result numbers.old }
+        ensures spent { let count = map.len self.now.moments in
+            Spends (min (result + 1) count) (min count (1 + result * bitlen (count - 1))) m.old m.new }
+    {
+        let count = self.tree.due(now, numbers, m);
+        let first = self.numbers.len() / 2;
+        write_numbers(&self.numbers[first..], &mut numbers[..count]);
+        count
+    }
+}

@@ -1,0 +1,122 @@
+//! The sources of one sending, in messages of what one holds.
+
+ghost use Rattle.std.specs.Prelude.{◌≡◌, ℕ, ◌<◌, ◌≤◌, List, [], ◌∷◌, ◌++◌, length, map};
+ghost use Rattle.arrayvec.specs.ArrayVec.{array_vec_len};
+ghost use Rattle.mq_count.specs.Spending.{Spends};
+ghost use Rattle.mq_sched.specs.Sending.{SourcesQuery, sources_queries};
+ghost use Rattle.mq_sched.specs.Sink.{Sends, SendsOn};
+ghost use Rattle.mq_sched.specs.Collected.{goes_with, going_with};
+
+use crate::schedules::source_has_sendings;
+use crate::sinks::{QueryParts, Sink};
+use arrayvec::ArrayVec;
+use mq_count::{Key, Meter, Moment};
+use mq_table::{Source, runs_on};
+
+/// The most sources that a message may hold: those of an IGMP query on an MTU of 1500.
+const MOST_PER_QUERY: usize = 366;
+
+/// Sources that are collected for one message, fewer than it holds.
+#[derive(Drop)]
+struct Collected<K: Key> {
+    group: K,
+    s: bool,
+    per_query: usize,
+    sources: ArrayVec<K, MOST_PER_QUERY>,
+}
+
+impl<K: Key> Collected<K> {
+    /// Nothing is collected.
+    fn new(group: K, s: bool, per_query: usize) -> Collected<K>
+        ensures group { result.group ≡ group }
+        ensures flag { result.s ≡ s }
+        ensures per_query { result.per_query ≡ per_query }
+        ensures empty { result.sources.items ≡ [] }
+    {
+        Collected {
+            group,
+            s,
+            per_query,
+            sources: ArrayVec::new(),
+        }
+    }
+
+    /// Sends what is collected, and collects for the next message.
+    fn send<S: Sink<K>>(&mut self, sink: &mut S)
+        ensures sent { let query = SourcesQuery (K.number self.old.group) self.old.s (map K.number self.old.sources.items) in
+            Sends S.takes sink.old (query ∷ []) sink.new }
+        ensures parts { self.new ≡ record self.old { sources = self.new.sources } }
+        ensures empty { self.new.sources.items ≡ [] }
+    {
+        sink.send(QueryParts::Sources {
+            group: self.group,
+            s: self.s,
+            sources: self.sources.as_slice(),
+        });
+        self.sources.clear();
+    }
+
+    /// Collects one more, and sends what is collected where the message is full then.
+    fn push<S: Sink<K>>(&mut self, source: K, sink: &mut S)
+        requires room { array_vec_len self.old.sources < self.old.per_query }
+        requires most { self.old.per_query ≤ 366 }
+        ensures sent { let queries = sources_queries self.old.per_query (K.number self.old.group) self.old.s in
+            (rest : List ℕ) → SendsOn S.takes
+            sink.old (queries (map K.number self.old.sources.items ++ (K.number source ∷ rest)))
+            sink.new (queries (map K.number self.new.sources.items ++ rest)) }
+        ensures parts { self.new ≡ record self.old { sources = self.new.sources } }
+        ensures room { array_vec_len self.new.sources < self.old.per_query }
+    {
+        self.sources.push(source);
+        if self.sources.len() == self.per_query {
+            self.send(sink);
+        }
+    }
+
+    /// Sends what is still collected, if there is any.
+    fn finish<S: Sink<K>>(mut self, sink: &mut S)
+        requires { array_vec_len self.sources < self.per_query }
+        ensures { let collected = map K.number self.sources.items in
+            Sends S.takes sink.old (sources_queries self.per_query (K.number self.group) self.s collected) sink.new }
+    {
+        if !self.sources.is_empty() {
+            self.send(sink);
+        }
+    }
+}
+
+/// Whether a source has a sending to go with this S flag: set where its timer is above the limit. At
+/// most one comparison.
+fn goes<K: Key>(source: &Source<K>, s: bool, limit: Moment, m: &mut Meter) -> bool
+    ensures answer { result ≡ goes_with limit s source.now }
+    ensures spent { Spends 0 1 m.old m.new }
+{
+    source_has_sendings(source) && runs_on(source.timer.deadline(), limit, m) == s
+}
+
+/// Sends the queries for those of a group's sources that go with an S flag. At most one comparison
+/// for each source.
+pub(crate) fn send_sources<K: Key, S: Sink<K>>(
+    group: K,
+    s: bool,
+    row: &[Source<K>],
+    limit: Moment,
+    per_query: usize,
+    m: &mut Meter,
+    sink: &mut S,
+)
+    requires holds_one { 0 < per_query }
+    requires most { per_query ≤ 366 }
+    ensures sent { let going = going_with K.number limit s row.now in
+        Sends S.takes sink.old (sources_queries per_query (K.number group) s going) sink.new }
+    ensures spent { Spends 0 (length row.now) m.old m.new }
+{
+    K::is_small();
+    let mut collected = Collected::new(group, s, per_query);
+    for source in row {
+        if goes(source, s, limit, m) {
+            collected.push(source.address, sink);
+        }
+    }
+    collected.finish(sink);
+}

@@ -1,0 +1,167 @@
+//! What is still to go for one group.
+
+ghost use Rattle.std.specs.Prelude.{◌≡◌, ℕ, ◌+◌, ◌*◌, ◌^◌, ◌≤◌, true, Some, IsSome, length, min};
+ghost use Rattle.mq_count.specs.Spending.{Spends};
+ghost use Rattle.mq_sets.specs.Ascending.{IsAscending, set_of};
+ghost use Rattle.mq_table.specs.Group.{timer_at};
+ghost use Rattle.mq_table.specs.Stored.{size_of};
+ghost use Rattle.mq_table.specs.Sendings.{some_source, has_sendings};
+ghost use Rattle.mq_sched.specs.Schedule.{ScheduledGroup, no_schedule, settled, cleared};
+ghost use Rattle.mq_sched.specs.StoredSchedule.{item_has_sendings};
+ghost use Rattle.std.specs.List.{list_any};
+ghost use Rattle.mq_sched.specs.Sending.{group_asked, sources_asked};
+
+use crate::queries::QuerySchedule;
+use mq_count::{Key, Meter, Moment};
+use mq_table::{FilterMode, Group, Source, SourceTimer, Timing};
+use std::marker::Model;
+
+/// The specific queries that are still to go for one group: its group-specific query, and from when
+/// on those for its sources. How many are to go for a source stands with the source's timer in its
+/// group. A contract sees it as the state of the definitions.
+///
+/// What starts queries: `start_group` and `start_sources`, where a record asks for them. What time
+/// does: `round`. What is dropped: `settle`, after each change of the group, and `clear`, where the
+/// router is no longer querier. What may be asked: `group_query`, `sources_due`. All take the group
+/// that the schedule is of. For a record the order is `settle`, `start_group`, `start_sources`,
+/// `round`; moments don't go back.
+#[derive(Clone, Copy)]
+pub struct Schedule {
+    pub(crate) group_query: Option<QuerySchedule>,
+    pub(crate) sources_due: Option<Moment>,
+}
+
+impl Model for Schedule {
+    ghost use Rattle.mq_sched.specs.Schedule.{ScheduleState};
+
+    ghost Value = { ScheduleState };
+
+    ghost view = { λ s. record { group_query = s.group_query; sources_due = s.sources_due } };
+
+    ghost inverse = { λ v. record { group_query = v.group_query; sources_due = v.sources_due } };
+}
+
+impl Schedule {
+    /// Nothing is to go.
+    pub fn none() -> Schedule
+        ensures { result ≡ no_schedule }
+    {
+        Schedule {
+            group_query: None,
+            sources_due: None,
+        }
+    }
+
+    /// The group query that is to go, if there is one.
+    pub fn group_query(&self) -> Option<QuerySchedule>
+        ensures { result ≡ self.now.group_query }
+    {
+        self.group_query
+    }
+
+    /// When the sources that have sendings to go are due, if one has.
+    pub fn sources_due(&self) -> Option<Moment>
+        ensures { result ≡ self.now.sources_due }
+    {
+        self.sources_due
+    }
+
+    /// Starts the group-specific query of a group: its timer is lowered to the last member query
+    /// time, and the last member query count of sendings are to go, the first at once (RFC 3376
+    /// section 6.6.3.1, RFC 3810 section 7.6.3.1). At most one comparison.
+    pub fn start_group<K: Key>(
+        &mut self,
+        group: &mut Group<K>,
+        now: Moment,
+        timing: &Timing,
+        m: &mut Meter,
+    )
+        requires in_range { now ≤ 2 ^ 53 }
+        ensures asked { let e : ScheduledGroup = record { group = group.old.state; schedule = self.old } in
+            record { group = group.new.state; schedule = self.new } ≡ group_asked timing.now now e }
+        ensures room { group.new.room ≡ group.old.room }
+        ensures spent { Spends 0 1 m.old m.new }
+    {
+        group.lower_group(now, timing, m);
+        if let FilterMode::Exclude(_) = group.mode() {
+            self.group_query = Some(QuerySchedule {
+                sendings: timing.last_member_count(),
+                due: now,
+            });
+        }
+    }
+
+    /// Drops what a record or the end of timers has left without its ground: the group query of a
+    /// group that is INCLUDE, and the moment for sources where none has a sending to go. No
+    /// comparison.
+    pub fn settle<K: Key>(&mut self, group: &Group<K>)
+        ensures { self.new ≡ settled group.now.state self.old }
+    {
+        if let FilterMode::Include = group.mode() {
+            self.group_query = None;
+        }
+        if self.sources_due.is_some() && !has_sendings(group) {
+            self.sources_due = None;
+        }
+    }
+
+    /// Starts the group-and-source-specific query for sources that the group holds: those whose
+    /// timers are above the last member query time are lowered to it, the last member query count of
+    /// sendings are to go for each, and the first is due at once. Where there is none, all stays (RFC
+    /// 3376 section 6.6.3.2, RFC 3810 section 7.6.3.2). At most two comparisons for each source of the group.
+    pub fn start_sources<K: Key>(
+        &mut self,
+        group: &mut Group<K>,
+        asked: &[K],
+        now: Moment,
+        timing: &Timing,
+        m: &mut Meter,
+    )
+        requires in_range { now ≤ 2 ^ 53 }
+        requires ascending { IsAscending K.number asked.now }
+        requires held { (s : ℕ) → set_of K.number asked.now s ≡ true → IsSome (timer_at group.old.state s) }
+        ensures asked { let e : ScheduledGroup = record { group = group.old.state; schedule = self.old } in
+            record { group = group.new.state; schedule = self.new } ≡ sources_asked timing.now now (set_of K.number asked.now) e }
+        ensures room { group.new.room ≡ group.old.room }
+        ensures spent { Spends (min 1 (length asked.now)) (2 * size_of group.old.state) m.old m.new }
+    {
+        if group.start_sendings(asked, now, timing, m) {
+            self.sources_due = Some(now);
+        }
+    }
+
+    /// Drops all that was to go, as a router does that is no longer querier; no timer changes (RFC 3376
+    /// section 6.6.2, RFC 3810 section 7.6.2). No comparison.
+    pub fn clear<K: Key>(&mut self, group: &mut Group<K>)
+        ensures cleared { let e : ScheduledGroup = record { group = group.old.state; schedule = self.old } in
+            record { group = group.new.state; schedule = self.new } ≡ cleared e }
+        ensures room { group.new.room ≡ group.old.room }
+    {
+        group.clear_sendings();
+        *self = Schedule::none();
+    }
+}
+
+/// Whether a source has a sending to go.
+pub(crate) fn source_has_sendings<K: Key>(source: &Source<K>) -> bool
+    ensures { result ≡ item_has_sendings source.now }
+{
+    match source.timer {
+        SourceTimer::Running(_, sendings) => 0 < sendings,
+        SourceTimer::Stopped => false,
+    }
+}
+
+/// Whether some source of the list has a sending to go.
+fn any_has_sendings<K: Key>(row: &[Source<K>]) -> bool
+    ensures { result ≡ list_any item_has_sendings row.now }
+{
+    row.iter().any(|x| source_has_sendings(x))
+}
+
+/// Whether some source of the group has a sending to go.
+pub(crate) fn has_sendings<K: Key>(group: &Group<K>) -> bool
+    ensures { result ≡ some_source (has_sendings group.now.state) group.now.state }
+{
+    any_has_sendings(group.sources())
+}

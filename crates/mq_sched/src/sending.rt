@@ -1,0 +1,134 @@
+//! What is sent for a group at one moment.
+
+ghost use Rattle.std.specs.Prelude.{◌≡◌, ◌+◌, ◌-◌, ◌*◌, ◌^◌, ◌<◌, ◌≤◌, if◌then◌else◌, nat_lt};
+ghost use Rattle.mq_count.specs.Spending.{Spends};
+ghost use Rattle.mq_table.specs.Sendings.{sendings_counted};
+ghost use Rattle.mq_table.specs.Stored.{size_of};
+ghost use Rattle.mq_sched.specs.Schedule.{ScheduledGroup};
+ghost use Rattle.mq_sched.specs.Sending.{is_due, group_messages, source_messages, messages_due, group_counted, sources_due_next, after_round};
+ghost use Rattle.mq_sched.specs.Sink.{Sends};
+
+use crate::portions::send_sources;
+use crate::queries::QuerySchedule;
+use crate::schedules::{Schedule, has_sendings};
+use crate::sinks::{QueryParts, Sink};
+use mq_count::{Key, Meter, Moment};
+use mq_table::{Group, Timing, runs_on};
+
+/// A query that was sent at `now`, if it is to go once more.
+fn counted(query: &QuerySchedule, now: Moment, timing: &Timing) -> Option<QuerySchedule>
+    requires { now ≤ 2 ^ 53 }
+    ensures { result ≡ (if nat_lt 1 query.now.sendings
+        then Some (record { sendings = query.now.sendings - 1; due = now + timing.now.last_member_interval })
+        else None) }
+{
+    if 1 < query.sendings {
+        Some(QuerySchedule {
+            sendings: query.sendings - 1,
+            due: now.after(timing.last_member_interval()),
+        })
+    } else {
+        None
+    }
+}
+
+impl Schedule {
+    /// Sends the group query, where it is due, and counts it.
+    fn send_group_query<'a, K: Key, S: Sink<K>>(
+        &mut self,
+        address: K,
+        group: &'a Group<K>,
+        now: Moment,
+        timing: &Timing,
+        m: &mut Meter,
+        sink: &mut S,
+    )
+        requires in_range { now ≤ 2 ^ 53 }
+        ensures sent { let e : ScheduledGroup = record { group = group.now.state; schedule = self.old } in
+            Sends S.takes sink.old (group_messages timing.now now (K.number address) e) sink.new }
+        ensures counted { self.new ≡ record self.old { group_query = group_counted timing.now now self.old.group_query } }
+        ensures spent { Spends 0 2 m.old m.new }
+    {
+        if let Some(query) = &self.group_query {
+            if m.reached(query.due, now) {
+                let limit = now.after(timing.last_member_time());
+                let s = runs_on(group.mode().deadline(), limit, m);
+                let left = counted(query, now, timing);
+                let query: QueryParts<'a, K> = QueryParts::Group { group: address, s };
+                sink.send(query);
+                self.group_query = left;
+            }
+        }
+    }
+
+    /// Sends the queries for the sources that have sendings to go, where they are due, and counts
+    /// them.
+    fn send_source_queries<K: Key, S: Sink<K>>(
+        &mut self,
+        address: K,
+        group: &mut Group<K>,
+        now: Moment,
+        timing: &Timing,
+        per_query: usize,
+        m: &mut Meter,
+        sink: &mut S,
+    )
+        requires in_range { now ≤ 2 ^ 53 }
+        requires holds_one { 0 < per_query }
+        requires most { per_query ≤ 366 }
+        ensures sent { let e : ScheduledGroup = record { group = group.old.state; schedule = self.old } in
+            Sends S.takes sink.old (source_messages per_query timing.now now (K.number address) e) sink.new }
+        ensures group { let due = is_due now self.old.sources_due in
+            group.new.state ≡ (if due then sendings_counted group.old.state else group.old.state) }
+        ensures next { let due = is_due now self.old.sources_due in
+            let next = if due then sources_due_next timing.now now group.new.state else self.old.sources_due in
+            self.new ≡ record self.old { sources_due = next } }
+        ensures room { group.new.room ≡ group.old.room }
+        ensures spent { Spends 0 (2 * size_of group.old.state + 1) m.old m.new }
+    {
+        if let Some(due) = self.sources_due {
+            if m.reached(due, now) {
+                let limit = now.after(timing.last_member_time());
+                send_sources(address, true, group.sources(), limit, per_query, m, sink);
+                send_sources(address, false, group.sources(), limit, per_query, m, sink);
+                group.count_sendings();
+                self.sources_due = if has_sendings(group) {
+                    Some(now.after(timing.last_member_interval()))
+                } else {
+                    None
+                };
+            }
+        }
+    }
+
+    /// Sends what is due for the group of this address, at or before `now`, once however late: the
+    /// group query first, then the sources that have sendings to go, those whose timers are above the
+    /// last member query time with S set, and then the others with S clear, ascending, in as few
+    /// messages as hold them. What was sent has one sending fewer, and the next is due a last member
+    /// query interval after `now` (RFC 3376 sections 6.6.3.1 and 6.6.3.2, RFC 3810 sections 7.6.3.1
+    /// and 7.6.3.2). A message holds `per_query` sources, at least one and at most 366. At most two
+    /// comparisons for each source, and three more.
+    pub fn round<K: Key, S: Sink<K>>(
+        &mut self,
+        address: K,
+        group: &mut Group<K>,
+        now: Moment,
+        timing: &Timing,
+        per_query: usize,
+        m: &mut Meter,
+        sink: &mut S,
+    )
+        requires in_range { now ≤ 2 ^ 53 }
+        requires holds_one { 0 < per_query }
+        requires most { per_query ≤ 366 }
+        ensures sent { let e : ScheduledGroup = record { group = group.old.state; schedule = self.old } in
+            Sends S.takes sink.old (messages_due per_query timing.now now (K.number address) e) sink.new }
+        ensures after { let e : ScheduledGroup = record { group = group.old.state; schedule = self.old } in
+            record { group = group.new.state; schedule = self.new } ≡ after_round timing.now now e }
+        ensures room { group.new.room ≡ group.old.room }
+        ensures spent { Spends 0 (2 * size_of group.old.state + 3) m.old m.new }
+    {
+        self.send_group_query(address, group, now, timing, m, sink);
+        self.send_source_queries(address, group, now, timing, per_query, m, sink);
+    }
+}

@@ -1,0 +1,42 @@
+use Rattle.std.proofs.Common.{◌<◌, ◌∙◌, ap, arith, length, set, []}
+use Rattle.std.proofs.lemmas.List.{length-map, length-set}
+use Rattle.mq_sets.specs.Pools.{cells_of}
+use Rattle.mq_sets.specs.NumberedRows.{NumberedRowsState}
+use Rattle.mq_sets.proofs.RowEdits.{IsStored-emptied, emptied-placed, emptied-rows, with_parts}
+use Rattle.mq_sets.proofs.numbered_rows.NumberedRows.clear.Goals as goal
+
+pub invariant_of-self : goal.invariant_of-self
+invariant_of-self g c =
+    let cells = c.self.inside.cells.items in
+    let extents = c.self.inside.extents.items in
+    let empty = c.extent_at.result in
+    let size = c.extent_at.ensures.length in
+    let first = c.extent_at.ensures.placed size in
+    let rows = ap (λ (s : NumberedRowsState _). length s.rows) c.self.view_is in
+    let in_list : c.args.number < length extents = omega (arith, rows, length-map extents (cells_of cells), c.requires.number) in
+    let here = c.index-before.ensures in
+    let same = length-set extents c.args.number empty in
+    let known = c.self.invariant in (
+      IsStored-emptied cells extents c.args.number c.index-before.result.now empty in_list here size first known.0,
+      emptied-placed cells extents c.args.number c.index-before.result.now empty in_list here size first known.1,
+      known.2,
+      omega (arith, same, known.3),
+      omega (arith, same, known.4),
+      omega (arith, same, known.5),
+      omega (arith, same, known.6),
+    )
+
+pub returns : goal.returns
+returns g c =
+    let cells = c.self.inside.cells.items in
+    let extents = c.self.inside.extents.items in
+    let empty = c.extent_at.result in
+    let size = c.extent_at.ensures.length in
+    let first = c.extent_at.ensures.placed size in
+    let rows = ap (λ (s : NumberedRowsState _). length s.rows) c.self.view_is in
+    let in_list : c.args.number < length extents = omega (arith, rows, length-map extents (cells_of cells), c.requires.number) in
+    let ahead = ap (λ (s : NumberedRowsState _). s.ahead) c.self.view_is in
+    let was = ap (λ (s : NumberedRowsState _). set s.rows c.args.number []) c.self.view_is in
+    with_parts c.args.self.now _ _ _ _ _ _ _ c.self.view_is
+    (emptied-rows cells extents c.args.number c.index-before.result.now empty in_list c.index-before.ensures size first ∙ was)
+    (omega (arith, ahead, length-set extents c.args.number empty))

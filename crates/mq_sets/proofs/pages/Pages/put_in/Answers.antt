@@ -1,0 +1,20 @@
+use Rattle.std.proofs.Common.{ℕ, ◌≡◌, ◌<◌, ◌+◌, List, [], sym, ap, ◌∙◌, arith, length, map, set, get_or, length-set, Vec, Global}
+use Rattle.std.specs.List.{insert}
+use Rattle.std.proofs.lemmas.List.{map-set, get_or-map, length-map}
+use Rattle.mq_sets.specs.NumberedKeys.{PagesState}
+use Rattle.mq_sets.proofs.PagedNumbers.{paged, paged-same}
+use Rattle.mq_sets.proofs.pages.Pages.put_in.Goals as goal
+
+pub returns-clause-pages : goal.returns-clause-pages
+returns-clause-pages c =
+    let items : Vec ℕ Global → List ℕ = λ page. page.items in
+    let used = c.self.inside.used.items in
+    let count = ap (λ (s : PagesState). length s.pages) c.self.view_is in
+    let same : length (map items used) ≡ length used = length-map used items in
+    let in_list : c.args.page < length used = omega (arith, count, same, c.requires.page) in
+    let here : c.index_mut-numbers.result.now.items ≡ get_or (map items used) c.args.page [] = ap items c.index_mut-numbers.ensures.value ∙ sym (get_or-map items used c.args.page c.index_mut-numbers.result.now [] in_list) in
+    let page = c.insert_at_once.ensures.items ∙ ap (λ xs. insert xs c.args.place c.args.number) here in
+    paged-same
+    (map-set items used c.args.page c.insert_at_once.new.list ∙ ap (set (map items used) c.args.page) page)
+    (ap (λ k. k + length c.self.inside.spare.items) (length-set used c.args.page c.insert_at_once.new.list))
+    ∙ ap (λ (s : PagesState). paged (set s.pages c.args.page (insert (get_or s.pages c.args.page []) c.args.place c.args.number)) s.limit) c.self.view_is

@@ -1,0 +1,10 @@
+pub mod Ascending
+pub mod Merging
+pub mod NumberedKeys
+pub mod NumberedRows
+pub mod Pools
+pub mod Rules
+pub mod Search
+pub mod Sides
+pub mod Slots
+pub mod SourceSets

@@ -1,0 +1,165 @@
+//! Rows of cells that are kept by number, in memory that is reserved once.
+
+ghost use Rattle.std.specs.Prelude.{◌≡◌, ◌+◌, ◌^◌, ◌<◌, ◌≤◌, [], length, map, replicate, slice_index_or, slice_set, IfOk};
+ghost use Rattle.mq_count.specs.Spending.{Spends};
+ghost use Rattle.mq_sets.specs.Pools.{cells_in};
+ghost use Rattle.mq_sets.specs.NumberedRows.{NumberedRowsState, NamesRows, MovesArePaid, cells_reserved, moved_for, size_at, with_row};
+
+use crate::extents::{Extent, extent_at, write_over};
+use crate::memory::Memory;
+use crate::packing::make_space_for;
+use mq_count::Moves;
+use std::alloc::Global;
+use std::marker::Model;
+
+/// A row of cells for each number below the room; one that has no cells is not in use. A contract sees the rows by their
+/// numbers, how many cells they may have together, and how many can be written behind the last one before the rows are packed.
+/// `with_room` reserves the memory for all of it, and no other call takes any.
+///
+/// A row's cells stand behind one another in one vector. `replace` writes the new row over the old one where it is no longer;
+/// else behind the last cell, and the old one is forgotten; where the vector's end is reached, the rows in use are packed: copied,
+/// one after another, into a second vector of the same size, and the two change places. Each is longer by a quarter, and by a
+/// cell a row, than what the rows may have together. So four times what was written behind the last cell since the time before
+/// is no less than what is copied and looked at.
+#[derive(Drop)]
+pub struct NumberedRows<T: Copy> {
+    extents: Vec<Extent>,
+    cells: Vec<T>,
+    spare: Vec<T>,
+    used: usize,
+    cell_limit: usize,
+}
+
+impl<T: Copy> Model for NumberedRows<T> {
+    ghost use Rattle.std.specs.Prelude.{◌≡◌, ◌-◌, ◌^◌, ◌<◌, ◌≤◌, [], length, vec_capacity};
+    ghost use Rattle.std.specs.List.{All};
+    ghost use Rattle.mq_sets.specs.Pools.{rows_of, IsStored};
+    ghost use Rattle.mq_sets.specs.NumberedRows.{NumberedRowsState, IsPlaced, cells_reserved};
+
+    ghost Value = { NumberedRowsState T };
+
+    ghost view = { λ r. record {
+      rows = rows_of r.cells.items r.extents.items;
+      cell_limit = r.cell_limit;
+      ahead = cells_reserved (length r.extents.items) r.cell_limit - length r.cells.items;
+    } };
+
+    ghost invariant = { λ r. IsStored r.extents.items r.cells.items r.used (length r.extents.items) r.cell_limit
+        × All IsPlaced r.extents.items
+        × (r.spare.items ≡ [])
+        × (cells_reserved (length r.extents.items) r.cell_limit ≤ vec_capacity r.cells)
+        × (cells_reserved (length r.extents.items) r.cell_limit ≤ vec_capacity r.spare)
+        × (length r.cells.items ≤ cells_reserved (length r.extents.items) r.cell_limit)
+        × (cells_reserved (length r.extents.items) r.cell_limit < 2 ^ 32) };
+}
+
+impl<T: Copy> NumberedRows<T> {
+    /// Rows of no cells for the numbers below `rows`, with memory for `cells` cells together; or `Memory`, where that was refused.
+    pub fn with_room(alloc: Global, rows: usize, cells: usize) -> Result<NumberedRows<T>, Memory>
+        requires counted { cells_reserved rows cells < 2 ^ 32 }
+        ensures { IfOk result (λ r. r ≡ record { rows = replicate rows []; cell_limit = cells; ahead = cells_reserved rows cells }) }
+    {
+        let size = cells + cells / 4 + rows;
+        let none = Extent {
+            start: 0,
+            length: 0,
+        };
+        Ok(NumberedRows {
+            extents: vec![in alloc; none; rows]?,
+            cells: Vec::with_capacity(alloc, size)?,
+            spare: Vec::with_capacity(alloc, size)?,
+            used: 0,
+            cell_limit: cells,
+        })
+    }
+
+    /// The cells of a number's row.
+    pub fn row(&self, number: u16) -> &[T]
+        requires number { number < length self.now.rows }
+        ensures cells { result.now ≡ slice_index_or self.now.rows number [] }
+    {
+        let extent = self.extents[number as usize];
+        let start = extent.start as usize;
+        &self.cells[start..start + extent.length as usize]
+    }
+
+    /// How many cells are free: what is left of the limit when all rows have theirs.
+    pub fn free_cells(&self) -> usize
+        ensures { result + cells_in self.now.rows ≡ self.now.cell_limit }
+    {
+        self.cell_limit - self.used
+    }
+
+    /// Takes all cells from a number's row. Nothing is moved.
+    pub fn clear(&mut self, number: u16)
+        requires number { number < length self.old.rows }
+        ensures { self.new ≡ record self.old { rows = slice_set self.old.rows number [] } }
+    {
+        let before = self.extents[number as usize];
+        self.extents[number as usize] = extent_at(0, 0);
+        self.used -= before.length as usize;
+    }
+
+    /// Puts the cells of `row` in the place of those that a number's row has. `in_use` names the rows that have cells. The moves
+    /// are the cells that are written and, where the rows are packed, the rows that are looked at.
+    pub fn replace(&mut self, number: u16, row: &[T], in_use: &[u16], moves: &mut Moves)
+        requires number { number < length self.old.rows }
+        requires fits { cells_in self.old.rows + length row.now ≤ self.old.cell_limit + size_at self.old number }
+        requires named { NamesRows (map length self.old.rows) in_use.now }
+        ensures rows { self.new ≡ with_row self.old number row.now }
+        ensures moves { let moved = moved_for self.old number row.now (length in_use.now) in
+            Spends moved moved moves.old moves.new }
+    {
+        if row.is_empty() {
+            self.clear(number);
+            return;
+        }
+        let before = self.extents[number as usize];
+        if row.len() <= before.length as usize {
+            write_over(
+                &mut self.extents,
+                &mut self.cells,
+                number as usize,
+                before,
+                row,
+            );
+            self.used = self.used - before.length as usize + row.len();
+            moves.count(row.len());
+        } else {
+            self.write_behind(number, row, in_use, moves);
+        }
+    }
+
+    /// The same behind the last cell, where the row is longer than the one that its number has.
+    fn write_behind(&mut self, number: u16, row: &[T], in_use: &[u16], moves: &mut Moves)
+        requires number { number < length self.old.rows }
+        requires longer { size_at self.old number < length row.now }
+        requires fits { cells_in self.old.rows + length row.now ≤ self.old.cell_limit + size_at self.old number }
+        requires named { NamesRows (map length self.old.rows) in_use.now }
+        ensures rows { self.new ≡ with_row self.old number row.now }
+        ensures moves { let moved = moved_for self.old number row.now (length in_use.now) in
+            Spends moved moved moves.old moves.new }
+    {
+        let size = self.cell_limit + self.cell_limit / 4 + self.extents.len();
+        let forgotten = self.extents[number as usize].length as usize;
+        self.extents[number as usize] = extent_at(0, 0);
+        make_space_for(
+            &mut self.extents,
+            &mut self.cells,
+            &mut self.spare,
+            row.len(),
+            size,
+            in_use,
+            moves,
+        );
+        self.extents[number as usize] = extent_at(self.cells.len(), row.len());
+        self.cells.extend_from_slice(row).unwrap();
+        self.used = self.used - forgotten + row.len();
+        moves.count(row.len());
+    }
+}
+
+/// The law `MovesArePaid`: what rows move that are put in the place of others is in proportion to their own cells.
+pub fn moves_are_paid<T>()
+    ensures { MovesArePaid T }
+{}

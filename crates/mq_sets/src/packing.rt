@@ -1,0 +1,90 @@
+//! How the rows that are kept by number are packed.
+
+ghost use Rattle.std.specs.Prelude.{◌≡◌, ◌+◌, ◌^◌, ◌<◌, ◌≤◌, [], length, map, nat_le, if◌then◌else◌, vec_capacity};
+ghost use Rattle.std.specs.List.{All};
+ghost use Rattle.mq_count.specs.Spending.{Spends};
+ghost use Rattle.mq_sets.specs.Pools.{rows_of, cells_said, IsWithin, AreApart};
+ghost use Rattle.mq_sets.specs.NumberedRows.{NamesRows, IsPlaced};
+
+use crate::extents::{Extent, extent_at};
+use mq_count::Moves;
+use std::mem;
+
+/// Copies the rows that `numbers` names, one after another, into `packed`, which is empty and has space for them. Each cell
+/// that is copied and each number is counted.
+pub(crate) fn pack_named<T: Copy>(
+    extents: &mut [Extent],
+    cells: &[T],
+    numbers: &[u16],
+    packed: &mut Vec<T>,
+    moves: &mut Moves,
+)
+    requires within { All (IsWithin cells.now) extents.old }
+    requires placed { All IsPlaced extents.old }
+    requires named { NamesRows (map (λ e. e.length) extents.old) numbers.now }
+    requires empty { packed.old.items ≡ [] }
+    requires space { cells_said extents.old ≤ vec_capacity packed.old }
+    requires numbered { cells_said extents.old < 2 ^ 32 }
+    ensures rows { rows_of packed.new.items extents.new ≡ rows_of cells.now extents.old }
+    ensures within { All (IsWithin packed.new.items) extents.new }
+    ensures placed { All IsPlaced extents.new }
+    ensures lengths { map (λ e. e.length) extents.new ≡ map (λ e. e.length) extents.old }
+    ensures apart { AreApart extents.new }
+    ensures filled { length packed.new.items ≡ cells_said extents.old }
+    ensures capacity { vec_capacity packed.old ≤ vec_capacity packed.new }
+    ensures moves { let count = cells_said extents.old + length numbers.now in Spends count count moves.old moves.new }
+{
+    for number in numbers {
+        let place = *number as usize;
+        let extent = extents[place];
+        let first = extent.start as usize;
+        let row = &cells[first..first + extent.length as usize];
+        let start = packed.len();
+        packed.extend_from_slice(row).unwrap();
+        extents[place] = extent_at(start, row.len());
+    }
+    moves.count(packed.len());
+    moves.count(numbers.len());
+}
+
+/// Makes space for `count` cells behind the last one, so that there are no more than `size`. Where there is none left, the
+/// rows that `numbers` names are packed into `spare`, which is empty, and the two vectors change places.
+pub(crate) fn make_space_for<T: Copy>(
+    extents: &mut Vec<Extent>,
+    cells: &mut Vec<T>,
+    spare: &mut Vec<T>,
+    count: usize,
+    size: usize,
+    numbers: &[u16],
+    moves: &mut Moves,
+)
+    requires within { All (IsWithin cells.old.items) extents.old.items }
+    requires apart { AreApart extents.old.items }
+    requires placed { All IsPlaced extents.old.items }
+    requires named { NamesRows (map (λ e. e.length) extents.old.items) numbers.now }
+    requires empty { spare.old.items ≡ [] }
+    requires space { cells_said extents.old.items + count ≤ size }
+    requires filled { length cells.old.items ≤ size }
+    requires numbered { size < 2 ^ 32 }
+    requires capacity { size ≤ vec_capacity cells.old }
+    requires spare_capacity { size ≤ vec_capacity spare.old }
+    ensures rows { rows_of cells.new.items extents.new.items ≡ rows_of cells.old.items extents.old.items }
+    ensures within { All (IsWithin cells.new.items) extents.new.items }
+    ensures apart { AreApart extents.new.items }
+    ensures placed { All IsPlaced extents.new.items }
+    ensures lengths { map (λ e. e.length) extents.new.items ≡ map (λ e. e.length) extents.old.items }
+    ensures empty { spare.new.items ≡ [] }
+    ensures space { length cells.new.items + count ≤ size }
+    ensures filled { length cells.new.items ≡ (if nat_le (length cells.old.items + count) size then length cells.old.items else cells_said extents.old.items) }
+    ensures capacity { size ≤ vec_capacity cells.new }
+    ensures spare_capacity { size ≤ vec_capacity spare.new }
+    ensures moves { let moved = if nat_le (length cells.old.items + count) size then 0 else cells_said extents.old.items + length numbers.now in
+        Spends moved moved moves.old moves.new }
+{
+    if count <= size - cells.len() {
+        return;
+    }
+    pack_named(extents, cells, numbers, spare, moves);
+    mem::swap(cells, spare);
+    spare.clear();
+}

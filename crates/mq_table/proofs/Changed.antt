@@ -1,0 +1,210 @@
+-- A record that is merged with its group changes it as the tables say.
+use Rattle.std.proofs.Common.{◌≡◌, ℕ, ◌+◌, ◌==◌, Bool, true, false, cond, List, [], ◌∷◌, Option, None, Some, is_some, refl, sym, ap, ◌∙◌, ◌||◌}
+use Rattle.std.specs.Prelude.{map as list_map}
+use Rattle.std.specs.List.{filter_map, list_any}
+use Rattle.std.specs.Option.{option_map, option_and_then}
+use Rattle.std.specs.FinMap as map
+use Rattle.std.specs.FinSet as set
+use Rattle.mq_sets.specs.Ascending.{IsAscending, set_of, item_with}
+use Rattle.mq_sets.specs.Merging.{merged_lists, number_of, paired}
+use Rattle.mq_sets.specs.Rules.{KeepsNumbers}
+use Rattle.mq_sets.proofs.Found.{found_where_member}
+use Rattle.mq_sets.proofs.Rules.{rules_keep_order, rules_act_at_each_number}
+use Rattle.mq_table.specs.declared.kind.Kind.{Kind}
+use Rattle.mq_table.specs.declared.kind.Kind.TheVariants.{IsIn, IsEx, ToIn, ToEx, Allow, Block}
+use Rattle.mq_table.specs.declared.rules.Rule.{Rule}
+use Rattle.mq_table.specs.declared.sources.Source.{Source}
+use Rattle.mq_table.specs.declared.timing.Timing.{Timing}
+use Rattle.mq_table.specs.Sets.{Set}
+use Rattle.mq_table.specs.Group.{GroupState, FilterMode, Include, Exclude, SourceTimer, running, stopped, timer_at}
+use Rattle.mq_table.specs.Timing.{membership_interval}
+use Rattle.mq_table.specs.Table.{table_row, timer_by, change_of}
+use Rattle.mq_table.specs.AtSource.{timer_after, is_asked_after, mode_after, asks_group_after}
+use Rattle.mq_table.specs.Stored.{timers_in, named_in, number_in}
+use Rattle.mq_table.specs.MergedRecord.{source_with, source_made, source_asked}
+use Rattle.mq_table.proofs.Groups.{same_sources}
+use Rattle.mq_table.proofs.TableRows.{timer_by-nothing, timer_at-change_of}
+use Rattle.mq_table.proofs.SourceLists.{get-timers_in}
+
+-- Of each source a row of the tables sees its timer before and whether it is named.
+row-timer : (gmi : ℕ) (mode : FilterMode) (kind : Kind) (g : GroupState) (A : Set) (s : ℕ) → timer_by (table_row gmi mode kind (running g) (stopped g) A) gmi mode s (timer_at g s) ≡ timer_after gmi mode kind (timer_at g s) (A s)
+row-timer gmi Include IsIn g A s = refl
+row-timer gmi Include IsEx g A s = refl
+row-timer gmi Include Allow g A s = refl
+row-timer gmi Include Block g A s = refl
+row-timer gmi Include ToEx g A s = refl
+row-timer gmi Include ToIn g A s = refl
+row-timer gmi (Exclude d) IsIn g A s = refl
+row-timer gmi (Exclude d) IsEx g A s = refl
+row-timer gmi (Exclude d) Allow g A s = refl
+row-timer gmi (Exclude d) Block g A s = refl
+row-timer gmi (Exclude d) ToEx g A s = refl
+row-timer gmi (Exclude d) ToIn g A s = refl
+
+row-query : (gmi : ℕ) (mode : FilterMode) (kind : Kind) (g : GroupState) (A : Set) (s : ℕ) → (let l = table_row gmi mode kind (running g) (stopped g) A in l.query s) ≡ is_asked_after gmi mode kind (timer_at g s) (A s)
+row-query gmi Include IsIn g A s = refl
+row-query gmi Include IsEx g A s = refl
+row-query gmi Include Allow g A s = refl
+row-query gmi Include Block g A s = refl
+row-query gmi Include ToEx g A s = refl
+row-query gmi Include ToIn g A s = refl
+row-query gmi (Exclude d) IsIn g A s = refl
+row-query gmi (Exclude d) IsEx g A s = refl
+row-query gmi (Exclude d) Allow g A s = refl
+row-query gmi (Exclude d) Block g A s = refl
+row-query gmi (Exclude d) ToEx g A s = refl
+row-query gmi (Exclude d) ToIn g A s = refl
+
+-- its mode and its query to the group are the same for all sets
+row-mode : (gmi : ℕ) (mode : FilterMode) (kind : Kind) (X Y A : Set) → (let l = table_row gmi mode kind X Y A in l.mode) ≡ mode_after gmi mode kind
+row-mode gmi Include IsIn X Y A = refl
+row-mode gmi Include IsEx X Y A = refl
+row-mode gmi Include Allow X Y A = refl
+row-mode gmi Include Block X Y A = refl
+row-mode gmi Include ToEx X Y A = refl
+row-mode gmi Include ToIn X Y A = refl
+row-mode gmi (Exclude d) IsIn X Y A = refl
+row-mode gmi (Exclude d) IsEx X Y A = refl
+row-mode gmi (Exclude d) Allow X Y A = refl
+row-mode gmi (Exclude d) Block X Y A = refl
+row-mode gmi (Exclude d) ToEx X Y A = refl
+row-mode gmi (Exclude d) ToIn X Y A = refl
+
+row-query_group : (gmi : ℕ) (mode : FilterMode) (kind : Kind) (X Y A : Set) → (let l = table_row gmi mode kind X Y A in l.query_group) ≡ asks_group_after gmi mode kind
+row-query_group gmi Include IsIn X Y A = refl
+row-query_group gmi Include IsEx X Y A = refl
+row-query_group gmi Include Allow X Y A = refl
+row-query_group gmi Include Block X Y A = refl
+row-query_group gmi Include ToEx X Y A = refl
+row-query_group gmi Include ToIn X Y A = refl
+row-query_group gmi (Exclude d) IsIn X Y A = refl
+row-query_group gmi (Exclude d) IsEx X Y A = refl
+row-query_group gmi (Exclude d) Allow X Y A = refl
+row-query_group gmi (Exclude d) Block X Y A = refl
+row-query_group gmi (Exclude d) ToEx X Y A = refl
+row-query_group gmi (Exclude d) ToIn X Y A = refl
+
+-- a source that is neither held nor named isn't asked for
+asked-nothing : (gmi : ℕ) (mode : FilterMode) (kind : Kind) → is_asked_after gmi mode kind None false ≡ false
+asked-nothing gmi Include IsIn = refl
+asked-nothing gmi Include IsEx = refl
+asked-nothing gmi Include Allow = refl
+asked-nothing gmi Include Block = refl
+asked-nothing gmi Include ToEx = refl
+asked-nothing gmi Include ToIn = refl
+asked-nothing gmi (Exclude d) IsIn = refl
+asked-nothing gmi (Exclude d) IsEx = refl
+asked-nothing gmi (Exclude d) Allow = refl
+asked-nothing gmi (Exclude d) Block = refl
+asked-nothing gmi (Exclude d) ToEx = refl
+asked-nothing gmi (Exclude d) ToIn = refl
+
+-- a source with a timer has that timer and the source's address
+pub timer-source_with : {K : Type 0} (address : K) (timer : Option SourceTimer) → option_map (λ (x : Source K). x.timer) (source_with address timer) ≡ timer
+timer-source_with address None = refl
+timer-source_with address (Some timer) = refl
+
+pub address-source_with : {K : Type 0} (address : K) (timer : Option SourceTimer) (x : Source K) → source_with address timer ≡ Some x → x.address ≡ address
+address-source_with address None x is = cc
+address-source_with address (Some timer) x is = cc
+
+address-if : {K : Type 0} (address : K) (b : Bool) (x : K) → cond b (Some address) None ≡ Some x → x ≡ address
+address-if address true x is = cc
+address-if address false x is = cc
+
+some-if : {K : Type 0} (address : K) (b : Bool) → is_some (cond b (Some address) None) ≡ b
+some-if address true = refl
+some-if address false = refl
+
+module _ {K : Type 0} (number : K → ℕ) (rule : Rule) where
+  made_keeps : KeepsNumbers (number_of (number_in number) number) (number_in number) (source_made rule)
+  made_keeps (Some x, named) y is = ap number (address-source_with x.address _ y is)
+  made_keeps (None, Some a) y is = ap number (address-source_with a _ y is)
+  made_keeps (None, None) y is = cc
+
+  asked_keeps : KeepsNumbers (number_of (number_in number) number) number (source_asked rule)
+  asked_keeps (Some x, named) y is = ap number (address-if x.address _ y is)
+  asked_keeps (None, Some a) y is = ap number (address-if a _ y is)
+  asked_keeps (None, None) y is = cc
+
+  -- what the rules make of what both sides have at one number
+  made_at : (held : Option (Source K)) (named : Option K) → option_map (λ (x : Source K). x.timer) (option_and_then (source_made rule) (paired held named)) ≡ timer_after rule.interval_end rule.mode rule.kind (option_map (λ (x : Source K). x.timer) held) (is_some named)
+  made_at None None = sym (timer_by-nothing rule.interval_end rule.mode rule.kind (λ _. false) (λ _. false) (λ _. false) 0 refl refl refl)
+  made_at None (Some a) = timer-source_with a _
+  made_at (Some x) named = timer-source_with x.address _
+
+  asked_at : (held : Option (Source K)) (named : Option K) → is_some (option_and_then (source_asked rule) (paired held named)) ≡ is_asked_after rule.interval_end rule.mode rule.kind (option_map (λ (x : Source K). x.timer) held) (is_some named)
+  asked_at None None = sym (asked-nothing rule.interval_end rule.mode rule.kind)
+  asked_at None (Some a) = some-if a _
+  asked_at (Some x) named = some-if x.address _
+
+  module _ (held : List (Source K)) (named : List K) (up_held : IsAscending (number_in number) held) (up_named : IsAscending number named) where
+    abbrev pub pairs : List (Option (Source K) × Option K)
+    pairs = merged_lists (number_in number) number held named
+
+    pub made_ascends : IsAscending (number_in number) (filter_map (source_made rule) pairs)
+    made_ascends = rules_keep_order (number_in number) number (number_in number) (source_made rule) held named made_keeps up_held up_named
+
+    pub asked_ascends : IsAscending number (filter_map (source_asked rule) pairs)
+    asked_ascends = rules_keep_order (number_in number) number number (source_asked rule) held named asked_keeps up_held up_named
+
+    get-made : (s : ℕ) → map.get (timers_in number (filter_map (source_made rule) pairs)) s ≡ timer_after rule.interval_end rule.mode rule.kind (map.get (timers_in number held) s) (set_of number named s)
+    get-made s =
+        get-timers_in number _ s
+        ∙ ap (option_map (λ (x : Source K). x.timer)) (rules_act_at_each_number (number_in number) number (number_in number) (source_made rule) held named s made_keeps up_held up_named)
+        ∙ made_at (item_with (number_in number) held s) (item_with number named s)
+        ∙ (λ i. timer_after rule.interval_end rule.mode rule.kind (sym (get-timers_in number held s) i) (found_where_member number named s i))
+
+    set_of-asked : (s : ℕ) → set_of number (filter_map (source_asked rule) pairs) s ≡ is_asked_after rule.interval_end rule.mode rule.kind (map.get (timers_in number held) s) (set_of number named s)
+    set_of-asked s =
+        sym (found_where_member number (filter_map (source_asked rule) pairs) s)
+        ∙ ap is_some (rules_act_at_each_number (number_in number) number number (source_asked rule) held named s asked_keeps up_held up_named)
+        ∙ asked_at (item_with (number_in number) held s) (item_with number named s)
+        ∙ (λ i. is_asked_after rule.interval_end rule.mode rule.kind (sym (get-timers_in number held s) i) (found_where_member number named s i))
+
+-- the addresses that a record names, as a set
+any-map : {K : Type 0} (number : K → ℕ) (xs : List K) (s : ℕ) → list_any (λ y. y == s) (list_map number xs) ≡ set_of number xs s
+any-map number [] s = refl
+any-map number (x ∷ xs) s = ap (λ b. (number x == s) || b) (any-map number xs s)
+
+contains-named_in : {K : Type 0} (number : K → ℕ) (xs : List K) (s : ℕ) → set.contains (named_in number xs) s ≡ set_of number xs s
+contains-named_in number xs s = set.contains-from_list_nat (list_map number xs) s ∙ any-map number xs s
+
+-- The group that the pushed sources make, and the sources that are asked for, are those of the tables.
+module _ {K : Type 0} (number : K → ℕ) (timing : Timing) (now : ℕ) (mode : FilterMode) (kind : Kind) (v1 v2 : Option ℕ) (held : List (Source K)) (named : List K) (up_held : IsAscending (number_in number) held) (up_named : IsAscending number named) where
+  abbrev pub state_before : GroupState
+  state_before = record { mode = mode; sources = timers_in number held; v1 = v1; v2 = v2 }
+
+  abbrev pub rule_of_record : Rule
+  rule_of_record = record { kind = kind; mode = mode; interval_end = now + membership_interval timing }
+
+  pub state_after : record { mode = mode_after (now + membership_interval timing) mode kind; sources = timers_in number (filter_map (source_made rule_of_record) (merged_lists (number_in number) number held named)); v1 = v1; v2 = v2 } ≡ (change_of timing now state_before kind (named_in number named)).group
+  state_after =
+      let gmi = now + membership_interval timing in
+      let timers = same_sources (timers_in number (filter_map (source_made rule_of_record) (merged_lists (number_in number) number held named))) _ (λ s.
+      get-made number rule_of_record held named up_held up_named s
+      ∙ ap (timer_after gmi mode kind (timer_at state_before s)) (sym (contains-named_in number named s))
+      ∙ sym (row-timer gmi mode kind state_before (set.contains (named_in number named)) s)
+      ∙ sym (timer_at-change_of timing now state_before kind (named_in number named) s)) in
+      λ i. record { mode = sym (row-mode gmi mode kind (running state_before) (stopped state_before) (set.contains (named_in number named))) i; sources = timers i; v1 = v1; v2 = v2 }
+
+  pub asked_of : (s : ℕ) → set_of number (filter_map (source_asked rule_of_record) (merged_lists (number_in number) number held named)) s ≡ (change_of timing now state_before kind (named_in number named)).query s
+  asked_of s =
+      let gmi = now + membership_interval timing in
+      set_of-asked number rule_of_record held named up_held up_named s
+      ∙ ap (is_asked_after gmi mode kind (timer_at state_before s)) (sym (contains-named_in number named s))
+      ∙ sym (row-query gmi mode kind state_before (set.contains (named_in number named)) s)
+
+  pub group_asked_of : asks_group_after (now + membership_interval timing) mode kind ≡ (change_of timing now state_before kind (named_in number named)).query_group
+  group_asked_of = sym (row-query_group (now + membership_interval timing) mode kind (running state_before) (stopped state_before) (set.contains (named_in number named)))
+
+  -- The same, of values that are known by equations.
+  module _ (g : GroupState) (end : ℕ) (is_end : end ≡ now + membership_interval timing) (is_before : state_before ≡ g) where
+    pub recorded_group : (new_mode : FilterMode) (sources : List (Source K)) → new_mode ≡ mode_after end mode kind → sources ≡ filter_map (source_made (record { kind = kind; mode = mode; interval_end = end })) (merged_lists (number_in number) number held named) → record { mode = new_mode; sources = timers_in number sources; v1 = v1; v2 = v2 } ≡ (change_of timing now g kind (named_in number named)).group
+    recorded_group new_mode sources is_mode are_sources = rw (is_mode, are_sources, is_end, ← is_before) state_after
+
+    pub recorded_query : (asked : List K) → asked ≡ filter_map (source_asked (record { kind = kind; mode = mode; interval_end = end })) (merged_lists (number_in number) number held named) → (s : ℕ) → set_of number asked s ≡ (change_of timing now g kind (named_in number named)).query s
+    recorded_query asked are_asked s = rw (are_asked, is_end, ← is_before) (asked_of s)
+
+    pub recorded_query_group : (b : Bool) → b ≡ asks_group_after end mode kind → b ≡ (change_of timing now g kind (named_in number named)).query_group
+    recorded_query_group b is = rw (is, is_end, ← is_before) group_asked_of

@@ -1,0 +1,17 @@
+pub mod Maps
+pub mod Groups
+pub mod TableRows
+pub mod Held
+pub mod Composed
+pub mod Ahead
+pub mod Lower
+pub mod SourceLists
+pub mod Rows
+pub mod InOrder
+pub mod Pushed
+pub mod Runs
+pub mod Changed
+pub mod MadeLists
+pub mod Asking
+pub mod Ended
+pub mod EndedRuns

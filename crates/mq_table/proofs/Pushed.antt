@@ -1,0 +1,46 @@
+-- A list to which the items are pushed that a rule makes of the pairs of a merge, one after another.
+use Rattle.std.proofs.Common.{◌≡◌, ℕ, ◌+◌, ◌<◌, ◌≤◌, List, [], ◌∷◌, ◌++◌, length, Option, None, Some, IsSome, sym, ap, ◌∙◌, arith, append_assoc, length-append}
+use Rattle.std.specs.List.{filter_map, cons_option}
+use Rattle.std.specs.Option.{option_to_list}
+use Rattle.std.proofs.lemmas.Bool.{false≢true}
+use Rattle.mq_sets.specs.declared.merge_state.Merged.{Merged}
+use Rattle.mq_sets.specs.declared.merge_state.Merged.TheVariants.{Left, Both, Right}
+use Rattle.mq_sets.specs.Merging.{left_of, right_of}
+
+-- what the rule makes of the first pair is pushed; what it makes of the others is still ahead
+cons_pushed : {X : Type 0} (xs : List X) (made : Option X) (rest : List X) → (xs ++ option_to_list made) ++ rest ≡ xs ++ cons_option made rest
+cons_pushed xs None rest = append_assoc xs [] rest
+cons_pushed xs (Some x) rest = append_assoc xs (x ∷ []) rest
+
+pub pushed_next : {X P : Type 0} (f : P → Option X) (xs pushed : List X) (p : P) (ahead rest : List P) (all : List X) → pushed ≡ xs ++ option_to_list (f p) → ahead ≡ p ∷ rest → xs ++ filter_map f ahead ≡ all → pushed ++ filter_map f rest ≡ all
+pushed_next f xs pushed p ahead rest all is first so_far =
+    ap (λ ys. ys ++ filter_map f rest) is ∙ cons_pushed xs (f p) (filter_map f rest) ∙ ap (λ ps. xs ++ filter_map f ps) (sym first) ∙ so_far
+
+-- a call of a merge that hands out something hands out one item or two
+one_or_two : {L R : Type 0} (p : Merged L R) → 1 ≤ length (left_of (Some p)) + length (right_of (Some p))
+one_or_two (Left x) = omega arith
+one_or_two (Both x y) = omega arith
+one_or_two (Right y) = omega arith
+
+at_most_one : {X : Type 0} (made : Option X) → length (option_to_list made) ≤ 1
+at_most_one None = omega arith
+at_most_one (Some x) = omega arith
+
+-- so no more items are pushed than both sides have handed out
+pub pushed_few : {X L R : Type 0} (made : Option X) (xs pushed : List X) (p : Merged L R) (lefts left : List L) (rights right : List R) (both : ℕ) → pushed ≡ xs ++ option_to_list made → lefts ≡ left_of (Some p) ++ left → rights ≡ right_of (Some p) ++ right → length xs + (length lefts + length rights) ≤ both → length pushed + (length left + length right) ≤ both
+pushed_few made xs pushed p lefts left rights right both is on_left on_right few =
+    omega (arith, one_or_two p, at_most_one made, ap length is ∙ length-append xs (option_to_list made), ap length on_left ∙ length-append (left_of (Some p)) left, ap length on_right ∙ length-append (right_of (Some p)) right)
+
+-- and a merge has fewer items ahead
+pub fewer_ahead : {L R : Type 0} (p : Merged L R) (lefts left : List L) (rights right : List R) → lefts ≡ left_of (Some p) ++ left → rights ≡ right_of (Some p) ++ right → (length left + length right) + 1 ≤ length lefts + length rights
+fewer_ahead p lefts left rights right on_left on_right =
+    omega (arith, one_or_two p, ap length on_left ∙ length-append (left_of (Some p)) left, ap length on_right ∙ length-append (right_of (Some p)) right)
+
+-- where the rule makes something of the first pair ahead, it makes something of all
+pub some_made : {X P : Type 0} (f : P → Option X) (xs : List X) (p : P) (ahead rest : List P) (all : List X) → ahead ≡ p ∷ rest → xs ++ filter_map f ahead ≡ all → IsSome (f p) → 0 < length all
+some_made f xs p ahead rest all first so_far some =
+    omega (arith, by_made (f p) (filter_map f rest) some, ap length (sym so_far ∙ ap (λ ps. xs ++ filter_map f ps) first), length-append xs (filter_map f (p ∷ rest)))
+  where
+    by_made : {X : Type 0} (made : Option X) (rest : List X) → IsSome made → 0 < length (cons_option made rest)
+    by_made None rest some = absurd (false≢true some)
+    by_made (Some x) rest some = omega arith

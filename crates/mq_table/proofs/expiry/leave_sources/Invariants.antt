@@ -1,0 +1,20 @@
+use Rattle.std.proofs.Common.{◌≡◌, ◌≤◌, ◌-◌, length, take, drop, vec_capacity}
+use Rattle.std.specs.List.{filter_map}
+use Rattle.mq_count.specs.Spending.{Spends}
+use Rattle.mq_table.specs.MadeSources.{running_among, source_left}
+use Rattle.mq_table.proofs.expiry.leave_sources.Given as goal
+
+-- the places up to `left` have what is left of the sources passed; those ahead are as they were
+abbrev pub invariant-loop-place : goal.invariant-loop-place
+invariant-loop-place g l = record {
+  behind : l.left ≤ l.place;
+  within : l.place ≤ length l.initial.sources.items;
+  len : length l.sources.items ≡ length l.initial.sources.items;
+  made : take l.left l.sources.items ≡ filter_map (source_left l.mode l.now) (take l.place l.initial.sources.items);
+  rest : drop l.place l.sources.items ≡ drop l.place l.initial.sources.items;
+  capacity : vec_capacity l.sources ≡ vec_capacity l.initial.sources;
+  spent : Spends (running_among (take l.place l.initial.sources.items)) (running_among (take l.place l.initial.sources.items)) l.initial.m l.m;
+}
+
+abbrev pub decreases-loop-place : goal.decreases-loop-place
+decreases-loop-place g l = length l.sources.items - l.place

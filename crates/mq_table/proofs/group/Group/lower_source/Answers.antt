@@ -1,0 +1,35 @@
+use Rattle.std.proofs.Common.{◌≡◌, ◌+◌, ◌∙◌, set, ap, arith}
+use Rattle.mq_count.proofs.Spent.{Spends-within, Spends-join_within}
+use Rattle.mq_table.specs.declared.sources.Source.{Source}
+use Rattle.mq_table.specs.Lowering.{lowered_to, source_lowered}
+use Rattle.mq_table.proofs.SourceLists.{len-timers_in, get-absent}
+use Rattle.mq_table.proofs.MadeLists.{lowered_in_place, lowered_state, unlowered}
+use Rattle.mq_table.proofs.group.Group.lower_source.Goals as goal
+
+pub returns-in-Ok-clause-state : goal.returns-in-Ok-clause-state
+returns-in-Ok-clause-state g c =
+    let limit : c.after-limit.result ≡ lowered_to c.args.timing.now c.args.now = c.after-limit.ensures.later ∙ ap (λ n. c.args.now + n) c.last_member_time.ensures in
+    let xs = c.self.inside.sources.items in
+    let held = c.index.result.now in
+    let found = rw c.as_slice.ensures.value at c.in-Ok.ensures.found in
+    let within = rw c.as_slice.ensures.value at c.in-Ok.ensures.found_in in
+    let written = ap (λ (x : Source g.row.K.Denot). let y : Source g.row.K.Denot = record { address = x.address; timer = source_lowered c.after-limit.result x.timer } in set xs c.in-Ok.place y) c.index.ensures ∙ lowered_in_place g.K.Key.number c.after-limit.result (g.K.Key.number c.args.source) xs c.in-Ok.place held c.self.invariant within (found held) in
+    rw c.lower.ensures.lowered
+    (lowered_state g.K.Key.number c.args.timing.now c.args.now c.self.inside.mode c.self.inside.v1 c.self.inside.v2 xs c.self.invariant (g.K.Key.number c.args.source) c.args.self.now.state (ap (λ s. s.state) c.self.view_is)
+    c.after-limit.result _ limit written)
+
+pub returns-in_default-clause-state : goal.returns-in_default-clause-state
+returns-in_default-clause-state g c =
+    let none = rw c.as_slice.ensures.value at c.in_default.ensures.member in
+    let absent = get-absent g.K.Key.number c.self.inside.sources.items (g.K.Key.number c.args.source) none in
+    unlowered c.args.timing.now c.args.now (g.K.Key.number c.args.source) c.args.self.now.state (rw (← c.self.view_is) absent)
+
+pub returns-in-Ok-clause-spent : goal.returns-in-Ok-clause-spent
+returns-in-Ok-clause-spent g c =
+    rw (← c.self.view_is, len-timers_in g.K.Key.number c.self.inside.sources.items c.self.invariant, ← c.as_slice.ensures.value)
+    (Spends-join_within _ _ c.in-Ok.ensures.spent c.lower.ensures.spent (omega arith) (omega arith))
+
+pub returns-in_default-clause-spent : goal.returns-in_default-clause-spent
+returns-in_default-clause-spent g c =
+    rw (← c.self.view_is, len-timers_in g.K.Key.number c.self.inside.sources.items c.self.invariant, ← c.as_slice.ensures.value)
+    (Spends-within _ _ c.in_default.ensures.spent (omega arith) (omega arith))

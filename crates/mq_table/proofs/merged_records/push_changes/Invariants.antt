@@ -1,0 +1,31 @@
+use Rattle.std.proofs.Common.{◌≡◌, ◌+◌, ◌-◌, ◌≤◌, ◌++◌, length, vec_capacity}
+use Rattle.std.specs.List.{filter_map}
+use Rattle.mq_count.specs.Spending.{Spends}
+use Rattle.mq_sets.specs.Merging.{merged, merged_lists, comparisons_along}
+use Rattle.mq_table.specs.Stored.{number_in}
+use Rattle.mq_table.specs.MergedRecord.{source_made, source_asked}
+use Rattle.mq_table.proofs.merged_records.push_changes.Given as goal
+
+-- What is pushed, and what the pairs ahead give, are what the whole merge gives; no more was pushed than
+-- both sides have handed out; and the comparisons so far and those ahead are all.
+abbrev pub invariant-loop-item : goal.invariant-loop-item
+invariant-loop-item g l =
+    let number = number_in g.K.Key.number in
+    let ahead = merged number g.K.Key.number l.merge in
+    let all = merged_lists number g.K.Key.number l.held l.named in
+    let compared = comparisons_along all - comparisons_along ahead in
+    let rest = length l.merge.left + length l.merge.right in
+    let both = length l.held + length l.named in
+    record {
+      sources : l.sources.items ++ filter_map (source_made l.rule) ahead ≡ filter_map (source_made l.rule) all;
+      asked : l.asked.items ++ filter_map (source_asked l.rule) ahead ≡ filter_map (source_asked l.rule) all;
+      few_sources : length l.sources.items + rest ≤ both;
+      few_asked : length l.asked.items + rest ≤ both;
+      sources_room : vec_capacity l.initial.sources ≤ vec_capacity l.sources;
+      asked_room : vec_capacity l.initial.asked ≤ vec_capacity l.asked;
+      fewer : comparisons_along ahead ≤ comparisons_along all;
+      spent : Spends compared compared l.initial.m l.m;
+    }
+
+abbrev pub decreases-loop-item : goal.decreases-loop-item
+decreases-loop-item g l = length l.merge.left + length l.merge.right

@@ -1,0 +1,13 @@
+use Rattle.std.proofs.Common.{◌≡◌, Some, length, take, drop, vec_capacity}
+use Rattle.std.specs.List.{filter_map}
+use Rattle.mq_table.specs.MadeSources.{source_recounted}
+use Rattle.mq_table.proofs.sendings.recount_each.Given as goal
+
+-- the places passed have what is made of their sources; those ahead are as they were
+abbrev pub invariant-loop-place : goal.invariant-loop-place
+invariant-loop-place g l = record {
+  len : length l.sources.items ≡ length l.initial.sources.items;
+  made : take l.place l.sources.items ≡ filter_map (λ x. Some (source_recounted l.fn.recount x)) (take l.place l.initial.sources.items);
+  rest : drop l.place l.sources.items ≡ drop l.place l.initial.sources.items;
+  capacity : vec_capacity l.sources ≡ vec_capacity l.initial.sources;
+}

@@ -1,0 +1,48 @@
+-- What the end of timers does to a group (RFC 3376 sections 6.2.2, 6.2.3, 6.3, 6.5 and 7.3.2, RFC 3810
+-- sections 7.2.2, 7.2.3, 7.3, 7.5 and 8.3.2). A timer has run out when its deadline is at or before now.
+use Rattle.std.specs.Prelude.{ℕ, ◌<◌, IfSome, if◌then◌else◌, nat_lt, Option, None, Some}
+use Rattle.std.specs.Option.{option_and_then}
+use Rattle.mq_table.specs.Maps.{kept}
+use Rattle.mq_table.specs.Group.{GroupState, FilterMode, Include, Exclude, SourceTimer, Stopped, Running, vacant, is_vacant, group_deadline, deadline_of, timer_at}
+
+-- a deadline that is still ahead
+abbrev pub ahead : ℕ → ℕ → Option ℕ
+ahead now deadline = if nat_lt now deadline then Some deadline else None
+
+-- the end of the group timer makes the group INCLUDE
+abbrev pub mode_expired : ℕ → FilterMode → FilterMode
+mode_expired now Include = Include
+mode_expired now (Exclude d) = if nat_lt now d then Exclude d else Include
+
+-- a source without a running timer: none of INCLUDE, and one of Y in EXCLUDE
+abbrev pub at_zero : FilterMode → Option SourceTimer
+at_zero Include = None
+at_zero (Exclude d) = Some Stopped
+
+-- a source that runs stays as it is
+abbrev pub source_expired : FilterMode → ℕ → SourceTimer → Option SourceTimer
+source_expired mode now Stopped = at_zero mode
+source_expired mode now (Running d n) = if nat_lt now d then Some (Running d n) else at_zero mode
+
+-- INCLUDE({}) isn't held, and its host-present timers go with it
+abbrev pub held_or_vacant : GroupState → GroupState
+held_or_vacant g = if is_vacant g then vacant else g
+
+-- Sources are worked on before the group, so a source that runs out together with the group timer
+-- is removed: the rule for sources is that of the mode which the group timer leaves.
+abbrev pub expired : ℕ → GroupState → GroupState
+expired now g =
+    let mode = mode_expired now g.mode in
+    held_or_vacant (record {
+      mode = mode;
+      sources = kept (λ s. source_expired mode now) g.sources;
+      v1 = option_and_then (ahead now) g.v1;
+      v2 = option_and_then (ahead now) g.v2;
+    })
+
+-- every timer of the group runs beyond a moment
+pub record AllAhead (now : ℕ) (g : GroupState) : Type 0 where
+  pub group : IfSome (group_deadline g.mode) (λ deadline. now < deadline)
+  pub sources : (s : ℕ) → IfSome (deadline_of (timer_at g s)) (λ deadline. now < deadline)
+  pub v1 : IfSome g.v1 (λ deadline. now < deadline)
+  pub v2 : IfSome g.v2 (λ deadline. now < deadline)

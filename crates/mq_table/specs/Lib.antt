@@ -1,0 +1,16 @@
+pub mod Variables
+pub mod Sets
+pub mod Maps
+pub mod Group
+pub mod Timing
+pub mod Table
+pub mod Stored
+pub mod AtSource
+pub mod MergedRecord
+pub mod OlderHosts
+pub mod Expiry
+pub mod Lowering
+pub mod Sendings
+pub mod AskedSources
+pub mod MadeSources
+pub mod Examples

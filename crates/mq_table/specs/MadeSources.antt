@@ -1,0 +1,32 @@
+-- What becomes of each source of a list, where nothing is added to it.
+use Rattle.std.specs.Prelude.{ℕ, ◌==◌, if◌then◌else◌, List, length, Option, Some}
+use Rattle.mq_count.specs.Timed.{moments_by}
+use Rattle.mq_table.specs.declared.sources.Source.{Source}
+use Rattle.mq_table.specs.Group.{FilterMode, SourceTimer, deadline_of}
+use Rattle.mq_table.specs.Expiry.{source_expired}
+use Rattle.mq_table.specs.Lowering.{source_lowered}
+use Rattle.mq_table.specs.Sendings.{source_counted, source_cleared}
+use Rattle.mq_table.specs.declared.sendings.Recount.{Recount}
+use Rattle.mq_table.specs.declared.sendings.Recount.TheVariants.{OneFewer, NoneLeft}
+use Rattle.mq_table.specs.MergedRecord.{source_with}
+
+-- a source that the end of timers leaves
+abbrev pub source_left : {K : Type 0} → FilterMode → ℕ → Source K → Option (Source K)
+source_left mode now x = source_with x.address (source_expired mode now x.timer)
+
+-- how many of some sources have a timer that runs
+abbrev pub running_among : {K : Type 0} → List (Source K) → ℕ
+running_among sources = length (moments_by (λ x. deadline_of (Some x.timer)) sources)
+
+-- the source of a number, lowered; any other stays
+abbrev pub source_lowered_at : {K : Type 0} → (K → ℕ) → (limit n : ℕ) → Source K → Option (Source K)
+source_lowered_at number limit n x =
+    Some (record { address = x.address; timer = if number x.address == n then source_lowered limit x.timer else x.timer })
+
+-- a timer whose sendings are counted anew
+abbrev pub timer_recounted : Recount → SourceTimer → SourceTimer
+timer_recounted OneFewer timer = source_counted timer
+timer_recounted NoneLeft timer = source_cleared timer
+
+abbrev pub source_recounted : {K : Type 0} → Recount → Source K → Source K
+source_recounted recount x = record { address = x.address; timer = timer_recounted recount x.timer }

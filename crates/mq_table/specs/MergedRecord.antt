@@ -1,0 +1,61 @@
+-- What a record makes of each pair of a merge: of the group's source, if it holds it, and the record's
+-- source, if it names it.
+use Rattle.std.specs.Prelude.{◌≡◌, ℕ, length, Bool, true, false, ◌&&◌, ◌||◌, not, if◌then◌else◌, is_some, List, Option, None, Some}
+use Rattle.std.specs.List.{All, list_any}
+use Rattle.mq_count.specs.Spending.{Spends}
+use Rattle.mq_sets.specs.Search.{bitlen}
+use Rattle.mq_table.specs.declared.kind.Kind.{Kind}
+use Rattle.mq_table.specs.declared.kind.Kind.TheVariants.{IsIn, IsEx, ToIn, ToEx, Allow, Block}
+use Rattle.mq_table.specs.declared.rules.Rule.{Rule}
+use Rattle.mq_table.specs.declared.sources.Source.{Source}
+use Rattle.mq_table.specs.Group.{SourceTimer, FilterMode, is_include, is_stopped}
+use Rattle.mq_table.specs.AtSource.{timer_after, is_asked_after}
+
+-- a source with a timer, if there is one
+abbrev pub source_with : {K : Type 0} → K → Option SourceTimer → Option (Source K)
+source_with address None = None
+source_with address (Some timer) = Some (record { address = address; timer = timer })
+
+-- the source as the record leaves it
+abbrev pub source_made : {K : Type 0} → Rule → Option (Source K) × Option K → Option (Source K)
+source_made rule (Some x, named) =
+    source_with x.address (timer_after rule.interval_end rule.mode rule.kind (Some x.timer) (is_some named))
+source_made rule (None, Some y) = source_with y (timer_after rule.interval_end rule.mode rule.kind None true)
+source_made rule (None, None) = None
+
+-- the source, if the record's query asks for it
+abbrev pub source_asked : {K : Type 0} → Rule → Option (Source K) × Option K → Option K
+source_asked rule (Some x, named) =
+    if is_asked_after rule.interval_end rule.mode rule.kind (Some x.timer) (is_some named) then Some x.address else None
+source_asked rule (None, Some y) =
+    if is_asked_after rule.interval_end rule.mode rule.kind None true then Some y else None
+source_asked rule (None, None) = None
+
+-- whether a source is stopped
+abbrev pub item_is_stopped : {K : Type 0} → Source K → Bool
+item_is_stopped x = is_stopped (Some x.timer)
+
+-- whether a record of this kind takes away no source that it doesn't name
+abbrev pub takes_none_away : Kind → Bool
+takes_none_away IsIn = true
+takes_none_away IsEx = false
+takes_none_away ToIn = false
+takes_none_away ToEx = false
+takes_none_away Allow = true
+takes_none_away Block = true
+
+-- whether it leaves these sources of a group alone where it doesn't name them: it takes none away and asks for none, and
+-- in INCLUDE none is stopped
+abbrev pub keeps_unnamed : {K : Type 0} → Kind → FilterMode → List (Source K) → Bool
+keeps_unnamed kind mode row = takes_none_away kind && (not (is_include mode) || not (list_any item_is_stopped row))
+
+-- Where a record names one source and leaves the others of its group alone, that one is looked for by halves: at most one
+-- comparison for each binary digit of how many the group has.
+unfoldable pub LooksByHalves : {K : Type 0} → Kind → FilterMode → List (Source K) → (named before after : ℕ) → Type 0
+LooksByHalves kind mode row named before after =
+    named ≡ 1 → keeps_unnamed kind mode row ≡ true → Spends 0 (bitlen (length row)) before after
+
+-- a record leaves each of these sources as it is where it doesn't name it, and asks for none of them then
+pub record LeavesAlone {K : Type 0} (rule : Rule) (xs : List (Source K)) : Type 0 where
+  pub made : All (λ x. source_made rule (Some x, None) ≡ Some x) xs
+  pub asked : All (λ x. source_asked rule (Some x, None) ≡ None) xs

@@ -1,0 +1,16 @@
+//! What a record changes.
+
+use crate::group::Group;
+use mq_count::Key;
+
+/// What a record makes of its group, and the queries that go with it (RFC 3376 section 6.4, RFC
+/// 3810 section 7.4).
+#[derive(Drop)]
+pub struct Change<K: Key> {
+    /// The new group.
+    pub group: Group<K>,
+    /// The sources, ascending, for which the group is to be queried; there may be none.
+    pub query: Vec<K>,
+    /// Whether the group itself is to be queried.
+    pub query_group: bool,
+}

@@ -1,0 +1,123 @@
+//! The end of timers.
+
+ghost use Rattle.std.specs.Prelude.{◌≡◌, ◌+◌, ◌≤◌, ◌++◌, length, take, drop, vec_capacity};
+ghost use Rattle.std.specs.List.{filter_map};
+ghost use Rattle.std.specs.Option.{option_and_then};
+ghost use Rattle.mq_count.specs.Spending.{Spends};
+ghost use Rattle.mq_table.specs.Expiry.{ahead, at_zero, mode_expired, held_or_vacant, expired};
+ghost use Rattle.mq_table.specs.MadeSources.{running_among, source_left};
+ghost use Rattle.mq_table.specs.Stored.{size_of};
+
+use crate::group::Group;
+use crate::sources::{Source, rest_of};
+use crate::timers::{FilterMode, SourceTimer, runs_on};
+use mq_count::{Key, Meter, Moment};
+
+/// A deadline that is still ahead. At most one comparison.
+fn still_ahead(deadline: &Option<Moment>, now: Moment, m: &mut Meter) -> Option<Moment>
+    ensures ahead { result ≡ option_and_then (ahead now) deadline.now }
+    ensures spent { Spends 0 1 m.old m.new }
+{
+    if runs_on(*deadline, now, m) {
+        *deadline
+    } else {
+        None
+    }
+}
+
+/// The mode once the group timer has ended, if it has. At most one comparison.
+fn mode_left(mode: &FilterMode, now: Moment, m: &mut Meter) -> FilterMode
+    ensures mode { result ≡ mode_expired now mode.now }
+    ensures spent { Spends 0 1 m.old m.new }
+{
+    if runs_on(mode.deadline(), now, m) {
+        *mode
+    } else {
+        FilterMode::Include
+    }
+}
+
+/// What a source's timer is once it has ended, in a group of this mode; None where the source is removed.
+fn timer_at_zero(mode: &FilterMode) -> Option<SourceTimer>
+    ensures { result ≡ at_zero mode.now }
+{
+    match mode {
+        FilterMode::Include => None,
+        FilterMode::Exclude(_) => Some(SourceTimer::Stopped),
+    }
+}
+
+/// Moves so many sources at a place towards the front.
+fn move_run<K: Key>(sources: &mut Vec<Source<K>>, place: usize, left: usize, run: usize)
+    requires within { place + run ≤ length sources.old.items }
+    requires behind { left ≤ place }
+    ensures moved { take (left + run) sources.new.items ≡ take left sources.old.items ++ take run (drop place sources.old.items) }
+    ensures rest { drop (place + run) sources.new.items ≡ drop (place + run) sources.old.items }
+    ensures len { length sources.new.items ≡ length sources.old.items }
+    ensures capacity { vec_capacity sources.new ≡ vec_capacity sources.old }
+{
+    if left < place {
+        sources.as_mut_slice().copy_within(place..place + run, left);
+    }
+}
+
+/// Leaves of a list the sources that the end of their timers leaves in a group of this mode, in one
+/// pass over the list, run by run of those whose timers run on. One comparison for each source with a deadline.
+fn leave_sources<K: Key>(
+    sources: &mut Vec<Source<K>>,
+    mode: &FilterMode,
+    now: Moment,
+    m: &mut Meter,
+)
+    ensures items { sources.new.items ≡ filter_map (source_left mode.now now) sources.old.items }
+    ensures capacity { vec_capacity sources.new ≡ vec_capacity sources.old }
+    ensures spent { let count = running_among sources.old.items in Spends count count m.old m.new }
+{
+    let mut left = 0;
+    let mut place = 0;
+    while place < sources.len() {
+        let run = m.count_ahead(rest_of(sources.as_slice(), place), now);
+        move_run(sources, place, left, run);
+        left += run;
+        place += run;
+        if place < sources.len() {
+            let address = sources[place].address;
+            if let Some(timer) = timer_at_zero(mode) {
+                sources[left] = Source { address, timer };
+                left += 1;
+            }
+            place += 1;
+        }
+    }
+    sources.truncate(left);
+}
+
+impl<K: Key> Group<K> {
+    /// INCLUDE without sources isn't held, and its host-present timers go with it.
+    fn let_go_if_vacant(&mut self)
+        ensures state { self.new.state ≡ held_or_vacant self.old.state }
+        ensures room { self.new.room ≡ self.old.room }
+    {
+        if self.is_vacant() {
+            self.v1 = None;
+            self.v2 = None;
+        }
+    }
+
+    /// Ends the timers that have run out at this moment: sources first, then the group (RFC 3376
+    /// sections 6.2.2, 6.3 and 6.5, RFC 3810 sections 7.2.2, 7.2.3 and 7.5). In INCLUDE a source
+    /// at zero is removed, in EXCLUDE it stays, stopped. The end of the group timer makes the group
+    /// INCLUDE of the sources that still run; without any the group is vacant.
+    pub fn expire(&mut self, now: Moment, m: &mut Meter)
+        ensures state { self.new.state ≡ expired now self.old.state }
+        ensures room { self.new.room ≡ self.old.room }
+        ensures spent { Spends 0 (size_of self.old.state + 3) m.old m.new }
+    {
+        let mode = mode_left(&self.mode, now, m);
+        leave_sources(&mut self.sources, &mode, now, m);
+        self.mode = mode;
+        self.v1 = still_ahead(&self.v1, now, m);
+        self.v2 = still_ahead(&self.v2, now, m);
+        self.let_go_if_vacant();
+    }
+}

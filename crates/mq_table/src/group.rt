@@ -1,0 +1,154 @@
+//! The state of one group, stored.
+
+ghost use Rattle.std.specs.Prelude.{◌≡◌, ◌≤◌, min, length, IfOk};
+ghost use Rattle.mq_count.specs.Spending.{Spends};
+ghost use Rattle.mq_sets.specs.Ascending.{IsAscending};
+ghost use Rattle.mq_sets.specs.Search.{bitlen};
+ghost use Rattle.mq_table.specs.Group.{vacant, is_vacant, timer_at, forwards_in};
+ghost use Rattle.mq_table.specs.Stored.{timers_in, number_in, state_of, size_of};
+
+use crate::heads::Head;
+use crate::sources::{Source, timer_among};
+use crate::timers::{FilterMode, SourceTimer};
+use mq_count::{Key, Meter, Moment};
+use mq_sets::Memory;
+use std::alloc::Global;
+use std::marker::Model;
+
+/// The state of one multicast group. A contract sees its state, as the definitions have it, and for
+/// how many sources it has room without more memory.
+#[derive(Drop)]
+pub struct Group<K: Key> {
+    pub(crate) mode: FilterMode,
+    pub(crate) sources: Vec<Source<K>>,
+    pub(crate) v1: Option<Moment>,
+    pub(crate) v2: Option<Moment>,
+}
+
+impl<K: Key> Model for Group<K> {
+    ghost use Rattle.std.specs.Prelude.{vec_capacity};
+    ghost use Rattle.mq_sets.specs.Ascending.{IsAscending};
+    ghost use Rattle.mq_table.specs.Stored.{StoredGroup, stored_code, timers_in};
+    ghost use Rattle.mq_table.specs.contracts.timers.FilterMode as filter_mode;
+    ghost use Rattle.mq_table.specs.contracts.timers.SourceTimer as source_timer;
+
+    ghost Value = { StoredGroup };
+
+    ghost coded = { stored_code filter_mode.the_row.coded source_timer.the_row.coded };
+
+    ghost view = { λ g. record { state = record { mode = g.mode; sources = timers_in K.number g.sources.items; v1 = g.v1; v2 = g.v2 }; room = vec_capacity g.sources } };
+
+    ghost invariant = { λ g. IsAscending (λ x. K.number x.address) g.sources.items };
+}
+
+impl<K: Key> Group<K> {
+    /// The state of every group that isn't held, INCLUDE without sources, with no room. It takes no
+    /// memory until it grows, and then from `alloc`.
+    pub fn vacant(alloc: Global) -> Group<K>
+        ensures { result ≡ record { state = vacant; room = 0 } }
+    {
+        Group {
+            mode: FilterMode::Include,
+            sources: Vec::new(alloc),
+            v1: None,
+            v2: None,
+        }
+    }
+
+    /// The vacant group with room for so many sources, or `Memory` where that memory was refused.
+    pub fn with_room(alloc: Global, sources: usize) -> Result<Group<K>, Memory>
+        ensures { IfOk result (λ g. g ≡ record { state = vacant; room = sources }) }
+    {
+        Ok(Group {
+            mode: FilterMode::Include,
+            sources: Vec::with_capacity(alloc, sources)?,
+            v1: None,
+            v2: None,
+        })
+    }
+
+    /// Becomes the group of a head and its row of sources, for which it has room.
+    pub fn load(&mut self, head: Head, row: &[Source<K>])
+        requires ascending { IsAscending (number_in K.number) row.now }
+        requires room { length row.now ≤ self.old.room }
+        ensures state { self.new.state ≡ state_of head (timers_in K.number row.now) }
+        ensures room { self.old.room ≤ self.new.room }
+    {
+        self.mode = head.mode;
+        self.v1 = head.v1;
+        self.v2 = head.v2;
+        self.sources.clear();
+        self.sources.extend_from_slice(row).unwrap();
+    }
+
+    /// All of the group but its sources.
+    pub fn head(&self) -> Head
+        ensures { self.now.state ≡ state_of result self.now.state.sources }
+    {
+        Head {
+            mode: self.mode,
+            v1: self.v1,
+            v2: self.v2,
+        }
+    }
+
+    /// Whether it is INCLUDE without sources, and so not held.
+    pub fn is_vacant(&self) -> bool
+        ensures { result ≡ is_vacant self.now.state }
+    {
+        match self.mode {
+            FilterMode::Include => self.sources.is_empty(),
+            FilterMode::Exclude(_) => false,
+        }
+    }
+
+    /// The filter mode, in EXCLUDE with the deadline of the group timer.
+    pub fn mode(&self) -> FilterMode
+        ensures { result ≡ self.now.state.mode }
+    {
+        self.mode
+    }
+
+    /// The group's sources, ascending, each with its timer: a deadline and how many sendings are
+    /// still to go, or stopped. They are the row that `load` takes.
+    pub fn sources(&self) -> &[Source<K>]
+        ensures timers { timers_in K.number result.now ≡ self.now.state.sources }
+        ensures ascending { IsAscending (number_in K.number) result.now }
+        ensures len { length result.now ≡ size_of self.now.state }
+    {
+        self.sources.as_slice()
+    }
+
+    /// Up to when a host of version 1 is taken to be there.
+    pub fn v1(&self) -> Option<Moment>
+        ensures { result ≡ self.now.state.v1 }
+    {
+        self.v1
+    }
+
+    /// Up to when a host of version 2 is taken to be there. MLD has none.
+    pub fn v2(&self) -> Option<Moment>
+        ensures { result ≡ self.now.state.v2 }
+    {
+        self.v2
+    }
+
+    /// The timer of a source, or None where the group doesn't have it.
+    pub fn timer_of(&self, source: K, m: &mut Meter) -> Option<SourceTimer>
+        ensures timer { result ≡ timer_at self.now.state (K.number source) }
+        ensures spent { let size = size_of self.now.state in
+            Spends (min 1 size) (bitlen size) m.old m.new }
+    {
+        timer_among(self.sources.as_slice(), source, m)
+    }
+
+    /// Whether what this source sends to the group is forwarded, as of the last moment that the
+    /// group was told (RFC 3376 section 6.3, RFC 3810 section 7.3).
+    pub fn forwards(&self, source: K, m: &mut Meter) -> bool
+        ensures answer { result ≡ forwards_in self.now.state (K.number source) }
+        ensures spent { let size = size_of self.now.state in
+            Spends (min 1 size) (bitlen size) m.old m.new }
+    {
+        self.mode.wants(self.timer_of(source, m))
+    }
+}

@@ -1,0 +1,19 @@
+//! The kinds of records (RFC 3376 section 4.2.12, RFC 3810 section 5.2.12).
+
+/// The type of a group record: what a host says of its filter for one group (RFC 3376 section
+/// 4.2.12, RFC 3810 section 5.2.12).
+#[derive(Clone, Copy, Debug, PartialEq, Eq)]
+pub enum Kind {
+    /// MODE_IS_INCLUDE: the host's current state is to want these sources alone.
+    IsIn,
+    /// MODE_IS_EXCLUDE: the host's current state is to want all sources but these.
+    IsEx,
+    /// CHANGE_TO_INCLUDE_MODE: from now on the host wants these sources alone.
+    ToIn,
+    /// CHANGE_TO_EXCLUDE_MODE: from now on the host wants all sources but these.
+    ToEx,
+    /// ALLOW_NEW_SOURCES: the host wants these sources too.
+    Allow,
+    /// BLOCK_OLD_SOURCES: the host no longer wants these sources.
+    Block,
+}

@@ -1,0 +1,29 @@
+//! The state of one multicast group, as a router keeps it: what a record, an older host's message,
+//! the end of a timer and a query do to it (RFC 3376 sections 6 and 7, RFC 3810 sections 7 and 8).
+#![tactic(auto)]
+
+pub mod changes;
+mod expiry;
+pub mod group;
+pub mod heads;
+pub mod kind;
+mod lowering;
+mod merged_records;
+mod merged_runs;
+pub mod older_hosts;
+mod recording;
+mod rules;
+mod sendings;
+pub mod sources;
+pub mod timers;
+pub mod timing;
+
+pub use changes::Change;
+pub use group::Group;
+pub use heads::Head;
+pub use kind::Kind;
+pub use mq_count::OlderVersion;
+pub use older_hosts::{Hosts, translate};
+pub use sources::{Source, timer_among};
+pub use timers::{FilterMode, SourceTimer, runs_on};
+pub use timing::Timing;

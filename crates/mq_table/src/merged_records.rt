@@ -1,0 +1,95 @@
+//! A record merged with its group: the one pass over both that every form of a record makes.
+
+ghost use Rattle.std.specs.Prelude.{◌≡◌, ◌+◌, ◌≤◌, ◌<◌, ◌++◌, [], min, length, vec_capacity, IsOk, OnOk, OnErr, IsSome};
+ghost use Rattle.std.specs.List.{filter_map};
+ghost use Rattle.std.specs.Option.{option_to_list};
+ghost use Rattle.mq_count.specs.Spending.{Spends};
+ghost use Rattle.mq_sets.specs.Ascending.{IsAscending};
+ghost use Rattle.mq_sets.specs.Merging.{merged_lists, pair_of};
+ghost use Rattle.mq_table.specs.Stored.{number_in};
+ghost use Rattle.mq_table.specs.MergedRecord.{source_with, source_made, source_asked};
+
+use crate::rules::Rule;
+use crate::sources::Source;
+use crate::timers::SourceTimer;
+use mq_count::{Key, Meter};
+use mq_sets::{Merged, merge};
+use std::alloc::AllocError;
+
+/// A source with a timer, if there is one.
+fn source_with<K: Key>(address: K, timer: Option<SourceTimer>) -> Option<Source<K>>
+    ensures { result ≡ source_with address timer }
+{
+    timer.map(|timer| Source { address, timer })
+}
+
+/// The source of a pair as the record leaves it.
+pub(crate) fn source_made<K: Key>(rule: &Rule, item: &Merged<'_, Source<K>, K>) -> Option<Source<K>>
+    ensures { result ≡ source_made rule.now (pair_of item.now) }
+{
+    match item {
+        Merged::Left(x) => source_with(x.address, rule.timer_after(Some(x.timer), false)),
+        Merged::Both(x, _) => source_with(x.address, rule.timer_after(Some(x.timer), true)),
+        Merged::Right(y) => source_with(**y, rule.timer_after(None, true)),
+    }
+}
+
+/// The source of a pair, if the record's query asks for it.
+pub(crate) fn source_asked<K: Key>(rule: &Rule, item: &Merged<'_, Source<K>, K>) -> Option<K>
+    ensures { result ≡ source_asked rule.now (pair_of item.now) }
+{
+    let (address, is_asked) = match item {
+        Merged::Left(x) => (x.address, rule.asks_for(Some(x.timer), false)),
+        Merged::Both(x, _) => (x.address, rule.asks_for(Some(x.timer), true)),
+        Merged::Right(y) => (**y, rule.asks_for(None, true)),
+    };
+    if is_asked { Some(address) } else { None }
+}
+
+/// Pushes an item, if there is one. A list with room for one more takes no memory.
+pub(crate) fn push_if_some<T: Copy>(list: &mut Vec<T>, item: Option<T>) -> Result<(), AllocError>
+    ensures items { OnOk result (list.new.items ≡ list.old.items ++ option_to_list item) }
+    ensures capacity { vec_capacity list.old ≤ vec_capacity list.new }
+    ensures full { OnErr result (vec_capacity list.old ≤ length list.old.items) }
+    ensures some { OnErr result (IsSome item) }
+{
+    match item {
+        Some(item) => list.push(item)?,
+        None => {}
+    }
+    Ok(())
+}
+
+/// Pushes what the record leaves of each source of the group and of the record, and the sources for
+/// which it sends a query. Each list is ascending then, and has no more than both sides have.
+pub(crate) fn push_changes<'a, K: Key>(
+    rule: &Rule,
+    held: &'a [Source<K>],
+    named: &'a [K],
+    sources: &mut Vec<Source<K>>,
+    asked: &mut Vec<K>,
+    m: &mut Meter,
+) -> Result<(), AllocError>
+    requires held_ascending { IsAscending (number_in K.number) held.now }
+    requires named_ascending { IsAscending K.number named.now }
+    requires no_sources { sources.old.items ≡ [] }
+    requires none_asked { asked.old.items ≡ [] }
+
+    ensures sources { OnOk result (sources.new.items ≡ filter_map (source_made rule.now) (merged_lists (number_in K.number) K.number held.now named.now)) }
+    ensures asked { OnOk result (asked.new.items ≡ filter_map (source_asked rule.now) (merged_lists (number_in K.number) K.number held.now named.now)) }
+    ensures compares { OnOk result (Spends (min (length held.now) (length named.now)) (length held.now + length named.now) m.old m.new) }
+    ensures compares_at_most { Spends 0 (length held.now + length named.now) m.old m.new }
+
+    // It wants memory only where the record leaves a source, and with room for both sides none.
+    ensures memory { OnErr result (0 < length (filter_map (source_made rule.now) (merged_lists (number_in K.number) K.number held.now named.now))) }
+    ensures room { length held.now + length named.now ≤ vec_capacity sources.old → length held.now + length named.now ≤ vec_capacity asked.old → IsOk result }
+    ensures sources_room { vec_capacity sources.old ≤ vec_capacity sources.new }
+    ensures asked_room { vec_capacity asked.old ≤ vec_capacity asked.new }
+{
+    let mut merge = merge(held, named);
+    while let Some(item) = merge.next(m) {
+        push_if_some(sources, source_made(rule, &item))?;
+        push_if_some(asked, source_asked(rule, &item))?;
+    }
+    Ok(())
+}

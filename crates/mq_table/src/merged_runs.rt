@@ -1,0 +1,210 @@
+//! A record merged with its group where it leaves the sources alone that it doesn't name: these are copied run by run, up to
+//! each source that it names.
+
+ghost use Rattle.std.specs.Prelude.{◌≡◌, ◌+◌, ◌≤◌, ◌<◌, ◌++◌, [], ◌∷◌, min, length, take, vec_capacity, IfOk, IfErr, MatchResult, true};
+ghost use Rattle.std.specs.List.{HoldsAt, filter_map, list_any};
+ghost use Rattle.std.specs.Option.{option_to_list};
+ghost use Rattle.mq_count.specs.Spending.{Spends};
+ghost use Rattle.mq_sets.specs.Ascending.{IsAscending};
+ghost use Rattle.mq_sets.specs.Merging.{merged_lists, pair_of};
+ghost use Rattle.mq_sets.specs.Search.{IsPlaceFor, bitlen};
+ghost use Rattle.mq_table.specs.Stored.{number_in};
+ghost use Rattle.mq_table.specs.MergedRecord.{source_made, source_asked, item_is_stopped, keeps_unnamed, LeavesAlone, LooksByHalves};
+
+use crate::kind::Kind;
+use crate::merged_records::{push_changes, push_if_some, source_asked, source_made};
+use crate::rules::Rule;
+use crate::sources::{Source, rest_of};
+use crate::timers::{FilterMode, SourceTimer};
+use mq_count::{Key, Meter};
+use mq_sets::{Merged, find};
+use std::cmp::Ordering;
+
+/// The place of a name among ascending sources, or as an `Err` the place where it would go, by a walk from the front: one
+/// comparison for each source before the place, and one for the source at it.
+fn find_ahead<K: Key>(sources: &[Source<K>], name: K, m: &mut Meter) -> Result<usize, usize>
+    requires ascending { IsAscending (number_in K.number) sources.now }
+    ensures found_in { IfOk result (λ i. i < length sources.now) }
+    ensures found { IfOk result (HoldsAt (λ x. number_in K.number x ≡ K.number name) sources.now) }
+    ensures absent { IfErr result (IsPlaceFor (number_in K.number) sources.now (K.number name)) }
+    ensures spent { MatchResult result (λ i. Spends (i + 1) (i + 1) m.old m.new) (λ i. let n = min (i + 1) (length sources.now) in Spends n n m.old m.new) }
+{
+    for place in 0..sources.len() {
+        match sources[place].address.order(name, m) {
+            Ordering::Less => {}
+            Ordering::Equal => return Ok(place),
+            Ordering::Greater => return Err(place),
+        }
+    }
+    Err(sources.len())
+}
+
+/// The first so many sources of a list.
+fn front_of<K: Key>(row: &[Source<K>], count: usize) -> &[Source<K>]
+    requires { count ≤ length row.now }
+    ensures { result.now ≡ take count row.now }
+{
+    &row[..count]
+}
+
+/// Whether some source of a list is stopped.
+fn any_is_stopped<K: Key>(row: &[Source<K>]) -> bool
+    ensures { result ≡ list_any item_is_stopped row.now }
+{
+    row.iter().any(|x| match x.timer {
+        SourceTimer::Stopped => true,
+        SourceTimer::Running(_, _) => false,
+    })
+}
+
+/// Whether a record leaves each of some sources as it is where it doesn't name it, and asks for none of these.
+fn leaves_alone<K: Key>(rule: &Rule, held: &[Source<K>]) -> bool
+    ensures told { result ≡ keeps_unnamed rule.now.kind rule.now.mode held.now }
+    ensures alone { result ≡ true → LeavesAlone rule.now held.now }
+{
+    match rule.kind {
+        Kind::IsEx | Kind::ToEx | Kind::ToIn => false,
+        Kind::IsIn | Kind::Allow | Kind::Block => match rule.mode {
+            FilterMode::Exclude(_) => true,
+            // No source of INCLUDE is stopped.
+            FilterMode::Include => !any_is_stopped(held),
+        },
+    }
+}
+
+/// Pushes the sources of a run, for which there is room.
+fn push_run<K: Key>(list: &mut Vec<Source<K>>, run: &[Source<K>])
+    requires room { length list.old.items + length run.now ≤ vec_capacity list.old }
+    ensures items { list.new.items ≡ list.old.items ++ run.now }
+    ensures capacity { vec_capacity list.old ≤ vec_capacity list.new }
+{
+    if !run.is_empty() {
+        list.extend_from_slice(run).unwrap();
+    }
+}
+
+/// Pushes what the record leaves of a source that it names, and the source where it asks for it. There is room for both.
+fn push_named<K: Key>(
+    rule: &Rule,
+    item: &Merged<'_, Source<K>, K>,
+    sources: &mut Vec<Source<K>>,
+    asked: &mut Vec<K>,
+)
+    requires room { length sources.old.items < vec_capacity sources.old }
+    requires asked_room { length asked.old.items < vec_capacity asked.old }
+    ensures sources { sources.new.items ≡ sources.old.items ++ option_to_list (source_made rule.now (pair_of item.now)) }
+    ensures asked { asked.new.items ≡ asked.old.items ++ option_to_list (source_asked rule.now (pair_of item.now)) }
+    ensures sources_capacity { vec_capacity sources.old ≤ vec_capacity sources.new }
+    ensures asked_capacity { vec_capacity asked.old ≤ vec_capacity asked.new }
+{
+    push_if_some(sources, source_made(rule, item)).unwrap();
+    push_if_some(asked, source_asked(rule, item)).unwrap();
+}
+
+/// Pushes what `push_changes` pushes, for a record that leaves the sources alone that it doesn't name.
+fn push_runs<K: Key>(
+    rule: &Rule,
+    held: &[Source<K>],
+    named: &[K],
+    sources: &mut Vec<Source<K>>,
+    asked: &mut Vec<K>,
+    m: &mut Meter,
+)
+    requires held_ascending { IsAscending (number_in K.number) held.now }
+    requires named_ascending { IsAscending K.number named.now }
+    requires alone { LeavesAlone rule.now held.now }
+    requires no_sources { sources.old.items ≡ [] }
+    requires none_asked { asked.old.items ≡ [] }
+    requires room { length held.now + length named.now ≤ vec_capacity sources.old }
+    requires asked_room { length held.now + length named.now ≤ vec_capacity asked.old }
+    ensures sources { sources.new.items ≡ filter_map (source_made rule.now) (merged_lists (number_in K.number) K.number held.now named.now) }
+    ensures asked { asked.new.items ≡ filter_map (source_asked rule.now) (merged_lists (number_in K.number) K.number held.now named.now) }
+    ensures compares { Spends (min (length held.now) (length named.now)) (length held.now + length named.now) m.old m.new }
+    ensures sources_room { vec_capacity sources.old ≤ vec_capacity sources.new }
+    ensures asked_room { vec_capacity asked.old ≤ vec_capacity asked.new }
+{
+    let mut left = held;
+    for name in named {
+        match find_ahead(left, *name, m) {
+            Ok(place) => {
+                push_run(sources, front_of(left, place));
+                push_named(rule, &Merged::Both(&left[place], name), sources, asked);
+                left = rest_of(left, place + 1);
+            }
+            Err(place) => {
+                push_run(sources, front_of(left, place));
+                push_named(rule, &Merged::Right(name), sources, asked);
+                left = rest_of(left, place);
+            }
+        }
+    }
+    push_run(sources, left);
+}
+
+/// Pushes what `push_changes` pushes, for a record of one source that leaves the others alone. Its place is looked for by
+/// halves.
+fn push_around<K: Key>(
+    rule: &Rule,
+    held: &[Source<K>],
+    name: &K,
+    sources: &mut Vec<Source<K>>,
+    asked: &mut Vec<K>,
+    m: &mut Meter,
+)
+    requires held_ascending { IsAscending (number_in K.number) held.now }
+    requires alone { LeavesAlone rule.now held.now }
+    requires no_sources { sources.old.items ≡ [] }
+    requires none_asked { asked.old.items ≡ [] }
+    requires room { length held.now + 1 ≤ vec_capacity sources.old }
+    requires asked_room { 0 < vec_capacity asked.old }
+    ensures sources { sources.new.items ≡ filter_map (source_made rule.now) (merged_lists (number_in K.number) K.number held.now (name.now ∷ [])) }
+    ensures asked { asked.new.items ≡ filter_map (source_asked rule.now) (merged_lists (number_in K.number) K.number held.now (name.now ∷ [])) }
+    ensures compares { Spends (min 1 (length held.now)) (bitlen (length held.now)) m.old m.new }
+    ensures sources_room { vec_capacity sources.old ≤ vec_capacity sources.new }
+    ensures asked_room { vec_capacity asked.old ≤ vec_capacity asked.new }
+{
+    match find(held, *name, m) {
+        Ok(place) => {
+            push_run(sources, front_of(held, place));
+            push_named(rule, &Merged::Both(&held[place], name), sources, asked);
+            push_run(sources, rest_of(held, place + 1));
+        }
+        Err(place) => {
+            push_run(sources, front_of(held, place));
+            push_named(rule, &Merged::Right(name), sources, asked);
+            push_run(sources, rest_of(held, place));
+        }
+    }
+}
+
+/// Pushes what `push_changes` pushes, to lists that have room for both sides. Where the record names one source and leaves
+/// the others alone, at most one comparison for each binary digit of how many the group has.
+pub(crate) fn push_within<K: Key>(
+    rule: &Rule,
+    held: &[Source<K>],
+    named: &[K],
+    sources: &mut Vec<Source<K>>,
+    asked: &mut Vec<K>,
+    m: &mut Meter,
+)
+    requires held_ascending { IsAscending (number_in K.number) held.now }
+    requires named_ascending { IsAscending K.number named.now }
+    requires no_sources { sources.old.items ≡ [] }
+    requires none_asked { asked.old.items ≡ [] }
+    requires room { length held.now + length named.now ≤ vec_capacity sources.old }
+    requires asked_room { length held.now + length named.now ≤ vec_capacity asked.old }
+    ensures sources { sources.new.items ≡ filter_map (source_made rule.now) (merged_lists (number_in K.number) K.number held.now named.now) }
+    ensures asked { asked.new.items ≡ filter_map (source_asked rule.now) (merged_lists (number_in K.number) K.number held.now named.now) }
+    ensures compares { Spends (min (length held.now) (length named.now)) (length held.now + length named.now) m.old m.new }
+    ensures by_halves { LooksByHalves rule.now.kind rule.now.mode held.now (length named.now) m.old m.new }
+    ensures sources_room { vec_capacity sources.old ≤ vec_capacity sources.new }
+    ensures asked_room { vec_capacity asked.old ≤ vec_capacity asked.new }
+{
+    if !leaves_alone(rule, held) {
+        push_changes(rule, held, named, sources, asked, m).unwrap();
+    } else if named.len() == 1 {
+        push_around(rule, held, &named[0], sources, asked, m);
+    } else {
+        push_runs(rule, held, named, sources, asked, m);
+    }
+}

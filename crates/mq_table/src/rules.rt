@@ -1,0 +1,133 @@
+//! What a record makes of its group, source by source.
+
+ghost use Rattle.std.specs.Prelude.{◌≡◌, true, false};
+ghost use Rattle.mq_table.specs.Group.{Include, Exclude, sendings_of};
+ghost use Rattle.mq_table.specs.AtSource.{timer_after, is_asked_after, mode_after, asks_group_after};
+
+use crate::kind::Kind;
+use crate::timers::{FilterMode, SourceTimer};
+use mq_count::Moment;
+
+/// How many sendings are still to go for a source with this timer.
+pub(crate) fn sendings_of(timer: Option<SourceTimer>) -> u32
+    ensures { result ≡ sendings_of timer }
+{
+    match timer {
+        Some(SourceTimer::Running(_, sendings)) => sendings,
+        _ => 0,
+    }
+}
+
+/// A record's kind, and what it needs to know of its group: the mode from before, and the moment to
+/// which a timer runs that is set to the group membership interval.
+#[derive(Clone, Copy)]
+pub(crate) struct Rule {
+    pub(crate) kind: Kind,
+    pub(crate) mode: FilterMode,
+    pub(crate) interval_end: Moment,
+}
+
+impl Rule {
+    /// The timer of a source of INCLUDE, or of none, that the record names.
+    fn named_in_include(&self, before: Option<SourceTimer>) -> Option<SourceTimer>
+        ensures { result ≡ timer_after self.now.interval_end Include self.now.kind before true }
+    {
+        match self.kind {
+            Kind::IsIn | Kind::ToIn | Kind::Allow => {
+                let sendings = sendings_of(before);
+                Some(SourceTimer::Running(self.interval_end, sendings))
+            }
+            Kind::Block => match &before {
+                Some(SourceTimer::Running(_, _)) => before,
+                _ => None,
+            },
+            Kind::IsEx | Kind::ToEx => match &before {
+                Some(SourceTimer::Running(_, _)) => before,
+                _ => Some(SourceTimer::Stopped),
+            },
+        }
+    }
+
+    /// The timer of a source that the record names, in EXCLUDE with the deadline of its group.
+    fn named_in_exclude(&self, group: Moment, before: Option<SourceTimer>) -> Option<SourceTimer>
+        ensures { result ≡ timer_after self.now.interval_end (Exclude group) self.now.kind before true }
+    {
+        match self.kind {
+            Kind::IsIn | Kind::ToIn | Kind::Allow => {
+                let sendings = sendings_of(before);
+                Some(SourceTimer::Running(self.interval_end, sendings))
+            }
+            Kind::IsEx => before.or(Some(SourceTimer::Running(self.interval_end, 0))),
+            Kind::Block | Kind::ToEx => before.or(Some(SourceTimer::Running(group, 0))),
+        }
+    }
+
+    /// The timer of a source that the record names.
+    fn timer_if_named(&self, before: Option<SourceTimer>) -> Option<SourceTimer>
+        ensures { result ≡ timer_after self.now.interval_end self.now.mode self.now.kind before true }
+    {
+        let mode = self.mode;
+        match &mode {
+            FilterMode::Include => self.named_in_include(before),
+            FilterMode::Exclude(group) => self.named_in_exclude(*group, before),
+        }
+    }
+
+    /// The timer of a source that the record doesn't name.
+    fn timer_if_unnamed(&self, before: Option<SourceTimer>) -> Option<SourceTimer>
+        ensures { result ≡ timer_after self.now.interval_end self.now.mode self.now.kind before false }
+    {
+        match (self.kind, self.mode, before) {
+            (Kind::IsEx | Kind::ToEx, _, _) => None,
+            // No source of INCLUDE is stopped.
+            (_, FilterMode::Include, Some(SourceTimer::Stopped)) => None,
+            _ => before,
+        }
+    }
+
+    /// The timer of a source after the record, or None where the new group doesn't have it.
+    pub(crate) fn timer_after(
+        &self,
+        before: Option<SourceTimer>,
+        is_named: bool,
+    ) -> Option<SourceTimer>
+        ensures { result ≡ timer_after self.now.interval_end self.now.mode self.now.kind before is_named }
+    {
+        if is_named {
+            self.timer_if_named(before)
+        } else {
+            self.timer_if_unnamed(before)
+        }
+    }
+
+    /// Whether the record's query for sources asks for a source.
+    pub(crate) fn asks_for(&self, before: Option<SourceTimer>, is_named: bool) -> bool
+        ensures { result ≡ is_asked_after self.now.interval_end self.now.mode self.now.kind before is_named }
+    {
+        let runs = matches!(before, Some(SourceTimer::Running(_, _)));
+        let is_stopped = matches!(before, Some(SourceTimer::Stopped));
+        match (self.kind, self.mode) {
+            (Kind::ToIn, _) => runs && !is_named,
+            (Kind::Block | Kind::ToEx, FilterMode::Include) => runs && is_named,
+            (Kind::Block | Kind::ToEx, FilterMode::Exclude(_)) => is_named && !is_stopped,
+            (Kind::IsIn | Kind::IsEx | Kind::Allow, _) => false,
+        }
+    }
+
+    /// The mode after the record.
+    pub(crate) fn mode_after(&self) -> FilterMode
+        ensures { result ≡ mode_after self.now.interval_end self.now.mode self.now.kind }
+    {
+        match self.kind {
+            Kind::IsEx | Kind::ToEx => FilterMode::Exclude(self.interval_end),
+            _ => self.mode,
+        }
+    }
+
+    /// Whether the record sends a query to the group.
+    pub(crate) fn asks_group(&self) -> bool
+        ensures { result ≡ asks_group_after self.now.interval_end self.now.mode self.now.kind }
+    {
+        matches!(self.kind, Kind::ToIn) && matches!(self.mode, FilterMode::Exclude(_))
+    }
+}

@@ -1,0 +1,168 @@
+//! Sendings of group-and-source-specific queries, which stand with the timers of the sources.
+
+ghost use Rattle.std.specs.Prelude.{◌≡◌, ℕ, ◌-◌, ◌*◌, ◌^◌, ◌<◌, ◌≤◌, true, false, Some, IsSome, length, map, min, vec_capacity, drop};
+ghost use Rattle.std.specs.List.{list_any};
+ghost use Rattle.mq_count.specs.Spending.{Spends};
+ghost use Rattle.mq_sets.specs.Ascending.{IsAscending, set_of};
+ghost use Rattle.mq_table.specs.Sets.{◌∩◌};
+ghost use Rattle.mq_table.specs.Group.{timer_at};
+ghost use Rattle.mq_table.specs.Sendings.{some_source, above, source_counted, source_cleared, sendings_started, sendings_counted, sendings_cleared};
+ghost use Rattle.mq_table.specs.AskedSources.{is_first, source_if_asked, is_asked_above};
+ghost use Rattle.mq_table.specs.MadeSources.{timer_recounted, source_recounted};
+ghost use Rattle.mq_table.specs.Stored.{number_in, size_of};
+
+use crate::group::Group;
+use crate::sources::Source;
+use crate::timers::{SourceTimer, runs_on};
+use crate::timing::Timing;
+use mq_count::{Key, Meter, Moment};
+use std::cmp::Ordering;
+
+/// Whether the next of the addresses asked for is this one. One comparison, where there is a next.
+fn is_next<K: Key>(asked: &[K], next: usize, address: K, m: &mut Meter) -> bool
+    ensures answer { result ≡ is_first K.number (drop next asked.now) (K.number address) }
+    ensures within { result ≡ true → next < length asked.now }
+    ensures spent { Spends (min 1 (length asked.now - next)) 1 m.old m.new }
+{
+    if next < asked.len() {
+        matches!(asked[next].order(address, m), Ordering::Equal)
+    } else {
+        false
+    }
+}
+
+/// Asks for the sources of a list: those whose timers are above the limit are lowered to it, and so
+/// many sendings are to go for each. Answers whether there is one. One pass over both lists, which
+/// ascend, as far as the last that is asked for; at most two comparisons for each source held.
+fn ask_each<K: Key>(
+    sources: &mut Vec<Source<K>>,
+    asked: &[K],
+    limit: Moment,
+    count: u32,
+    m: &mut Meter,
+) -> bool
+    requires sources_ascend { IsAscending (number_in K.number) sources.old.items }
+    requires asked_ascend { IsAscending K.number asked.now }
+    requires held { (s : ℕ) → set_of K.number asked.now s ≡ true
+        → set_of (number_in K.number) sources.old.items s ≡ true }
+    ensures items { let made = source_if_asked K.number limit count (set_of K.number asked.now) in
+        sources.new.items ≡ map made sources.old.items }
+    ensures some { let test = is_asked_above K.number limit (set_of K.number asked.now) in
+        result ≡ list_any test sources.old.items }
+    ensures capacity { vec_capacity sources.new ≡ vec_capacity sources.old }
+    ensures spent { Spends (min 1 (length asked.now)) (2 * length sources.old.items) m.old m.new }
+{
+    let mut next = 0;
+    let mut some = false;
+    for place in 0..sources.len() {
+        if next == asked.len() {
+            return some;
+        }
+        let held = sources[place];
+        if is_next(asked, next, held.address, m) {
+            next += 1;
+            if runs_on(held.timer.deadline(), limit, m) {
+                some = true;
+                sources[place] = Source {
+                    address: held.address,
+                    timer: SourceTimer::Running(limit, count),
+                };
+            }
+        }
+    }
+    some
+}
+
+/// What becomes of the sendings of each source.
+#[derive(Clone, Copy)]
+enum Recount {
+    OneFewer,
+    NoneLeft,
+}
+
+/// A source's timer with its sendings counted anew.
+fn recounted(timer: &SourceTimer, recount: Recount) -> SourceTimer
+    ensures { result ≡ timer_recounted recount timer.now }
+{
+    match timer {
+        SourceTimer::Stopped => SourceTimer::Stopped,
+        SourceTimer::Running(deadline, sendings) => match recount {
+            Recount::OneFewer => SourceTimer::Running(*deadline, sendings.saturating_sub(1)),
+            Recount::NoneLeft => SourceTimer::Running(*deadline, 0),
+        },
+    }
+}
+
+/// Whether a timer's sendings are to be counted anew.
+fn is_recounted(timer: &SourceTimer) -> bool
+    ensures { (recount : Recount) → result ≡ false → timer_recounted recount timer.now ≡ timer.now }
+{
+    match timer {
+        SourceTimer::Stopped => false,
+        SourceTimer::Running(_, sendings) => 0 < *sendings,
+    }
+}
+
+/// Counts the sendings of each source of a list anew.
+fn recount_each<K: Key>(sources: &mut Vec<Source<K>>, recount: Recount)
+    ensures items { sources.new.items ≡ map (source_recounted recount) sources.old.items }
+    ensures capacity { vec_capacity sources.new ≡ vec_capacity sources.old }
+{
+    for place in 0..sources.len() {
+        let held = sources[place];
+        if is_recounted(&held.timer) {
+            sources[place] = Source {
+                address: held.address,
+                timer: recounted(&held.timer, recount),
+            };
+        }
+    }
+}
+
+impl<K: Key> Group<K> {
+    /// Starts the group-and-source-specific query for sources that the group holds (RFC 3376 section
+    /// 6.6.3.2, RFC 3810 section 7.6.3.2): those whose timers are above the last member query time
+    /// are lowered to it, and the last member query count of sendings are to go for each. Answers
+    /// whether there is one.
+    pub fn start_sendings(
+        &mut self,
+        asked: &[K],
+        now: Moment,
+        timing: &Timing,
+        m: &mut Meter,
+    ) -> bool
+        requires in_range { now ≤ 2 ^ 53 }
+        requires ascending { IsAscending K.number asked.now }
+        requires held { (s : ℕ) → set_of K.number asked.now s ≡ true → IsSome (timer_at self.old.state s) }
+        ensures state { self.new.state ≡ sendings_started timing.now now (set_of K.number asked.now) self.old.state }
+        ensures some { let lowered = set_of K.number asked.now ∩ above timing.now now self.old.state in
+            result ≡ some_source lowered self.old.state }
+        ensures room { self.new.room ≡ self.old.room }
+        ensures spent { Spends (min 1 (length asked.now)) (2 * size_of self.old.state) m.old m.new }
+    {
+        let limit = now.after(timing.last_member_time());
+        ask_each(
+            &mut self.sources,
+            asked,
+            limit,
+            timing.last_member_count(),
+            m,
+        )
+    }
+
+    /// Leaves each source one sending fewer, where it has one. No comparison.
+    pub fn count_sendings(&mut self)
+        ensures state { self.new.state ≡ sendings_counted self.old.state }
+        ensures room { self.new.room ≡ self.old.room }
+    {
+        recount_each(&mut self.sources, Recount::OneFewer);
+    }
+
+    /// Leaves no source a sending. No comparison.
+    pub fn clear_sendings(&mut self)
+        ensures state { self.new.state ≡ sendings_cleared self.old.state }
+        ensures room { self.new.room ≡ self.old.room }
+    {
+        recount_each(&mut self.sources, Recount::NoneLeft);
+    }
+}

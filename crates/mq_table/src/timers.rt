@@ -1,0 +1,76 @@
+//! The filter mode of a group and the timers of its sources.
+
+ghost use Rattle.std.specs.Prelude.{◌≡◌, Some};
+ghost use Rattle.mq_count.specs.Spending.{Spends};
+ghost use Rattle.mq_table.specs.Group.{is_ahead, deadline_of, group_deadline, wants};
+
+use mq_count::{Meter, Moment};
+
+/// The filter mode of a group; in EXCLUDE with the moment up to which the group timer runs, which
+/// RFC 3810 calls the filter timer (RFC 3376 section 6.2.1, RFC 3810 section 7.2.1).
+#[derive(Clone, Copy)]
+pub enum FilterMode {
+    /// The sources of the group alone are forwarded.
+    Include,
+    /// All is forwarded but the sources whose timer is stopped. The deadline of the group timer.
+    Exclude(Moment),
+}
+
+/// The timer of a source: stopped, so at zero, which the tables write as a source of Y; or running
+/// up to a deadline, which they write as a source of X (RFC 3376 section 6.2.3, RFC 3810 section
+/// 7.2.3).
+#[derive(Clone, Copy)]
+pub enum SourceTimer {
+    /// At zero.
+    Stopped,
+    /// The deadline, and how many group-and-source-specific queries are still to go for the source
+    /// (RFC 3376 section 6.6.3.2, RFC 3810 section 7.6.3.2).
+    Running(Moment, u32),
+}
+
+impl FilterMode {
+    /// Up to when the group timer runs, which only EXCLUDE has.
+    pub fn deadline(&self) -> Option<Moment>
+        ensures { result ≡ group_deadline self.now }
+    {
+        match self {
+            FilterMode::Include => None,
+            FilterMode::Exclude(deadline) => Some(*deadline),
+        }
+    }
+
+    /// Whether a group of this mode wants a source that has this timer, or none (RFC 3376 section 6.3, RFC 3810 section
+    /// 7.3).
+    pub fn wants(&self, timer: Option<SourceTimer>) -> bool
+        ensures { result ≡ wants self.now timer }
+    {
+        match self {
+            FilterMode::Include => matches!(timer, Some(SourceTimer::Running(_, _))),
+            FilterMode::Exclude(_) => !matches!(timer, Some(SourceTimer::Stopped)),
+        }
+    }
+}
+
+impl SourceTimer {
+    /// Up to when it runs, if it does.
+    pub fn deadline(&self) -> Option<Moment>
+        ensures { result ≡ deadline_of (Some self.now) }
+    {
+        match self {
+            SourceTimer::Stopped => None,
+            SourceTimer::Running(deadline, _) => Some(*deadline),
+        }
+    }
+}
+
+/// Whether a timer runs on after a moment: whether it has a deadline, and that is later. At most one
+/// comparison.
+pub fn runs_on(deadline: Option<Moment>, moment: Moment, m: &mut Meter) -> bool
+    ensures answer { result ≡ is_ahead moment deadline }
+    ensures spent { Spends 0 1 m.old m.new }
+{
+    match deadline {
+        Some(deadline) => !m.reached(deadline, moment),
+        None => false,
+    }
+}

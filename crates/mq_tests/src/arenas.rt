@@ -1,0 +1,155 @@
+//! Vectors in memory that is lent to an arena: what they hold, what is refused, and how much suffices.
+
+use crate::facts::expect_that;
+use mq_arena::{Arena, Unused, block_size};
+use std::alloc::{AllocError, Global};
+
+/// An arena over so many bytes, which are a multiple of 16.
+fn arena_of(alloc: Global, bytes: usize) -> Result<Arena, AllocError> {
+    Ok(Arena::new(Vec::from_elem(alloc, u128::MAX, bytes / 16)?.leak()))
+}
+
+/// As many numbers as are asked for, counted from the first.
+fn numbers<'a>(
+    arena: &'a Arena,
+    first: u32,
+    count: u32,
+) -> Result<Vec<u32, &'a Arena>, AllocError> {
+    let mut all = Vec::with_capacity(arena, count as usize)?;
+    for i in 0..count {
+        all.push(first.wrapping_add(i))?;
+    }
+    Ok(all)
+}
+
+/// Whether these are as many numbers, counted from the first.
+fn are_counted(numbers: &[u32], first: u32, count: u32) -> bool {
+    let mut next = first;
+    for number in numbers {
+        if *number != next {
+            return false;
+        }
+        next = next.wrapping_add(1);
+    }
+    next == first.wrapping_add(count)
+}
+
+#[test]
+fn two_vectors_keep_their_numbers(rt: HostRuntime) {
+    let arena = arena_of(rt.alloc(), 64).expect(&rt, "memory to lend");
+    let low = numbers(&arena, 10, 5).expect(&rt, "20 bytes");
+    let mut high = numbers(&arena, 500, 7).expect(&rt, "28 bytes");
+    expect_that(&rt, are_counted(&low, 10, 5), "the first vector's numbers");
+    expect_that(
+        &rt,
+        are_counted(&high, 500, 7),
+        "the second vector's numbers",
+    );
+    high.as_mut_slice().fill(u32::MAX);
+    expect_that(
+        &rt,
+        are_counted(&low, 10, 5),
+        "the first vector's numbers once the second is written",
+    );
+}
+
+#[test]
+fn what_does_not_fit_is_refused_and_takes_nothing(rt: HostRuntime) {
+    let arena = arena_of(rt.alloc(), 64).expect(&rt, "memory to lend");
+    expect_that(&rt, numbers(&arena, 0, 17).is_err(), "68 bytes of 64");
+    let first = numbers(&arena, 0, 9).expect(&rt, "36 bytes, as 48");
+    expect_that(&rt, numbers(&arena, 0, 5).is_err(), "20 bytes of 16");
+    let second = numbers(&arena, 40, 4).expect(&rt, "the last 16 bytes");
+    expect_that(&rt, numbers(&arena, 0, 1).is_err(), "4 bytes of none");
+    expect_that(&rt, are_counted(&first, 0, 9), "the first vector's numbers");
+    expect_that(
+        &rt,
+        are_counted(&second, 40, 4),
+        "the second vector's numbers",
+    );
+}
+
+#[test]
+fn a_vector_grows_where_there_is_room(rt: HostRuntime) {
+    let arena = arena_of(rt.alloc(), 16 + 32).expect(&rt, "memory to lend");
+    let mut all = numbers(&arena, 0, 4).expect(&rt, "16 bytes");
+    all.push(4).expect(&rt, "a second block");
+    expect_that(
+        &rt,
+        are_counted(&all, 0, 5),
+        "the numbers in the second block",
+    );
+    expect_that(&rt, all.reserve(4).is_err(), "a third block is refused");
+    expect_that(&rt, are_counted(&all, 0, 5), "the numbers, as they were");
+}
+
+#[test]
+fn what_is_dropped_does_not_come_back(rt: HostRuntime) {
+    let arena = arena_of(rt.alloc(), 32).expect(&rt, "memory to lend");
+    drop(numbers(&arena, 0, 5));
+    expect_that(
+        &rt,
+        numbers(&arena, 0, 1).is_err(),
+        "memory of a vector that is gone",
+    );
+}
+
+#[test]
+fn numbers_of_each_width_stand_beside_one_another(rt: HostRuntime) {
+    let arena = arena_of(rt.alloc(), 48).expect(&rt, "memory to lend");
+    let bytes = Vec::from_elem(&arena, 7u8, 3).expect(&rt, "3 bytes");
+    let long = Vec::from_elem(&arena, u128::MAX, 1).expect(&rt, "16 bytes, aligned to 16");
+    let words = Vec::from_elem(&arena, 9u64, 2).expect(&rt, "16 bytes, aligned to 8");
+    expect_that(&rt, bytes.as_slice() == [7, 7, 7].as_slice(), "the bytes");
+    expect_that(
+        &rt,
+        long.as_slice() == [u128::MAX].as_slice(),
+        "the long number",
+    );
+    expect_that(&rt, words.as_slice() == [9, 9].as_slice(), "the words");
+}
+
+#[test]
+fn a_vector_holds_its_arena(rt: HostRuntime) {
+    let arena = arena_of(rt.alloc(), 16).expect(&rt, "memory to lend");
+    let mut words = Vec::from_elem(arena, 9u64, 2).expect(&rt, "16 bytes");
+    expect_that(&rt, words.push(10).is_err(), "no memory for a third word");
+    expect_that(&rt, words.as_slice() == [9, 9].as_slice(), "two words");
+}
+
+/// An arena that lies in its memory, of so many units.
+fn arena_in(alloc: Global, units: usize) -> Result<&'static Arena, AllocError> {
+    Arena::in_its_memory(Vec::from_elem(alloc, 0, units)?.leak())
+}
+
+#[test]
+fn an_arena_takes_the_first_unit_of_its_memory(rt: HostRuntime) {
+    expect_that(&rt, arena_in(rt.alloc(), 0).is_err(), "no unit to lie in");
+    let arena = arena_in(rt.alloc(), 3).expect(&rt, "memory to lend");
+    let first = numbers(arena, 1, 4).expect(&rt, "the second unit");
+    let second = numbers(arena, 9, 4).expect(&rt, "the third unit");
+    expect_that(&rt, numbers(arena, 0, 1).is_err(), "no more");
+    expect_that(&rt, are_counted(&first, 1, 4), "the first vector's numbers");
+    expect_that(
+        &rt,
+        are_counted(&second, 9, 4),
+        "the second vector's numbers",
+    );
+}
+
+#[test]
+fn as_many_bytes_as_the_blocks_suffice(rt: HostRuntime) {
+    let total = block_size(0) + block_size(1) + block_size(16) + block_size(17);
+    expect_that(&rt, total == 64, "whole units");
+    let units = Vec::from_elem(rt.alloc(), 0, 4).expect(&rt, "memory to lend");
+    let mut unused = Unused::of(units.leak());
+    expect_that(&rt, unused.take(0, 1).is_ok(), "no byte");
+    expect_that(&rt, unused.take(1, 2).is_ok(), "one byte");
+    expect_that(&rt, unused.take(16, 16).is_ok(), "16 bytes");
+    expect_that(&rt, unused.take(33, 8).is_err(), "33 bytes of 32");
+    expect_that(&rt, unused.take(17, 4).is_ok(), "17 bytes");
+    expect_that(&rt, unused.size() == 0, "no byte is left");
+    expect_that(&rt, unused.take(0, 16).is_ok(), "no byte of none");
+    expect_that(&rt, unused.take(0, 32).is_err(), "an alignment of 32");
+    expect_that(&rt, unused.take(1, 1).is_err(), "one byte of none");
+}

@@ -1,0 +1,138 @@
+//! Captures that are read in pieces, to their end or to a fault. Captures cut at each length, other headers and
+//! moments are rows of `tools/refuse.cases`.
+
+use crate::facts::expect_none_wrong_at;
+use mq_count::{Faulty, Watched};
+use mq_pcap::{GREATEST_PACKET, Packet, PcapFault, PcapReader};
+use std::alloc::Global;
+use std::io::Read;
+use std::process::Abort;
+
+/// A capture of one packet: an IGMPv2 Report in an Ethernet frame of 60 bytes.
+const CAPTURE: &[u8] =
+    b"\xd4\xc3\xb2\xa1\x02\x00\x04\x00\x00\x00\x00\x00\x00\x00\x00\x00\x00\x00\x04\x00\x01\x00\x00\x00\x00\x00\x00\x00\x00\x00\x00\x00\x3c\x00\x00\x00\x3c\x00\x00\x00\x01\x00\x5e\x01\x02\x03\x02\x00\x00\x00\x00\x01\x08\x00\x45\x00\x00\x1c\x00\x00\x00\x00\x01\x02\x00\x00\x0a\x00\x00\x01\xef\x01\x02\x03\x16\x00\xf8\xfa\xef\x01\x02\x03\x00\x00\x00\x00\x00\x00\x00\x00\x00\x00\x00\x00\x00\x00\x00\x00\x00\x00";
+
+/// The headers of a capture and of a packet that is too long.
+const TOO_LONG: &[u8] =
+    b"\xd4\xc3\xb2\xa1\x02\x00\x04\x00\x00\x00\x00\x00\x00\x00\x00\x00\x00\x00\x04\x00\x01\x00\x00\x00\x00\x00\x00\x00\x00\x00\x00\x00\x01\x00\x04\x00\x3c\x00\x00\x00";
+
+fn new_buffer(rt: &impl Abort, alloc: Global) -> Vec<u8> {
+    vec![in alloc; 0; GREATEST_PACKET].expect(rt, "memory for a buffer")
+}
+
+/// What a call for the next packet answers.
+type Answer = Result<Option<Packet>, PcapFault>;
+
+const PACKET: Answer = Ok(Some(Packet {
+    stamp_ms: 0,
+    length: 60,
+}));
+
+const NEVER: u64 = u64::MAX;
+
+/// A name of an answer.
+#[derive(Clone, Copy)]
+enum Name {
+    Packet,
+    End,
+    CutHeader,
+    CutData,
+    TooLong,
+    Failed,
+}
+
+fn answer_of(name: Name) -> Answer {
+    match name {
+        Name::Packet => PACKET,
+        Name::End => Ok(None),
+        Name::CutHeader => Err(PcapFault::CutHeader { number: 1 }),
+        Name::CutData => Err(PcapFault::CutData { number: 1 }),
+        Name::TooLong => Err(PcapFault::TooLong { number: 1 }),
+        Name::Failed => Err(PcapFault::Read),
+    }
+}
+
+/// How a capture is read: so many of its bytes, in pieces, with one call of its reader failing. What comes first,
+/// and what then comes again and again.
+type Row = (&'static [u8], usize, usize, u64, Name, Name);
+
+static ROWS: [Row; 7] = [
+    (CAPTURE, 100, 1, NEVER, Name::Packet, Name::End),
+    (CAPTURE, 100, 7, NEVER, Name::Packet, Name::End),
+    (CAPTURE, 100, 100, NEVER, Name::Packet, Name::End),
+    (CAPTURE, 24, 100, NEVER, Name::End, Name::End),
+    (CAPTURE, 39, 100, NEVER, Name::CutHeader, Name::CutHeader),
+    (CAPTURE, 99, 100, NEVER, Name::CutData, Name::CutData),
+    (TOO_LONG, 40, 100, NEVER, Name::TooLong, Name::TooLong),
+];
+
+/// Whether the next answer is the one of this name, in a buffer that is long enough.
+fn is_next<R: Read>(
+    pcap: &mut PcapReader,
+    reader: &mut Watched<R>,
+    buffer: &mut [u8],
+    name: Name,
+) -> bool {
+    GREATEST_PACKET <= buffer.len() && pcap.next(reader, buffer) == answer_of(name)
+}
+
+/// What is wrong with a capture that is read.
+fn wrong_capture(row: &Row, buffer: &mut [u8]) -> Option<&'static str> {
+    let (capture, length, piece, fails_at, first, then) = *row;
+    let Some(bytes) = capture.get(..length) else {
+        return Some("so many bytes");
+    };
+    let mut reader = Watched::new(Faulty::new(bytes, piece, fails_at));
+    let Ok(mut pcap) = PcapReader::open(&mut reader) else {
+        return Some("it is opened");
+    };
+    if !is_next(&mut pcap, &mut reader, buffer, first) {
+        return Some("what comes first");
+    }
+    if !is_next(&mut pcap, &mut reader, buffer, then) {
+        return Some("what comes then");
+    }
+    if !is_next(&mut pcap, &mut reader, buffer, then) {
+        return Some("what comes again");
+    }
+    if reader.failed() != matches!(then, Name::Failed) {
+        return Some("whether the reader failed");
+    }
+    None
+}
+
+#[test]
+fn reads_to_the_end_or_a_fault(rt: HostRuntime) {
+    let mut buffer = new_buffer(&rt, rt.alloc());
+    for place in 0..ROWS.len() {
+        let wrong = wrong_capture(&ROWS[place], buffer.as_mut_slice());
+        expect_none_wrong_at(&rt, wrong, place);
+    }
+}
+
+/// What is wrong where one byte is read a call, and this call fails with all behind it: of the file's header, of the
+/// packet's, of its bytes, or the one behind the last.
+fn wrong_failing(call: u64, buffer: &mut [u8]) -> Option<&'static str> {
+    if call <= 24 {
+        let mut reader = Watched::new(Faulty::new(CAPTURE, 1, call));
+        return match PcapReader::open(&mut reader) {
+            Err(PcapFault::Read) if reader.failed() => None,
+            _ => Some("a header that can't be read"),
+        };
+    }
+    let first = if call <= 100 {
+        Name::Failed
+    } else {
+        Name::Packet
+    };
+    wrong_capture(&(CAPTURE, 100, 1, call, first, Name::Failed), buffer)
+}
+
+#[test]
+fn fails_at_each_read_and_again(rt: HostRuntime) {
+    let mut buffer = new_buffer(&rt, rt.alloc());
+    for call in 1..102 {
+        let wrong = wrong_failing(call, buffer.as_mut_slice());
+        expect_none_wrong_at(&rt, wrong, call as usize);
+    }
+}

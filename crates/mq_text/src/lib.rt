@@ -1,0 +1,23 @@
+//! Addresses as texts, of both families.
+//!
+//! ```text
+//! let mut text = Text::new();
+//! put_v4(&mut text, Addr4::from_octets([239, 1, 2, 3]));    // b"239.1.2.3"
+//! put_v6(&mut text, address);                               // and behind it b"ff0e::1234"
+//! ```
+//!
+//! - To write at the end of a `Text`, without memory: `put_v4`, `put_v6`, `put_decimal` and `put`.
+//! - To read: `read_v4` and `read_v6`.
+//! - Laws, functions that do nothing: `laws`.
+#![tactic(auto)]
+
+mod address_v4;
+mod address_v6;
+pub mod laws;
+mod reading;
+mod text;
+
+pub use address_v4::put_v4;
+pub use address_v6::put_v6;
+pub use reading::{read_v4, read_v6};
+pub use text::{Text, put, put_decimal};

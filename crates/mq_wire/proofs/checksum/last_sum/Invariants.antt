@@ -1,0 +1,14 @@
+use Rattle.std.proofs.Common.{◌≡◌, ◌+◌, ◌*◌, ◌^◌, ◌≤◌, length}
+use Rattle.mq_wire.specs.Checksum.{sum_of_words}
+use Rattle.mq_wire.proofs.checksum.last_sum.Given as goal
+
+-- the words so far and those that are left have the sum of all words
+abbrev pub invariant-loop-rest : goal.invariant-loop-rest
+invariant-loop-rest l =
+    record {
+      same : l.sum + sum_of_words l.rest ≡ sum_of_words l.bytes;
+      small : l.sum + length l.rest * 2 ^ 61 ≤ length l.bytes * 2 ^ 61;
+    }
+
+abbrev pub decreases-loop-rest : goal.decreases-loop-rest
+decreases-loop-rest l = length l.rest

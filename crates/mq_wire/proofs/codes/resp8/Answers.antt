@@ -1,0 +1,11 @@
+use Rattle.std.proofs.Common.{◌≤◌, ◌+◌, ◌*◌, ◌^◌, ◌/◌, ◌%◌, arith}
+use Rattle.std.proofs.Math.Nat.{pow-le-pow_right}
+use Rattle.std.proofs.lemmas.Nat.{mul-le}
+use Rattle.mq_wire.proofs.codes.resp8.Goals as goal
+
+pub returns-clause-greatest : goal.returns-clause-greatest
+returns-clause-greatest c =
+    let exponent = c.args.code / 16 % 8 + 3 in
+    let shift : 2 ^ exponent ≤ 2 ^ 10 = pow-le-pow_right (omega arith) {i = exponent} {j = 10} (omega arith) in
+    let whole : (c.from-mantissa.result + 16) * 2 ^ exponent ≤ 31 * 1024 =
+    mul-le (c.from-mantissa.result + 16) (2 ^ exponent) 31 1024 (omega (arith, c.from-mantissa.ensures)) shift in omega (arith, whole)

@@ -1,0 +1,12 @@
+pub mod Canon
+pub mod Checksum
+pub mod Codes
+pub mod Family
+pub mod Fields
+pub mod Numbered
+pub mod PseudoHeader
+pub mod Queries
+pub mod Records
+pub mod RoundTrip
+pub mod Sources
+pub mod Spelling

@@ -1,0 +1,4 @@
+pub mod Conversions
+pub mod Replayed
+pub mod Telling
+pub mod Worked

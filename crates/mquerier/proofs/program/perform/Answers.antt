@@ -1,0 +1,10 @@
+use Rattle.mquerier.specs.Changes.{input_by, output_by}
+use Rattle.mquerier.proofs.Conversions.{conversion_performed}
+use Rattle.mquerier.proofs.program.perform.Goals as goal
+
+pub returns-in-Convert-clause-performs : goal.returns-in-Convert-clause-performs
+returns-in-Convert-clause-performs g c =
+    let input = input_by g.R.Read.remaining c.args.input.now c.perform_conversion.new.input in
+    let output = output_by g.W.Write.contents c.args.output.now c.perform_conversion.new.output in
+    let errors = output_by g.E.Write.contents c.args.errors.now c.perform_conversion.new.errors in
+    rw c.in-Convert.is (conversion_performed _ _ _ input output errors c.perform_conversion.result c.perform_conversion.ensures)

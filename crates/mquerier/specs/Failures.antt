@@ -1,0 +1,138 @@
+-- The failures of the program: their statuses, and what standard error is told.
+use Rattle.std.specs.Prelude.{ℕ, zero, suc, ◌-◌, List, [], ◌∷◌, ◌++◌, codes}
+use Rattle.std.specs.List.{flat_map}
+use Rattle.std.specs.Fmt.{decimal}
+use Rattle.mq_convert.specs.declared.fault.BlockFault.{BlockFault}
+use Rattle.mq_convert.specs.declared.fault.BlockFault.TheVariants as block
+use Rattle.mq_convert.specs.declared.unread.LinkCount.{LinkCount}
+use Rattle.mq_convert.specs.declared.unread.Unread.{Unread}
+use Rattle.mq_link.specs.declared.configuration.ConfigFault.{ConfigFault}
+use Rattle.mq_link.specs.declared.configuration.ConfigFault.TheVariants as config
+use Rattle.mq_link.specs.declared.configuration.LimitName.{LimitName}
+use Rattle.mq_link.specs.declared.configuration.LimitName.TheVariants as limit
+use Rattle.mq_pcap.specs.declared.fault.PcapFault.{PcapFault}
+use Rattle.mq_pcap.specs.declared.fault.PcapFault.TheVariants as fault
+use Rattle.mquerier.specs.declared.failure.Failure.{Failure}
+use Rattle.mquerier.specs.declared.failure.Failure.TheVariants.{NoAddresses, NotAnAddress, NotHex, UntilTooLarge, Configuration, Capture, Gap, Conversion, ConversionRead, NotOpened, Memory, Write}
+
+-- 2 for a fault of the command line or of a configuration, 1 for one of the input, the output or memory
+abbrev pub status_of : Failure → ℕ
+status_of NoAddresses = 2
+status_of NotAnAddress = 2
+status_of NotHex = 2
+status_of UntilTooLarge = 2
+status_of (Configuration f query_seconds response_interval) = 2
+status_of (Capture f) = 1
+status_of (Gap number) = 1
+status_of (Conversion number f) = 1
+status_of ConversionRead = 1
+status_of NotOpened = 1
+status_of Memory = 1
+status_of Write = 1
+
+-- a fault of a configuration, by its number
+abbrev pub configuration_text : ConfigFault → List ℕ
+configuration_text config.Robustness = codes "configuration fault 1"
+configuration_text config.QueryInterval = codes "configuration fault 2"
+configuration_text config.ResponseInterval = codes "configuration fault 3"
+configuration_text config.LastMember = codes "configuration fault 4"
+configuration_text (config.Limit which) = codes "configuration fault 5"
+configuration_text config.OwnAddress = codes "configuration fault 6"
+
+-- a fault of a capture, by its number
+abbrev pub capture_text : PcapFault → List ℕ
+capture_text fault.Read = codes "capture fault 1"
+capture_text fault.Magic = codes "capture fault 2"
+capture_text fault.Version = codes "capture fault 3"
+capture_text fault.LinkType = codes "capture fault 4"
+capture_text (fault.CutHeader number) = codes "capture fault 5 at record " ++ decimal number
+capture_text (fault.CutData number) = codes "capture fault 6 at record " ++ decimal number
+capture_text (fault.TooLong number) = codes "capture fault 7 at record " ++ decimal number
+capture_text fault.Endless = codes "capture fault 8"
+
+-- a fault of a capture that is converted, by its number, up to that of the block
+abbrev pub conversion_text : BlockFault → List ℕ
+conversion_text block.NoCapture = codes "conversion fault 2 at block "
+conversion_text block.Version = codes "conversion fault 3 at block "
+conversion_text block.Order = codes "conversion fault 4 at block "
+conversion_text block.Length = codes "conversion fault 5 at block "
+conversion_text block.Interface = codes "conversion fault 6 at block "
+conversion_text block.Interfaces = codes "conversion fault 7 at block "
+conversion_text block.Moment = codes "conversion fault 8 at block "
+conversion_text block.Cut = codes "conversion fault 9 at block "
+conversion_text block.Endless = codes "conversion fault 10 at block "
+
+-- what standard error is told where packets of link types that aren't read were written: how many they are, how many of each
+-- link type that has a row, and how many of the others
+abbrev pub link_text : LinkCount → List ℕ
+link_text row = codes "\n  " ++ decimal row.count ++ codes " of link type " ++ decimal row.link
+
+abbrev pub others : (count : ℕ) → List LinkCount → ℕ
+others count [] = count
+others count (row ∷ rows) = others (count - row.count) rows
+
+abbrev pub others_text : (count : ℕ) → List ℕ
+others_text zero = []
+others_text (suc n) = codes "\n  " ++ decimal (suc n) ++ codes " of others"
+
+abbrev pub unread_line : Unread → List ℕ
+unread_line unread =
+    codes "mquerier: " ++ decimal unread.count ++ codes " packets of link types that aren't read"
+    ++ flat_map link_text unread.links.items ++ others_text (others unread.count unread.links.items) ++ codes "\n"
+
+abbrev pub failure_text : Failure → List ℕ
+failure_text NoAddresses = codes "--from and --to are needed for mld"
+failure_text NotAnAddress = codes "not an address"
+failure_text NotHex = codes "not hex"
+failure_text UntilTooLarge = codes "until is too large"
+failure_text (Configuration f query_seconds response_interval) = configuration_text f
+failure_text (Capture f) = capture_text f
+failure_text (Gap number) = codes "gap before record " ++ decimal number
+failure_text (Conversion number f) = conversion_text f ++ decimal number
+failure_text ConversionRead = codes "conversion fault 1"
+failure_text NotOpened = codes "the file can't be opened"
+failure_text Memory = codes "out of memory"
+failure_text Write = codes "write failed"
+
+-- what the number of a fault of a configuration means, and for which of its two intervals, on a line of its own
+abbrev pub limit_words : LimitName → List ℕ
+limit_words limit.Groups = codes "\n  --groups has to be 1 to 65535"
+limit_words limit.GroupSources = codes "\n  --group-sources has to be 1 to 1024"
+limit_words limit.Sources = codes "\n  --sources has to be 1 to 65535"
+limit_words limit.Scheduled = codes "\n  --scheduled has to be 1 to 65535"
+
+abbrev pub interval_words : (query_seconds response_interval : ℕ) → List ℕ
+interval_words query_seconds response_interval =
+    codes "\n  --qri is " ++ decimal response_interval ++ codes " ms, and --qi " ++ decimal query_seconds
+    ++ codes " s: --qri has to be below --qi, and for igmp 100 to 3174400, for mld 1 to 8387584"
+
+abbrev pub configuration_words : ConfigFault → (query_seconds response_interval : ℕ) → List ℕ
+configuration_words config.Robustness query_seconds response_interval = codes "\n  --rv has to be 1 to 7"
+configuration_words config.QueryInterval query_seconds response_interval = codes "\n  --qi has to be 1 to 31744"
+configuration_words config.ResponseInterval query_seconds response_interval = interval_words query_seconds response_interval
+configuration_words config.LastMember query_seconds response_interval =
+    codes "\n  --lmqi has to be 100 to 3174400 for igmp, 1 to 8387584 for mld"
+configuration_words (config.Limit which) query_seconds response_interval = limit_words which
+configuration_words config.OwnAddress query_seconds response_interval =
+    codes "\n  --own has to be an address of a router: for igmp not 0.0.0.0 and below 224.0.0.0, for mld in fe80::/10"
+
+-- what the number of a fault of a capture means
+abbrev pub capture_words : PcapFault → List ℕ
+capture_words fault.Read = codes "\n  a read of the capture failed"
+capture_words fault.Magic = codes "\n  it is no classic capture file; mquerier convert makes one of a pcapng file"
+capture_words fault.Version = codes "\n  the version of the file is not 2.4"
+capture_words fault.LinkType = codes "\n  the link type is neither Ethernet nor raw IP; mquerier convert makes a file of Ethernet"
+capture_words (fault.CutHeader number) = codes "\n  the file ends within a header"
+capture_words (fault.CutData number) = codes "\n  the file ends within a packet"
+capture_words (fault.TooLong number) = codes "\n  the packet has more than 262144 bytes"
+capture_words fault.Endless = codes "\n  the file has more than 4294967295 packets"
+
+-- the words behind the line of a failure, where that has a number and no more
+abbrev pub failure_words : Failure → List ℕ
+failure_words (Configuration f query_seconds response_interval) = configuration_words f query_seconds response_interval
+failure_words (Capture f) = capture_words f
+failure_words (Gap number) = codes "\n  more than a day lies between the packet before and this one, or the end; groups and totals are not printed"
+failure_words failure = []
+
+abbrev pub failure_line : Failure → List ℕ
+failure_line failure = codes "mquerier: " ++ failure_text failure ++ failure_words failure ++ codes "\n"

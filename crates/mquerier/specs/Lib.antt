@@ -1,0 +1,7 @@
+pub mod Breaking
+pub mod Changes
+pub mod Failures
+pub mod HexLine
+pub mod Replays
+pub mod Status
+pub mod Working

@@ -1,0 +1,211 @@
+-- What the program does of what is asked for, and its status.
+use Rattle.std.specs.Prelude.{◌≡◌, ◌≤◌, ◌⊎◌, ℕ, Bool, true, false, List, [], ◌++◌, codes, Option, None, Some, Result, Ok, IsErr}
+use Rattle.std.specs.Option.{option_copied}
+use Rattle.hex.specs.Hex.{decode_of}
+use Rattle.mq_command.specs.declared.Protocol.{Protocol}
+use Rattle.mq_command.specs.declared.Protocol.TheVariants.{Igmp, Mld}
+use Rattle.mq_command.specs.declared.Request.{Request}
+use Rattle.mq_command.specs.declared.Request.TheVariants.{Message, Convert, Show, Replay}
+use Rattle.mq_command.specs.declared.replay.Settings.{Settings}
+use Rattle.mq_convert.specs.declared.fault.ConvertFault.{ConvertFault}
+use Rattle.mq_convert.specs.declared.unread.Unread.{Unread}
+use Rattle.mq_convert.specs.Converting.{Converts}
+use Rattle.mq_replay.specs.declared.replay_fault.ReplayFault.{ReplayFault}
+use Rattle.mq_replay.specs.Listing.{Shows}
+use Rattle.mq_text.specs.Reading.{SpellsV6}
+use Rattle.mq_wire.specs.Family as family
+use Rattle.mq_wire.specs.PseudoHeader.{pseudo_header}
+use Rattle.mquerier.specs.declared.failure.Failure.{Failure}
+use Rattle.mquerier.specs.declared.failure.Failure.TheVariants.{NoAddresses, NotAnAddress, NotHex, Memory, Write}
+use Rattle.mquerier.specs.Breaking.{IsBrokenOff, IsConversionBroken}
+use Rattle.mquerier.specs.Changes.{Input, Output, Writes, BreaksOff}
+use Rattle.mquerier.specs.Failures.{failure_line, unread_line}
+use Rattle.mquerier.specs.HexLine.{IsHexLine}
+use Rattle.mquerier.specs.Replays.{SpellsAddress, IsRefusedAt, IsDoneAt, IsBrokenAt, family_of}
+
+-- standard error was told: the text was written, or a beginning of it and then a write failed
+abbrev pub IsTold : (errors : Output) → (text : List ℕ) → Type 0
+IsTold errors text = Writes errors text ⊎ BreaksOff errors text
+
+-- of a failure it was told the failure's line
+abbrev pub Told : (errors : Output) → Failure → Type 0
+Told errors failure = IsTold errors (failure_line failure)
+
+-- a message of MLD lacks an address
+abbrev pub AreMissing : Protocol → (from to : Option (List ℕ)) → Type 0
+AreMissing Igmp from to = ⊥
+AreMissing Mld from to = (from ≡ None) ⊎ (to ≡ None)
+
+-- a text that is given is no address of the protocol's family
+abbrev pub IsNoAddress : Protocol → Option (List ℕ) → Type 0
+IsNoAddress protocol None = ⊥
+IsNoAddress protocol (Some text) = (address : ℕ) → SpellsAddress protocol text address → ⊥
+
+-- Why a request for a message is refused: the first of these that holds.
+abbrev pub IsRefusedMessage : Protocol → (from to : Option (List ℕ)) → (hex : List ℕ) → Failure → Type 0
+IsRefusedMessage protocol from to hex NoAddresses = AreMissing protocol from to
+IsRefusedMessage protocol from to hex NotAnAddress =
+    (AreMissing protocol from to → ⊥) × (IsNoAddress protocol from ⊎ IsNoAddress protocol to)
+IsRefusedMessage protocol from to hex NotHex =
+    (AreMissing protocol from to → ⊥) × (IsNoAddress protocol from → ⊥) × (IsNoAddress protocol to → ⊥)
+    × IsErr (decode_of hex)
+IsRefusedMessage protocol from to hex failure = ⊥
+
+-- Why a request for a replay is refused: the first of these that holds.
+abbrev pub IsRefusedReplay : Protocol → (own : List ℕ) → Settings → (until : Option ℕ) → Failure → Type 0
+IsRefusedReplay protocol own settings until NotAnAddress = IsNoAddress protocol (Some own)
+IsRefusedReplay protocol own settings until failure =
+    (address : ℕ) × SpellsAddress protocol own address
+    × IsRefusedAt (family_of protocol) address settings until failure
+
+abbrev pub IsRefused : Request → Failure → Type 0
+IsRefused (Message protocol hex from to) failure =
+    IsRefusedMessage protocol (option_copied from) (option_copied to) hex.now failure
+IsRefused (Convert interface vlan file) failure = ⊥
+IsRefused (Show file) failure = ⊥
+IsRefused (Replay protocol own settings until file) failure = IsRefusedReplay protocol own.now settings until failure
+
+-- a text that is given spells this IPv6 address
+abbrev pub IsAddress : Option (List ℕ) → ℕ → Type 0
+IsAddress None address = ⊥
+IsAddress (Some text) address = SpellsV6 text address
+
+-- the line of the message that is asked for, or of its fault, as the flag says
+abbrev pub IsAskedLine : Protocol → (from to : Option (List ℕ)) → (hex : List ℕ) → (flag : Bool) → (line : List ℕ) → Type 0
+IsAskedLine Igmp from to hex flag line =
+    (IsNoAddress Igmp from → ⊥) × (IsNoAddress Igmp to → ⊥)
+    × IsHexLine family.Igmp (λ len. []) hex flag line
+IsAskedLine Mld from to hex flag line =
+    (source : ℕ) × (destination : ℕ) × IsAddress from source × IsAddress to destination
+    × IsHexLine family.Mld (pseudo_header source destination) hex flag line
+
+-- the line of the message that is asked for was written, and it has this flag
+abbrev pub WritesMessage : Protocol → (from to : Option (List ℕ)) → (hex : List ℕ) → Output → (flag : Bool) → Type 0
+WritesMessage protocol from to hex output flag =
+    (line : List ℕ) × IsAskedLine protocol from to hex flag line × Writes output line
+
+-- a capture was shown, with this answer
+abbrev pub WritesListing : Input → Output → Result ℕ ReplayFault → Type 0
+WritesListing input output answer = Shows input.old input.new output.old.held output.new.held answer
+
+-- a capture was converted, with this answer; these packets were chosen
+abbrev pub WritesConversion : (interface vlan : Option ℕ) → Input → Output → Result Unread ConvertFault → Type 0
+WritesConversion interface vlan input output answer =
+    Converts (record { interface = interface; vlan = vlan }) input.old input.new output.old.held output.new.held answer
+
+-- a capture was replayed to its end
+abbrev pub WritesReport : Protocol → (own : List ℕ) → Settings → (until : Option ℕ) → Input → Output → (flag : Bool) → Type 0
+WritesReport protocol own settings until input output flag =
+    (address : ℕ) × SpellsAddress protocol own address
+    × IsDoneAt (family_of protocol) address settings until input output flag
+
+-- What is asked for was done: a line was written, of a message (true) or of its fault (false), or a capture was
+-- shown or replayed to its end.
+abbrev pub IsDone : Request → Input → Output → (flag : Bool) → Type 0
+IsDone (Message protocol hex from to) input output flag =
+    WritesMessage protocol (option_copied from) (option_copied to) hex.now output flag
+IsDone (Convert interface vlan file) input output flag =
+    (flag ≡ true) × (output.new.failed ≡ output.old.failed) × (unread : Unread)
+    × WritesConversion interface vlan input output (Ok unread)
+IsDone (Show file) input output flag =
+    (flag ≡ true) × (output.new.failed ≡ output.old.failed) × (count : ℕ) × WritesListing input output (Ok count)
+IsDone (Replay protocol own settings until file) input output flag =
+    WritesReport protocol own.now settings until input output flag
+
+-- Why a message's line was not written: memory ran out, before any of it was, or the output failed behind a
+-- beginning of it.
+abbrev pub IsBrokenMessage : Protocol → (from to : Option (List ℕ)) → (hex : List ℕ) → Output → Failure → Type 0
+IsBrokenMessage protocol from to hex output Memory = output.new ≡ output.old
+IsBrokenMessage protocol from to hex output Write =
+    (flag : Bool) × (line : List ℕ) × IsAskedLine protocol from to hex flag line × BreaksOff output line
+IsBrokenMessage protocol from to hex output failure = ⊥
+
+-- why a capture was not replayed to its end
+abbrev pub IsBrokenReplay : Protocol → (own : List ℕ) → Settings → (until : Option ℕ) → Input → Output → Failure → Type 0
+IsBrokenReplay protocol own settings until input output failure =
+    (address : ℕ) × SpellsAddress protocol own address
+    × IsBrokenAt (family_of protocol) address settings until input output failure
+
+-- why the status is 1, where no message's fault was written
+abbrev pub IsBroken : Request → Input → Output → Failure → Type 0
+IsBroken (Message protocol hex from to) input output failure =
+    IsBrokenMessage protocol (option_copied from) (option_copied to) hex.now output failure
+IsBroken (Convert interface vlan file) input output failure =
+    IsConversionBroken (WritesConversion interface vlan input output) input output failure
+IsBroken (Show file) input output failure = IsBrokenOff (WritesListing input output) input output failure
+IsBroken (Replay protocol own settings until file) input output failure =
+    IsBrokenReplay protocol own.now settings until input output failure
+
+-- a message's fault was written and standard error told nothing, or the work broke off and that was told
+abbrev pub IsFaulty : Request → Input → (output errors : Output) → Type 0
+IsFaulty request input output errors =
+    (IsDone request input output false × (errors.new ≡ errors.old))
+    ⊎ ((failure : Failure) × IsBroken request input output failure × Told errors failure)
+
+-- a request for a message, which doesn't read the input
+abbrev pub IsOfMessage : Request → Type 0
+IsOfMessage (Message protocol hex from to) = Unit {0}
+IsOfMessage (Convert interface vlan file) = ⊥
+IsOfMessage (Show file) = ⊥
+IsOfMessage (Replay protocol own settings until file) = ⊥
+
+-- a request for a conversion
+abbrev pub IsConversion : Request → Type 0
+IsConversion (Message protocol hex from to) = ⊥
+IsConversion (Convert interface vlan file) = Unit {0}
+IsConversion (Show file) = ⊥
+IsConversion (Replay protocol own settings until file) = ⊥
+
+-- standard error was told of packets whose link type isn't read, if some were written
+abbrev pub TellsUnread : (errors : Output) → Unread → Type 0
+TellsUnread errors unread =
+    (unread.count ≡ 0 → errors.new ≡ errors.old) × (1 ≤ unread.count → IsTold errors (unread_line unread))
+
+-- What is asked for was done, and standard error told nothing but, of a conversion, of packets whose link type isn't
+-- read.
+abbrev pub IsDoneTelling : Request → Input → (output errors : Output) → Type 0
+IsDoneTelling (Message protocol hex from to) input output errors =
+    IsDone (Message protocol hex from to) input output true × (errors.new ≡ errors.old)
+IsDoneTelling (Convert interface vlan file) input output errors =
+    (output.new.failed ≡ output.old.failed) × (unread : Unread)
+    × WritesConversion interface vlan input output (Ok unread) × TellsUnread errors unread
+IsDoneTelling (Show file) input output errors = IsDone (Show file) input output true × (errors.new ≡ errors.old)
+IsDoneTelling (Replay protocol own settings until file) input output errors =
+    IsDone (Replay protocol own settings until file) input output true × (errors.new ≡ errors.old)
+
+-- What is asked for was done, or not, and this is the status.
+pub record Performs (request : Request) (input : Input) (output errors : Output) (status : ℕ) : Type 0 where
+  pub at_most_two : status ≤ 2
+  pub done : status ≡ 0 → IsDoneTelling request input output errors
+  pub faulty : status ≡ 1 → IsFaulty request input output errors
+  -- only a faulty request is refused, and that is told
+  pub refused : status ≡ 2 → (input.new ≡ input.old) × (output.new ≡ output.old)
+      × (failure : Failure) × IsRefused request failure × Told errors failure
+  pub unread : IsOfMessage request → input.new ≡ input.old
+
+-- A conversion was done, or broke off, which was told.
+pub record PerformsConversion (interface vlan : Option ℕ) (input : Input) (output errors : Output) (status : ℕ) : Type 0 where
+  pub at_most_one : status ≤ 1
+  pub done : status ≡ 0 → (output.new.failed ≡ output.old.failed) × (unread : Unread)
+      × WritesConversion interface vlan input output (Ok unread) × TellsUnread errors unread
+  pub faulty : status ≡ 1 → (failure : Failure)
+      × IsConversionBroken (WritesConversion interface vlan input output) input output failure × Told errors failure
+
+-- standard error was told some text, which is a line at least
+abbrev pub TellsLines : (errors : Output) → Type 0
+TellsLines errors = (text : List ℕ) × IsTold errors (text ++ codes "\n")
+
+-- There is no request: standard error was told why, and the status is 2, or that memory ran out, and it is 1.
+abbrev pub IsWordless : (errors : Output) → (status : ℕ) → Type 0
+IsWordless errors status = ((status ≡ 2) × TellsLines errors) ⊎ ((status ≡ 1) × Told errors Memory)
+
+-- the same, where nothing was read or written besides
+pub record IsUnread (input : Input) (output errors : Output) (status : ℕ) : Type 0 where
+  pub unread : input.new ≡ input.old
+  pub unwritten : output.new ≡ output.old
+  pub told : IsWordless errors status
+
+-- A run reads a request and performs it, or reads none.
+abbrev pub Runs : Input → (output errors : Output) → (status : ℕ) → Type 0
+Runs input output errors status =
+    ((request : Request) × Performs request input output errors status) ⊎ IsUnread input output errors status

@@ -1,0 +1,82 @@
+-- What the work on a request comes to.
+use Rattle.std.specs.Prelude.{◌≡◌, Bool, true, List, ℕ, Option, Result, Ok, Err, IsErr}
+use Rattle.hex.specs.Hex.{decode_of}
+use Rattle.mq_command.specs.declared.Protocol.{Protocol}
+use Rattle.mq_command.specs.declared.Request.{Request}
+use Rattle.mq_command.specs.declared.replay.Settings.{Settings}
+use Rattle.mq_convert.specs.declared.unread.Unread.{Unread}
+use Rattle.mq_link.specs.Configuration.{Configuration, IsFaultless}
+use Rattle.mq_wire.specs.Family.{Family}
+use Rattle.mquerier.specs.declared.failure.Failure.{Failure}
+use Rattle.mquerier.specs.declared.failure.Failure.TheVariants.{NotHex, Memory}
+use Rattle.mquerier.specs.declared.failure.Failure.TheVariants as failure
+use Rattle.mquerier.specs.Breaking.{IsBrokenOff, IsConversionBroken}
+use Rattle.mquerier.specs.Changes.{Input, Output}
+use Rattle.mquerier.specs.Failures.{status_of}
+use Rattle.mquerier.specs.Replays.{HasFault, IsRefusedAt, IsDoneAt, IsBrokenAt}
+use Rattle.mquerier.specs.Status.{IsDone, IsRefused, IsRefusedMessage, IsRefusedReplay, IsBroken, IsBrokenMessage, IsBrokenReplay, WritesConversion, WritesListing, WritesMessage, WritesReport}
+
+-- an answer with a failure of the request
+abbrev pub IsRefusal : {X : Type 0} → Result X Failure → Type 0
+IsRefusal (Ok x) = ⊥
+IsRefusal (Err failure) = status_of failure ≡ 2
+
+-- an answer before which nothing was written: a failure of the request, or want of memory
+abbrev pub IsUnwritten : {X : Type 0} → Result X Failure → Type 0
+IsUnwritten (Ok x) = ⊥
+IsUnwritten (Err Memory) = Unit {0}
+IsUnwritten (Err failure) = status_of failure ≡ 2
+
+-- it was done, or the request is refused, or the work broke off
+abbrev pub Works : Request → Input → Output → Result Bool Failure → Type 0
+Works request input output (Ok flag) = IsDone request input output flag
+Works request input output (Err failure) =
+    (status_of failure ≡ 2 → IsRefused request failure) × (status_of failure ≡ 1 → IsBroken request input output failure)
+
+-- the same of a listing, which no request is refused for
+abbrev pub WorksOnListing : Input → Output → Result Bool Failure → Type 0
+WorksOnListing input output (Ok flag) =
+    (flag ≡ true) × (output.new.failed ≡ output.old.failed) × (count : ℕ) × WritesListing input output (Ok count)
+WorksOnListing input output (Err failure) =
+    (status_of failure ≡ 2 → ⊥) × (status_of failure ≡ 1 → IsBrokenOff (WritesListing input output) input output failure)
+
+-- the same of a conversion, which no request is refused for
+abbrev pub WorksOnConversion : (interface vlan : Option ℕ) → Input → Output → Result Unread Failure → Type 0
+WorksOnConversion interface vlan input output (Ok unread) =
+    (output.new.failed ≡ output.old.failed) × WritesConversion interface vlan input output (Ok unread)
+WorksOnConversion interface vlan input output (Err failure) =
+    IsConversionBroken (WritesConversion interface vlan input output) input output failure
+
+-- the same of a replay
+abbrev pub WorksOnReplay : Protocol → (own : List ℕ) → Settings → (until : Option ℕ) → Input → Output → Result Bool Failure → Type 0
+WorksOnReplay protocol own settings until input output (Ok flag) = WritesReport protocol own settings until input output flag
+WorksOnReplay protocol own settings until input output (Err failure) =
+    (status_of failure ≡ 2 → IsRefusedReplay protocol own settings until failure)
+    × (status_of failure ≡ 1 → IsBrokenReplay protocol own settings until input output failure)
+
+-- the same of one at an address that was read
+abbrev pub WorksAt : Family → (own : ℕ) → Settings → (until : Option ℕ) → Input → Output → Result Bool Failure → Type 0
+WorksAt family own settings until input output (Ok flag) = IsDoneAt family own settings until input output flag
+WorksAt family own settings until input output (Err failure) =
+    (status_of failure ≡ 2 → IsRefusedAt family own settings until failure)
+    × (status_of failure ≡ 1 → IsBrokenAt family own settings until input output failure)
+
+-- the same of a message
+abbrev pub WorksOnMessage : Protocol → (from to : Option (List ℕ)) → (hex : List ℕ) → Output → Result Bool Failure → Type 0
+WorksOnMessage protocol from to hex output (Ok flag) = WritesMessage protocol from to hex output flag
+WorksOnMessage protocol from to hex output (Err failure) =
+    (status_of failure ≡ 2 → IsRefusedMessage protocol from to hex failure)
+    × (status_of failure ≡ 1 → IsBrokenMessage protocol from to hex output failure)
+
+-- why a text was not decoded
+abbrev pub IsUndecoded : List ℕ → Failure → Type 0
+IsUndecoded hex NotHex = IsErr (decode_of hex)
+IsUndecoded hex Memory = Unit {0}
+IsUndecoded hex failure = ⊥
+
+-- the configuration that is asked for was made, or its fault is the failure
+abbrev pub IsConfigured : (asked : Configuration) → Result Configuration Failure → Type 0
+IsConfigured asked (Ok config) = IsFaultless asked × (config ≡ asked)
+IsConfigured asked (Err (failure.Configuration f query_seconds response_interval)) =
+    HasFault asked f query_seconds response_interval
+IsConfigured asked (Err failure) = ⊥

@@ -1,0 +1,43 @@
+//! The work of a conversion.
+
+ghost use Rattle.std.specs.Prelude.{◌≡◌};
+ghost use Rattle.mquerier.specs.Changes.{input_by, output_by};
+ghost use Rattle.mquerier.specs.Working.{IsRefusal, WorksOnConversion};
+
+use crate::failure::Failure;
+use crate::work::flush;
+use mq_convert::{Choice, ConvertFault, Unread, convert};
+use mq_count::Watched;
+use std::alloc::Global;
+use std::io::{Read, Write};
+
+/// Writes the capture that the input is as a classic one.
+pub(crate) fn convert_capture<R: Read, W: Write>(
+    alloc: Global,
+    choice: Choice,
+    input: &mut Watched<R>,
+    output: &mut Watched<W>,
+) -> Result<Unread, Failure>
+    ensures works { WorksOnConversion choice.interface choice.vlan
+        (input_by R.remaining input.old input.new)
+        (output_by W.contents output.old output.new)
+        result }
+    ensures accepted { IsRefusal result → ⊥ }
+{
+    match convert(alloc, choice, input, output) {
+        Ok(unread) => {
+            flush(output)?;
+            Ok(unread)
+        }
+        Err(ConvertFault::Read) => {
+            flush(output)?;
+            Err(Failure::ConversionRead)
+        }
+        Err(ConvertFault::Block { number, fault }) => {
+            flush(output)?;
+            Err(Failure::Conversion { number, fault })
+        }
+        Err(ConvertFault::Write) => Err(Failure::Write),
+        Err(ConvertFault::Memory) => Err(Failure::Memory),
+    }
+}

@@ -1,0 +1,72 @@
+//! `mquerier`: shows what hosts and routers say to each other about multicast groups.
+//!
+//! ```text
+//! $ mquerier message igmp 1600f8faef010203
+//! report v2 group 239.1.2.3
+//! ```
+//!
+//! `run` does what the command line asks for, over any streams; `main` runs it on the program's own words
+//! and streams.
+#![tactic(auto)]
+
+mod converting;
+mod failure;
+mod program;
+mod replaying;
+mod unread;
+mod work;
+
+use clap::Error;
+use mq_command::{Request, request_of};
+use mq_count::Watched;
+pub use program::{perform, refuse_file, run};
+use std::fs::File;
+use std::io::{BufReader, ErrorKind, Write};
+use std::process::ExitCode;
+use std::{env, io};
+
+/// How many bytes are read at once.
+const INPUT: usize = 65_536;
+
+fn main(rt: HostRuntime) -> ExitCode {
+    let status = run_on_host(&rt).unwrap_or_else(|error| {
+        let (line, status) = match error.kind() {
+            ErrorKind::InvalidData => ("mquerier: the command line isn't UTF-8\n", 2),
+            _ => ("mquerier: out of memory\n", 1),
+        };
+        let _ = rt.stderr().write_all(line.as_bytes());
+        status
+    });
+    ExitCode::from(status)
+}
+
+/// Runs on the program's own words and streams. An error says that a word isn't UTF-8 or that memory
+/// ran out.
+fn run_on_host(rt: &HostRuntime) -> io::Result<u8> {
+    let alloc = rt.alloc();
+    let mut words = Vec::new(alloc);
+    // A `collect` would go on where its first growth is refused.
+    for word in env::args(rt)? {
+        words.push(word)?;
+    }
+    let mut output = Watched::new(rt.stdout());
+    let mut errors = Watched::new(rt.stderr());
+    let asked = request_of(alloc, &words);
+    let Some(name) = named_file(&asked) else {
+        let mut input = Watched::new(BufReader::with_capacity(alloc, INPUT, rt.stdin())?);
+        return Ok(run(alloc, asked, &mut input, &mut output, &mut errors));
+    };
+    let Ok(file) = File::open(rt, name) else {
+        return Ok(refuse_file(&mut errors));
+    };
+    let mut input = Watched::new(BufReader::with_capacity(alloc, INPUT, file)?);
+    Ok(run(alloc, asked, &mut input, &mut output, &mut errors))
+}
+
+/// The file that is asked for in place of standard input.
+fn named_file<'a>(asked: &Result<Request<'a>, Error>) -> Option<&'a str> {
+    match asked {
+        Ok(request) => request.file(),
+        Err(_) => None,
+    }
+}

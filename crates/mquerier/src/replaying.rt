@@ -1,0 +1,145 @@
+//! The replay that is asked for.
+
+ghost use Rattle.std.specs.Prelude.{◌≡◌, true, false, MatchResult};
+ghost use Rattle.mquerier.specs.Changes.{input_by, output_by};
+ghost use Rattle.mquerier.specs.Replays.{asked_configuration, asked_limits, is_too_large};
+ghost use Rattle.mquerier.specs.Working.{IsConfigured, IsUnwritten, WorksAt, WorksOnReplay};
+
+use crate::failure::Failure;
+use crate::work::flush;
+use mq_command::{Protocol, Settings};
+use mq_count::{Moment, Watched};
+use mq_link::{Config, Igmp, Limits, Mld};
+use mq_replay::{CapturedFamily, LineKey, ReplayFault, replay};
+use mq_text::{read_v4, read_v6};
+use std::alloc::Global;
+use std::io::{Read, Write};
+
+/// Replays the capture that the input is to a querier with this address and these settings. Nothing is read or
+/// written before it is known that the querier can be so, and has its memory.
+pub(crate) fn replay_capture<R: Read, W: Write>(
+    alloc: Global,
+    protocol: Protocol,
+    own: &str,
+    settings: &Settings,
+    until: Option<u64>,
+    input: &mut Watched<R>,
+    output: &mut Watched<W>,
+) -> Result<bool, Failure>
+    ensures works { WorksOnReplay protocol own.now settings.now until
+        (input_by R.remaining input.old input.new)
+        (output_by W.contents output.old output.new)
+        result }
+    ensures unread { IsUnwritten result → input.new ≡ input.old }
+    ensures unwritten { IsUnwritten result → output.new ≡ output.old }
+{
+    match protocol {
+        Protocol::Igmp => match read_v4(own) {
+            Some(address) => replay_at::<Igmp, R, W>(
+                alloc, address, settings, until, input, output,
+            ),
+            None => Err(Failure::NotAnAddress),
+        },
+        Protocol::Mld => match read_v6(own) {
+            Some(address) => replay_at::<Mld, R, W>(alloc, address, settings, until, input, output),
+            None => Err(Failure::NotAnAddress),
+        },
+    }
+}
+
+/// Replays the capture to a querier of the family `F` with the address `own`.
+fn replay_at<F: CapturedFamily, R: Read, W: Write>(
+    alloc: Global,
+    own: F::Address,
+    settings: &Settings,
+    until: Option<u64>,
+    input: &mut Watched<R>,
+    output: &mut Watched<W>,
+) -> Result<bool, Failure>
+where
+    F::Address: LineKey,
+    ensures works { WorksAt F.FAMILY (F.Address.number own) settings.now until
+        (input_by R.remaining input.old input.new)
+        (output_by W.contents output.old output.new)
+        result }
+    ensures unread { IsUnwritten result → input.new ≡ input.old }
+    ensures unwritten { IsUnwritten result → output.new ≡ output.old }
+{
+    let end = moment_asked(until)?;
+    let config = configured::<F>(own, settings)?;
+    match replay(alloc, config, end, input, output) {
+        Ok(_counts) => {
+            flush(output)?;
+            Ok(true)
+        }
+        Err(ReplayFault::Pcap(fault)) => {
+            flush(output)?;
+            Err(Failure::Capture(fault))
+        }
+        Err(ReplayFault::Gap { number }) => {
+            flush(output)?;
+            Err(Failure::Gap { number })
+        }
+        Err(ReplayFault::Write) => Err(Failure::Write),
+        Err(ReplayFault::Memory) => Err(Failure::Memory),
+    }
+}
+
+/// The moment of so many milliseconds, where they are given.
+fn moment_asked(until: Option<u64>) -> Result<Option<Moment>, Failure>
+    ensures { MatchResult result
+        (λ moment. (moment ≡ until) × (is_too_large until ≡ false))
+        (λ failure. (failure ≡ Failure.UntilTooLarge) × (is_too_large until ≡ true)) }
+{
+    let Some(ms) = until else {
+        return Ok(None);
+    };
+    match Moment::from_ms(ms) {
+        Some(moment) => Ok(Some(moment)),
+        None => Err(Failure::UntilTooLarge),
+    }
+}
+
+/// The configuration of these settings, with the family's defaults for what isn't given.
+fn configured<F: CapturedFamily>(own: F::Address, settings: &Settings) -> Result<Config<F>, Failure>
+where
+    F::Address: LineKey,
+    ensures { IsConfigured (asked_configuration F.FAMILY (F.Address.number own) settings.now) result }
+{
+    let defaults = F::defaults();
+    let query_seconds = settings.query_seconds.unwrap_or(defaults.query_seconds);
+    let response_interval = settings
+        .response_interval
+        .unwrap_or(defaults.response_interval);
+    let made = Config::new(
+        settings.robustness.unwrap_or(defaults.robustness),
+        query_seconds,
+        response_interval,
+        settings
+            .last_member_interval
+            .unwrap_or(defaults.last_member_interval),
+        limits_asked(settings, &defaults.limits),
+        own,
+        settings.source_specific,
+    );
+    match made {
+        Ok(config) => Ok(config),
+        Err(fault) => Err(Failure::Configuration {
+            fault,
+            query_seconds,
+            response_interval,
+        }),
+    }
+}
+
+/// The limits of these settings, with these defaults.
+fn limits_asked(settings: &Settings, defaults: &Limits) -> Limits
+    ensures { result ≡ asked_limits defaults.now settings.now }
+{
+    Limits {
+        groups: settings.groups.unwrap_or(defaults.groups),
+        group_sources: settings.group_sources.unwrap_or(defaults.group_sources),
+        sources: settings.sources.unwrap_or(defaults.sources),
+        scheduled: settings.scheduled.unwrap_or(defaults.scheduled),
+    }
+}

@@ -1,0 +1,197 @@
+//! The work that is asked for.
+
+ghost use Rattle.std.specs.Prelude.{◌≡◌, ◌||◌, true, false, IfErr, MatchResult, is_err};
+ghost use Rattle.std.specs.Option.{option_copied};
+ghost use Rattle.std.specs.Io.KnownBytes.{Keeps};
+ghost use Rattle.hex.specs.Hex.{decode_of};
+ghost use Rattle.mq_command.specs.declared.Protocol.TheVariants.{Igmp, Mld};
+ghost use Rattle.mq_count.specs.Streams.{inner_of, has_failed};
+ghost use Rattle.mquerier.specs.Changes.{input_by, output_by};
+ghost use Rattle.mquerier.specs.Status.{IsConversion, IsNoAddress, IsOfMessage};
+ghost use Rattle.mquerier.specs.Working.{IsRefusal, IsUndecoded, IsUnwritten, Works, WorksOnListing, WorksOnMessage};
+
+use crate::failure::Failure;
+use crate::replaying::replay_capture;
+use hex::FromHexError;
+use mq_command::{Protocol, Request};
+use mq_count::Watched;
+use mq_replay::{ReplayFault, igmp_line, mld_line, show};
+use mq_text::{read_v4, read_v6};
+use std::alloc::Global;
+use std::io::{Read, Write};
+
+/// Does what is asked for, which isn't a conversion. Of a message it answers whether the line is that of a message, or of a fault.
+pub fn work<R: Read, W: Write>(
+    alloc: Global,
+    request: &Request<'_>,
+    input: &mut Watched<R>,
+    output: &mut Watched<W>,
+) -> Result<bool, Failure>
+    requires { IsConversion request.now → ⊥ }
+    ensures works { Works request.now
+        (input_by R.remaining input.old input.new)
+        (output_by W.contents output.old output.new)
+        result }
+    ensures unwritten { IsUnwritten result → output.new ≡ output.old }
+    ensures unread { IsOfMessage request.now → input.new ≡ input.old }
+    ensures refused { IsRefusal result → input.new ≡ input.old }
+{
+    match request {
+        Request::Message {
+            protocol,
+            hex,
+            from,
+            to,
+        } => message(alloc, *protocol, hex, *from, *to, output),
+        // The caller makes conversions itself, since they tell standard error of what they can't read.
+        Request::Convert { .. } => unreachable!(),
+        Request::Show { .. } => listing(alloc, input, output),
+        Request::Replay {
+            protocol,
+            own,
+            settings,
+            until,
+            ..
+        } => replay_capture(alloc, *protocol, own, settings, *until, input, output),
+    }
+}
+
+/// Prints the line of a message.
+fn message<W: Write>(
+    alloc: Global,
+    protocol: Protocol,
+    hex: &str,
+    from: Option<&str>,
+    to: Option<&str>,
+    output: &mut Watched<W>,
+) -> Result<bool, Failure>
+    ensures works { WorksOnMessage protocol (option_copied from.entry) (option_copied to.entry) hex.now
+        (output_by W.contents output.old output.new)
+        result }
+    ensures unwritten { IsUnwritten result → output.new ≡ output.old }
+{
+    match protocol {
+        Protocol::Igmp => igmp_message(alloc, hex, from, to, output),
+        Protocol::Mld => mld_message(alloc, hex, from, to, output),
+    }
+}
+
+/// Prints the line of a message of IGMP.
+fn igmp_message<W: Write>(
+    alloc: Global,
+    hex: &str,
+    from: Option<&str>,
+    to: Option<&str>,
+    output: &mut Watched<W>,
+) -> Result<bool, Failure>
+    ensures works { WorksOnMessage Igmp (option_copied from.entry) (option_copied to.entry) hex.now
+        (output_by W.contents output.old output.new)
+        result }
+    ensures unwritten { IsUnwritten result → output.new ≡ output.old }
+{
+    if is_no_v4(from) || is_no_v4(to) {
+        return Err(Failure::NotAnAddress);
+    }
+    let bytes = decoded(alloc, hex)?;
+    let Ok(is_message) = igmp_line(&bytes, output) else {
+        return Err(Failure::Write);
+    };
+    flush(output)?;
+    Ok(is_message)
+}
+
+/// Whether a text is given that is no IPv4 address.
+fn is_no_v4(text: Option<&str>) -> bool
+    ensures yes { result ≡ true → IsNoAddress Igmp (option_copied text.entry) }
+    ensures no { result ≡ false → IsNoAddress Igmp (option_copied text.entry) → ⊥ }
+{
+    match text {
+        Some(text) => read_v4(text).is_none(),
+        None => false,
+    }
+}
+
+/// Prints the line of a message of MLD.
+fn mld_message<W: Write>(
+    alloc: Global,
+    hex: &str,
+    from: Option<&str>,
+    to: Option<&str>,
+    output: &mut Watched<W>,
+) -> Result<bool, Failure>
+    ensures works { WorksOnMessage Mld (option_copied from.entry) (option_copied to.entry) hex.now
+        (output_by W.contents output.old output.new)
+        result }
+    ensures unwritten { IsUnwritten result → output.new ≡ output.old }
+{
+    let Some(from) = from else {
+        return Err(Failure::NoAddresses);
+    };
+    let Some(to) = to else {
+        return Err(Failure::NoAddresses);
+    };
+    let Some(source) = read_v6(from) else {
+        return Err(Failure::NotAnAddress);
+    };
+    let Some(destination) = read_v6(to) else {
+        return Err(Failure::NotAnAddress);
+    };
+    let bytes = decoded(alloc, hex)?;
+    let Ok(is_message) = mld_line(source, destination, &bytes, output) else {
+        return Err(Failure::Write);
+    };
+    flush(output)?;
+    Ok(is_message)
+}
+
+/// The bytes of a hexadecimal text.
+fn decoded(alloc: Global, hex: &str) -> Result<Vec<u8>, Failure>
+    ensures { MatchResult result (λ bytes. decode_of hex.now ≡ Ok bytes.items) (IsUndecoded hex.now) }
+{
+    match hex::decode(alloc, hex) {
+        Ok(bytes) => Ok(bytes),
+        Err(FromHexError::OutOfMemory) => Err(Failure::Memory),
+        Err(_) => Err(Failure::NotHex),
+    }
+}
+
+/// Prints the listing of the capture that the input is.
+fn listing<R: Read, W: Write>(
+    alloc: Global,
+    input: &mut Watched<R>,
+    output: &mut Watched<W>,
+) -> Result<bool, Failure>
+    ensures works { WorksOnListing
+        (input_by R.remaining input.old input.new)
+        (output_by W.contents output.old output.new)
+        result }
+    ensures accepted { IsRefusal result → ⊥ }
+    ensures unwritten { IsUnwritten result → output.new ≡ output.old }
+{
+    match show(alloc, input, output) {
+        Ok(_) => {
+            flush(output)?;
+            Ok(true)
+        }
+        Err(ReplayFault::Pcap(fault)) => {
+            flush(output)?;
+            Err(Failure::Capture(fault))
+        }
+        Err(ReplayFault::Write) => Err(Failure::Write),
+        // Only a replay looks for gaps.
+        Err(ReplayFault::Gap { .. }) => unreachable!(),
+        Err(ReplayFault::Memory) => Err(Failure::Memory),
+    }
+}
+
+/// Passes on all that the output holds back.
+pub(crate) fn flush<W: Write>(output: &mut Watched<W>) -> Result<(), Failure>
+    ensures bytes { Keeps (W.contents (inner_of output.old)) (W.contents (inner_of output.new)) }
+    ensures failed { has_failed output.new ≡ has_failed output.old || is_err result }
+    ensures write { IfErr result (λ failure. failure ≡ Failure.Write) }
+{
+    match output.flush() {
+        Ok(()) => Ok(()),
+        Err(_) => Err(Failure::Write),
+    }
+}

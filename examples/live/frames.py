@@ -1,0 +1,42 @@
+"""Frames as the standards spell them, for the live test: written apart from the program's own."""
+
+import ipaddress
+import struct
+
+
+def checksum(data):
+    data += bytes(len(data) % 2)
+    total = sum(struct.unpack(f">{len(data) // 2}H", data))
+    while total > 0xFFFF:
+        total = (total & 0xFFFF) + (total >> 16)
+    return total ^ 0xFFFF
+
+
+def summed(message):
+    """A message with its checksum in its place."""
+    return message[:2] + struct.pack(">H", checksum(message)) + message[4:]
+
+
+def padded(frame):
+    return frame + bytes(max(0, 60 - len(frame)))
+
+
+def igmp_frame(source, destination, message, fragment=0x4000):
+    """From MAC 02:00:00:00:00:07, with TTL 1, Type of Service 0xc0 and Router Alert (RFC 3376 section 4)."""
+    source, destination = ipaddress.ip_address(source).packed, ipaddress.ip_address(destination).packed
+    header = struct.pack(">BBHHHBBH", 0x46, 0xC0, 24 + len(message), 0, fragment, 1, 2, 0) + source + destination
+    header += bytes.fromhex("94040000")
+    header = header[:10] + struct.pack(">H", checksum(header)) + header[12:]
+    mac = b"\x01\x00\x5e" + bytes([destination[1] & 0x7F]) + destination[2:]
+    return padded(mac + bytes.fromhex("020000000007 0800") + header + message)
+
+
+def mld_frame(source, destination, message, hop_limit=1, alert=True):
+    """With its checksum; with Router Alert, with other options only (False), or with no header of options (None)."""
+    source, destination = ipaddress.ip_address(source).packed, ipaddress.ip_address(destination).packed
+    pseudo = source + destination + struct.pack(">II", len(message), 58)
+    message = message[:2] + struct.pack(">H", checksum(pseudo + message)) + message[4:]
+    options = {True: bytes.fromhex("3a00050200000100"), False: bytes.fromhex("3a00010400000000"), None: b""}[alert]
+    header = struct.pack(">IHBB", 6 << 28, len(options + message), 0 if options else 58, hop_limit) + source + destination
+    mac = b"\x33\x33" + destination[12:]
+    return padded(mac + bytes.fromhex("020000000007 86dd") + header + options + message)

@@ -1,0 +1,190 @@
+/* Every call of a link of IGMP. The bytes of messages are worked out of RFC 3376 section 4 beside the library. */
+#include "check.h"
+
+static const uint8_t own[4] = {10, 9, 0, 9}, host[4] = {10, 9, 0, 7}, lower[4] = {10, 9, 0, 1};
+static const uint8_t group[4] = {239, 1, 2, 3}, other[4] = {232, 1, 1, 1}, source[4] = {10, 0, 0, 1};
+static const uint8_t join[] = {0x16, 0, 0xf8, 0xfa, 239, 1, 2, 3}, leave[] = {0x17, 0, 0xf7, 0xfa, 239, 1, 2, 3};
+static const uint8_t query[] = {0x11, 0x64, 0xec, 0x1e, 0, 0, 0, 0, 2, 0x7d, 0, 0};
+static const uint8_t allow[] = {0x22, 0, 0xdb, 0xf6, 0, 0, 0, 1, 5, 0, 0, 2, 232, 1, 1, 1, 10, 0, 0, 1, 10, 0, 0, 2};
+static const uint8_t block[] = {0x22, 0, 0xe4, 0xf9, 0, 0, 0, 1, 6, 0, 0, 1, 232, 1, 1, 1, 10, 0, 0, 1};
+
+static void configurations(void) {
+  mq_igmp_config c = mq_igmp_defaults(own), faulty;
+  mq_igmp link = {NULL};
+  CHECK(c.robustness == 2 && c.query_interval == 125 && c.response_interval == 10000 && c.last_member_interval == 1000);
+  CHECK(c.groups == 1024 && c.group_sources == 366 && c.sources == 16384 && c.scheduled == 256 && !c.source_specific);
+  CHECK(!memcmp(c.own, own, 4));
+#define FAULTY(change, status) (faulty = c, faulty.change, CHECK(mq_igmp_new(faulty, 0, &link) == (status)))
+  FAULTY(robustness = 8, MQ_ROBUSTNESS);
+  FAULTY(query_interval = 0, MQ_QUERY_INTERVAL);
+  FAULTY(response_interval = 125000, MQ_RESPONSE_INTERVAL);
+  FAULTY(last_member_interval = 99, MQ_LAST_MEMBER_INTERVAL);
+  FAULTY(groups = 0, MQ_LIMIT_GROUPS);
+  FAULTY(group_sources = 1025, MQ_LIMIT_GROUP_SOURCES);
+  FAULTY(sources = 65536, MQ_LIMIT_SOURCES);
+  FAULTY(scheduled = 0, MQ_LIMIT_SCHEDULED);
+  FAULTY(own[0] = 224, MQ_OWN_ADDRESS);
+  CHECK(mq_igmp_new(c, MQ_LATEST + 1, &link) == MQ_MOMENT);
+  CHECK(link.link == NULL);
+  CHECK(!strcmp(mq_status_text(MQ_MEMORY), "memory ran out"));
+  CHECK(!strcmp(mq_dropped_text(2), "the checksum is wrong"));
+}
+
+static void queries(void) {
+  uint8_t room[200];
+  const uint8_t *at = room;
+  mq_query q = {NULL, NULL, 0};
+  mq_igmp link;
+  mq_answer a;
+  CHECK(mq_igmp_new(mq_igmp_defaults(own), 1000, &link) == MQ_DONE);
+  CHECK(mq_igmp_next_deadline(&link) == 1000);
+  memset(room, 0x55, sizeof room);
+  a = mq_igmp_tick(&link, 1000, room, 17);
+  CHECK(a.status == MQ_DONE && a.sent == 0 && a.unsent == 1 && a.written == 0);
+  for (size_t i = 0; i < sizeof room; i++) CHECK(room[i] == 0x55);
+  a = mq_igmp_tick(&link, 32250, room, 18);
+  CHECK(a.sent == 1 && a.unsent == 0 && a.written == 18 && room[18] == 0x55);
+  CHECK(are_bytes(room, 18, "e0000001000c1164ec1e00000000027d0000"));
+  CHECK(mq_igmp_next_query(&at, room + a.written, &q));
+  CHECK(are_bytes(q.destination, 4, "e0000001") && are_bytes(q.message, q.length, "1164ec1e00000000027d0000"));
+  CHECK(!mq_igmp_next_query(&at, room + a.written, &q));
+  a = mq_igmp_tick(&link, MQ_LATEST + 1, room, sizeof room);
+  CHECK(a.status == MQ_MOMENT && !a.sent && !a.unsent && !a.written && mq_igmp_next_deadline(&link) == 32250 + 125000);
+  a = mq_igmp_receive(&link, host, join, sizeof join, 40000, room, sizeof room);
+  CHECK(a.status == MQ_DONE && !a.dropped && a.applied == 1 && !a.ignored && !a.refused && !a.sent);
+  a = mq_igmp_receive(&link, host, leave, sizeof leave, 40000, room, sizeof room);
+  CHECK(!a.dropped && a.applied == 1 && a.sent == 1 && are_bytes(room, a.written, "ef010203000c110afb73ef010203027d0000"));
+  a = mq_igmp_receive(&link, host, allow, sizeof allow, 40000, NULL, 0);
+  CHECK(!a.dropped && a.applied == 1 && !a.sent && !a.unsent);
+  a = mq_igmp_receive(&link, host, block, sizeof block, 40000, room, sizeof room);
+  CHECK(a.sent == 1 && are_bytes(room, a.written, "e80101010010110af973e8010101027d00010a000001"));
+  a = mq_igmp_tick(&link, 41000, room, 30);
+  CHECK(a.sent == 1 && a.unsent == 1 && a.written == 22);
+  a = mq_igmp_receive(&link, host, block, sizeof block, MQ_LATEST + 1, room, sizeof room);
+  CHECK(a.status == MQ_MOMENT && !a.applied);
+  mq_igmp_free(link);
+}
+
+static void asking(void) {
+  mq_igmp link;
+  mq_igmp_group groups[3];
+  mq_igmp_source sources[3];
+  mq_page page;
+  mq_answer a;
+  mq_counts counts;
+  uint8_t address[4] = {0};
+  mq_igmp_config config = mq_igmp_defaults(own);
+  CHECK(mq_igmp_new(config, 0, &link) == MQ_DONE);
+  CHECK(mq_igmp_is_querier(&link) && mq_igmp_len(&link) == 0 && mq_igmp_spent(&link) == 0 && mq_igmp_moved(&link) == 0);
+  CHECK(mq_igmp_other_querier(&link, address, sizeof address) == MQ_NONE && !address[0]);
+  mq_igmp_receive(&link, host, join, sizeof join, 10, NULL, 0);
+  mq_igmp_receive(&link, host, allow, sizeof allow, 20, NULL, 0);
+  CHECK(mq_igmp_len(&link) == 2 && mq_igmp_spent(&link) > 0 && mq_igmp_moved(&link) > 0);
+  CHECK(mq_igmp_forwards(&link, group, source) && mq_igmp_forwards(&link, other, source) && !mq_igmp_forwards(&link, other, host));
+  page = mq_igmp_groups(&link, 0, groups, 3, sources, 3);
+  CHECK(page.groups == 2 && page.sources == 2);
+  CHECK(!memcmp(groups[0].address, other, 4) && groups[0].sources == 2 && groups[0].deadline == MQ_NONE);
+  CHECK(groups[0].v1 == MQ_NONE && groups[0].v2 == MQ_NONE);
+  CHECK(are_bytes(sources[0].address, 4, "0a000001") && are_bytes(sources[1].address, 4, "0a000002"));
+  CHECK(sources[0].deadline == 20 + 260000 && sources[1].deadline == 20 + 260000);
+  CHECK(!memcmp(groups[1].address, group, 4) && groups[1].sources == 0 && groups[1].deadline == 10 + 260000);
+  CHECK(groups[1].v1 == MQ_NONE && groups[1].v2 == 10 + 260000);
+  page = mq_igmp_groups(&link, 0, groups, 1, sources, 3);
+  CHECK(page.groups == 1 && page.sources == 2);
+  page = mq_igmp_groups(&link, 0, groups, 3, sources, 1);
+  CHECK(page.groups == 0 && page.sources == 0);
+  page = mq_igmp_groups(&link, 1, groups, 3, NULL, 0);
+  CHECK(page.groups == 1 && page.sources == 0 && !memcmp(groups[0].address, group, 4));
+  page = mq_igmp_groups(&link, UINT32_MAX, groups, 3, sources, 3);
+  CHECK(page.groups == 0 && page.sources == 0);
+  a = mq_igmp_receive(&link, host, NULL, 0, 30, NULL, 0);
+  CHECK(a.dropped == 1);
+  a = mq_igmp_receive(&link, lower, query, sizeof query, 40, NULL, 0);
+  CHECK(!a.dropped && !mq_igmp_is_querier(&link));
+  CHECK(mq_igmp_other_querier(&link, address, sizeof address) == 40 + 255000 && !memcmp(address, lower, 4));
+  CHECK(mq_igmp_other_querier(&link, NULL, 0) == 40 + 255000);
+  CHECK(mq_igmp_next_deadline(&link) == 40 + 255000);
+  counts = mq_igmp_counts(&link);
+  CHECK(counts.received == 4 && counts.dropped == 1 && counts.dropped_by[0] == 1 && counts.dropped_by[9] == 0);
+  CHECK(counts.spelled[0] == 1 && counts.spelled[2] == 1 && counts.spelled[4] == 1 && counts.applied == 2);
+  CHECK(!counts.ignored && !counts.refused && !counts.refused_by[0] && counts.sent == 0 && counts.unsent == 1);
+  mq_igmp_free(link);
+}
+
+static void lines(void) {
+  static const uint8_t cut[] = {0x16, 0, 0xe9, 0xff};
+  char line[40];
+  size_t length = mq_igmp_line(join, sizeof join, (uint8_t *)line, sizeof line);
+  CHECK(length == 25 && !memcmp(line, "report v2 group 239.1.2.3", 25));
+  memset(line, '-', sizeof line);
+  CHECK(mq_igmp_line(join, sizeof join, (uint8_t *)line, 9) == 9 && !memcmp(line, "report v2-", 10));
+  CHECK(mq_igmp_line(join, sizeof join, (uint8_t *)line, 25) == 25 && !memcmp(line, "report v2 group 239.1.2.3-", 26));
+  CHECK(mq_igmp_line(join, sizeof join, (uint8_t *)line, 26) == 25 && !memcmp(line, "report v2 group 239.1.2.3\n-", 27));
+  CHECK(mq_igmp_line(cut, sizeof cut, (uint8_t *)line, sizeof line) == 22 && !memcmp(line, "fault 1 truncated at 4", 22));
+  CHECK(mq_igmp_line(NULL, 0, NULL, 0) == 0);
+}
+
+static void bounds(void) {
+  mq_igmp_config c = mq_igmp_defaults(own);
+  size_t bytes = mq_igmp_outlet_bytes(c);
+  CHECK(bytes > 18 && bytes < 4000000);
+  c.groups = c.sources = c.scheduled = UINT32_MAX;
+  CHECK(mq_igmp_outlet_bytes(c) > bytes);
+}
+
+/* A Report of these records, each of one kind with 366 sources, for groups 239.0.0.0 and up; answers its length. */
+static size_t report(uint8_t *out, uint8_t kind, int groups, int times) {
+  size_t length = 8;
+  uint32_t sum = 0;
+  memset(out, 0, 8);
+  out[0] = 0x22;
+  out[7] = (uint8_t)(groups * times);
+  for (int i = 0; i < groups * times; i++) {
+    uint8_t head[8] = {kind, 0, 366 >> 8, 366 & 255, 239, 0, 0, (uint8_t)(i / times)};
+    memcpy(out + length, head, 8);
+    length += 8;
+    for (int n = 0; n < 366; n++) {
+      uint8_t address[4] = {10, 1, (uint8_t)(n >> 8), (uint8_t)n};
+      memcpy(out + length, address, 4);
+      length += 4;
+    }
+  }
+  for (size_t i = 0; i < length; i += 2) sum += (uint32_t)out[i] << 8 | out[i + 1];
+  while (sum >> 16) sum = (sum & 0xffff) + (sum >> 16);
+  out[2] = (uint8_t)(~sum >> 8);
+  out[3] = (uint8_t)~sum;
+  return length;
+}
+
+/* Everything that can be asked at once: four groups with all their sources, each met by four records, at a moment at which
+   all that was asked before is due again. */
+static void most_queries(void) {
+  static uint8_t body[65536];
+  mq_igmp link;
+  mq_answer a;
+  mq_igmp_config c = mq_igmp_defaults(own);
+  c.groups = 4;
+  c.sources = 4 * 366;
+  size_t room = mq_igmp_outlet_bytes(c);
+  uint8_t *out = malloc(room);
+  CHECK(out != NULL);
+  CHECK(mq_igmp_new(c, 0, &link) == MQ_DONE);
+  a = mq_igmp_receive(&link, host, body, report(body, 5, 4, 1), 10, out, room);
+  CHECK(!a.dropped && a.applied == 4 && a.sent == 1);
+  a = mq_igmp_receive(&link, host, body, report(body, 6, 4, 4), 20, out, room);
+  CHECK(!a.dropped && a.applied == 16 && a.sent >= 4 && a.unsent == 0);
+  a = mq_igmp_receive(&link, host, body, report(body, 6, 4, 4), 1020, out, room);
+  CHECK(!a.dropped && a.sent >= 4 && a.unsent == 0 && a.written <= room);
+  mq_igmp_free(link);
+  free(out);
+}
+
+int main(void) {
+  most_queries();
+  configurations();
+  queries();
+  asking();
+  lines();
+  bounds();
+  return told();
+}

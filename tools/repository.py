@@ -1,0 +1,113 @@
+"""What the tools share: files and commands, the crates of the repository, how they stand on one another, and what changed since a
+commit."""
+
+import concurrent.futures
+import glob
+import os
+import re
+import subprocess
+
+TOP = os.path.dirname(os.path.dirname(os.path.abspath(__file__)))
+PROGRAM, LIBRARY = "mquerier", "mq_c"
+PARTS = ("src", "specs", "proofs")
+# The crates of which an edit isn't refused by a goal that is only new by its name.
+STRICT = "mq_count mq_arena mq_wire mq_table mq_pcap mq_sched mq_held mq_text mq_convert".split()
+
+
+def text_of(file):
+    with open(file, encoding="utf-8") as it:
+        return it.read()
+
+
+def put(file, text):
+    os.makedirs(os.path.dirname(file), exist_ok=True)
+    with open(file, "w", encoding="utf-8") as it:
+        it.write(text)
+
+
+def said_by(folder, *words):
+    """The status of a command that runs in a folder, and all that it says."""
+    how = {"stdin": subprocess.DEVNULL, "stdout": subprocess.PIPE, "stderr": subprocess.STDOUT}
+    ran = subprocess.run(words, cwd=folder, encoding="utf-8", errors="replace", check=False, **how)
+    return ran.returncode, ran.stdout
+
+
+def on_all_cores(work, items):
+    with concurrent.futures.ThreadPoolExecutor(os.cpu_count() or 1) as pool:
+        return list(pool.map(work, items))
+
+
+def rows_of(text):
+    """The rows of a crates.txt: each crate with the words behind it, and with what it names."""
+    rows = [line.partition("#")[0].partition(":") for line in text.splitlines()]
+    return {name.split()[0]: (name.split()[1:], named.split()) for name, colon, named in rows if colon}
+
+
+def crates():
+    """The crates of the repository, each with those of them that it names."""
+    rows = rows_of(text_of(f"{TOP}/crates.txt"))
+    return {name: [it for it in named if it in rows] for name, (_, named) in rows.items()}
+
+
+def with_those_below(wanted):
+    """These crates and those that they stand on, lowest first."""
+    named, found = crates(), []
+
+    def find(name):
+        for it in named[name]:
+            find(it)
+        if name not in found:
+            found.append(name)
+
+    for name in wanted:
+        find(name)
+    return found
+
+
+def with_those_above(wanted):
+    """These crates and those that stand on one of them, lowest first."""
+    named, found = crates(), set(wanted)
+    for name in with_those_below(named):
+        if found & set(named[name]):
+            found.add(name)
+    return [it for it in with_those_below(named) if it in found]
+
+
+def has_tests(name):
+    files = glob.glob(f"{TOP}/crates/{name}/src/**/*.rt", recursive=True)
+    return any(re.search(r"(?m)^ *#\[test\]", text_of(it)) for it in files)
+
+
+def git(*words):
+    """What git says, or None where it fails."""
+    how = {"stdin": subprocess.DEVNULL, "stdout": subprocess.PIPE, "stderr": subprocess.DEVNULL}
+    ran = subprocess.run(["git", *words], cwd=TOP, encoding="utf-8", errors="replace", check=False, **how)
+    return None if ran.returncode else ran.stdout
+
+
+def files_changed_since(commit):
+    """The files that are otherwise in the commit, edits that aren't committed and new files among them."""
+    changed, new = git("diff", "--name-only", "--no-renames", commit, "--"), git("ls-files", "--others", "--exclude-standard")
+    if changed is None or new is None:
+        raise ValueError(f"git knows no commit {commit}")
+    return {*changed.splitlines(), *new.splitlines()}
+
+
+def commit_before():
+    """The last commit of origin/main that is below HEAD; where nothing changed since, or there is none, the one before HEAD."""
+    base = (git("merge-base", "HEAD", "origin/main") or "").strip()
+    if base and files_changed_since(base):
+        return base
+    return (git("rev-parse", "HEAD~1") or git("rev-parse", "HEAD") or "").strip()
+
+
+def text_in(commit, file):
+    """The file's text in a commit; none where it has no such file."""
+    return git("show", f"{commit}:{file}") or ""
+
+
+def crates_changed_since(commit):
+    """The crates of which a source, a definition, a proof or the row in crates.txt is otherwise in the commit."""
+    found = {it.split("/")[1] for it in files_changed_since(commit) if re.match(rf"crates/\w+/({'|'.join(PARTS)})/", it)}
+    was, rows = rows_of(text_in(commit, "crates.txt")), rows_of(text_of(f"{TOP}/crates.txt"))
+    return [name for name in crates() if name in found or was.get(name) != rows[name]]
