@@ -3,6 +3,7 @@
 PREFIX ?= /usr/local
 SOURCES := crates.txt $(shell find crates/*/src crates/*/specs crates/*/proofs -type f)
 FIRST_PATH := message igmp 1600f8faef010203
+VERSION := $(shell sed -n 's/^\#define MQ_VERSION_TEXT "\(.*\)"$$/\1/p' include/mquerier.h)
 
 .PHONY: all run lib quick test live live-test mutants bench install dist clean
 
@@ -47,11 +48,13 @@ bin/mquerier-live: $(LIVE) include/mquerier.h lib/libmquerier.a
 	@mkdir -p bin
 	$(CC) -std=c99 -O2 -Wall -Wextra -Iinclude $(filter %.c,$^) lib/libmquerier.a -o $@
 
-# The examples in C do what docs/EMBEDDING.md says, and the querier on an interface serves hosts of the Linux kernel. The
-# second wants to be root.
+# The examples in C do what docs/EMBEDDING.md says; the querier on an interface serves hosts of the Linux kernel, and does what the
+# vectors say that are played to it, those that end within SECONDS. The last two want to be root, and the last one the program.
+SECONDS := 600
 live-test: live
 	@examples/check
 	@examples/live/test
+	@examples/live/vectors --seconds $(SECONDS)
 
 # How fast captures are listed and replayed, what hostile hosts cost, and how near datagrams come to the sum bound
 # (bench/README.md). It proves nothing. `make bench WRITE=--write` puts the tables into that page.
@@ -61,6 +64,7 @@ bench: bin/mquerier
 	@bench/replay $(WRITE)
 	@bench/hostile --instructions $(WRITE)
 	@bench/spent $(WRITE)
+	@bench/links $(WRITE)
 
 # The program, the library for C with its header and what pkg-config has to know of it, and the manual pages.
 install: bin/mquerier lib/libmquerier.a
@@ -69,7 +73,7 @@ install: bin/mquerier lib/libmquerier.a
 	install -m 755 bin/mquerier $(DESTDIR)$(PREFIX)/bin/mquerier
 	install -m 644 lib/libmquerier.a $(DESTDIR)$(PREFIX)/lib/libmquerier.a
 	install -m 644 include/mquerier.h $(DESTDIR)$(PREFIX)/include/mquerier.h
-	sed 's|@PREFIX@|$(PREFIX)|' include/libmquerier.pc.in > $(DESTDIR)$(PREFIX)/lib/pkgconfig/libmquerier.pc
+	sed 's|@PREFIX@|$(PREFIX)|; s|@VERSION@|$(VERSION)|' include/libmquerier.pc.in > $(DESTDIR)$(PREFIX)/lib/pkgconfig/libmquerier.pc
 	install -m 644 man/mquerier.1 $(DESTDIR)$(PREFIX)/share/man/man1/mquerier.1
 	install -m 644 man/libmquerier.3 $(DESTDIR)$(PREFIX)/share/man/man3/libmquerier.3
 

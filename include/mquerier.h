@@ -2,15 +2,19 @@
    lib/libmquerier.a.
 
    An object holds one link. Datagrams and moments go in; what is forwarded, and the queries to be sent, come out. The
-   library has no clock, no socket and no thread. Only `new` takes memory.
+   library has no clock, no socket and no thread. Only `new`, `new_bare` and `workspace_new` take memory.
+
+   A router with many links may make one workspace for all of them, and links without one, which then take less memory: see
+   `mq_igmp_workspace_new`.
 
    What the caller must keep to, since nothing checks it:
    - A pointer points to as many elements as its prototype or its length says, and is not null. A null pointer with
      length 0 stands for no bytes.
-   - `queries`, `address`, `groups`, `sources` and `line` overlap neither each other nor the body nor the object.
-   - An object comes from a `new` that answered 0, is freed once, and is not used beside a copy of it. After a `new` that
-     answered anything else there is nothing to free.
-   - One thread at a time uses an object, and no signal handler calls.
+   - `queries`, `address`, `group`, `groups`, `sources` and `line` overlap neither each other nor the body nor the object.
+   - An object comes from a `new`, a `new_bare` or a `workspace_new` of its kind that answered 0, is freed once, and is not
+     used beside a copy of it. After one that answered anything else there is nothing to free.
+   - One thread at a time uses an object, and no signal handler calls. So a workspace and all links that use it belong to one
+     thread at a time, or a lock keeps two calls that are lent it apart.
    - malloc, realloc and free are of one allocator, and align a block to each power of two up to 16 that divides its
      size.
    Every other argument has an answer: none makes a call stop, overflow, or read or write outside of what it was given.
@@ -27,6 +31,10 @@
 #ifdef __cplusplus
 extern "C" {
 #endif
+
+/* The version of this header, as a number and as a text; mq_version answers that of the archive. */
+#define MQ_VERSION 1
+#define MQ_VERSION_TEXT "1"
 
 /* No deadline. */
 #define MQ_NONE UINT64_MAX
@@ -47,6 +55,7 @@ extern "C" {
 #define MQ_LIMIT_SCHEDULED 54
 #define MQ_MEMORY 100
 #define MQ_MOMENT 101
+#define MQ_WORKSPACE 102
 
 /* Why a datagram was dropped: `dropped` of an answer. The reason of the lowest number that holds is told. */
 #define MQ_DROPPED_TRUNCATED 1    /* a field is cut */
@@ -85,6 +94,15 @@ typedef struct {
   void *link;
 } mq_mld;
 
+/* What calls of links work in, for each family. */
+typedef struct {
+  void *workspace;
+} mq_igmp_workspace;
+
+typedef struct {
+  void *workspace;
+} mq_mld_workspace;
+
 /* What a link is configured with. Timers run by the exact intervals. On the wire an interval goes as the greatest value not
    above it that its code can say: a response interval of 150 ms goes as 100 ms (IGMP counts tenths of a second), a query
    interval of 135 s as 128 s.
@@ -121,7 +139,7 @@ typedef struct {
 
 /* What a call did. */
 typedef struct {
-  uint32_t status;  /* MQ_DONE, or MQ_MOMENT: then nothing was done, and all else is 0 */
+  uint32_t status;  /* MQ_DONE, or MQ_MOMENT or MQ_WORKSPACE: then nothing was done, and all else is 0 */
   uint32_t dropped; /* 0: the datagram was taken, or it was a tick; else MQ_DROPPED_..: why it was dropped */
   uint32_t applied; /* of its records, those that were applied, */
   uint32_t ignored; /* those that say nothing for this link, */
@@ -185,6 +203,9 @@ typedef struct {
   uint32_t sources;
 } mq_page;
 
+/* The archive's version: MQ_VERSION of the header that it was made with. */
+uint32_t mq_version(void);
+
 /* The defaults of RFC 3376 section 8 and RFC 3810 section 9, with this own address. */
 mq_igmp_config mq_igmp_defaults(const uint8_t own[4]);
 mq_mld_config mq_mld_defaults(const uint8_t own[16]);
@@ -195,7 +216,7 @@ mq_mld_config mq_mld_defaults(const uint8_t own[16]);
 uint32_t mq_igmp_new(mq_igmp_config config, uint64_t start, mq_igmp *link);
 uint32_t mq_mld_new(mq_mld_config config, uint64_t start, mq_mld *link);
 
-/* Gives back the memory of a link. */
+/* Gives back the memory of a link, also of one that was made by `new_bare`. */
 void mq_igmp_free(mq_igmp link);
 void mq_mld_free(mq_mld link);
 
@@ -213,6 +234,30 @@ mq_answer mq_mld_receive(mq_mld *link, const uint8_t source[16], const uint8_t d
 mq_answer mq_igmp_tick(mq_igmp *link, uint64_t now, uint8_t *queries, size_t room);
 mq_answer mq_mld_tick(mq_mld *link, uint64_t now, uint8_t *queries, size_t room);
 
+/* Makes a workspace for links of this configuration's limits, and of any limits that allow no more groups and no more sources
+   of a group. Answers as `new` does, but for the moment. */
+uint32_t mq_igmp_workspace_new(mq_igmp_config config, mq_igmp_workspace *workspace);
+uint32_t mq_mld_workspace_new(mq_mld_config config, mq_mld_workspace *workspace);
+
+/* Gives back the memory of a workspace. The links that used it stay. */
+void mq_igmp_workspace_free(mq_igmp_workspace workspace);
+void mq_mld_workspace_free(mq_mld_workspace workspace);
+
+/* Makes a link as `new` does, but without a workspace of its own: `tick` and `receive` answer MQ_WORKSPACE for it, `tick_in`
+   and `receive_in` are lent one, and all other calls serve it as any link. */
+uint32_t mq_igmp_new_bare(mq_igmp_config config, uint64_t start, mq_igmp *link);
+uint32_t mq_mld_new_bare(mq_mld_config config, uint64_t start, mq_mld *link);
+
+/* `receive` and `tick` in a workspace that they are lent, of a link with or without its own. One that is too small is answered
+   by MQ_WORKSPACE, after MQ_MOMENT. What it held before makes no difference: links may use it in any order. */
+mq_answer mq_igmp_receive_in(mq_igmp *link, mq_igmp_workspace *workspace, const uint8_t source[4], const uint8_t *body,
+                             size_t length, uint64_t now, uint8_t *queries, size_t room);
+mq_answer mq_mld_receive_in(mq_mld *link, mq_mld_workspace *workspace, const uint8_t source[16],
+                            const uint8_t destination[16], uint8_t hop_limit, bool alert, const uint8_t *body, size_t length,
+                            uint64_t now, uint8_t *queries, size_t room);
+mq_answer mq_igmp_tick_in(mq_igmp *link, mq_igmp_workspace *workspace, uint64_t now, uint8_t *queries, size_t room);
+mq_answer mq_mld_tick_in(mq_mld *link, mq_mld_workspace *workspace, uint64_t now, uint8_t *queries, size_t room);
+
 /* How many bytes of `queries` always suffice for one call at a link of this configuration, with a body of at most 65535
    bytes: with as many or more, `unsent` is 0. It depends on `groups`, `sources` and `scheduled` alone, and is a number
    also where the configuration has a fault, so that there is no link. */
@@ -221,47 +266,55 @@ size_t mq_mld_outlet_bytes(mq_mld_config config);
 
 /* When a tick has something to do next. Right after a tick it is later than the tick's moment. Near the end of the clock it
    may lie above MQ_LATEST, where no call can be made: then go on without ticks, since nothing is due up to MQ_LATEST. */
-uint64_t mq_igmp_next_deadline(mq_igmp *link);
-uint64_t mq_mld_next_deadline(mq_mld *link);
+uint64_t mq_igmp_next_deadline(const mq_igmp *link);
+uint64_t mq_mld_next_deadline(const mq_mld *link);
 
 /* Whether what a source sends to a group is forwarded, as of the last moment handed in. */
-bool mq_igmp_forwards(mq_igmp *link, const uint8_t group[4], const uint8_t source[4]);
-bool mq_mld_forwards(mq_mld *link, const uint8_t group[16], const uint8_t source[16]);
+bool mq_igmp_forwards(const mq_igmp *link, const uint8_t group[4], const uint8_t source[4]);
+bool mq_mld_forwards(const mq_mld *link, const uint8_t group[16], const uint8_t source[16]);
 
 /* Whether the link is querier. */
-bool mq_igmp_is_querier(mq_igmp *link);
-bool mq_mld_is_querier(mq_mld *link);
+bool mq_igmp_is_querier(const mq_igmp *link);
+bool mq_mld_is_querier(const mq_mld *link);
 
 /* Up to when another router is querier; its address is written to `address` where it fits in `room` bytes. It is the router
    of a lower address than the own one whose query came last, and not the lowest that was heard. Where this link is
    querier, MQ_NONE, and nothing is written. */
-uint64_t mq_igmp_other_querier(mq_igmp *link, uint8_t *address, size_t room);
-uint64_t mq_mld_other_querier(mq_mld *link, uint8_t *address, size_t room);
+uint64_t mq_igmp_other_querier(const mq_igmp *link, uint8_t *address, size_t room);
+uint64_t mq_mld_other_querier(const mq_mld *link, uint8_t *address, size_t room);
 
 /* How many comparisons of addresses and moments `tick` and `receive` have made. Calls that only ask are not counted. */
-uint64_t mq_igmp_spent(mq_igmp *link);
-uint64_t mq_mld_spent(mq_mld *link);
+uint64_t mq_igmp_spent(const mq_igmp *link);
+uint64_t mq_mld_spent(const mq_mld *link);
 
 /* How many items of lists `tick` and `receive` have moved to keep the groups. A tick before the next moment moves none. */
-uint64_t mq_igmp_moved(mq_igmp *link);
-uint64_t mq_mld_moved(mq_mld *link);
+uint64_t mq_igmp_moved(const mq_igmp *link);
+uint64_t mq_mld_moved(const mq_mld *link);
 
-mq_counts mq_igmp_counts(mq_igmp *link);
-mq_counts mq_mld_counts(mq_mld *link);
+mq_counts mq_igmp_counts(const mq_igmp *link);
+mq_counts mq_mld_counts(const mq_mld *link);
 
 /* How many groups are held. */
-uint32_t mq_igmp_len(mq_igmp *link);
-uint32_t mq_mld_len(mq_mld *link);
+uint32_t mq_igmp_len(const mq_igmp *link);
+uint32_t mq_mld_len(const mq_mld *link);
 
 /* Writes groups, ascending, from place `first` on (0 is the lowest group), as many as fit with all their sources, which
    ascend too. Answers how many groups and sources were written; the memory behind them stays as it was. If no group was
    written though `first` is below the number of groups, there was no room for that group or for its sources, which are at
    most `group_sources`. Pages are not a snapshot: a tick or a datagram between two of them may make or end groups before
    `first`, and then a group is missing or comes twice. */
-mq_page mq_igmp_groups(mq_igmp *link, uint32_t first, mq_igmp_group *groups, size_t group_room, mq_igmp_source *sources,
+mq_page mq_igmp_groups(const mq_igmp *link, uint32_t first, mq_igmp_group *groups, size_t group_room, mq_igmp_source *sources,
                        size_t source_room);
-mq_page mq_mld_groups(mq_mld *link, uint32_t first, mq_mld_group *groups, size_t group_room, mq_mld_source *sources,
+mq_page mq_mld_groups(const mq_mld *link, uint32_t first, mq_mld_group *groups, size_t group_room, mq_mld_source *sources,
                       size_t source_room);
+
+/* Writes one group, and its sources, ascending, where there is room for all of them. Answers 1 group where it is held, and how
+   many sources were written: none where there was no room for as many as `group->sources` says. Where it isn't held, nothing is
+   written. */
+mq_page mq_igmp_group_at(const mq_igmp *link, const uint8_t address[4], mq_igmp_group *group, mq_igmp_source *sources,
+                         size_t source_room);
+mq_page mq_mld_group_at(const mq_mld *link, const uint8_t address[16], mq_mld_group *group, mq_mld_source *sources,
+                        size_t source_room);
 
 /* The line of a message for logs, as `mquerier message` prints it, or of its fault, cut where the memory ends. Answers how
    many bytes of the line stand there, without its end: where that is `room`, the line may be cut. Its end, a line feed,
@@ -285,6 +338,7 @@ static inline const char *mq_status_text(uint32_t status) {
   case MQ_LIMIT_SCHEDULED: return "the limit of schedules is out of range";
   case MQ_MEMORY: return "memory ran out";
   case MQ_MOMENT: return "the moment is above 2^53 milliseconds";
+  case MQ_WORKSPACE: return "there is no workspace, or it is too small";
   default: return "not a status";
   }
 }

@@ -4,7 +4,7 @@ choices of docs/DECISIONS.md. `replay` gives the text of a capture. It is slow a
 
 import dataclasses
 
-from wire import IGMP, CaptureFault, Fault, code_of, moments, opened, query, read, text_of, unwrap, with_checksum
+from wire import IGMP, CaptureFault, Fault, address, code_of, moments, opened, query, read, text_of, unwrap, with_checksum
 
 IS_IN, IS_EX, TO_IN, TO_EX, ALLOW, BLOCK = range(1, 7)
 DAY = 86400000
@@ -27,6 +27,15 @@ class Options:
     scheduled: int = 256
     ssm: bool = False
     until: int | None = None
+
+
+def options_of(words):
+    """The options of a command line behind the family."""
+    found, words = {}, iter(words)
+    for word in words:
+        name = word[2:].replace("-", "_")
+        found[name] = True if word == "--ssm" else address(next(words)) if word == "--own" else int(next(words))
+    return Options(**found)
 
 
 @dataclasses.dataclass

@@ -27,6 +27,7 @@ static void configurations(void) {
   CHECK(mq_igmp_new(c, MQ_LATEST + 1, &link) == MQ_MOMENT);
   CHECK(link.link == NULL);
   CHECK(!strcmp(mq_status_text(MQ_MEMORY), "memory ran out"));
+  CHECK(!strcmp(mq_status_text(MQ_WORKSPACE), "there is no workspace, or it is too small"));
   CHECK(!strcmp(mq_dropped_text(2), "the checksum is wrong"));
 }
 
@@ -97,6 +98,18 @@ static void asking(void) {
   CHECK(page.groups == 1 && page.sources == 0 && !memcmp(groups[0].address, group, 4));
   page = mq_igmp_groups(&link, UINT32_MAX, groups, 3, sources, 3);
   CHECK(page.groups == 0 && page.sources == 0);
+  memset(groups, 0, sizeof groups);
+  memset(sources, 0, sizeof sources);
+  page = mq_igmp_group_at(&link, other, groups, sources, 2);
+  CHECK(page.groups == 1 && page.sources == 2 && !memcmp(groups[0].address, other, 4) && groups[0].sources == 2);
+  CHECK(groups[0].deadline == MQ_NONE && are_bytes(sources[0].address, 4, "0a000001") && sources[1].deadline == 20 + 260000);
+  memset(sources, 0, sizeof sources);
+  page = mq_igmp_group_at(&link, other, groups, sources, 1);
+  CHECK(page.groups == 1 && page.sources == 0 && groups[0].sources == 2 && !sources[0].deadline);
+  page = mq_igmp_group_at(&link, group, groups + 1, NULL, 0);
+  CHECK(page.groups == 1 && page.sources == 0 && !groups[1].sources && groups[1].deadline == 10 + 260000);
+  page = mq_igmp_group_at(&link, lower, groups + 2, sources, 3);
+  CHECK(page.groups == 0 && page.sources == 0 && !groups[2].deadline);
   a = mq_igmp_receive(&link, host, NULL, 0, 30, NULL, 0);
   CHECK(a.dropped == 1);
   a = mq_igmp_receive(&link, lower, query, sizeof query, 40, NULL, 0);
@@ -109,6 +122,11 @@ static void asking(void) {
   CHECK(counts.spelled[0] == 1 && counts.spelled[2] == 1 && counts.spelled[4] == 1 && counts.applied == 2);
   CHECK(!counts.ignored && !counts.refused && !counts.refused_by[0] && counts.sent == 0 && counts.unsent == 1);
   mq_igmp_free(link);
+}
+
+static void version(void) {
+  CHECK(mq_version() == MQ_VERSION);
+  CHECK(strtoul(MQ_VERSION_TEXT, NULL, 10) == MQ_VERSION);
 }
 
 static void lines(void) {
@@ -179,12 +197,58 @@ static void most_queries(void) {
   free(out);
 }
 
+/* Two links without a workspace of their own use one in turn, each with other groups; a smaller one is refused. */
+static void lent(void) {
+  uint8_t room[200];
+  mq_igmp_config c = mq_igmp_defaults(own), less = c, faulty = c;
+  mq_igmp links[2], whole;
+  mq_igmp_workspace workspace = {NULL}, small = {NULL};
+  mq_answer a;
+  less.groups = c.groups - 1;
+  faulty.group_sources = 0;
+  CHECK(mq_igmp_workspace_new(faulty, &workspace) == MQ_LIMIT_GROUP_SOURCES && workspace.workspace == NULL);
+  CHECK(mq_igmp_workspace_new(c, &workspace) == MQ_DONE && mq_igmp_workspace_new(less, &small) == MQ_DONE);
+  CHECK(mq_igmp_new_bare(faulty, 0, &whole) == MQ_LIMIT_GROUP_SOURCES && mq_igmp_new_bare(c, MQ_LATEST + 1, &whole) == MQ_MOMENT);
+  for (int i = 0; i < 2; i++) CHECK(mq_igmp_new_bare(c, 0, &links[i]) == MQ_DONE);
+  a = mq_igmp_tick(&links[0], 0, room, sizeof room);
+  CHECK(a.status == MQ_WORKSPACE && !a.sent && !a.written && mq_igmp_next_deadline(&links[0]) == 0);
+  a = mq_igmp_receive(&links[0], host, join, sizeof join, 0, room, sizeof room);
+  CHECK(a.status == MQ_WORKSPACE && !a.applied && mq_igmp_len(&links[0]) == 0);
+  CHECK(mq_igmp_tick(&links[0], MQ_LATEST + 1, room, sizeof room).status == MQ_MOMENT);
+  CHECK(mq_igmp_tick_in(&links[0], &small, 0, room, sizeof room).status == MQ_WORKSPACE);
+  CHECK(mq_igmp_receive_in(&links[0], &small, host, join, sizeof join, 0, room, sizeof room).status == MQ_WORKSPACE);
+  CHECK(mq_igmp_tick_in(&links[0], &small, MQ_LATEST + 1, room, sizeof room).status == MQ_MOMENT);
+  for (int i = 0; i < 2; i++) {
+    a = mq_igmp_tick_in(&links[i], &workspace, 0, room, sizeof room);
+    CHECK(a.status == MQ_DONE && a.sent == 1 && are_bytes(room, a.written, "e0000001000c1164ec1e00000000027d0000"));
+  }
+  for (int i = 0; i < 5; i++) {
+    a = mq_igmp_receive_in(&links[0], &workspace, host, allow, sizeof allow, 10, room, sizeof room);
+    CHECK(!a.dropped && a.applied == 1 && !a.refused);
+    a = mq_igmp_receive_in(&links[1], &workspace, host, join, sizeof join, 10, room, sizeof room);
+    CHECK(!a.dropped && a.applied == 1 && !a.refused);
+  }
+  CHECK(mq_igmp_len(&links[0]) == 1 && mq_igmp_len(&links[1]) == 1);
+  CHECK(mq_igmp_forwards(&links[0], other, source) && !mq_igmp_forwards(&links[0], group, source));
+  CHECK(mq_igmp_forwards(&links[1], group, source) && !mq_igmp_forwards(&links[1], other, source));
+  CHECK(mq_igmp_new(less, 0, &whole) == MQ_DONE);
+  CHECK(mq_igmp_tick(&whole, 0, room, sizeof room).sent == 1 && mq_igmp_tick_in(&whole, &small, 31250, room, sizeof room).sent == 1);
+  CHECK(mq_igmp_tick_in(&whole, &workspace, 31250 + 125000, room, sizeof room).sent == 1);
+  mq_igmp_workspace_free(small);
+  mq_igmp_workspace_free(workspace);
+  CHECK(mq_igmp_spent(&links[1]) > 0 && mq_igmp_counts(&links[1]).received == 5);
+  for (int i = 0; i < 2; i++) mq_igmp_free(links[i]);
+  mq_igmp_free(whole);
+}
+
 int main(void) {
   most_queries();
+  lent();
   configurations();
   queries();
   asking();
   lines();
   bounds();
+  version();
   return told();
 }

@@ -14,6 +14,40 @@ static const char *general = "ff02" "000000000000000000000000" "0001" "001c"
 static const char *specific = "ff0e" "000000000000000000000000" "1234" "001c"
                               "8200563c03e80000" "ff0e0000000000000000000000001234" "027d0000";
 
+/* Two links without a workspace of their own use one in turn; a smaller one is refused. */
+static void lent(void) {
+  uint8_t room[200];
+  mq_mld_config c = mq_mld_defaults(own), less = c, faulty = c;
+  mq_mld links[2];
+  mq_mld_workspace workspace = {NULL}, small = {NULL};
+  mq_answer a;
+  less.group_sources = c.group_sources - 1;
+  faulty.own[0] = 0x20;
+  CHECK(mq_mld_workspace_new(faulty, &workspace) == MQ_OWN_ADDRESS && workspace.workspace == NULL);
+  CHECK(mq_mld_workspace_new(c, &workspace) == MQ_DONE && mq_mld_workspace_new(less, &small) == MQ_DONE);
+  CHECK(mq_mld_new_bare(faulty, 0, &links[0]) == MQ_OWN_ADDRESS);
+  for (int i = 0; i < 2; i++) CHECK(mq_mld_new_bare(c, 0, &links[i]) == MQ_DONE);
+  CHECK(mq_mld_tick(&links[0], 0, room, sizeof room).status == MQ_WORKSPACE && mq_mld_next_deadline(&links[0]) == 0);
+  a = mq_mld_receive(&links[0], host, routers, 1, true, report, sizeof report, 0, room, sizeof room);
+  CHECK(a.status == MQ_WORKSPACE && !a.applied && mq_mld_len(&links[0]) == 0);
+  CHECK(mq_mld_tick_in(&links[0], &small, 0, room, sizeof room).status == MQ_WORKSPACE);
+  a = mq_mld_receive_in(&links[0], &small, host, routers, 1, true, report, sizeof report, 0, room, sizeof room);
+  CHECK(a.status == MQ_WORKSPACE && mq_mld_tick_in(&links[0], &small, UINT64_MAX, room, sizeof room).status == MQ_MOMENT);
+  for (int i = 0; i < 2; i++) {
+    a = mq_mld_tick_in(&links[i], &workspace, 0, room, sizeof room);
+    CHECK(a.status == MQ_DONE && a.sent == 1 && are_bytes(room, 46, general));
+  }
+  a = mq_mld_receive_in(&links[0], &workspace, host, routers, 1, true, report, sizeof report, 10, room, sizeof room);
+  CHECK(!a.dropped && a.applied == 1 && !a.sent);
+  a = mq_mld_receive_in(&links[1], &workspace, host, routers, 2, true, report, sizeof report, 10, room, sizeof room);
+  CHECK(a.dropped == 6);
+  CHECK(mq_mld_forwards(&links[0], group, source) && !mq_mld_forwards(&links[1], group, source));
+  mq_mld_workspace_free(small);
+  mq_mld_workspace_free(workspace);
+  CHECK(mq_mld_len(&links[0]) == 1 && mq_mld_len(&links[1]) == 0);
+  for (int i = 0; i < 2; i++) mq_mld_free(links[i]);
+}
+
 int main(void) {
   uint8_t room[200], address[16] = {0};
   const uint8_t *at = room;
@@ -66,5 +100,6 @@ int main(void) {
   CHECK(mq_mld_line(host, all, done, sizeof done, (uint8_t *)line, 21) == 21 && !memcmp(line, "leave group ff0e::123-", 22));
   CHECK(mq_mld_outlet_bytes(c) > 46);
   mq_mld_free(link);
+  lent();
   return told();
 }

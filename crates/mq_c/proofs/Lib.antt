@@ -2,6 +2,7 @@ mod HandedInto
 mod LentLines
 mod LooseValues
 mod Meetings
+mod OneGroup
 mod OutletBytes
 mod PointerWalks
 mod Pointers

@@ -68,7 +68,7 @@ to_end all row put n k is =
     ∙ ap (λ (l : List _). take n all ++ l) (append-nil (row ++ drop k rest))
 
 -- the sources of a stored group as they cross
-row_forms : {K S : Type 0} (number : K → ℕ) (source_form : SourceEntry → S) (row : List (Source K)) → IsAscending (number_in number) row
+pub row_forms : {K S : Type 0} (number : K → ℕ) (source_form : SourceEntry → S) (row : List (Source K)) → IsAscending (number_in number) row
     → list_map (λ (x : Source K). source_form (number x.address, x.timer)) row ≡ list_map source_form (map.entries (timers_in number row))
 row_forms {K} {S} number source_form row up =
     let pair : Source K → SourceEntry = λ x. (number x.address, x.timer) in

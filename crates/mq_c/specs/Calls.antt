@@ -1,5 +1,5 @@
 -- What the calls of an object do.
-use Rattle.std.specs.Prelude.{◌≡◌, ℕ, ◌<◌, ◌≤◌, ◌^◌, Bool, List}
+use Rattle.std.specs.Prelude.{◌≡◌, ℕ, ◌<◌, ◌≤◌, ◌^◌, Bool, true, false, List}
 use Rattle.mq_link.specs.declared.answers.Received.{Received}
 use Rattle.mq_link.specs.declared.answers.Received.TheVariants.{Taken, Dropped}
 use Rattle.mq_link.specs.Link.{LinkValue}
@@ -8,10 +8,17 @@ use Rattle.mq_link.specs.Run.{Ticks, Receives}
 use Rattle.mq_link.specs.Sent.{Outgoing}
 use Rattle.mq_c.specs.declared.forms.Answer.{Answer}
 use Rattle.mq_c.specs.Queries.{Outbox, outbox_at, Puts}
-use Rattle.mq_c.specs.Statuses.{all_done, moment, reason_number}
+use Rattle.mq_c.specs.Statuses.{all_done, moment, workspace, reason_number}
+
+-- the answer of a call that did nothing: the moment is out of range; there is no workspace that suffices
+abbrev pub refused : (status : ℕ) → Answer
+refused status = record { status = status; dropped = 0; applied = 0; ignored = 0; refused = 0; sent = 0; unsent = 0; written = 0 }
 
 abbrev pub refused_moment : Answer
-refused_moment = record { status = moment; dropped = 0; applied = 0; ignored = 0; refused = 0; sent = 0; unsent = 0; written = 0 }
+refused_moment = refused moment
+
+abbrev pub refused_workspace : Answer
+refused_workspace = refused workspace
 
 -- the answer to a tick, and to a datagram, with what was made of the memory
 abbrev pub answer_to_tick : Outbox → Answer
@@ -45,7 +52,15 @@ pub record ReceivesInto (width : ℕ) (envelope : Envelope) (bytes : List ℕ) (
   pub bytes_are : new ≡ box.bytes
   pub answer_is : answer ≡ answer_to received box
 
--- A call at a moment: one that is out of range does nothing.
-pub record CallsAt (now : ℕ) (calls : Type 0) (before after : LinkValue) (old new : List ℕ) (answer : Answer) : Type 0 where
-  pub done : now ≤ 2 ^ 53 → calls × (after.config ≡ before.config)
-  pub refused : 2 ^ 53 < now → (after ≡ before) × (new ≡ old) × (answer ≡ refused_moment)
+-- A call that did nothing, with this answer.
+pub record IsRefusedAs (refused : Answer) (before after : LinkValue) (old new : List ℕ) (answer : Answer) : Type 0 where
+  pub link : after ≡ before
+  pub memory : new ≡ old
+  pub answer_is : answer ≡ refused
+
+-- A call at a moment, that has a workspace that suffices or none: where the moment is out of range it does nothing, nor does
+-- it without such a workspace.
+pub record CallsAt (suffices : Bool) (now : ℕ) (calls : Type 0) (before after : LinkValue) (old new : List ℕ) (answer : Answer) : Type 0 where
+  pub done : now ≤ 2 ^ 53 → suffices ≡ true → calls × (after.config ≡ before.config)
+  pub too_late : 2 ^ 53 < now → IsRefusedAs refused_moment before after old new answer
+  pub no_workspace : now ≤ 2 ^ 53 → suffices ≡ false → IsRefusedAs refused_workspace before after old new answer

@@ -2,6 +2,7 @@ pub mod Calls
 pub mod Counted
 pub mod Freeing
 pub mod Igmp
+pub mod Lent
 pub mod LineRoom
 pub mod Making
 pub mod Milliseconds

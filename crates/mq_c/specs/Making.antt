@@ -1,5 +1,5 @@
 -- Links that are made for C.
-use Rattle.std.specs.Prelude.{◌≡◌, ◌⊎◌, ℕ, ◌<◌, ◌≤◌, ◌^◌, ◌==◌, not, Some, Result, Ok, Err}
+use Rattle.std.specs.Prelude.{◌≡◌, ◌⊎◌, ℕ, ◌<◌, ◌≤◌, ◌^◌, ◌==◌, not, Option, Some, Result, Ok, Err}
 use Rattle.mq_wire.specs.Family.{Family}
 use Rattle.mq_link.specs.declared.configuration.ConfigFault.{ConfigFault}
 use Rattle.mq_link.specs.Configuration.{Configuration, configuration_fault, IsFaultless}
@@ -7,7 +7,10 @@ use Rattle.mq_link.specs.Configured.{variables, configured}
 use Rattle.mq_link.specs.Defaults.{defaults_of}
 use Rattle.mq_link.specs.Link.{LinkValue}
 use Rattle.mq_link.specs.State.{link_at}
+use Rattle.mq_link.specs.Workspace.{WorkspaceState}
+use Rattle.mq_c.specs.declared.c_link.CLink.{CLink}
 use Rattle.mq_c.specs.declared.forms.Settings.{Settings}
+use Rattle.mq_c.specs.Lent.{workspace_for}
 use Rattle.mq_c.specs.Statuses.{memory, moment, status_of}
 
 -- the configuration that is asked for, of a family
@@ -45,20 +48,35 @@ fresh_link config start = record { config = config; state = link_at config start
 abbrev pub IsLateOrMemory : (start status : ℕ) → Type 0
 IsLateOrMemory start status = ((2 ^ 53 < start) × (status ≡ moment)) ⊎ ((start ≤ 2 ^ 53) × (status ≡ memory))
 
--- it is made, or the status says which of these two it is
-abbrev pub IsLinkOrStatus : (start : ℕ) → Configuration → Result LinkValue ℕ → Type 0
-IsLinkOrStatus start config (Ok link) = (start ≤ 2 ^ 53) × (link ≡ fresh_link config start)
-IsLinkOrStatus start config (Err status) = IsLateOrMemory start status × (0 < status)
+-- a link so configured at its start, with its own workspace or without one
+pub record IsStarted {F K E : Type 0} (config : Configuration) (start : ℕ) (own : Option WorkspaceState) (made : CLink F K E) : Type 0 where
+  pub link : made.link ≡ fresh_link config start
+  pub workspace : made.workspace ≡ own
 
--- What C asks for is made.
-pub record IsMade (asked : Configuration) (start : ℕ) (link : LinkValue) : Type 0 where
+-- it is made, or the status says which of these two it is
+abbrev pub IsLinkOrStatus : {F K E : Type 0} → (start : ℕ) → Configuration → Option WorkspaceState → Result (CLink F K E) ℕ → Type 0
+IsLinkOrStatus start config own (Ok made) = (start ≤ 2 ^ 53) × IsStarted config start own made
+IsLinkOrStatus start config own (Err status) = IsLateOrMemory start status × (0 < status)
+
+-- What C asks for is made: a link, with its own workspace or without one.
+pub record IsMade {F K E : Type 0} (asked : Configuration) (start : ℕ) (own : Option WorkspaceState) (made : CLink F K E) : Type 0 where
   pub faultless : IsFaultless asked
   pub in_range : start ≤ 2 ^ 53
-  pub fresh : link ≡ fresh_link asked start
+  pub started : IsStarted asked start own made
+
+-- The status is that of the first fault of the configuration.
+abbrev pub IsFaultOf : (asked : Configuration) → (status : ℕ) → Type 0
+IsFaultOf asked status = (fault : ConfigFault) × (configuration_fault asked ≡ Some fault) × (status ≡ status_of fault)
 
 -- It isn't, and the status says why: the first fault of the configuration, or where it has none the moment or memory.
 abbrev pub IsRefused : (asked : Configuration) → (start status : ℕ) → Type 0
-IsRefused asked start status =
-    (0 < status)
-    × (((fault : ConfigFault) × (configuration_fault asked ≡ Some fault) × (status ≡ status_of fault))
-    ⊎ (IsFaultless asked × IsLateOrMemory start status))
+IsRefused asked start status = (0 < status) × (IsFaultOf asked status ⊎ (IsFaultless asked × IsLateOrMemory start status))
+
+-- A workspace is made for links so configured.
+pub record IsWorkspaceMade (asked : Configuration) (made : WorkspaceState) : Type 0 where
+  pub faultless : IsFaultless asked
+  pub room : made ≡ workspace_for asked
+
+-- It isn't, and the status says why: the first fault of the configuration, or where it has none memory.
+abbrev pub IsWorkspaceRefused : (asked : Configuration) → (status : ℕ) → Type 0
+IsWorkspaceRefused asked status = (0 < status) × (IsFaultOf asked status ⊎ (IsFaultless asked × (status ≡ memory)))

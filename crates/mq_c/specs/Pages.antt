@@ -1,12 +1,12 @@
 -- A page of the groups that a link holds, in memory that is lent.
-use Rattle.std.specs.Prelude.{◌≡◌, ℕ, ◌+◌, ◌<◌, List, ◌++◌, length, map as list_map, take, drop, Some}
+use Rattle.std.specs.Prelude.{◌≡◌, ℕ, ◌+◌, ◌<◌, nat_le, if◌then◌else◌, List, ◌++◌, length, map as list_map, take, drop, Some}
 use Rattle.std.specs.List.{flat_map}
 use Rattle.std.specs.FinMap as map
 use Rattle.mq_table.specs.declared.sources.Source.{Source}
 use Rattle.mq_table.specs.declared.timers.SourceTimer.{SourceTimer}
 use Rattle.mq_table.specs.Group.{group_deadline, deadline_of}
 use Rattle.mq_sched.specs.Schedule.{ScheduledGroup}
-use Rattle.mq_held.specs.Groups.{Groups, sources_of}
+use Rattle.mq_held.specs.Groups.{Groups, group_at, sources_of}
 use Rattle.mq_held.specs.Places.{group_in}
 use Rattle.mq_c.specs.declared.forms.Page.{Page}
 use Rattle.mq_c.specs.Milliseconds.{deadline_or_none}
@@ -53,3 +53,11 @@ pub record IsPage {G S : Type 0} (group_form : Entry → G) (source_form : Sourc
   pub shows : Shows group_form source_form held first old_groups new_groups old_sources new_sources page.groups page.sources
   pub all_that_fit : first + page.groups < map.len held → page.groups < length old_groups
       → length old_sources < page.sources + sources_of (group_in held (first + page.groups))
+
+-- One group: where it is held it stands in the memory as it crosses, and, where there is room for all of them, so do its sources;
+-- else the memory is as it was.
+pub record ShowsGroup {G S : Type 0} (group_form : Entry → G) (source_form : SourceEntry → S) (held : Groups) (address : ℕ) (old_group new_group : G) (old_sources new_sources : List S) (page : Page) : Type 0 where
+  pub count_is : page.groups ≡ (if map.contains_key held address then 1 else 0)
+  pub source_count_is : (let count = sources_of (group_at held address) in page.sources ≡ (if nat_le count (length old_sources) then count else 0))
+  pub group_is : new_group ≡ (if map.contains_key held address then group_form (address, group_at held address) else old_group)
+  pub sources_are : new_sources ≡ list_map source_form (take page.sources (map.entries (group_at held address).group.sources)) ++ drop page.sources old_sources

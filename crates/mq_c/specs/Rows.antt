@@ -1,4 +1,4 @@
--- The links of both families, as the logic holds them.
+-- The links and the workspaces of both families, as the logic holds them.
 use denote.RattleType.{RattleType}
 use Rattle.mq_count.specs.contracts.address_v4.Addr4 as addr4
 use Rattle.mq_count.specs.contracts.address_v4.Addr4Default.TheImpl as default4
@@ -14,10 +14,17 @@ use Rattle.mq_link.specs.contracts.igmp.IgmpFamily.TheImpl as igmp_family
 use Rattle.mq_link.specs.contracts.mld.Mld as mld
 use Rattle.mq_link.specs.contracts.mld.MldEnvelope as mld_envelope
 use Rattle.mq_link.specs.contracts.mld.MldFamily.TheImpl as mld_family
-use Rattle.mq_link.specs.contracts.link.Link as link
+use Rattle.mq_link.specs.contracts.workspace.Workspace as workspace
+use Rattle.mq_c.specs.contracts.c_link.CLink as c_link
 
 abbrev pub igmp_row : RattleType
-igmp_row = link.the_row igmp.the_row addr4.the_row igmp_envelope.the_row igmp_family.ghosts wire4.ghosts key4.ghosts default4.ghosts
+igmp_row = c_link.the_row igmp.the_row addr4.the_row igmp_envelope.the_row igmp_family.ghosts wire4.ghosts key4.ghosts default4.ghosts
 
 abbrev pub mld_row : RattleType
-mld_row = link.the_row mld.the_row addr6.the_row mld_envelope.the_row mld_family.ghosts wire6.ghosts key6.ghosts default6.ghosts
+mld_row = c_link.the_row mld.the_row addr6.the_row mld_envelope.the_row mld_family.ghosts wire6.ghosts key6.ghosts default6.ghosts
+
+abbrev pub igmp_workspace_row : RattleType
+igmp_workspace_row = workspace.the_row igmp.the_row addr4.the_row igmp_envelope.the_row igmp_family.ghosts wire4.ghosts key4.ghosts default4.ghosts
+
+abbrev pub mld_workspace_row : RattleType
+mld_workspace_row = workspace.the_row mld.the_row addr6.the_row mld_envelope.the_row mld_family.ghosts wire6.ghosts key6.ghosts default6.ghosts

@@ -6,7 +6,7 @@ use Rattle.mq_link.specs.declared.configuration.ConfigFault.{ConfigFault}
 use Rattle.mq_link.specs.declared.configuration.ConfigFault.TheVariants.{Robustness, QueryInterval, ResponseInterval, LastMember, Limit, OwnAddress}
 pub use Rattle.mq_link.specs.Counters.{reason_number, refusal_number, kind_number}
 
--- all was done; memory ran out; the moment is above 2^53
+-- all was done; memory ran out; the moment is above 2^53; there is no workspace that suffices
 abbrev pub all_done : ℕ
 all_done = 0
 
@@ -15,6 +15,9 @@ memory = 100
 
 abbrev pub moment : ℕ
 moment = 101
+
+abbrev pub workspace : ℕ
+workspace = 102
 
 abbrev pub limit_status : LimitName → ℕ
 limit_status Groups = 51

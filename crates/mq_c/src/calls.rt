@@ -1,29 +1,30 @@
 //! The calls of a link that hand out queries, for both families.
 
-ghost use Rattle.std.specs.Prelude.{◌≡◌, ◌+◌, ◌*◌, ◌<◌, ◌≤◌, ◌^◌, length};
+ghost use Rattle.std.specs.Prelude.{◌≡◌, ◌+◌, ◌*◌, ◌<◌, ◌≤◌, ◌^◌, length, true, false};
 ghost use Rattle.std.specs.FinMap as map;
 ghost use Rattle.mq_count.specs.Spending.{Spends};
 ghost use Rattle.mq_link.specs.Cost.{cost_of};
 ghost use Rattle.mq_link.specs.Moved.{most_moved};
 ghost use Rattle.mq_link.specs.State.{IsWellFormed, held_of, sources_in};
 ghost use Rattle.mq_link.specs.Tick.{moment_of, next_of};
+ghost use Rattle.mq_link.specs.Workspace.{suffices};
 ghost use Rattle.mq_c.specs.Calls as spec;
-ghost use Rattle.mq_c.specs.Calls.{CallsAt, TicksInto, ReceivesInto};
+ghost use Rattle.mq_c.specs.Calls.{CallsAt, IsRefusedAs, TicksInto, ReceivesInto};
 ghost use Rattle.mq_c.specs.Queries.{outbox_of};
 ghost use Rattle.mq_c.specs.Rooms.{longest_body, receive_room, tick_room};
 
 use crate::forms::Answer;
 use crate::queries::Queries;
-use crate::statuses::{DONE, MOMENT};
+use crate::statuses::{DONE, MOMENT, WORKSPACE};
 use mq_count::Moment;
-use mq_link::{Family, Link, Received};
+use mq_link::{BareLink, Family, Received, Workspace};
 
-/// The answer to a moment that is out of range.
-fn refused_moment() -> Answer
-    ensures { result ≡ spec.refused_moment }
+/// The answer of a call that did nothing, for the reason that its status says.
+fn refused(status: u32) -> Answer
+    ensures { result ≡ spec.refused status }
 {
     Answer {
-        status: MOMENT,
+        status,
         dropped: 0,
         applied: 0,
         ignored: 0,
@@ -31,6 +32,17 @@ fn refused_moment() -> Answer
         sent: 0,
         unsent: 0,
         written: 0,
+    }
+}
+
+/// The answer of a call that has no workspace to work in, at a moment that may be out of range.
+pub(crate) fn refused_at(now: u64) -> Answer
+    ensures late { 2 ^ 53 < now → result ≡ spec.refused_moment }
+    ensures in_range { now ≤ 2 ^ 53 → result ≡ spec.refused_workspace }
+{
+    match Moment::from_ms(now) {
+        Some(_) => refused(WORKSPACE),
+        None => refused(MOMENT),
     }
 }
 
@@ -73,13 +85,20 @@ fn answer_to(received: Received, queries: &Queries<'_>) -> Answer
 }
 
 /// A tick at a moment, with its queries, and how much it compares and moves at most, as of the link; where the memory is as long
-/// as the room of a tick, none is left out.
-fn tick_at<F: Family>(link: &mut Link<F>, now: Moment, out: &mut [u8]) -> Answer
+/// as the room of a tick, none is left out. Nothing, where the workspace is too small.
+fn tick_at<F: Family>(
+    link: &mut BareLink<F>,
+    workspace: &mut Workspace<F>,
+    now: Moment,
+    out: &mut [u8],
+) -> Answer
     requires in_range { now ≤ 2 ^ 53 }
+    ensures workspace { workspace.new ≡ workspace.old }
     ensures config { link.new.config ≡ link.old.config }
     ensures formed { IsWellFormed link.new.config link.new.state }
-    ensures later { now < next_of link.new.state }
-    ensures ticks { TicksInto F.Address.WIDTH now link.old link.new out.old out.new result }
+    ensures later { suffices link.old.config.limits workspace.old ≡ true → now < next_of link.new.state }
+    ensures ticks { suffices link.old.config.limits workspace.old ≡ true → TicksInto F.Address.WIDTH now link.old link.new out.old out.new result }
+    ensures refused { suffices link.old.config.limits workspace.old ≡ false → IsRefusedAs spec.refused_workspace link.old link.new out.old out.new result }
     ensures spent { Spends 0 (cost_of 0 (held_of link.old.state)) link.old.spent link.new.spent }
     ensures moved { let groups = link.old.state.groups in
         Spends 0 (6 * sources_in groups + 136 * map.len groups) link.old.moved link.new.moved }
@@ -88,24 +107,29 @@ fn tick_at<F: Family>(link: &mut Link<F>, now: Moment, out: &mut [u8]) -> Answer
 {
     link.is_well_formed();
     let mut queries = Queries::new(out);
-    link.tick(now, &mut queries);
-    answer_to_tick(&queries)
+    match link.tick(workspace, now, &mut queries) {
+        Ok(()) => answer_to_tick(&queries),
+        Err(_) => refused(WORKSPACE),
+    }
 }
 
 /// A datagram at a moment, with its queries, and how much it compares and moves at most, as of the link; where the memory is as
-/// long as the room of a datagram, none is left out.
+/// long as the room of a datagram, none is left out. Nothing, where the workspace is too small.
 fn receive_at<F: Family>(
-    link: &mut Link<F>,
+    link: &mut BareLink<F>,
+    workspace: &mut Workspace<F>,
     envelope: &F::Envelope,
     body: &[u8],
     now: Moment,
     out: &mut [u8],
 ) -> Answer
     requires in_range { now ≤ 2 ^ 53 }
+    ensures workspace { workspace.new ≡ workspace.old }
     ensures config { link.new.config ≡ link.old.config }
     ensures formed { IsWellFormed link.new.config link.new.state }
-    ensures receives { ReceivesInto F.Address.WIDTH (F.envelope_of envelope.now) body.now now link.old link.new
+    ensures receives { suffices link.old.config.limits workspace.old ≡ true → ReceivesInto F.Address.WIDTH (F.envelope_of envelope.now) body.now now link.old link.new
         out.old out.new result }
+    ensures refused { suffices link.old.config.limits workspace.old ≡ false → IsRefusedAs spec.refused_workspace link.old link.new out.old out.new result }
     ensures spent { Spends 0 (cost_of (length body.now) (held_of link.old.state)) link.old.spent link.new.spent }
     ensures moved { Spends 0 (most_moved (length body.now) (held_of link.old.state)) link.old.moved link.new.moved }
     ensures none_left_out { receive_room F.Address.WIDTH link.old.config ≤ length out.old → length body.now ≤ longest_body → result.unsent ≡ 0 }
@@ -113,16 +137,24 @@ fn receive_at<F: Family>(
     link.config().is_faultless();
     link.is_well_formed();
     let mut queries = Queries::new(out);
-    let received = link.receive(envelope, body, now, &mut queries);
-    answer_to(received, &queries)
+    match link.receive(workspace, envelope, body, now, &mut queries) {
+        Ok(received) => answer_to(received, &queries),
+        Err(_) => refused(WORKSPACE),
+    }
 }
 
-/// Does what is due; with as much memory as the room of a tick, no query is left out.
-pub(crate) fn tick<F: Family>(link: &mut Link<F>, now: u64, out: &mut [u8]) -> Answer
-    ensures ticks { CallsAt now (TicksInto F.Address.WIDTH now link.old link.new out.old out.new result) link.old link.new
+/// Does what is due, in a workspace; with as much memory as the room of a tick, no query is left out.
+pub(crate) fn tick<F: Family>(
+    link: &mut BareLink<F>,
+    workspace: &mut Workspace<F>,
+    now: u64,
+    out: &mut [u8],
+) -> Answer
+    ensures workspace { workspace.new ≡ workspace.old }
+    ensures ticks { CallsAt (suffices link.old.config.limits workspace.old) now (TicksInto F.Address.WIDTH now link.old link.new out.old out.new result) link.old link.new
         out.old out.new result }
     ensures formed { IsWellFormed link.new.config link.new.state }
-    ensures later { now ≤ 2 ^ 53 → now < next_of link.new.state }
+    ensures later { suffices link.old.config.limits workspace.old ≡ true → now ≤ 2 ^ 53 → now < next_of link.new.state }
     ensures spent { Spends 0 (cost_of 0 (held_of link.old.state)) link.old.spent link.new.spent }
     ensures moved { let groups = link.old.state.groups in
         Spends 0 (6 * sources_in groups + 136 * map.len groups) link.old.moved link.new.moved }
@@ -131,20 +163,22 @@ pub(crate) fn tick<F: Family>(link: &mut Link<F>, now: u64, out: &mut [u8]) -> A
 {
     link.is_well_formed();
     match Moment::from_ms(now) {
-        Some(now) => tick_at(link, now, out),
-        None => refused_moment(),
+        Some(now) => tick_at(link, workspace, now, out),
+        None => refused(MOMENT),
     }
 }
 
-/// Takes a datagram; with as much memory as the room of a datagram, no query is left out.
+/// Takes a datagram, in a workspace; with as much memory as the room of a datagram, no query is left out.
 pub(crate) fn receive<F: Family>(
-    link: &mut Link<F>,
+    link: &mut BareLink<F>,
+    workspace: &mut Workspace<F>,
     envelope: F::Envelope,
     body: &[u8],
     now: u64,
     out: &mut [u8],
 ) -> Answer
-    ensures receives { CallsAt now (ReceivesInto F.Address.WIDTH (F.envelope_of envelope) body.now now link.old link.new
+    ensures workspace { workspace.new ≡ workspace.old }
+    ensures receives { CallsAt (suffices link.old.config.limits workspace.old) now (ReceivesInto F.Address.WIDTH (F.envelope_of envelope) body.now now link.old link.new
         out.old out.new result) link.old link.new out.old out.new result }
     ensures formed { IsWellFormed link.new.config link.new.state }
     ensures spent { Spends 0 (cost_of (length body.now) (held_of link.old.state)) link.old.spent link.new.spent }
@@ -153,7 +187,7 @@ pub(crate) fn receive<F: Family>(
 {
     link.is_well_formed();
     match Moment::from_ms(now) {
-        Some(now) => receive_at(link, &envelope, body, now, out),
-        None => refused_moment(),
+        Some(now) => receive_at(link, workspace, &envelope, body, now, out),
+        None => refused(MOMENT),
     }
 }

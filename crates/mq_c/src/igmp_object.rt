@@ -2,11 +2,11 @@
 
 ghost use Rattle.std.specs.Prelude.{◌≡◌, Option, Some};
 ghost use Rattle.std.specs.Coded.{coded_option};
-ghost use Rattle.mq_link.specs.Link.{LinkValue};
 ghost use Rattle.mq_c.specs.Rows.{igmp_row};
 
+use crate::c_link::CLink;
 use crate::loose::Loose;
-use mq_link::{Igmp, Link};
+use mq_link::Igmp;
 use std::alloc::Global;
 use std::marker::Model;
 
@@ -14,7 +14,7 @@ use std::marker::Model;
 #[repr(C)]
 pub struct IgmpObject {
     pub(crate) at: *mut u8,
-    pub(crate) ghost kept: { LinkValue } by { igmp_row.coded },
+    pub(crate) ghost kept: { igmp_row.Denot } by { igmp_row.coded },
 }
 
 impl Model for IgmpObject {
@@ -27,12 +27,12 @@ impl Model for IgmpObject {
 
 impl IgmpObject {
     /// The link behind its pointer.
-    pub(crate) fn into_loose(self, alloc: Global) -> Loose<Link<Igmp>, Global>
+    pub(crate) fn into_loose(self, alloc: Global) -> Loose<CLink<Igmp>, Global>
         ensures { result.value ≡ self.kept }
     {
         let IgmpObject { at } = self;
         Loose {
-            at: at as *mut Link<Igmp>,
+            at: at as *mut CLink<Igmp>,
             alloc,
         }
     }
@@ -44,7 +44,7 @@ impl IgmpObject {
 #[derive(Drop)]
 pub struct IgmpPlace {
     at: *mut u8,
-    pub(crate) ghost kept: { Option LinkValue } by { coded_option igmp_row.coded },
+    pub(crate) ghost kept: { Option igmp_row.Denot } by { coded_option igmp_row.coded },
 }
 
 impl Model for IgmpPlace {
@@ -56,7 +56,7 @@ impl Model for IgmpPlace {
 
 impl IgmpPlace {
     /// What stands there once a link is written: its pointer and its box, which are C's from now on.
-    pub(crate) fn of(link: Loose<Link<Igmp>, Global>) -> IgmpPlace
+    pub(crate) fn of(link: Loose<CLink<Igmp>, Global>) -> IgmpPlace
         ensures { result.kept ≡ Some link.value }
     {
         let Loose { at, alloc: _ } = link;

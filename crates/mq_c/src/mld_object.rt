@@ -2,11 +2,11 @@
 
 ghost use Rattle.std.specs.Prelude.{◌≡◌, Option, Some};
 ghost use Rattle.std.specs.Coded.{coded_option};
-ghost use Rattle.mq_link.specs.Link.{LinkValue};
 ghost use Rattle.mq_c.specs.Rows.{mld_row};
 
+use crate::c_link::CLink;
 use crate::loose::Loose;
-use mq_link::{Link, Mld};
+use mq_link::Mld;
 use std::alloc::Global;
 use std::marker::Model;
 
@@ -14,7 +14,7 @@ use std::marker::Model;
 #[repr(C)]
 pub struct MldObject {
     pub(crate) at: *mut u8,
-    pub(crate) ghost kept: { LinkValue } by { mld_row.coded },
+    pub(crate) ghost kept: { mld_row.Denot } by { mld_row.coded },
 }
 
 impl Model for MldObject {
@@ -27,12 +27,12 @@ impl Model for MldObject {
 
 impl MldObject {
     /// The link behind its pointer.
-    pub(crate) fn into_loose(self, alloc: Global) -> Loose<Link<Mld>, Global>
+    pub(crate) fn into_loose(self, alloc: Global) -> Loose<CLink<Mld>, Global>
         ensures { result.value ≡ self.kept }
     {
         let MldObject { at } = self;
         Loose {
-            at: at as *mut Link<Mld>,
+            at: at as *mut CLink<Mld>,
             alloc,
         }
     }
@@ -44,7 +44,7 @@ impl MldObject {
 #[derive(Drop)]
 pub struct MldPlace {
     at: *mut u8,
-    pub(crate) ghost kept: { Option LinkValue } by { coded_option mld_row.coded },
+    pub(crate) ghost kept: { Option mld_row.Denot } by { coded_option mld_row.coded },
 }
 
 impl Model for MldPlace {
@@ -56,7 +56,7 @@ impl Model for MldPlace {
 
 impl MldPlace {
     /// What stands there once a link is written: its pointer and its box, which are C's from now on.
-    pub(crate) fn of(link: Loose<Link<Mld>, Global>) -> MldPlace
+    pub(crate) fn of(link: Loose<CLink<Mld>, Global>) -> MldPlace
         ensures { result.kept ≡ Some link.value }
     {
         let Loose { at, alloc: _ } = link;

@@ -1,15 +1,15 @@
-//! The groups of a link, page by page.
+//! The groups of a link, page by page, and one by its address.
 
 ghost use Rattle.std.specs.Prelude.{◌≡◌, ◌<◌, ◌≤◌, ◌^◌, ◌++◌, length, drop, map as list_map};
 ghost use Rattle.mq_table.specs.Group.{group_deadline};
 ghost use Rattle.mq_c.specs.Milliseconds.{deadline_or_none};
-ghost use Rattle.mq_c.specs.Pages.{IsPage, group_form, source_form, stored_form};
+ghost use Rattle.mq_c.specs.Pages.{IsPage, ShowsGroup, group_form, source_form, stored_form};
 
 use crate::c_family::CFamily;
 use crate::forms::{Page, page_of};
 use crate::milliseconds::deadline_or_none;
 use mq_held::HeldGroup;
-use mq_link::Link;
+use mq_link::BareLink;
 use mq_table::Source;
 
 /// A group as C has it.
@@ -45,7 +45,7 @@ fn put_sources<F: CFamily>(from: &[Source<F::Address>], out: &mut [F::Source])
 
 /// Writes the groups from a place on, as many as fit with all their sources.
 pub(crate) fn put_groups<F: CFamily>(
-    link: &Link<F>,
+    link: &BareLink<F>,
     first: u32,
     groups: &mut [F::Group],
     sources: &mut [F::Source],
@@ -69,4 +69,28 @@ pub(crate) fn put_groups<F: CFamily>(
         used += entry.sources.len();
     }
     page_of(groups.len(), used)
+}
+
+/// Writes a group, and its sources where there is room for all of them; nothing where it isn't held.
+pub(crate) fn put_group<F: CFamily>(
+    link: &BareLink<F>,
+    group: F::Address,
+    entry: &mut F::Group,
+    sources: &mut [F::Source],
+) -> Page
+    ensures { ShowsGroup (group_form F.group_with) (source_form F.source_with) link.now.state.groups (F.Address.number group) entry.old entry.new sources.old sources.new result }
+{
+    link.config().is_faultless();
+    link.is_well_formed();
+    match link.find(group) {
+        None => page_of(0, 0),
+        Some(held) => {
+            *entry = group_of::<F>(&held);
+            if sources.len() < held.sources.len() {
+                return page_of(1, 0);
+            }
+            put_sources::<F>(held.sources, sources);
+            page_of(1, held.sources.len())
+        }
+    }
 }

@@ -14,6 +14,9 @@ pub(crate) const MEMORY: u32 = 100;
 /// The moment is above 2^53, and nothing was done.
 pub(crate) const MOMENT: u32 = 101;
 
+/// The link has no workspace of its own, or the one that the call is lent is too small, and nothing was done.
+pub(crate) const WORKSPACE: u32 = 102;
+
 /// The status of a fault of a configuration.
 pub(crate) fn status_of(fault: ConfigFault) -> u32
     ensures number { result ≡ spec.status_of fault }

@@ -1,1 +1,13 @@
+pub mod CheckedPackets
+pub mod CheckedSoFar
+pub mod EndedChecks
+pub mod Entering
+pub mod OpenedChecks
+pub mod PutVerdicts
+pub mod SeenQueries
+pub mod Steppings
+pub mod Tellings
 pub mod Texts
+pub mod Waits
+pub mod WantedMessages
+pub mod WrittenVerdicts

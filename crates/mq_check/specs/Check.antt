@@ -23,46 +23,68 @@ use Rattle.mq_check.specs.declared.check_fault.CheckFault.{CheckFault}
 use Rattle.mq_check.specs.declared.check_fault.CheckFault.TheVariants.{Pcap, Gap, Waiting}
 use Rattle.mq_check.specs.declared.finding.Finding.{Finding}
 use Rattle.mq_check.specs.declared.totals.Totals.{Totals}
-use Rattle.mq_check.specs.Checking.{Checking, checking_at_start, told, settled, with_messages, role_changed, query_came, told_at_end}
+use Rattle.mq_check.specs.Checking.{CheckingValue, checking_at_start, told, settled, with_messages, role_changed, role_after_tick, query_came, told_at_end}
 use Rattle.mq_check.specs.FindingLines.{finding_lines, totals_line}
 use Rattle.mq_check.specs.Queries.{query_seen}
 
--- A check under way: the link, what was made of the queries, and what was found so far.
+-- A check under way: the link, and what was made of the queries.
 pub record Checked : Type 0 where
   pub link : LinkState
-  pub checking : Checking
-  pub found : List (Finding ℕ)
+  pub checking : CheckingValue
 
 -- the link starts at 0, and nothing is wanted or seen
 abbrev pub at_the_start : Configuration → Checked
-at_the_start config = record { link = link_at config 0; checking = checking_at_start config.timing; found = [] }
+at_the_start config = record { link = link_at config 0; checking = checking_at_start config.timing }
 
--- A step of the link at a moment: the queries that it sends are wanted, and the role may change by it.
-unfoldable pub after_step : Configuration → (within moment : ℕ) → Step → Checked → Checked
-after_step config within moment step r =
-    let was_querier = is_querier r.link.election.role in
-    let messages = outgoing_of config step in
-    let wanted = with_messages config moment (not was_querier) messages (settled within moment r.checking) in
+-- What something comes to: the check behind it, and what was found by it.
+pub record Outcome : Type 0 where
+  pub checked : Checked
+  pub found : List (Finding ℕ)
+
+-- nothing was found
+abbrev pub quiet : Checked → Outcome
+quiet r = record { checked = r; found = [] }
+
+-- what was found before comes first
+abbrev pub behind : List (Finding ℕ) → Outcome → Outcome
+behind found o = record o { found = found ++ o.found }
+
+-- what waits no longer at a moment
+abbrev pub settled_at : (within moment : ℕ) → Checked → Checked
+settled_at within moment r = record r { checking = settled within moment r.checking }
+
+-- what the link sends in a step at a moment is wanted
+abbrev pub wanted_by : Configuration → (moment : ℕ) → Step → Checked → CheckingValue
+wanted_by config moment step r =
+    let is_returning = not (is_querier r.link.election.role) in
+    with_messages config.family config.own moment is_returning (outgoing_of config step) r.checking
+
+-- a tick at a moment, behind which the router may be querier again
+unfoldable pub ticked : Configuration → (within moment : ℕ) → Checked → Checked
+ticked config within moment r =
+    let step = tick_of config moment r.link in
     record {
-      link = answered (all_sent messages) step;
-      checking = role_changed within config.timing moment was_querier (is_querier step.state.election.role) wanted;
-      found = r.found ++ told within moment r.checking;
+      link = answered (all_sent (outgoing_of config step)) step;
+      checking =
+          role_after_tick within moment (is_querier r.link.election.role) (is_querier step.state.election.role)
+          (wanted_by config moment step r);
     }
 
-unfoldable pub ticked_at : Configuration → (within moment : ℕ) → Checked → Checked
-ticked_at config within moment r = after_step config within moment (tick_of config moment r.link) r
-
--- Ticks at the link's next moments, one after the other, as long as these are before a limit; `most` at most.
-unfoldable pub ticked_within : (most : ℕ) → Configuration → (within limit : ℕ) → Checked → Checked
-ticked_within zero config within limit r = r
+-- Ticks at the link's next moments, one after the other, as long as these are before a limit; `most` at most. Before each
+-- what waits no longer is told.
+unfoldable pub ticked_within : (most : ℕ) → Configuration → (within limit : ℕ) → Checked → Outcome
+ticked_within zero config within limit r = quiet r
 ticked_within (suc most) config within limit r =
-    elim (nat_lt (next_of r.link) limit) [
-      | true ↦ ticked_within most config within limit (ticked_at config within (next_of r.link) r)
-      | false ↦ r
+    let moment = next_of r.link in
+    elim (nat_lt moment limit) [
+      | true ↦
+          behind (told within moment r.checking)
+          (ticked_within most config within limit (ticked config within moment (settled_at within moment r)))
+      | false ↦ quiet r
     ]
 
 -- All ticks up to and including a moment. After each the link's next moment is later.
-abbrev pub ticked_through : Configuration → (within moment : ℕ) → Checked → Checked
+abbrev pub ticked_through : Configuration → (within moment : ℕ) → Checked → Outcome
 ticked_through config within moment r = ticked_within (moment + 1) config within (moment + 1) r
 
 -- where the IP packet of a frame begins: behind an Ethernet header, and a tag
@@ -82,32 +104,47 @@ abbrev pub destination_in : Family → LinkType → (frame : List ℕ) → Envel
 destination_in Igmp link frame envelope = destination4_in (packet_in link frame)
 destination_in Mld link frame envelope = envelope.destination
 
+-- a datagram that the link is handed at a moment, by which the role may change
+unfoldable pub received : Configuration → (within moment : ℕ) → Datagram → Checked → Checked
+received config within moment datagram r =
+    let step = (receipt_of config datagram.envelope datagram.body moment r.link).step in
+    record {
+      link = answered (all_sent (outgoing_of config step)) step;
+      checking =
+          role_changed within config.timing moment (is_querier r.link.election.role) (is_querier step.state.election.role)
+          (wanted_by config moment step r);
+    }
+
+-- a query of the querier that is checked was seen at a moment
+unfoldable pub seen_at : Configuration → (within moment to : ℕ) → Query ℕ → Checked → Checked
+seen_at config within moment to query r =
+    record r { checking = query_came within config r.link.election.timing moment to query r.checking }
+
 -- a query of the querier that is checked was seen, or any other datagram is handed to the link
 abbrev pub seen_or_received : Configuration → (within moment to : ℕ) → Datagram → Option (Query ℕ) → Checked → Checked
-seen_or_received config within moment to datagram (Some query) r =
-    record r {
-      checking =
-          query_came within config r.link.election.timing moment to query (settled within moment r.checking);
-      found = r.found ++ told within moment r.checking;
-    }
-seen_or_received config within moment to datagram None r =
-    after_step config within moment (receipt_of config datagram.envelope datagram.body moment r.link).step r
+seen_or_received config within moment to datagram (Some query) r = seen_at config within moment to query r
+seen_or_received config within moment to datagram None r = received config within moment datagram r
 
-abbrev pub with_datagram : Configuration → LinkType → (within moment : ℕ) → (frame : List ℕ) → Option Datagram → Checked → Checked
-with_datagram config link within moment frame None r = r
+-- a datagram at a moment: first what waits no longer is told
+abbrev pub with_datagram : Configuration → LinkType → (within moment : ℕ) → (frame : List ℕ) → Option Datagram → Checked → Outcome
+with_datagram config link within moment frame None r = quiet r
 with_datagram config link within moment frame (Some datagram) r =
-    seen_or_received config within moment (destination_in config.family link frame datagram.envelope) datagram
-    (query_seen config datagram) r
+    let to = destination_in config.family link frame datagram.envelope in
+    record {
+      checked = seen_or_received config within moment to datagram (query_seen config datagram) (settled_at within moment r);
+      found = told within moment r.checking;
+    }
 
 -- a packet at its moment: first what happens up to then
-unfoldable pub with_packet : Configuration → LinkType → (within moment : ℕ) → (frame : List ℕ) → Checked → Checked
+unfoldable pub with_packet : Configuration → LinkType → (within moment : ℕ) → (frame : List ℕ) → Checked → Outcome
 with_packet config link within moment frame r =
-    with_datagram config link within moment frame (datagram_of config.family (carried_in link frame))
-    (ticked_through config within moment r)
+    let before = ticked_through config within moment r in
+    behind before.found (with_datagram config link within moment frame (datagram_of config.family (carried_in link frame)) before.checked)
 
--- What packets come to: the check, the moment of the last one, and the fault that ended it, if one did.
+-- What packets come to: the check, what was found, the moment of the last one, and the fault that ended it, if one did.
 pub record Course : Type 0 where
   pub checked : Checked
+  pub found : List (Finding ℕ)
   pub moment : ℕ
   pub fault : Option CheckFault
 
@@ -115,17 +152,18 @@ pub record Course : Type 0 where
 -- is counted from
 unfoldable pub with_packets : Configuration → LinkType → (within : ℕ) → (first : Option ℕ) → (before number : ℕ) → List Captured → Checked → Course
 with_packets config link within first before number [] r =
-    record { checked = r; moment = before; fault = None }
+    record { checked = r; found = []; moment = before; fault = None }
 with_packets config link within first before number (packet ∷ packets) r =
     let moment = moment_of first before packet.stamp in
     let after = with_packet config link within moment packet.bytes r in
     elim (is_gap before moment) [
-      | true ↦ record { checked = r; moment = before; fault = Some (Gap number) }
+      | true ↦ record { checked = r; found = []; moment = before; fault = Some (Gap number) }
       | false ↦
-          elim (after.checking.is_full) [
-            | true ↦ record { checked = after; moment = moment; fault = Some (Waiting number) }
+          elim (after.checked.checking.waiting.is_full) [
+            | true ↦ record { checked = after.checked; found = after.found; moment = moment; fault = Some (Waiting number) }
             | false ↦
-                with_packets config link within (Some (unwrap_or first packet.stamp)) moment (number + 1) packets after
+                let rest = with_packets config link within (Some (unwrap_or first packet.stamp)) moment (number + 1) packets after.checked in
+                record rest { found = after.found ++ rest.found }
           ]
     ]
 
@@ -139,7 +177,7 @@ pub record Verdict : Type 0 where
   pub text : List ℕ
   pub answer : Result Totals CheckFault
 
-abbrev pub totals_of : Checking → List (Finding ℕ) → Totals
+abbrev pub totals_of : CheckingValue → List (Finding ℕ) → Totals
 totals_of c found =
     record { general = c.general; specific = c.specific; findings = min (length found) (2 ^ 64 - 1) }
 
@@ -147,21 +185,20 @@ abbrev pub broken_off : Configuration → (cite : Bool) → CheckFault → List 
 broken_off config cite fault found = record { text = finding_lines config.family cite found; answer = Err fault }
 
 -- the end of a capture
-abbrev pub concluded : Configuration → (cite : Bool) → Checking → List (Finding ℕ) → Verdict
+abbrev pub concluded : Configuration → (cite : Bool) → CheckingValue → List (Finding ℕ) → Verdict
 concluded config cite c found = record {
   text = finding_lines config.family cite found ++ totals_line (totals_of c found);
   answer = Ok (totals_of c found);
 }
 
--- up to and including a moment
-unfoldable pub ended_at : Configuration → (within : ℕ) → (cite : Bool) → (moment number : ℕ) → Checked → Verdict
-ended_at config within cite moment number r =
+-- Up to and including a moment, behind what was found before.
+unfoldable pub ended_at : Configuration → (within : ℕ) → (cite : Bool) → (moment number : ℕ) → (found : List (Finding ℕ)) → Checked → Verdict
+ended_at config within cite moment number found r =
     let done = ticked_through config within moment r in
-    if done.checking.is_full
-    then broken_off config cite (Waiting number) (done.found ++ told within moment done.checking)
-    else
-    concluded config cite done.checking
-    (done.found ++ told_at_end within config.timing moment done.checking)
+    let checking = done.checked.checking in
+    if checking.waiting.is_full
+    then broken_off config cite (Waiting number) (found ++ done.found ++ told within moment checking)
+    else concluded config cite checking (found ++ done.found ++ told_at_end within config.timing moment checking)
 
 -- the moment at which a check ends: that of the last packet, or the one that is asked for, if that is later
 abbrev pub last_moment : (until : Option ℕ) → Course → ℕ
@@ -170,13 +207,13 @@ last_moment until course = max course.moment (unwrap_or until 0)
 -- what stands behind the packets: the capture's end or its fault, unless the check has ended before; the number of the
 -- next packet
 abbrev pub verdict_behind : Configuration → (within : ℕ) → (until : Option ℕ) → (cite : Bool) → (number : ℕ) → (end : Option PcapFault) → (fault : Option CheckFault) → Course → Verdict
-verdict_behind config within until cite number end (Some fault) course = broken_off config cite fault course.checked.found
+verdict_behind config within until cite number end (Some fault) course = broken_off config cite fault course.found
 verdict_behind config within until cite number (Some fault) None course =
-    broken_off config cite (Pcap fault) course.checked.found
+    broken_off config cite (Pcap fault) course.found
 verdict_behind config within until cite number None None course =
     elim (is_gap course.moment (last_moment until course)) [
-      | true ↦ broken_off config cite (Gap number) course.checked.found
-      | false ↦ ended_at config within cite (last_moment until course) number course.checked
+      | true ↦ broken_off config cite (Gap number) course.found
+      | false ↦ ended_at config within cite (last_moment until course) number course.found course.checked
     ]
 
 -- The check of a capture: what its header says, its packets, and its end.

@@ -1,9 +1,9 @@
 -- What a check does with queries, one after the other. A query that is wanted and one that was seen are partners where
 -- they ask about the same and no more than the tolerance lies between; each has one partner at most, and the earlier comes
 -- first.
-use Rattle.std.specs.Prelude.{ℕ, ◌+◌, ◌-◌, ◌^◌, ◌&&◌, min, nat_lt, not, Bool, true, false, if◌then◌else◌, List, [], ◌∷◌, ◌++◌, length, drop, Option, None, Some, is_some, take_while, flat_map, fold}
-use Rattle.std.specs.List.{prefix_len}
+use Rattle.std.specs.Prelude.{ℕ, ◌+◌, ◌-◌, ◌^◌, ◌&&◌, min, not, Bool, true, false, if◌then◌else◌, List, [], ◌∷◌, ◌++◌, Option, None, Some, is_some, flat_map, fold}
 use Rattle.mq_wire.specs.declared.query.Query.{Query}
+use Rattle.mq_wire.specs.Family.{Family}
 use Rattle.mq_table.specs.declared.timing.Timing.{Timing}
 use Rattle.mq_table.specs.Timing.{query_interval}
 use Rattle.mq_check.specs.declared.asked.Asked.{Asked}
@@ -15,31 +15,27 @@ use Rattle.mq_check.specs.declared.finding.Finding.TheVariants as finding
 use Rattle.mq_check.specs.declared.phase.Phase.{Phase}
 use Rattle.mq_check.specs.declared.phase.Phase.TheVariants.{Starting, Heard, Returned, NotQuerier}
 use Rattle.mq_check.specs.declared.terms.Terms.{Terms}
-use Rattle.mq_check.specs.Entries.{is_over, is_free_wanted, is_free_seen, first_terms, first_joined, may_be_left_out, differences_found, findings_of}
+use Rattle.mq_check.specs.declared.waiting.Side.TheVariants.{OfWanted, OfSeen}
+use Rattle.mq_check.specs.Entries.{first_terms, may_be_left_out, differences_found}
 use Rattle.mq_check.specs.General.{phase_at_start, wrong_interval, phase_behind, silence_up_to, phase_again}
 use Rattle.mq_link.specs.Configuration.{Configuration}
 use Rattle.mq_link.specs.Sent.{Outgoing}
 use Rattle.mq_check.specs.Queries.{asked_in, is_general, terms_of, general_terms, query_sent}
+use Rattle.mq_check.specs.Waiting.{WaitingValue, nothing, with_entry, with_partner, is_free}
+use Rattle.mq_check.specs.Waiting as waits
 
--- so many entries may wait
-abbrev pub room : ℕ
-room = 65536
-
--- What waits, in the order of moments, and whether there was no room for something; when the role of querier changed last;
--- the general queries; and how many queries were seen.
-pub record Checking : Type 0 where
-  pub waiting : List (Entry ℕ)
-  pub is_full : Bool
+-- What waits; when the role of querier changed last; the general queries; and how many queries were seen.
+pub record CheckingValue : Type 0 where
+  pub waiting : WaitingValue
   pub changed : Option ℕ
   pub phase : Phase
   pub last_general : Option ℕ
   pub general : ℕ
   pub specific : ℕ
 
-abbrev pub checking_at_start : Timing → Checking
+abbrev pub checking_at_start : Timing → CheckingValue
 checking_at_start timing = record {
-  waiting = [];
-  is_full = false;
+  waiting = nothing;
   changed = None;
   phase = phase_at_start timing;
   last_general = None;
@@ -49,13 +45,11 @@ checking_at_start timing = record {
 
 -- What waits no longer at a moment, since more than the tolerance has passed, and what is found of it. Where there was no
 -- room for something, nothing more is found.
-unfoldable pub told : (within now : ℕ) → Checking → List (Finding ℕ)
-told within now c =
-    if c.is_full then [] else flat_map (findings_of within c.changed) (take_while (is_over within now) c.waiting)
+abbrev pub told : (within now : ℕ) → CheckingValue → List (Finding ℕ)
+told within now c = waits.told within now c.changed c.waiting
 
-unfoldable pub settled : (within now : ℕ) → Checking → Checking
-settled within now c =
-    if c.is_full then c else record c { waiting = drop (prefix_len (is_over within now) c.waiting) c.waiting }
+abbrev pub settled : (within now : ℕ) → CheckingValue → CheckingValue
+settled within now c = record c { waiting = waits.settled within now c.waiting }
 
 -- a count, which stays at the greatest number of 64 bits
 abbrev pub counted_up : ℕ → ℕ
@@ -68,68 +62,60 @@ is_querier_in (Heard before startup) = true
 is_querier_in Returned = true
 is_querier_in NotQuerier = false
 
--- an entry behind those that wait
-unfoldable pub with_entry : Checking → Entry ℕ → Checking
-with_entry c entry =
-    if nat_lt (length c.waiting) room
-    then record c { waiting = c.waiting ++ entry ∷ [] }
-    else record c { is_full = true }
-
 -- Something is wanted at a moment: the first query that was seen, asks about it and has no partner is its partner.
-unfoldable pub with_wanted : (moment : ℕ) → Terms ℕ → Checking → Asked ℕ → Checking
+unfoldable pub with_wanted : (moment : ℕ) → Terms ℕ → CheckingValue → Asked ℕ → CheckingValue
 with_wanted moment terms c asked =
-    with_entry
-    (record c { waiting = first_joined (is_free_seen asked) terms c.waiting })
-    (Wanted moment asked terms (may_be_left_out moment asked terms c.waiting) (is_some (first_terms (is_free_seen asked) c.waiting)))
+    let is_optional = may_be_left_out moment asked terms c.waiting.entries in
+    let is_found = is_some (first_terms (is_free OfSeen asked) c.waiting.entries) in
+    record c { waiting = with_entry (Wanted moment asked terms is_optional is_found) (with_partner OfSeen asked terms c.waiting) }
 
 -- Something was seen at a moment: the first query that is wanted, asks about it and has no partner is its partner.
-unfoldable pub with_seen : (moment : ℕ) → Terms ℕ → Checking → Asked ℕ → Checking
+unfoldable pub with_seen : (moment : ℕ) → Terms ℕ → CheckingValue → Asked ℕ → CheckingValue
 with_seen moment terms c asked =
-    with_entry
-    (record c { waiting = first_joined (is_free_wanted asked) terms c.waiting })
-    (Seen moment asked terms (first_terms (is_free_wanted asked) c.waiting) (is_querier_in c.phase))
+    let partner = first_terms (is_free OfWanted asked) c.waiting.entries in
+    record c { waiting = with_entry (Seen moment asked terms partner (is_querier_in c.phase)) (with_partner OfWanted asked terms c.waiting) }
 
 -- an interval, or a time without general queries, that isn't what is wanted
-abbrev pub with_interval : (configured : Timing) → (moment : ℕ) → Option ℕ → Checking → Checking
-with_interval configured moment None c = c
-with_interval configured moment (Some passed) c =
-    with_entry c (Interval moment passed (query_interval configured))
+abbrev pub with_interval : (configured : Timing) → (moment : ℕ) → Option ℕ → WaitingValue → WaitingValue
+with_interval configured moment None w = w
+with_interval configured moment (Some passed) w =
+    with_entry (Interval moment passed (query_interval configured)) w
 
-abbrev pub with_silence : (configured : Timing) → (moment : ℕ) → Option ℕ → Checking → Checking
-with_silence configured moment None c = c
-with_silence configured moment (Some passed) c = with_entry c (Silence moment passed (query_interval configured))
+abbrev pub with_silence : (configured : Timing) → (moment : ℕ) → Option ℕ → WaitingValue → WaitingValue
+with_silence configured moment None w = w
+with_silence configured moment (Some passed) w = with_entry (Silence moment passed (query_interval configured)) w
 
 -- A general query was seen while the router is querier: it is compared with the one that is wanted, whenever it comes, and
 -- its interval is judged. It is also the partner of the one that goes where the router is querier again.
-unfoldable pub with_general : (within : ℕ) → (configured : Timing) → (moment : ℕ) → (terms wanted : Terms ℕ) → Checking → Checking
+unfoldable pub with_general : (within : ℕ) → (configured : Timing) → (moment : ℕ) → (terms wanted : Terms ℕ) → CheckingValue → CheckingValue
 with_general within configured moment terms wanted c =
-    let judged = with_interval configured moment (wrong_interval within configured moment c.phase) c in
-    with_entry
-    (record judged {
-      waiting = first_joined (is_free_wanted AllGroups) terms judged.waiting;
+    let judged = with_interval configured moment (wrong_interval within configured moment c.phase) c.waiting in
+    record c {
+      waiting = with_entry (Seen moment AllGroups terms (Some wanted) true) (with_partner OfWanted AllGroups terms judged);
       phase = phase_behind within configured moment c.phase;
-    })
-    (Seen moment AllGroups terms (Some wanted) true)
+    }
 
 -- A general query was seen. While another router is querier none is wanted.
-abbrev pub general_seen : (within : ℕ) → (configured : Timing) → (moment : ℕ) → (terms wanted : Terms ℕ) → Checking → Checking
-general_seen within configured moment terms wanted c =
-    let seen =
+abbrev pub general_compared : (within : ℕ) → (configured : Timing) → (moment : ℕ) → (terms wanted : Terms ℕ) → CheckingValue → CheckingValue
+general_compared within configured moment terms wanted c =
     if is_querier_in c.phase
     then with_general within configured moment terms wanted c
     else with_seen moment terms c AllGroups
-    in
-    record seen { last_general = Some moment; general = counted_up c.general }
+
+abbrev pub general_seen : (within : ℕ) → (configured : Timing) → (moment : ℕ) → (terms wanted : Terms ℕ) → CheckingValue → CheckingValue
+general_seen within configured moment terms wanted c =
+    let compared = general_compared within configured moment terms wanted c in
+    record compared { last_general = Some moment; general = counted_up compared.general }
 
 -- a query for a group or for sources was seen
-abbrev pub specific_seen : (moment : ℕ) → Terms ℕ → List (Asked ℕ) → Checking → Checking
+abbrev pub specific_seen : (moment : ℕ) → Terms ℕ → List (Asked ℕ) → CheckingValue → CheckingValue
 specific_seen moment terms asked c =
     let seen = fold (with_seen moment terms) c asked in
-    record seen { specific = counted_up c.specific }
+    record seen { specific = counted_up seen.specific }
 
 -- A query of the querier that is checked was seen at a moment; a general one is compared with what one says by the timing
 -- in force.
-unfoldable pub query_came : (within : ℕ) → Configuration → (in_force : Timing) → (moment to : ℕ) → Query ℕ → Checking → Checking
+unfoldable pub query_came : (within : ℕ) → Configuration → (in_force : Timing) → (moment to : ℕ) → Query ℕ → CheckingValue → CheckingValue
 query_came within config in_force moment to query c =
     let terms = terms_of config.family to query in
     if is_general query
@@ -138,37 +124,48 @@ query_came within config in_force moment to query c =
 
 -- A query that the link sends at a moment is wanted. A general one is wanted at its moment only where the router is querier
 -- again (RFC 3376 section 6.6.2, RFC 3810 section 7.6.2).
-abbrev pub query_wanted : Configuration → (moment : ℕ) → (is_returning : Bool) → (to : ℕ) → Option (Query ℕ) → Checking → Checking
-query_wanted config moment is_returning to None c = c
-query_wanted config moment is_returning to (Some query) c =
+abbrev pub one_wanted : Family → (moment : ℕ) → (is_returning : Bool) → (to : ℕ) → Query ℕ → CheckingValue → CheckingValue
+one_wanted family moment is_returning to query c =
     if is_general query && not is_returning
     then c
-    else fold (with_wanted moment (terms_of config.family to query)) c (asked_in query)
+    else fold (with_wanted moment (terms_of family to query)) c (asked_in query)
 
--- one message that the link sends, and all of a step
-unfoldable pub with_message : Configuration → (moment : ℕ) → (is_returning : Bool) → Checking → Outgoing → Checking
-with_message config moment is_returning c message =
-    query_wanted config moment is_returning message.to (query_sent config message) c
+abbrev pub query_wanted : Family → (moment : ℕ) → (is_returning : Bool) → (to : ℕ) → Option (Query ℕ) → CheckingValue → CheckingValue
+query_wanted family moment is_returning to None c = c
+query_wanted family moment is_returning to (Some query) c = one_wanted family moment is_returning to query c
 
-abbrev pub with_messages : Configuration → (moment : ℕ) → (is_returning : Bool) → List Outgoing → Checking → Checking
-with_messages config moment is_returning messages c = fold (with_message config moment is_returning) c messages
+-- one message that the link with this own address sends, and all of a step
+unfoldable pub with_message : Family → (own moment : ℕ) → (is_returning : Bool) → CheckingValue → Outgoing → CheckingValue
+with_message family own moment is_returning c message =
+    query_wanted family moment is_returning message.to (query_sent family own message) c
+
+abbrev pub with_messages : Family → (own moment : ℕ) → (is_returning : Bool) → List Outgoing → CheckingValue → CheckingValue
+with_messages family own moment is_returning messages c =
+    fold (with_message family own moment is_returning) c messages
 
 -- The role is lost: no general query is wanted from then on. Or it is had again.
-unfoldable pub role_lost : (within : ℕ) → (configured : Timing) → (moment : ℕ) → Checking → Checking
+unfoldable pub role_lost : (within : ℕ) → (configured : Timing) → (moment : ℕ) → CheckingValue → CheckingValue
 role_lost within configured moment c =
-    record (with_silence configured moment (silence_up_to within configured moment c.phase) c) {
+    record c {
+      waiting = with_silence configured moment (silence_up_to within configured moment c.phase) c.waiting;
       changed = Some moment;
       phase = NotQuerier;
     }
 
-unfoldable pub role_returned : (within : ℕ) → (moment : ℕ) → Checking → Checking
+unfoldable pub role_returned : (within : ℕ) → (moment : ℕ) → CheckingValue → CheckingValue
 role_returned within moment c = record c { changed = Some moment; phase = phase_again within moment c.last_general }
 
-abbrev pub role_changed : (within : ℕ) → (configured : Timing) → (moment : ℕ) → (was_querier is_querier : Bool) → Checking → Checking
+abbrev pub role_changed : (within : ℕ) → (configured : Timing) → (moment : ℕ) → (was_querier is_querier : Bool) → CheckingValue → CheckingValue
 role_changed within configured moment true true c = c
 role_changed within configured moment true false c = role_lost within configured moment c
 role_changed within configured moment false true c = role_returned within moment c
 role_changed within configured moment false false c = c
+
+-- A tick takes the role from no router.
+abbrev pub role_after_tick : (within : ℕ) → (moment : ℕ) → (was_querier is_querier : Bool) → CheckingValue → CheckingValue
+role_after_tick within moment true is_querier c = c
+role_after_tick within moment false true c = role_returned within moment c
+role_after_tick within moment false false c = c
 
 -- What is found at the end of a capture of an entry that still waits. A query without a partner isn't told: it may come
 -- later.
@@ -185,9 +182,9 @@ silence_found configured moment (Some passed) =
     finding.Silence moment passed (query_interval configured) ∷ []
 
 -- what is found at the end, at a moment: last whether no general query was seen for too long
-unfoldable pub told_at_end : (within : ℕ) → (configured : Timing) → (moment : ℕ) → Checking → List (Finding ℕ)
+unfoldable pub told_at_end : (within : ℕ) → (configured : Timing) → (moment : ℕ) → CheckingValue → List (Finding ℕ)
 told_at_end within configured moment c =
     let left = settled within moment c in
     told within moment c
-    ++ flat_map found_of_last left.waiting
+    ++ flat_map found_of_last left.waiting.entries
     ++ silence_found configured moment (silence_up_to within configured moment left.phase)

@@ -98,13 +98,16 @@ responses_differ None wanted = []
 responses_differ (Some seen) None = []
 responses_differ (Some seen) (Some wanted) = difference_if (not (seen == wanted)) (field.Response seen wanted)
 
-abbrev pub queriers_differ : (seen wanted : Option QuerierTerms) → List (Difference ℕ)
-queriers_differ None wanted = []
-queriers_differ (Some seen) None = []
-queriers_differ (Some seen) (Some wanted) =
+abbrev pub fields_differ : (seen wanted : QuerierTerms) → List (Difference ℕ)
+fields_differ seen wanted =
     difference_if (is_unlike seen.suppress wanted.suppress) (field.Suppress seen.suppress wanted.suppress)
     ++ difference_if (not (seen.robustness == wanted.robustness)) (field.Robustness seen.robustness wanted.robustness)
     ++ difference_if (not (seen.interval == wanted.interval)) (field.QueryInterval seen.interval wanted.interval)
+
+abbrev pub queriers_differ : (seen wanted : Option QuerierTerms) → List (Difference ℕ)
+queriers_differ None wanted = []
+queriers_differ (Some seen) None = []
+queriers_differ (Some seen) (Some wanted) = fields_differ seen wanted
 
 abbrev pub terms_differ : (seen wanted : Terms ℕ) → List (Difference ℕ)
 terms_differ seen wanted =
@@ -119,8 +122,11 @@ is_near_change within moment None = false
 is_near_change within moment (Some changed) = is_within within moment changed
 
 -- what is found of a pair
+abbrev pub differ_at : (moment : ℕ) → Asked ℕ → List (Difference ℕ) → List (Finding ℕ)
+differ_at moment asked differences = list_map (finding.Differs moment asked) differences
+
 abbrev pub differences_found : (moment : ℕ) → Asked ℕ → (seen wanted : Terms ℕ) → List (Finding ℕ)
-differences_found moment asked seen wanted = list_map (finding.Differs moment asked) (terms_differ seen wanted)
+differences_found moment asked seen wanted = differ_at moment asked (terms_differ seen wanted)
 
 -- A query without a partner is extra, but for one within the tolerance of a change of the role.
 abbrev pub findings_of_seen : (within : ℕ) → (changed : Option ℕ) → (moment : ℕ) → Asked ℕ → Terms ℕ → Option (Terms ℕ) → (is_querier : Bool) → List (Finding ℕ)

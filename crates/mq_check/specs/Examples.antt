@@ -4,7 +4,7 @@ use Rattle.std.specs.Prelude.{ℕ, false, Some}
 use Rattle.mq_table.specs.declared.timing.Timing.{Timing}
 use Rattle.mq_check.specs.declared.asked.Asked.TheVariants.{Group}
 use Rattle.mq_check.specs.declared.terms.Terms.{Terms}
-use Rattle.mq_check.specs.Checking.{Checking, checking_at_start, settled, with_general, with_seen, with_wanted}
+use Rattle.mq_check.specs.Checking.{CheckingValue, checking_at_start, settled, with_general, with_seen, with_wanted}
 
 abbrev pub timing : Timing
 timing = record { robustness = 2; query_seconds = 125; response_interval = 10000; last_member_interval = 1000 }
@@ -18,17 +18,17 @@ a_query = record {
 }
 
 -- it is wanted at a moment, and was seen at a later one
-abbrev pub wanted_first : (wanted seen : ℕ) → Checking
+abbrev pub wanted_first : (wanted seen : ℕ) → CheckingValue
 wanted_first wanted seen =
     with_seen seen a_query (settled 100 seen (with_wanted wanted a_query (checking_at_start timing) (Group 5))) (Group 5)
 
 -- it was seen at a moment, and is wanted at a later one
-abbrev pub seen_first : (seen wanted : ℕ) → Checking
+abbrev pub seen_first : (seen wanted : ℕ) → CheckingValue
 seen_first seen wanted =
     with_wanted wanted a_query (settled 100 wanted (with_seen seen a_query (checking_at_start timing) (Group 5))) (Group 5)
 
 -- general queries as they are wanted, at two moments
-abbrev pub two_general : (first second : ℕ) → Checking
+abbrev pub two_general : (first second : ℕ) → CheckingValue
 two_general first second =
     with_general 100 timing second a_query a_query
     (settled 100 second (with_general 100 timing first a_query a_query (checking_at_start timing)))

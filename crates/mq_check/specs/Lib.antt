@@ -1,9 +1,15 @@
 pub mod Check
+pub mod CheckedCaptures
 pub mod Checking
+pub mod Coming
+pub mod Ending
 pub mod Entries
 pub mod Examples
 pub mod FindingLines
 pub mod General
 pub mod Numbered
+pub mod Places
 pub mod Queries
 pub mod Telling
+pub mod Waiting
+pub mod Wanting

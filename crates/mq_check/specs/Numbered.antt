@@ -1,5 +1,5 @@
 -- What waits and what is found, with its addresses as numbers.
-use Rattle.std.specs.Prelude.{ℕ, Option, None, Some}
+use Rattle.std.specs.Prelude.{ℕ, List, [], ◌∷◌, Option, None, Some}
 use Rattle.mq_check.specs.declared.asked.Asked.{Asked}
 use Rattle.mq_check.specs.declared.asked.Asked.TheVariants.{AllGroups, Group, Source}
 use Rattle.mq_check.specs.declared.entry.Entry.{Entry}
@@ -44,6 +44,11 @@ numbered_difference number (difference.Suppress seen wanted) = difference.Suppre
 numbered_difference number (difference.Robustness seen wanted) = difference.Robustness seen wanted
 numbered_difference number (difference.QueryInterval seen wanted) = difference.QueryInterval seen wanted
 numbered_difference number (difference.Destination seen wanted) = difference.Destination (number seen) (number wanted)
+
+-- the difference, if there is one
+abbrev pub difference_list : {K : Type 0} → (K → ℕ) → Option (Difference K) → List (Difference ℕ)
+difference_list number None = []
+difference_list number (Some difference) = numbered_difference number difference ∷ []
 
 abbrev pub numbered_finding : {K : Type 0} → (K → ℕ) → Finding K → Finding ℕ
 numbered_finding number (finding.Missing moment asked) = finding.Missing moment (numbered_asked number asked)

@@ -28,8 +28,11 @@ is_empty (x ∷ xs) = false
 
 -- What is asked about: all groups, a group, or each of some sources of a group, so that sources in one query are asked
 -- about like sources in one query each. A source that stands twice in a query is asked about twice.
+abbrev pub asked_for_group : (group : ℕ) → Asked ℕ
+asked_for_group group = if group == 0 then AllGroups else Group group
+
 abbrev pub asked_by : (group : ℕ) (sources : List ℕ) → List (Asked ℕ)
-asked_by group [] = (if group == 0 then AllGroups else Group group) ∷ []
+asked_by group [] = asked_for_group group ∷ []
 asked_by group (source ∷ sources) = list_map (Source group) (source ∷ sources)
 
 abbrev pub asked_in : Query ℕ → List (Asked ℕ)
@@ -107,8 +110,8 @@ envelope_sent Igmp own to = record { source = own; destination = 0; hop_limit = 
 envelope_sent Mld own to = record { source = own; destination = to; hop_limit = 1; alert = true }
 
 -- the query that the link sends by a message
-abbrev pub query_sent : Configuration → Outgoing → Option (Query ℕ)
-query_sent config message = query_spelled config.family (envelope_sent config.family config.own message.to) message.bytes
+abbrev pub query_sent : Family → (own : ℕ) → Outgoing → Option (Query ℕ)
+query_sent family own message = query_spelled family (envelope_sent family own message.to) message.bytes
 
 -- A query of the router at the own address that hosts act on: nothing of its packet or of its bytes has them drop it (RFC
 -- 3376 section 4.1.2, RFC 3810 sections 5.1.2, 5.1.14 and 6.2). One that they drop is none.

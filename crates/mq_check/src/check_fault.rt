@@ -1,6 +1,7 @@
 //! Why a capture was not checked to its end.
 
 ghost use Rattle.std.specs.Prelude.{◌≡◌};
+ghost use Rattle.mq_check.specs.CheckedCaptures as spec;
 ghost use Rattle.mq_check.specs.declared.check_fault.CheckFault.TheVariants.{Pcap, Write};
 
 use mq_pcap::PcapFault;
@@ -48,4 +49,11 @@ impl From<LineFault> for CheckFault {
     fn from(_fault: LineFault) -> CheckFault {
         CheckFault::Write
     }
+}
+
+/// Whether a check broke off since a write failed.
+pub(crate) fn is_failed_write<T>(answer: &Result<T, CheckFault>) -> bool
+    ensures { result ≡ spec.is_failed_write answer.now }
+{
+    matches!(answer, Err(CheckFault::Write))
 }

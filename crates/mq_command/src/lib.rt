@@ -1,6 +1,7 @@
 //! The command line of `mquerier`, by `clap`: what it asks for, and its help.
 #![tactic(auto)]
 
+mod check;
 mod convert;
 mod replay;
 
@@ -52,6 +53,23 @@ pub enum Request<'a> {
         /// The file that the capture is in.
         file: Option<&'a str>,
     },
+    /// What the querier of the capture does otherwise than the standards want.
+    Check {
+        /// The querier's protocol.
+        protocol: Protocol,
+        /// Its address.
+        querier: &'a str,
+        /// Its variables, and limits of what is kept of it.
+        settings: Settings,
+        /// How much earlier or later a query may be, in milliseconds, where it is given.
+        within: Option<u32>,
+        /// Whether the section of the standard stands behind each line.
+        cite: bool,
+        /// The moment up to which the capture was taken at least, in milliseconds from the first packet, where it is given.
+        until: Option<u64>,
+        /// The file that the capture is in.
+        file: Option<&'a str>,
+    },
 }
 
 impl<'a> Request<'a> {
@@ -59,8 +77,10 @@ impl<'a> Request<'a> {
     pub fn file(&self) -> Option<&'a str> {
         let file = match self {
             Request::Message { .. } => None,
-            Request::Convert { file, .. } | Request::Show { file } | Request::Replay { file, .. } =>
-                { *file }
+            Request::Convert { file, .. }
+            | Request::Show { file }
+            | Request::Replay { file, .. }
+            | Request::Check { file, .. } => *file,
         };
         match file {
             Some("-") | None => None,
@@ -99,6 +119,7 @@ fn request_in<'a>(matches: &ArgMatches<'a>) -> Option<Request<'a>> {
         ("show", words) => Some(Request::Show {
             file: words.get_str("FILE"),
         }),
+        ("check", words) => check::request_in(words),
         (_, words) => replay::request_in(words),
     }
 }
@@ -132,9 +153,11 @@ Examples:
       prints what a querier at 10.0.0.9 sends and learns, had it been there
   mquerier convert capture.pcapng | mquerier show
       the same of a capture in another form, as Wireshark and tcpdump -i any save them
+  mquerier check igmp --querier 10.0.0.1 < capture.pcap
+      prints what the querier at 10.0.0.1 does otherwise than the standards want
 
 Status: 0 where all is done, 1 where the input is faulty, the output fails or memory runs out, 2
-where the command line is faulty or help is asked for.";
+where the command line is faulty or help is asked for, 3 where a check finds something.";
 
 fn command<'a>(alloc: Global) -> Result<Command<'a>, AllocError> {
     Command::new(alloc, "mquerier")
@@ -145,7 +168,8 @@ fn command<'a>(alloc: Global) -> Result<Command<'a>, AllocError> {
         .subcommand(message(alloc)?)?
         .subcommand(convert::command(alloc)?)?
         .subcommand(show(alloc)?)?
-        .subcommand(replay::command(alloc)?)
+        .subcommand(replay::command(alloc)?)?
+        .subcommand(check::command(alloc)?)
 }
 
 const MESSAGE_ABOUT: &str = "Prints what one message says, or its first fault";

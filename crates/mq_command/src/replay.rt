@@ -38,7 +38,7 @@ pub(crate) fn request_in<'a>(words: &ArgMatches<'a>) -> Option<Request<'a>> {
     })
 }
 
-fn settings_in(words: &ArgMatches<'_>) -> Settings {
+pub(crate) fn settings_in(words: &ArgMatches<'_>) -> Settings {
     Settings {
         robustness: words.get_one::<u32>("rv"),
         query_seconds: words.get_one::<u32>("qi"),
@@ -120,7 +120,10 @@ fn own<'a>(alloc: Global) -> Arg<'a> {
     )
 }
 
-fn with_variables<'a>(alloc: Global, command: Command<'a>) -> Result<Command<'a>, AllocError> {
+pub(crate) fn with_variables<'a>(
+    alloc: Global,
+    command: Command<'a>,
+) -> Result<Command<'a>, AllocError> {
     command
         .arg(number(alloc, "rv", "N").help(RV_HELP))?
         .arg(number(alloc, "qi", "S").help(QI_HELP))?
@@ -141,7 +144,10 @@ const LMQI_HELP: &str = "\
 Last Member (mld: Last Listener) Query Interval in milliseconds; 100 to
 3174400 for igmp, 1 to 8387584 for mld [default: 1000]";
 
-fn with_limits<'a>(alloc: Global, command: Command<'a>) -> Result<Command<'a>, AllocError> {
+pub(crate) fn with_limits<'a>(
+    alloc: Global,
+    command: Command<'a>,
+) -> Result<Command<'a>, AllocError> {
     command
         .arg(number(alloc, "groups", "N").help(GROUPS_HELP))?
         .arg(number(alloc, "group-sources", "N").help(GROUP_SOURCES_HELP))?
@@ -169,7 +175,7 @@ fn number<'a>(alloc: Global, name: &'a str, unit: &'a str) -> Arg<'a> {
         .value_parser(value_parser!(u32))
 }
 
-fn ssm<'a>(alloc: Global) -> Arg<'a> {
+pub(crate) fn ssm<'a>(alloc: Global) -> Arg<'a> {
     Arg::new(alloc, "ssm")
         .long("ssm")
         .action(ArgAction::SetTrue)
@@ -180,7 +186,7 @@ const SSM_HELP: &str = "\
 Keep 232.0.0.0/8 (igmp) or ff3x::/32 (mld) for source-specific multicast:
 EXCLUDE and older messages for groups there are ignored";
 
-fn until<'a>(alloc: Global) -> Arg<'a> {
+pub(crate) fn until<'a>(alloc: Global) -> Arg<'a> {
     Arg::new(alloc, "until")
         .long("until")
         .value_name("MS")

@@ -7,19 +7,20 @@ ghost use Rattle.mq_held.specs.Listed.{entry_in, entries_from};
 use crate::held_group::HeldGroup;
 use crate::held_groups::HeldGroups;
 use mq_count::Key;
+use std::alloc::{Allocator, Global};
 use std::marker::Model;
 
 /// The held groups from one of them on, by ascending address, each as it stands in the storage. A contract sees the list of
 /// those that are still to come, each with its address. It takes no memory, and compares nothing.
 #[derive(Drop)]
-pub struct HeldEntries<'a, K: Key> {
-    held: &'a HeldGroups<K>,
+pub struct HeldEntries<'a, K: Key, A: Allocator = Global> {
+    held: &'a HeldGroups<K, A>,
     /// The page of the order that has the next one, and its place there.
     page: usize,
     place: usize,
 }
 
-impl<'a, K: Key> Model for HeldEntries<'a, K> {
+impl<'a, K: Key, A: Allocator> Model for HeldEntries<'a, K, A> {
     ghost use Rattle.std.specs.Prelude.{ℕ, ◌<◌, ◌≤◌, List, length, slice_index};
     ghost use Rattle.std.specs.Coded.{coded×, coded_ℕ, coded_list};
     ghost use Rattle.mq_table.specs.contracts.timers.FilterMode as filter_mode;
@@ -38,9 +39,9 @@ impl<'a, K: Key> Model for HeldEntries<'a, K> {
     ghost invariant = { λ e. (e.page < length e.held.now.order.pages) × (e.place ≤ slice_index e.held.now.order.pages e.page) };
 }
 
-impl<'a, K: Key> HeldEntries<'a, K> {
+impl<'a, K: Key, A: Allocator> HeldEntries<'a, K, A> {
     /// All of them.
-    pub(crate) fn of(held: &'a HeldGroups<K>) -> HeldEntries<'a, K>
+    pub(crate) fn of(held: &'a HeldGroups<K, A>) -> HeldEntries<'a, K, A>
         ensures { result ≡ entries_from 0 held.entry.now.groups }
     {
         held.lemma_is_numbered();
@@ -52,7 +53,7 @@ impl<'a, K: Key> HeldEntries<'a, K> {
     }
 }
 
-impl<'a, K: Key> Iterator for HeldEntries<'a, K> {
+impl<'a, K: Key, A: Allocator> Iterator for HeldEntries<'a, K, A> {
     type Item = HeldGroup<'a, K>;
 
     ghost next_gives = { YieldsFirstBy (entry_in K.number) (λ r. r) };

@@ -25,7 +25,7 @@ use Rattle.mq_link.specs.State.{Groups}
 use Rattle.mq_link.specs.Heard.{suppresses, asked_by, groups_cleared, group_lowered, groups_lowered}
 use Rattle.mq_link.specs.declared.storage.Storage.{Storage}
 use Rattle.mq_link.specs.Serving.{IsServed, AreServed}
-use Rattle.mq_link.specs.Storage.{IsReady, KeepsRooms}
+use Rattle.mq_link.specs.Storage.{IsReady}
 use Rattle.mq_link.proofs.Bounds.{cleared_no_more, lowered_no_more}
 use Rattle.mq_link.proofs.Entries.{total-kept, len-kept}
 use Rattle.mq_link.proofs.HeldAs.{all-kept}
@@ -113,10 +113,10 @@ cleared_small most groups address few = subst (λ (e : Option ScheduledGroup). s
     by_group (Some e) few = let fewer = (cleared_no_more e).sources in omega arith
 
 -- and they are fit to be worked on still
-pub cleared_ready : {K : Type 0} (s t : Storage K) → IsReady s → t.held.groups ≡ groups_cleared s.held.groups → KeepsRooms s t → IsReady t
-cleared_ready s t ready is kept = record {
+pub cleared_ready : {K : Type 0} (room more : ℕ) (s t : Storage K) → IsReady room s → t.held.groups ≡ groups_cleared s.held.groups → room ≤ more → IsReady more t
+cleared_ready room more s t ready is wide = record {
   few = let n = ap map.len is in omega (arith, n, cleared_len s.held.groups, ready.few);
-  served = subst (AreServed t.work.group.room) (sym is) (cleared_served s.work.group.room t.work.group.room s.held.groups kept.work.group ready.served);
+  served = subst (AreServed more) (sym is) (cleared_served room more s.held.groups wide ready.served);
 }
 
 -- what lowering so many sources takes in a group that has few

@@ -1,5 +1,5 @@
 -- What is stored of a link, at its start and after its calls.
-use Rattle.std.proofs.Common.{◌≡◌, ℕ, ◌<◌, ◌≤◌, List, [], ◌∷◌, length, false, Some, refl, sym, ap, ◌∙◌, subst, arith, leb}
+use Rattle.std.proofs.Common.{◌≡◌, ℕ, ◌*◌, ◌<◌, ◌≤◌, List, [], ◌∷◌, false, Some, refl, sym, ap, ◌∙◌, subst, arith, leb}
 use Rattle.std.specs.List.{list_any}
 use Rattle.std.specs.Option.{unwrap_or}
 use Rattle.std.specs.Ordering.{nat_cmp}
@@ -12,20 +12,17 @@ use Rattle.mq_held.specs.Groups.{Groups, group_at, unheld, sources_of}
 use Rattle.mq_held.specs.Held.{HeldState, empty_state}
 use Rattle.mq_held.specs.Moments.{moments_of, moments_in}
 use Rattle.mq_held.specs.Places.{has_due}
-use Rattle.mq_link.specs.declared.storage.Numbers.{Numbers}
 use Rattle.mq_link.specs.declared.storage.Storage.{Storage}
 use Rattle.mq_link.specs.Configuration.{Configuration, IsFaultless}
 use Rattle.mq_link.specs.Record.{Setting}
 use Rattle.mq_link.specs.Router.{IsStored, RouterValue, state_of}
-use Rattle.mq_link.specs.Seen.{AreNone}
 use Rattle.mq_link.specs.Sound.{AreSound}
 use Rattle.mq_link.specs.State.{LinkState, IsWellFormed, link_at}
-use Rattle.mq_link.specs.Storage.{HasRoom, HasSpace, IsReady, KeepsRooms, KeepsSpace, put_by_rows}
+use Rattle.mq_link.specs.Storage.{IsReady, KeepsRooms, put_by_rows}
 use Rattle.mq_link.specs.Tick.{next_of}
 use Rattle.mq_link.proofs.Faultless.{IsWellFormed-link_at, few_groups}
 use Rattle.mq_link.proofs.Quiet.{AllAbove, above_least, above_values}
 use Rattle.mq_link.proofs.Receipts.{sound_in}
-use Rattle.mq_link.proofs.Rooms.{still_room, still_space}
 use Rattle.mq_link.proofs.Silent.{from-each, not_reached}
 
 -- of a group that isn't held nothing is forwarded
@@ -40,20 +37,15 @@ pub well_formed_at : (r : RouterValue) → AreSound r.at r.groups → AreInRange
 well_formed_at r sound timing = record { groups = sound.all; within = sound.within; timing = timing; silent = sound.silent }
 
 -- the storage of a link at its start
-pub stored_at_start : {K : Type 0} (config : Configuration) (start : ℕ) (storage : Storage K) (seen : List ℕ) (numbers : Numbers)
+pub stored_at_start : {K : Type 0} (config : Configuration) (start : ℕ) (storage : Storage K)
     → IsFaultless config → storage.held ≡ empty_state config.limits.groups config.limits.sources
-    → HasRoom config.limits.group_sources storage.work → config.limits.groups ≤ length seen → AreNone seen → HasSpace config.limits.groups numbers
-    → (let status : Setting = record { config = config; election = election_at config.timing start; now = start } in IsStored status storage seen numbers)
-stored_at_start config start storage seen numbers faultless held room seen_room none_seen number_room =
+    → (let status : Setting = record { config = config; election = election_at config.timing start; now = start } in IsStored status storage)
+stored_at_start config start storage faultless held =
     let status : Setting = record { config = config; election = election_at config.timing start; now = start } in
     record {
       sound = subst (AreSound status) (sym (ap (λ (h : HeldState). h.groups) held)) (sound_in config (link_at config start) (IsWellFormed-link_at config start faultless));
       group_room = ap (λ (h : HeldState). h.order.room) held;
       source_room = ap (λ (h : HeldState). h.source_room) held;
-      room = room;
-      seen_room = seen_room;
-      none_seen = none_seen;
-      number_room = number_room;
     }
 
 -- before the first edit nothing is put by
@@ -61,13 +53,12 @@ pub nothing_put_by : (groups sources : ℕ) → put_by_rows (empty_state groups 
 nothing_put_by groups sources = let none = map.len-empty nat_cmp ScheduledGroup in omega arith
 
 -- the groups are fit to be worked on, and there is room for each
-pub ready_in : {K : Type 0} (status : Setting) (storage : Storage K) → IsFaultless status.config → AreSound status storage.held.groups → HasRoom status.config.limits.group_sources storage.work → IsReady storage
-ready_in status storage faultless sound room = record {
+pub ready_in : {K : Type 0} (status : Setting) (storage : Storage K) → IsFaultless status.config → AreSound status storage.held.groups → (room : ℕ) → 2 * status.config.limits.group_sources ≤ room → IsReady room storage
+ready_in status storage faultless sound room wide = record {
   few = let n = sound.within.group_count in omega (arith, n, few_groups status.config faultless);
   served = λ group e is.
       let as_held = sound.all group e is in
       let few : sources_of e ≤ status.config.limits.group_sources = subst (λ x. sources_of (unwrap_or x unheld) ≤ status.config.limits.group_sources) is (sound.within.group_sources group) in
-      let wide = room.group in
       record { held = as_held.held; fits = as_held.fits; room_for = omega arith };
 }
 
@@ -85,26 +76,10 @@ none_due state now before group e is =
     none_reached now (moments_of e) (from-each (λ _ e. AllAbove now (moments_of e)) (map.entries state.groups) each group e (sym (map.get-entries state.groups group) ∙ is))
 
 -- what is stored after a call: the groups are sound still, and the rooms stay
-pub stored_next : {K : Type 0} (status after : Setting) (storage next : Storage K) (seen : List ℕ) (numbers next_numbers : Numbers)
-    → IsStored status storage seen numbers → after.config ≡ status.config → AreSound after next.held.groups → KeepsRooms storage next
-    → KeepsSpace numbers next_numbers → IsStored after next seen next_numbers
-stored_next status after storage next seen numbers next_numbers was same sound kept space =
-    subst (λ (c : Configuration). HasRoom c.limits.group_sources next.work → HasSpace c.limits.groups next_numbers → c.limits.groups ≤ length seen → IsStored after next seen next_numbers) same (λ room number_room seen_room.
-    record {
-      sound = sound;
-      group_room = kept.groups ∙ was.group_room ∙ ap (λ (c : Configuration). c.limits.groups) (sym same);
-      source_room = kept.sources ∙ was.source_room ∙ ap (λ (c : Configuration). c.limits.sources) (sym same);
-      room = room;
-      seen_room = seen_room;
-      none_seen = was.none_seen;
-      number_room = number_room;
-    }) (still_room status.config.limits.group_sources was.room kept.work) (still_space status.config.limits.groups was.number_room space) was.seen_room
-
--- and where the groups that were met are forgotten
-pub stored_forgotten : {K : Type 0} (status : Setting) (storage next : Storage K) (seen counted left : List ℕ) (numbers : Numbers)
-    → IsStored status storage seen numbers → AreSound status next.held.groups → KeepsRooms storage next
-    → length counted ≡ length seen → length left ≡ length counted → AreNone left → KeepsSpace numbers numbers → IsStored status next left numbers
-stored_forgotten status storage next seen counted left numbers was sound kept same also none space =
-    let there = stored_next status status storage next seen numbers numbers was refl sound kept space in
-    let room = there.seen_room in
-    record { sound = there.sound; group_room = there.group_room; source_room = there.source_room; room = there.room; seen_room = omega (arith, room, same, also); none_seen = none; number_room = there.number_room }
+pub stored_next : {K : Type 0} (status after : Setting) (storage next : Storage K)
+    → IsStored status storage → after.config ≡ status.config → AreSound after next.held.groups → KeepsRooms storage next → IsStored after next
+stored_next status after storage next was same sound kept = record {
+  sound = sound;
+  group_room = kept.groups ∙ was.group_room ∙ ap (λ (c : Configuration). c.limits.groups) (sym same);
+  source_room = kept.sources ∙ was.source_room ∙ ap (λ (c : Configuration). c.limits.sources) (sym same);
+}

@@ -1,5 +1,5 @@
 -- The numbers whose count isn't zero, and the counts.
-use Rattle.std.proofs.Common.{◌≡◌, ◌≢◌, ℕ, zero, suc, ◌+◌, ◌<◌, ◌≤◌, Bool, true, false, cond, ◌⊎◌, inl, inr, List, [], ◌∷◌, ◌++◌, length, get_or, set, replicate, drop, refl, sym, ap, ◌∙◌, arith, ltb, length-set, drop-cons}
+use Rattle.std.proofs.Common.{◌≡◌, ◌≢◌, ℕ, suc, ◌+◌, ◌<◌, ◌≤◌, Bool, true, false, cond, ◌⊎◌, inl, inr, List, [], ◌∷◌, ◌++◌, length, get_or, set, replicate, drop, refl, sym, ap, ◌∙◌, arith, ltb, length-set, drop-cons}
 use Rattle.std.specs.Prelude.{slice_index}
 use Rattle.std.specs.List.{All, count_by}
 use Rattle.std.specs.Ordering.{nat_cmp, eq_by_cmp}

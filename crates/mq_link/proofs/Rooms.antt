@@ -1,54 +1,47 @@
 -- What keeps room for groups and their sources.
-use Rattle.std.proofs.Common.{◌≡◌, ℕ, refl, ◌∙◌, arith}
-use Rattle.mq_sets.specs.SourceSets.{SetState}
+use Rattle.std.proofs.Common.{◌≡◌, ℕ, ◌≤◌, Bool, ◌&&◌, true, false, refl, ◌∙◌, arith}
+use Rattle.std.proofs.lemmas.Bool.{le-leb, leb-true}
+use Rattle.mq_link.specs.declared.configuration.Limits.{Limits}
 use Rattle.mq_link.specs.declared.storage.Numbers.{Numbers}
+use Rattle.mq_link.specs.declared.storage.Scratch.{Scratch}
 use Rattle.mq_link.specs.declared.storage.Storage.{Storage}
-use Rattle.mq_link.specs.declared.storage.Workspace.{Workspace}
+use Rattle.mq_link.specs.Seen.{AreNone}
 use Rattle.mq_link.specs.Storage.{HasRoom, HasSpace, IsReady, KeepsRoom, KeepsRooms, KeepsSpace, has_counted}
+use Rattle.mq_link.specs.Workspace.{WorkspaceState, IsWorkspace, suffices}
 
-pub room_stays : {K : Type 0} (w : Workspace K) → KeepsRoom w w
-room_stays w = record { group = omega arith; named = refl; asked = omega arith }
+pub room_stays : {K : Type 0} (w : Scratch K) → KeepsRoom w w
+room_stays w = record { group = omega arith; named = refl; asked = omega arith; met = refl }
 
 pub rooms_stay : {K : Type 0} (s : Storage K) → KeepsRooms s s
-rooms_stay s = record { groups = refl; sources = refl; work = room_stays s.work }
+rooms_stay s = record { groups = refl; sources = refl }
 
--- counting takes no room
-pub rooms_counted : {K : Type 0} (s : Storage K) (spent : ℕ) → KeepsRooms s (has_counted s spent)
-rooms_counted s spent = record { groups = refl; sources = refl; work = record { group = omega arith; named = refl; asked = omega arith } }
-
--- nor does counting what is moved
-pub rooms_moved : {K : Type 0} (s : Storage K) (spent moved : ℕ) → KeepsRooms s (record s { work = record s.work { meter = spent; moves = moved } })
-rooms_moved s spent moved = record { groups = refl; sources = refl; work = record { group = omega arith; named = refl; asked = omega arith } }
-
--- nor does clearing the sources that are named
-pub rooms_cleared : {K : Type 0} (s : Storage K) (named : SetState K) (spent : ℕ) → named.room ≡ s.work.named.room → KeepsRooms s (record s { work = record s.work { named = named; meter = spent } })
-rooms_cleared s named spent same = record { groups = refl; sources = refl; work = record { group = omega arith; named = same; asked = omega arith } }
-
-pub ready_counted : {K : Type 0} (s : Storage K) (spent : ℕ) → IsReady s → IsReady (has_counted s spent)
-ready_counted s spent ready = record { few = ready.few; served = ready.served }
+pub ready_counted : {K : Type 0} (room : ℕ) (s : Storage K) (spent : ℕ) → IsReady room s → IsReady room (has_counted s spent)
+ready_counted room s spent ready = record { few = ready.few; served = ready.served }
 
 -- one step after another
-pub room_on : {K : Type 0} {a b c : Workspace K} → KeepsRoom a b → KeepsRoom b c → KeepsRoom a c
+pub room_on : {K : Type 0} {a b c : Scratch K} → KeepsRoom a b → KeepsRoom b c → KeepsRoom a c
 room_on h k =
     let first = h.group in
     let second = k.group in
     let third = h.asked in
     let fourth = k.asked in
-    record { group = omega arith; named = k.named ∙ h.named; asked = omega arith }
+    record { group = omega arith; named = k.named ∙ h.named; asked = omega arith; met = k.met ∙ h.met }
 
 pub rooms_on : {K : Type 0} {a b c : Storage K} → KeepsRooms a b → KeepsRooms b c → KeepsRooms a c
-rooms_on h k = record { groups = k.groups ∙ h.groups; sources = k.sources ∙ h.sources; work = room_on h.work k.work }
+rooms_on h k = record { groups = k.groups ∙ h.groups; sources = k.sources ∙ h.sources }
 
 -- there is room still for what there was room for
-pub still_room : {K : Type 0} (n : ℕ) {a b : Workspace K} → HasRoom n a → KeepsRoom a b → HasRoom n b
-still_room n room kept =
+pub still_room : {K : Type 0} (groups n : ℕ) {a b : Scratch K} → HasRoom groups n a → KeepsRoom a b → HasRoom groups n b
+still_room groups n room kept =
     let first = room.group in
     let second = kept.group in
     let third = room.named in
     let fourth = kept.named in
     let fifth = room.asked in
     let sixth = kept.asked in
-    record { group = omega arith; named = omega arith; asked = omega arith }
+    let seventh = room.met in
+    let eighth = kept.met in
+    record { group = omega arith; named = omega arith; asked = omega arith; met = omega arith }
 
 -- and for the numbers of groups
 pub space_stays : (numbers : Numbers) → KeepsSpace numbers numbers
@@ -61,3 +54,44 @@ still_space n space kept =
     let third = space.spare in
     let fourth = kept.spare in
     record { due = omega arith; spare = omega arith }
+
+both_true : (a b : Bool) → (a && b) ≡ true → (a ≡ true) × (b ≡ true)
+both_true true true h = (refl, refl)
+both_true true false h = cc
+both_true false b h = cc
+
+-- a workspace suffices for the limits that it was made for
+pub suffices_own : (limits : Limits) → suffices limits (record { groups = limits.groups; group_sources = limits.group_sources }) ≡ true
+suffices_own limits = λ i. le-leb limits.groups limits.groups (omega arith) i && le-leb limits.group_sources limits.group_sources (omega arith) i
+
+-- a workspace that suffices has room for what the limits allow
+module _ (limits : Limits) (w : WorkspaceState) (enough : suffices limits w ≡ true) where
+  pub enough_groups : limits.groups ≤ w.groups
+  enough_groups = leb-true limits.groups w.groups (both_true _ _ enough).0
+
+  pub enough_sources : limits.group_sources ≤ w.group_sources
+  enough_sources = leb-true limits.group_sources w.group_sources (both_true _ _ enough).1
+
+  module _ {K : Type 0} {scratch : Scratch K} {numbers : Numbers} (is : IsWorkspace w.groups w.group_sources scratch numbers) where
+    pub enough_room : HasRoom limits.groups limits.group_sources scratch
+    enough_room =
+        let first = is.room.group in
+        let second = is.room.named in
+        let third = is.room.asked in
+        let fourth = is.room.met in
+        let groups = enough_groups in
+        let sources = enough_sources in
+        record { group = omega arith; named = omega arith; asked = omega arith; met = omega arith }
+
+    pub enough_space : HasSpace limits.groups numbers
+    enough_space =
+        let first = is.number_room.due in
+        let second = is.number_room.spare in
+        let groups = enough_groups in
+        record { due = omega arith; spare = omega arith }
+
+-- a workspace stays one
+pub workspace_next : {K : Type 0} (groups group_sources : ℕ) {scratch next : Scratch K} {numbers next_numbers : Numbers} → IsWorkspace groups group_sources scratch numbers
+    → KeepsRoom scratch next → KeepsSpace numbers next_numbers → AreNone next.met → IsWorkspace groups group_sources next next_numbers
+workspace_next groups group_sources was room space none =
+    record { room = still_room groups group_sources was.room room; number_room = still_space groups was.number_room space; none_met = none }

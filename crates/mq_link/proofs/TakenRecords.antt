@@ -11,10 +11,9 @@ use Rattle.mq_wire.specs.declared.records.RecordView.{RecordView}
 use Rattle.mq_sched.specs.Sending.{SentQuery}
 use Rattle.mq_sched.specs.Sink.{Sends, SendsOn}
 use Rattle.mq_sched.proofs.Collecting.{Sends-append}
-use Rattle.mq_link.specs.Configuration.{Configuration}
 use Rattle.mq_link.specs.Counters.{Counters, Verdict, Applied, Ignored, Refused, count_verdict, count_verdicts, is_applied, is_ignored, is_refused}
 use Rattle.mq_link.specs.State.{Groups}
-use Rattle.mq_link.specs.Record.{Setting, Seen, met, Entrance, Stops, GoesOn, entrance, seen_by, seen_after, judged, Outcomes, all_judged}
+use Rattle.mq_link.specs.Record.{Setting, Seen, met, seen_after, judged, Outcomes, all_judged}
 use Rattle.mq_link.specs.Sound.{AreSound}
 use Rattle.mq_link.proofs.Recorded.{judged_leaves}
 

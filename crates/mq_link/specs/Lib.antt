@@ -19,6 +19,7 @@ pub mod Storage
 pub mod Moved
 pub mod Limits
 pub mod Seen
+pub mod Workspace
 pub mod Serving
 pub mod Reading
 pub mod Defaults

@@ -1,5 +1,5 @@
 -- What a contract sees of a link, and what a call makes of it.
-use Rattle.std.specs.Prelude.{ℕ, List, Bool}
+use Rattle.std.specs.Prelude.{◌≡◌, ℕ, List, Bool}
 use Rattle.mq_link.specs.declared.answers.Received.{Received}
 use Rattle.mq_link.specs.Configuration.{Configuration}
 use Rattle.mq_link.specs.Handing.{HandsOver}
@@ -28,3 +28,8 @@ pub record HasReceived {O : Type 0} (takes : O → ℕ → List ℕ → Bool →
   pub answers : List Bool
   pub receives : Receives before.config envelope bytes now before.state answer messages answers after.state
   pub handed : HandsOver takes old messages answers new
+
+-- A call that did nothing.
+pub record IsUntouched {O : Type 0} (before after : LinkValue) (old new : O) : Type 0 where
+  pub link : after ≡ before
+  pub outlet : new ≡ old

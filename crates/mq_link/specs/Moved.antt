@@ -21,7 +21,7 @@ pub record IsPaid (budget before after old new : ℕ) : Type 0 where
   pub paid : moved + after ≤ before + budget
 
 abbrev pub MovesWithin : {K : Type 0} → ℕ → Storage K → Storage K → Type 0
-MovesWithin budget old new = IsPaid budget (put_by_rows old.held) (put_by_rows new.held) old.work.moves new.work.moves
+MovesWithin budget old new = IsPaid budget (put_by_rows old.held) (put_by_rows new.held) old.moves new.moves
 
 abbrev pub HasMoved : ℕ → RouterValue → RouterValue → Type 0
 HasMoved budget old new = IsPaid budget old.put_by new.put_by old.moved new.moved

@@ -1,18 +1,16 @@
 -- What a contract sees of the inside of a link, and what a step makes of it.
-use Rattle.std.specs.Prelude.{◌≡◌, ℕ, ◌≤◌, List, [], length}
+use Rattle.std.specs.Prelude.{◌≡◌, ℕ, []}
 use Rattle.mq_sched.specs.Sending.{SentQuery}
 use Rattle.mq_sched.specs.Sink.{Sends}
 use Rattle.mq_link.specs.declared.answers.Received.{Received}
-use Rattle.mq_link.specs.declared.storage.Numbers.{Numbers}
 use Rattle.mq_link.specs.declared.storage.Storage.{Storage}
 use Rattle.mq_link.specs.Counters.{Counters, Verdict, count_verdicts}
 use Rattle.mq_link.specs.Link.{LinkValue}
 use Rattle.mq_link.specs.Receive.{Receipt, taken}
 use Rattle.mq_link.specs.Record.{Outcome, Outcomes, Setting}
-use Rattle.mq_link.specs.Seen.{AreNone}
 use Rattle.mq_link.specs.Sound.{AreSound}
 use Rattle.mq_link.specs.State.{Groups, LinkState}
-use Rattle.mq_link.specs.Storage.{HasRoom, HasSpace, put_by_rows}
+use Rattle.mq_link.specs.Storage.{put_by_rows}
 use Rattle.mq_link.specs.Tick.{Step}
 
 -- Its configuration, its election and its last moment; the groups; the counters; how many comparisons it has made, and how
@@ -32,8 +30,8 @@ router_of at storage counters =
       at = at;
       groups = storage.held.groups;
       counters = counters;
-      spent = storage.work.meter;
-      moved = storage.work.moves;
+      spent = storage.meter;
+      moved = storage.moves;
       put_by = put_by_rows storage.held;
     }
 
@@ -76,13 +74,8 @@ pub record HasReceipt {S : Type 0} (takes : S → SentQuery → S → Type 0) (r
   pub step : HasStep takes receipt.step before after old new
   pub answer_is : answer ≡ receipt.answer
 
--- The groups are as the router may hold them, there is room for what the configuration allows, and no group is met by the
--- records of a datagram.
-pub record IsStored {K : Type 0} (at : Setting) (storage : Storage K) (seen : List ℕ) (numbers : Numbers) : Type 0 where
+-- The groups are as the router may hold them, and there is room for what the configuration allows.
+pub record IsStored {K : Type 0} (at : Setting) (storage : Storage K) : Type 0 where
   pub sound : AreSound at storage.held.groups
   pub group_room : storage.held.order.room ≡ at.config.limits.groups
   pub source_room : storage.held.source_room ≡ at.config.limits.sources
-  pub room : HasRoom at.config.limits.group_sources storage.work
-  pub seen_room : at.config.limits.groups ≤ length seen
-  pub none_seen : AreNone seen
-  pub number_room : HasSpace at.config.limits.groups numbers

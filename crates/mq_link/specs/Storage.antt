@@ -3,14 +3,16 @@ use Rattle.std.specs.Prelude.{◌≡◌, ℕ, ◌+◌, ◌-◌, ◌*◌, ◌/◌
 use Rattle.std.specs.FinMap as map
 use Rattle.mq_sets.specs.NumberedKeys.{IsSpotFor}
 use Rattle.mq_table.specs.Group.{GroupState}
-use Rattle.mq_table.specs.Stored.{timers_in}
+use Rattle.mq_table.specs.Stored.{number_in, timers_in}
+use Rattle.mq_sched.specs.Schedule.{ScheduledGroup}
+use Rattle.mq_sets.specs.Ascending.{IsAscending}
 use Rattle.mq_held.specs.declared.held_group.HeldGroup.{HeldGroup}
-use Rattle.mq_held.specs.Groups.{running_in, sources_in}
+use Rattle.mq_held.specs.Groups.{Groups, group_at, running_in, sources_in, sources_of}
 use Rattle.mq_held.specs.Held.{HeldState, HasNumber}
 use Rattle.mq_link.specs.declared.storage.Numbers.{Numbers}
 use Rattle.mq_link.specs.declared.storage.Sought.{Sought}
 use Rattle.mq_link.specs.declared.storage.Storage.{Storage}
-use Rattle.mq_link.specs.declared.storage.Workspace.{Workspace}
+use Rattle.mq_link.specs.declared.storage.Scratch.{Scratch}
 use Rattle.mq_link.specs.Serving.{AreServed}
 
 -- a group as it stands in the storage, where its addresses have numbers
@@ -18,37 +20,38 @@ abbrev pub group_stored : {K : Type 0} → (K → ℕ) → HeldGroup K → Group
 group_stored number stored =
     record { mode = stored.mode; sources = timers_in number stored.sources.now; v1 = stored.v1; v2 = stored.v2 }
 
--- room for a group of so many sources and a record that names no more, and for what both may make
-pub record HasRoom {K : Type 0} (sources : ℕ) (w : Workspace K) : Type 0 where
+-- room for a group of so many sources and a record that names no more, for what both may make, and for so many groups to be met
+pub record HasRoom {K : Type 0} (groups sources : ℕ) (w : Scratch K) : Type 0 where
   pub group : 2 * sources ≤ w.group.room
   pub named : sources ≤ w.named.room
   pub asked : 2 * sources ≤ vec_capacity w.asked
+  pub met : groups ≤ length w.met
 
 -- room for a group of so many sources, and for as many to ask for
-pub record HasRoomFor {K : Type 0} (sources : ℕ) (w : Workspace K) : Type 0 where
+pub record HasRoomFor {K : Type 0} (sources : ℕ) (w : Scratch K) : Type 0 where
   pub group : sources ≤ w.group.room
   pub asked : sources ≤ vec_capacity w.asked
 
 -- the work left no less room
-pub record KeepsRoom {K : Type 0} (old new : Workspace K) : Type 0 where
+pub record KeepsRoom {K : Type 0} (old new : Scratch K) : Type 0 where
   pub group : old.group.room ≤ new.group.room
   pub named : new.named.room ≡ old.named.room
   pub asked : vec_capacity old.asked ≤ vec_capacity new.asked
+  pub met : length new.met ≡ length old.met
 
 -- nor is there less room for groups and their sources
 pub record KeepsRooms {K : Type 0} (old new : Storage K) : Type 0 where
   pub groups : new.held.order.room ≡ old.held.order.room
   pub sources : new.held.source_room ≡ old.held.source_room
-  pub work : KeepsRoom old.work new.work
 
--- the groups are fit to be worked on one after the other, and there is room for each of them
-pub record IsReady {K : Type 0} (s : Storage K) : Type 0 where
+-- the groups are fit to be worked on one after the other, where there is so much room for each of them
+pub record IsReady {K : Type 0} (room : ℕ) (s : Storage K) : Type 0 where
   pub few : map.len s.held.groups ≤ 65535
-  pub served : AreServed s.work.group.room s.held.groups
+  pub served : AreServed room s.held.groups
 
 -- nothing differs but what was counted
 abbrev pub has_counted : {K : Type 0} → Storage K → (spent : ℕ) → Storage K
-has_counted s spent = record s { work = record s.work { meter = spent } }
+has_counted s spent = record s { meter = spent }
 
 -- a group that was looked for has its number, or would go to the spot
 abbrev pub IsSought : {K : Type 0} → (K → ℕ) → HeldState → Sought K → Type 0
@@ -70,3 +73,10 @@ pub record KeepsSpace (old new : Numbers) : Type 0 where
 abbrev pub put_by_rows : HeldState → ℕ
 put_by_rows s = let slack = s.source_room / 4 + s.order.room in
     min (4 * (slack - s.ahead)) (sources_in s.groups + running_in s.groups)
+
+-- a group as it stands in the storage is that of an address
+pub record IsGroupAt {K : Type 0} (number : K → ℕ) (groups : Groups) (address : ℕ) (stored : HeldGroup K) : Type 0 where
+  pub address_is : number stored.address ≡ address
+  pub group_is : (let e : ScheduledGroup = record { group = group_stored number stored; schedule = stored.schedule } in e ≡ group_at groups address)
+  pub ascending : IsAscending (number_in number) stored.sources.now
+  pub len : length stored.sources.now ≡ sources_of (group_at groups address)

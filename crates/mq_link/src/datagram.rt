@@ -1,6 +1,6 @@
 //! What a datagram does to a link: first what is due, then the datagram is read, and dropped, or taken.
 
-ghost use Rattle.std.specs.Prelude.{◌≡◌, ◌+◌, ◌*◌, ◌^◌, ◌≤◌, None, Ok, length};
+ghost use Rattle.std.specs.Prelude.{◌≡◌, ◌+◌, ◌*◌, ◌^◌, ◌≤◌, true, None, Ok, length};
 ghost use Rattle.std.specs.FinMap as map;
 ghost use Rattle.mq_count.specs.Spending.{Spends};
 ghost use Rattle.mq_held.specs.Groups.{sources_in};
@@ -14,6 +14,7 @@ ghost use Rattle.mq_link.specs.Moved.{HasMoved, most_moved};
 ghost use Rattle.mq_link.specs.Router.{HasReceipt, link_of, silent_step, state_of};
 ghost use Rattle.mq_link.specs.Sender.{TakesQuery};
 ghost use Rattle.mq_link.specs.State.{held_of};
+ghost use Rattle.mq_link.specs.Workspace.{suffices};
 
 use crate::answers::{MessageKind, Received};
 use crate::counts::Counts;
@@ -23,6 +24,7 @@ use crate::outlet::Outlet;
 use crate::router::Router;
 use crate::sender::Sender;
 use crate::statement::StatementKind;
+use crate::workspace::Workspace;
 use mq_count::Moment;
 use mq_wire::{Message, QueryVersion, WireFault, WireKey};
 
@@ -63,6 +65,7 @@ impl<F: Family> Router<F> {
     /// each source that is held, 20 for each group, and 64 for each byte that it has at least (`least_length`).
     fn take_message<O: Outlet<F::Address>>(
         &mut self,
+        work: &mut Workspace<F>,
         envelope: &F::Envelope,
         message: &Message<'_, F::Address>,
         sender: &mut Sender<F, O>,
@@ -70,9 +73,11 @@ impl<F: Family> Router<F> {
         requires kept { spec.drop_reason self.old.at.config (F.envelope_of envelope.now) (Ok (numbered_message F.Address.number message.now)) ≡ None }
         requires carried { IsCarriedIn (numbered_message F.Address.number message.now) }
         requires counted { length (records_in (numbered_message F.Address.number message.now)) ≤ most_records }
+        requires enough { suffices self.old.at.config.limits work.old ≡ true }
         ensures receipt { let said = numbered_message F.Address.number message.now in
             let receipt = spec.taken_in self.old.at.config (F.envelope_of envelope.now) said (silent_step (state_of self.old)) in
             HasReceipt (TakesQuery O.takes F.FAMILY) receipt result self.old self.new sender.old sender.new }
+        ensures workspace { work.new ≡ work.old }
         ensures spent { let said = numbered_message F.Address.number message.now in
             let groups = self.old.groups in
             Spends (least_of self.old.at said groups) (24 * sources_in groups + 20 * map.len groups + 64 * least_length said) self.old.spent self.new.spent }
@@ -84,7 +89,7 @@ impl<F: Family> Router<F> {
         match message {
             Message::Query(query) => {
                 let source = F::source(envelope);
-                self.hear(source, query);
+                self.hear(work, source, query);
                 Received::Taken {
                     applied: 0,
                     ignored: 0,
@@ -93,10 +98,12 @@ impl<F: Family> Router<F> {
             }
             Message::OldReport(version, group) => {
                 let said = StatementKind::OlderJoin(*version);
-                self.take_statement(*group, said, sender)
+                self.take_statement(work, *group, said, sender)
             }
-            Message::Leave(group) => self.take_statement(*group, StatementKind::OlderLeave, sender),
-            Message::Report(records) => self.take_records(records, sender),
+            Message::Leave(group) => {
+                self.take_statement(work, *group, StatementKind::OlderLeave, sender)
+            }
+            Message::Report(records) => self.take_records(work, records, sender),
         }
     }
 
@@ -104,14 +111,17 @@ impl<F: Family> Router<F> {
     /// each group, and 64 for each byte of the datagram.
     fn take_in<O: Outlet<F::Address>>(
         &mut self,
+        work: &mut Workspace<F>,
         envelope: &F::Envelope,
         body: &[u8],
         sender: &mut Sender<F, O>,
     ) -> Received
+        requires enough { suffices self.old.at.config.limits work.old ≡ true }
         ensures receipt { let around = F.envelope_of envelope.now in
             let read = spec.read_of F.FAMILY (spec.pseudo_of F.FAMILY around body.now) body.now in
             let receipt = spec.receipt_after self.old.at.config around read (silent_step (state_of self.old)) in
             HasReceipt (TakesQuery O.takes F.FAMILY) receipt result self.old self.new sender.old sender.new }
+        ensures workspace { work.new ≡ work.old }
         ensures spent { let around = F.envelope_of envelope.now in
             let read = spec.read_of F.FAMILY (spec.pseudo_of F.FAMILY around body.now) body.now in
             let groups = self.old.groups in
@@ -126,7 +136,7 @@ impl<F: Family> Router<F> {
             return Received::Dropped(reason);
         }
         match read {
-            Ok(message) => self.take_message(envelope, &message, sender),
+            Ok(message) => self.take_message(work, envelope, &message, sender),
             Err(_) => unreachable!(),
         }
     }
@@ -135,23 +145,26 @@ impl<F: Family> Router<F> {
     /// outlet are counted.
     pub(crate) fn receive<O: Outlet<F::Address>>(
         &mut self,
+        work: &mut Workspace<F>,
         envelope: &F::Envelope,
         body: &[u8],
         now: Moment,
         sender: &mut Sender<F, O>,
     ) -> Received
         requires in_range { now ≤ 2 ^ 53 }
+        requires enough { suffices self.old.at.config.limits work.old ≡ true }
         ensures config { self.new.at.config ≡ self.old.at.config }
         ensures receives { HasReceived O.takes (F.envelope_of envelope.now) body.now now result (link_of self.old) (link_of self.new)
             sender.old.outlet.now sender.new.outlet.now }
         ensures same_outlet { sender.new.outlet.ghost_name ≡ sender.old.outlet.ghost_name }
+        ensures workspace { work.new ≡ work.old }
         ensures spent { let least = least_received self.old.at.config (F.envelope_of envelope.now) body.now now (state_of self.old) in
             Spends (2 + least) (cost_of (length body.now) (held_of (state_of self.old))) self.old.spent self.new.spent }
         ensures moved { Spends 0 (most_moved (length body.now) (held_of (state_of self.old))) self.old.moved self.new.moved }
     {
         self.lemma_is_stored();
-        self.come_to(now, sender);
-        let received = self.take_in(envelope, body, sender);
+        self.come_to(work, now, sender);
+        let received = self.take_in(work, envelope, body, sender);
         self.count_answers(sender.sent(), sender.unsent());
         received
     }

@@ -12,12 +12,13 @@
 //! - why a datagram is dropped: `dropping`;
 //! - what goes out: the `Outlet` that takes datagrams;
 //! - what is counted: `Counts`;
-//! - the whole, over all of these: `Link`, and what it hands out of its groups: `HeldEntries`, `HeldGroup`, with the types of
+//! - the whole, over all of these: `Link`, or `BareLink` with a `Workspace` that many may use, and what it hands out of its groups: `HeldEntries`, `HeldGroup`, with the types of
 //!   their parts;
 //! - and a run of it over any events: `run`.
 #![tactic(auto)]
 
 pub mod answers;
+pub mod bare_link;
 pub mod config;
 pub mod configuration;
 pub mod counts;
@@ -39,8 +40,10 @@ mod statement;
 mod status;
 mod storage;
 mod tick;
+pub mod workspace;
 
 pub use answers::{DropReason, MessageKind, Received, Refusal};
+pub use bare_link::{BareLink, TooSmall};
 pub use config::Config;
 pub use configuration::{ConfigFault, Defaults, LimitName, Limits};
 pub use counts::Counts;
@@ -52,3 +55,4 @@ pub use mld::{Mld, MldEnvelope};
 pub use mq_held::{HeldEntries, HeldGroup};
 pub use mq_table::{FilterMode, Source, SourceTimer};
 pub use outlet::Outlet;
+pub use workspace::Workspace;

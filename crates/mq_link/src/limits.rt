@@ -115,10 +115,11 @@ fn schedules_after_round<K: Key>(
 }
 
 impl<K: Key> Storage<K> {
-    /// The first limit that the groups would pass if one of them were changed so into the group that was worked on, and
-    /// then had sent what is due at `now`. No group is changed by this. At most two comparisons.
+    /// The first limit that the groups would pass if one of them were changed so into a group that was worked on, and then
+    /// had sent what is due at `now`. No group is changed by this. At most two comparisons.
     pub(crate) fn refusal(
         &mut self,
+        after: &Group<K>,
         change: &Change,
         limits: &Limits,
         now: Moment,
@@ -126,20 +127,19 @@ impl<K: Key> Storage<K> {
         requires groups { map.len self.old.held.groups ≤ 65535 }
         requires sources { sources_in self.old.held.groups ≤ 65535 }
         requires scheduled { schedules_in self.old.held.groups ≤ 131070 }
-        requires few { size_of self.old.work.group.state ≤ 65535 }
+        requires few { size_of after.now.state ≤ 65535 }
         requires change { (address : ℕ) × IsChangeAt self.old.held.groups address change.now }
         ensures name { (timing : Timing) (address : ℕ) → IsChangeAt self.old.held.groups address change.now
-            → let e = after_round timing now (record { group = self.old.work.group.state; schedule = change.now.schedule }) in
+            → let e = after_round timing now (record { group = after.now.state; schedule = change.now.schedule }) in
             result ≡ record_spec.limit_passed limits.now (with_group self.old.held.groups address e) e }
-        ensures left { self.new ≡ has_counted self.old self.new.work.meter }
-        ensures spent { Spends 0 2 self.old.work.meter self.new.work.meter }
+        ensures left { self.new ≡ has_counted self.old self.new.meter }
+        ensures spent { Spends 0 2 self.old.meter self.new.meter }
     {
-        let after = &self.work.group;
         let is_vacant = after.is_vacant();
         let left = if is_vacant {
             0
         } else {
-            schedules_after_round(&change.schedule, after, now, &mut self.work.meter)
+            schedules_after_round(&change.schedule, after, now, &mut self.meter)
         };
         let groups = self.held.len() + usize::from(!is_vacant) - usize::from(change.is_held);
         let sources = self.held.sources() + after.sources().len() - change.sources;

@@ -1,6 +1,6 @@
 //! The whole of one link.
 
-ghost use Rattle.std.specs.Prelude.{◌≡◌, ℕ, ◌+◌, ◌*◌, ◌<◌, ◌≤◌, ◌^◌, length, IfOk};
+ghost use Rattle.std.specs.Prelude.{◌≡◌, ℕ, ◌+◌, ◌*◌, ◌<◌, ◌≤◌, ◌^◌, length, IfOk, IfSome, is_some};
 ghost use Rattle.std.specs.FinMap as map;
 ghost use Rattle.mq_count.specs.Spending.{Spends};
 ghost use Rattle.mq_sets.specs.Ascending.{IsAscending};
@@ -10,6 +10,7 @@ ghost use Rattle.mq_sched.specs.StoredElection.{IsOtherOf};
 ghost use Rattle.mq_held.specs.Groups.{group_at, sources_of, sources_in};
 ghost use Rattle.mq_held.specs.Places.{HasPlace};
 ghost use Rattle.mq_link.specs.Cost.{cost_of};
+ghost use Rattle.mq_link.specs.Storage.{IsGroupAt};
 ghost use Rattle.mq_link.specs.LeastCost.{least_received, least_ticked};
 ghost use Rattle.mq_link.specs.Link.{HasTicked, HasReceived};
 ghost use Rattle.mq_link.specs.Moved.{most_moved};
@@ -18,13 +19,13 @@ ghost use Rattle.mq_link.specs.State.{held_of, link_at, IsWellFormed};
 ghost use Rattle.mq_link.specs.Tick.{moment_of, tick_of, next_of};
 
 use crate::answers::Received;
+use crate::bare_link::BareLink;
 use crate::config::Config;
 use crate::counts::Counts;
 use crate::family::Family;
 use crate::outlet::Outlet;
-use crate::router::Router;
-use crate::sender::{QueryTerms, Sender};
-use mq_count::{Meter, Moment};
+use crate::workspace::Workspace;
+use mq_count::Moment;
 use mq_held::{HeldEntries, HeldGroup};
 use mq_sched::OtherQuerier;
 use mq_sets::Memory;
@@ -32,26 +33,30 @@ use mq_table::Timing;
 use std::alloc::Global;
 use std::marker::Model;
 
-/// One link of a multicast router, as the definitions have it: its configuration, its state, and how many comparisons it
-/// has made. All storage is taken by `new`, and no other call takes any.
+/// One link of a multicast router with a workspace of its own, as the definitions have it: its configuration, its state, and how
+/// many comparisons it has made and items it has moved. All storage is taken by `new`, and no other call takes any.
 #[derive(Drop)]
 pub struct Link<F: Family> {
-    router: Router<F>,
+    bare: BareLink<F>,
+    workspace: Workspace<F>,
 }
 
 impl<F: Family> Model for Link<F> {
+    ghost use Rattle.std.specs.Prelude.{◌≡◌, true};
     ghost use Rattle.mq_table.specs.contracts.timers.FilterMode as filter_mode;
     ghost use Rattle.mq_table.specs.contracts.timers.SourceTimer as source_timer;
     ghost use Rattle.mq_sched.specs.contracts.queries.QuerySchedule as query_schedule;
     ghost use Rattle.mq_link.specs.Link.{LinkValue};
     ghost use Rattle.mq_link.specs.LinkCode.{link_code};
-    ghost use Rattle.mq_link.specs.Router.{link_of};
+    ghost use Rattle.mq_link.specs.Workspace.{suffices};
 
     ghost Value = { LinkValue };
 
     ghost coded = { link_code filter_mode.the_row.coded source_timer.the_row.coded query_schedule.the_row.coded };
 
-    ghost view = { λ l. link_of l.router };
+    ghost view = { λ l. l.bare };
+
+    ghost invariant = { λ l. suffices l.bare.config.limits l.workspace ≡ true };
 }
 
 impl<F: Family> Link<F> {
@@ -62,8 +67,10 @@ impl<F: Family> Link<F> {
         requires in_range { start ≤ 2 ^ 53 }
         ensures { IfOk result (λ link. link ≡ record { config = config; state = link_at config start; spent = 0; moved = 0 }) }
     {
+        let workspace = Workspace::with_room(alloc, &config.limits())?;
         Ok(Link {
-            router: Router::new(alloc, config, start)?,
+            bare: BareLink::new(alloc, config, start)?,
+            workspace,
         })
     }
 
@@ -88,12 +95,7 @@ impl<F: Family> Link<F> {
             Spends 0 (6 * sources_in groups + 136 * map.len groups) self.old.moved self.new.moved }
         ensures still { moment_of self.old.state now < next_of self.old.state → self.new.moved ≡ self.old.moved }
     {
-        self.is_well_formed();
-        self.router.lemma_is_stored();
-        let mut terms = QueryTerms::of(self.router.config());
-        let mut sender = Sender::new(&mut terms, outlet);
-        self.router.tick(now, &mut sender);
-        self.is_well_formed();
+        self.bare.tick_in(&mut self.workspace, now, outlet);
     }
 
     /// Takes a datagram that came at `now`: first it does what a tick does then; then the datagram is read, and dropped, or
@@ -118,18 +120,15 @@ impl<F: Family> Link<F> {
             Spends (2 + least) (cost_of (length body.now) (held_of self.old.state)) self.old.spent self.new.spent }
         ensures moved { Spends 0 (most_moved (length body.now) (held_of self.old.state)) self.old.moved self.new.moved }
     {
-        let mut terms = QueryTerms::of(self.router.config());
-        let mut sender = Sender::new(&mut terms, outlet);
-        let answer = self.router.receive(envelope, body, now, &mut sender);
-        self.is_well_formed();
-        answer
+        self.bare
+            .receive_in(&mut self.workspace, envelope, body, now, outlet)
     }
 
     /// The link's configuration.
     pub fn config(&self) -> &Config<F>
         ensures { result.now ≡ self.now.config }
     {
-        self.router.config()
+        self.bare.config()
     }
 
     /// Its state is one that a link may be in, and after a tick its next moment will be later than that of the tick. It does
@@ -138,49 +137,49 @@ impl<F: Family> Link<F> {
         ensures formed { IsWellFormed self.now.config self.now.state }
         ensures later { (now : ℕ) → now < next_of (tick_of self.now.config now self.now.state).state }
     {
-        self.router.lemma_is_stored();
+        self.bare.is_well_formed();
     }
 
     /// The link's counters; the link is given up.
     pub fn into_counts(self) -> Counts
         ensures { result ≡ self.state.counters }
     {
-        self.router.into_counts()
+        self.bare.into_counts()
     }
 
     /// The link's counters.
     pub fn counts(&self) -> &Counts
         ensures { result.now ≡ self.now.state.counters }
     {
-        self.router.counts()
+        self.bare.counts()
     }
 
     /// How many comparisons `tick` and `receive` have made. It stays at the greatest u64.
     pub fn spent(&self) -> u64
         ensures { result ≡ self.now.spent }
     {
-        self.router.spent()
+        self.bare.spent()
     }
 
     /// How many items of lists `tick` and `receive` have moved to keep the groups. It stays at the greatest u64.
     pub fn moved(&self) -> u64
         ensures { result ≡ self.now.moved }
     {
-        self.router.moved()
+        self.bare.moved()
     }
 
     /// Whether it is querier (RFC 3376 section 6.6.2, RFC 3810 section 7.6.2).
     pub fn is_querier(&self) -> bool
         ensures { result ≡ is_querier self.now.state.election.role }
     {
-        self.router.election().is_querier()
+        self.bare.is_querier()
     }
 
     /// The other router that is querier, or None where this one is: the router of a lower address whose query came last.
     pub fn other_querier(&self) -> Option<OtherQuerier<F::Address>>
         ensures { IsOtherOf F.Address.number self.now.state.election.role result }
     {
-        self.router.election().other_querier()
+        self.bare.other_querier()
     }
 
     /// The timing in force: the configured one, but for what was taken over from the queries of other routers (RFC 3376
@@ -188,21 +187,21 @@ impl<F: Family> Link<F> {
     pub fn timing(&self) -> Timing
         ensures { result ≡ self.now.state.election.timing }
     {
-        self.router.election().timing()
+        self.bare.timing()
     }
 
     /// All groups that it holds, by ascending address, each as it stands in the storage.
     pub fn entries(&self) -> HeldEntries<'_, F::Address>
         ensures { result ≡ map.entries self.now.state.groups }
     {
-        self.router.held().entries()
+        self.bare.entries()
     }
 
     /// How many groups it holds.
     pub fn len(&self) -> usize
         ensures { result ≡ map.len self.now.state.groups }
     {
-        self.router.held().len()
+        self.bare.len()
     }
 
     /// The group at a place, its rank in the ascending list of the addresses of all groups, counted from 0, as it stands in
@@ -216,7 +215,16 @@ impl<F: Family> Link<F> {
         ensures len { (address : ℕ) → HasPlace self.now.state.groups address place →
             length result.sources.now ≡ sources_of (group_at self.now.state.groups address) }
     {
-        self.router.held().entry(place)
+        self.bare.entry(place)
+    }
+
+    /// A group as it stands in the storage, or None where it isn't held. It compares addresses on a meter of its own: neither
+    /// `spent` nor the bound counts that.
+    pub fn find(&self, group: F::Address) -> Option<HeldGroup<'_, F::Address>>
+        ensures held { is_some result ≡ map.contains_key self.now.state.groups (F.Address.number group) }
+        ensures found { IfSome result (IsGroupAt F.Address.number self.now.state.groups (F.Address.number group)) }
+    {
+        self.bare.find(group)
     }
 
     /// When a tick has something to do next: the earliest of all deadlines and due moments. It compares two moments on a
@@ -224,11 +232,7 @@ impl<F: Family> Link<F> {
     pub fn next_deadline(&self) -> Moment
         ensures { result ≡ next_of self.now.state }
     {
-        let next = self.router.election().next_moment();
-        match self.router.held().earliest() {
-            None => next,
-            Some(earliest) => Meter::new().earlier(next, earliest),
-        }
+        self.bare.next_deadline()
     }
 
     /// Whether what a source sends to a group is forwarded, as of the last moment handed in (RFC 3376 section 6.3, RFC
@@ -236,11 +240,6 @@ impl<F: Family> Link<F> {
     pub fn forwards(&self, group: F::Address, source: F::Address) -> bool
         ensures { result ≡ state.forwards self.now.state (F.Address.number group) (F.Address.number source) }
     {
-        let mut m = Meter::new();
-        let held = self.router.held();
-        match held.find(group, &mut m) {
-            Ok(number) => held.entry_of(number).forwards(source, &mut m),
-            Err(_) => false,
-        }
+        self.bare.forwards(group, source)
     }
 }

@@ -1,6 +1,6 @@
 //! What a query that is heard does to the election and to the groups.
 
-ghost use Rattle.std.specs.Prelude.{◌≡◌, ℕ, ◌+◌, ◌-◌, ◌*◌, ◌^◌, ◌<◌, ◌≤◌, ◌==◌, IfSome, length, vec_capacity};
+ghost use Rattle.std.specs.Prelude.{◌≡◌, ℕ, ◌+◌, ◌-◌, ◌*◌, ◌^◌, ◌<◌, ◌≤◌, ◌==◌, true, IfSome, length, vec_capacity};
 ghost use Rattle.std.specs.FinMap as map;
 ghost use Rattle.std.specs.List.{list_any};
 ghost use Rattle.mq_count.specs.Spending.{Spends};
@@ -18,11 +18,13 @@ ghost use Rattle.mq_link.specs.Moved.{HasMoved, MovesWithin};
 ghost use Rattle.mq_link.specs.Router.{Leaves, state_of};
 ghost use Rattle.mq_link.specs.Serving.{IsServed};
 ghost use Rattle.mq_link.specs.Storage.{IsReady, KeepsRooms};
+ghost use Rattle.mq_link.specs.Workspace.{suffices};
 
 use crate::family::Family;
 use crate::router::Router;
 use crate::status::{InForce, Status};
 use crate::storage::Storage;
+use crate::workspace::Workspace;
 use mq_count::{Meter, Moment};
 use mq_sched::Announced;
 use mq_table::{Group, Timing};
@@ -79,77 +81,80 @@ fn lower<K: WireKey>(
 impl<K: WireKey> Storage<K> {
     /// Drops what is to go for the group of a number, if anything is. At most one comparison for each of its sources, four
     /// more, and one for each binary digit of how many groups there are.
-    fn clear_group(&mut self, number: u16)
+    fn clear_group(&mut self, number: u16, group: &mut Group<K>)
         requires number { IsNumber self.old.held number }
         requires served { (address : ℕ) → HasNumber self.old.held address number →
-            IsServed self.old.work.group.room (group_at self.old.held.groups address) }
+            IsServed group.old.room (group_at self.old.held.groups address) }
         ensures groups { (address : ℕ) → HasNumber self.old.held address number →
             self.new.held.groups ≡ map.insert self.old.held.groups address (cleared (group_at self.old.held.groups address)) }
         ensures order { self.new.held.order ≡ self.old.held.order }
         ensures rooms { KeepsRooms self.old self.new }
+        ensures room { group.old.room ≤ group.new.room }
         ensures spent { (address : ℕ) → HasNumber self.old.held address number →
             let own = sources_of (group_at self.old.held.groups address) in
-            Spends 0 (own + 4 + bitlen (map.len self.old.held.groups)) self.old.work.meter self.new.work.meter }
+            Spends 0 (own + 4 + bitlen (map.len self.old.held.groups)) self.old.meter self.new.meter }
         ensures moved { (address : ℕ) → HasNumber self.old.held address number →
             let own = sources_of (group_at self.old.held.groups address) in
             MovesWithin (5 * own + 5 + bitlen (map.len self.old.held.groups)) self.old self.new }
     {
         self.held.lemma_is_numbered();
-        let mut schedule = self.held.load(number, &mut self.work.group);
+        let mut schedule = self.held.load(number, group);
         if schedule.group_query().is_some() || schedule.sources_due().is_some() {
-            schedule.clear(&mut self.work.group);
+            schedule.clear(group);
             self.lemma_sources_fit();
-            self.put(number, schedule);
+            self.put(number, group, schedule);
         }
     }
 
     /// Drops what is to go for each group, as a router does that is no longer querier (RFC 3376 section 6.6.2, RFC 3810
     /// section 7.6.2). Groups for which nothing is to go are left alone. At most one comparison for each source, and 20
     /// for each group.
-    fn clear_groups(&mut self, numbers: &mut Vec<u16>)
+    fn clear_groups(&mut self, numbers: &mut Vec<u16>, group: &mut Group<K>)
         requires space { map.len self.old.held.groups ≤ vec_capacity numbers.old }
-        requires ready { IsReady self.old }
+        requires ready { IsReady group.old.room self.old }
         ensures groups { self.new.held.groups ≡ groups_cleared self.old.held.groups }
         ensures rooms { KeepsRooms self.old self.new }
+        ensures room { group.old.room ≤ group.new.room }
         ensures capacity { vec_capacity numbers.old ≤ vec_capacity numbers.new }
         ensures spent { let groups = self.old.held.groups in
-            Spends 0 (sources_in groups + 20 * map.len groups) self.old.work.meter self.new.work.meter }
+            Spends 0 (sources_in groups + 20 * map.len groups) self.old.meter self.new.meter }
         ensures moved { let groups = self.old.held.groups in
             MovesWithin (5 * sources_in groups + 22 * map.len groups) self.old self.new }
     {
         self.held.lemma_is_numbered();
-        self.held.all(numbers, &mut self.work.moves);
+        self.held.all(numbers, &mut self.moves);
         for number in numbers.as_slice() {
-            self.clear_group(*number);
+            self.clear_group(*number, group);
         }
     }
 
     /// Lowers what a query asks for in its group, if that is held. At most one comparison for each source of the group, 12
     /// for each source that the query names, and 39 more.
-    fn lower_held(&mut self, query: &Query<'_, K>, at: &InForce)
+    fn lower_held(&mut self, query: &Query<'_, K>, group: &mut Group<K>, at: &InForce)
         requires in_range { at.now.moment ≤ 2 ^ 53 }
-        requires ready { IsReady self.old }
+        requires ready { IsReady group.old.room self.old }
         requires small { (address : ℕ) → sources_of (group_at self.old.held.groups address) ≤ 1024 }
         ensures groups { let asked = numbered_query K.number query.now in
             self.new.held.groups ≡ groups_lowered at.now.timing at.now.moment asked self.old.held.groups }
         ensures rooms { KeepsRooms self.old self.new }
+        ensures room { group.old.room ≤ group.new.room }
         ensures spent { let own = sources_of (group_at self.old.held.groups (K.number query.now.group)) in
-            Spends 0 (own + 12 * source_count query.now.version + 39) self.old.work.meter self.new.work.meter }
+            Spends 0 (own + 12 * source_count query.now.version + 39) self.old.meter self.new.meter }
         ensures moved { let own = sources_of (group_at self.old.held.groups (K.number query.now.group)) in
             MovesWithin (5 * own + 21) self.old self.new }
     {
         self.held.lemma_is_numbered();
-        if let Ok(number) = self.held.find(query.group, &mut self.work.meter) {
-            let schedule = self.held.load(number, &mut self.work.group);
+        if let Ok(number) = self.held.find(query.group, &mut self.meter) {
+            let schedule = self.held.load(number, group);
             lower(
-                &mut self.work.group,
+                group,
                 &query.version,
                 at.moment,
                 &at.timing,
-                &mut self.work.meter,
+                &mut self.meter,
             );
             self.lemma_sources_fit();
-            self.put(number, schedule);
+            self.put(number, group, schedule);
         }
     }
 }
@@ -176,41 +181,50 @@ impl<F: Family> Status<F> {
         &mut self,
         storage: &mut Storage<F::Address>,
         numbers: &mut Vec<u16>,
+        group: &mut Group<F::Address>,
         source: F::Address,
         query: &Query<'_, F::Address>,
     )
         requires carried { IfSome (announced_by (numbered_version query.now.version)) IsCarried }
         requires space { map.len storage.old.held.groups ≤ vec_capacity numbers.old }
-        requires ready { IsReady storage.old }
+        requires ready { IsReady group.old.room storage.old }
         requires small { (address : ℕ) → sources_of (group_at storage.old.held.groups address) ≤ 1024 }
         ensures election { let version = numbered_version query.now.version in
             self.new ≡ record self.old { election = election_after self.old.config self.old.now (F.Address.number source) version self.old.election } }
         ensures groups { let asked = numbered_query F.Address.number query.now in
             storage.new.held.groups ≡ groups_heard self.old.config self.old.now (F.Address.number source) asked self.old.election storage.old.held.groups }
         ensures rooms { KeepsRooms storage.old storage.new }
+        ensures room { group.old.room ≤ group.new.room }
         ensures capacity { vec_capacity numbers.old ≤ vec_capacity numbers.new }
         ensures spent { let groups = storage.old.held.groups in
             let most = 2 * sources_in groups + 20 * map.len groups + 12 * source_count query.now.version + 40 in
-            Spends 1 most storage.old.work.meter storage.new.work.meter }
+            Spends 1 most storage.old.meter storage.new.meter }
         ensures moved { let groups = storage.old.held.groups in
             MovesWithin (10 * sources_in groups + 22 * map.len groups + 21) storage.old storage.new }
     {
         let announced = announcement(&query.version);
-        if self.hear(source, announced, &mut storage.work.meter) {
-            storage.clear_groups(numbers);
+        if self.hear(source, announced, &mut storage.meter) {
+            storage.clear_groups(numbers, group);
         }
         let at = self.in_force();
-        storage.lower_held(query, &at);
+        storage.lower_held(query, group, &at);
     }
 }
 
 impl<F: Family> Router<F> {
     /// Takes a query that was heard from another router. At most two comparisons for each source that is held, 20 for each
     /// group, 12 for each source that the query names, and 40 more.
-    pub(crate) fn hear(&mut self, source: F::Address, query: &Query<'_, F::Address>)
+    pub(crate) fn hear(
+        &mut self,
+        work: &mut Workspace<F>,
+        source: F::Address,
+        query: &Query<'_, F::Address>,
+    )
+        requires enough { suffices self.old.at.config.limits work.old ≡ true }
         requires carried { IfSome (announced_by (numbered_version query.now.version)) IsCarried }
         ensures leaves { let asked = numbered_query F.Address.number query.now in
             Leaves (query_heard self.old.at.config self.old.at.now (F.Address.number source) asked (state_of self.old)) self.old self.new }
+        ensures workspace { work.new ≡ work.old }
         ensures spent { let groups = self.old.groups in
             let most = 2 * sources_in groups + 20 * map.len groups + 12 * source_count query.now.version + 40 in
             Spends 1 most self.old.spent self.new.spent }
@@ -218,7 +232,12 @@ impl<F: Family> Router<F> {
             HasMoved (10 * sources_in groups + 22 * map.len groups + 21) self.old self.new }
     {
         self.status.lemma_is_sound();
-        self.status
-            .hear_query(&mut self.storage, &mut self.numbers.due, source, query);
+        self.status.hear_query(
+            &mut self.storage,
+            &mut work.numbers.due,
+            &mut work.scratch.group,
+            source,
+            query,
+        );
     }
 }

@@ -16,10 +16,9 @@ use crate::answers::DropReason;
 use crate::config::Config;
 use crate::counts::Counts;
 use crate::family::Family;
-use crate::met::MetGroups;
 use crate::statement::Verdict;
 use crate::status::Status;
-use crate::storage::{Numbers, Storage};
+use crate::storage::Storage;
 use mq_count::Moment;
 use mq_held::HeldGroups;
 use mq_sched::Election;
@@ -27,16 +26,13 @@ use mq_sets::Memory;
 use std::alloc::Global;
 use std::marker::Model;
 
-/// All that the calls of a link work on: the router's status, the groups with their storage, what was counted, room for the
-/// groups that the records of a datagram meet, and for the numbers of those that are due. What is due, a query that is heard, a
-/// statement and the records of a Report are its steps. A contract sees a `RouterValue`, and each is one that a router may be.
+/// All that the calls of a link change: the router's status, the groups with their storage, and what was counted. What is due, a
+/// query that is heard, a statement and the records of a Report are its steps, each of which is lent a workspace. A contract sees a `RouterValue`, and each is one that a router may be.
 #[derive(Drop)]
 pub(crate) struct Router<F: Family> {
     pub(crate) status: Status<F>,
     pub(crate) storage: Storage<F::Address>,
     pub(crate) counts: Counts,
-    pub(crate) met: MetGroups,
-    pub(crate) numbers: Numbers,
 }
 
 impl<F: Family> Model for Router<F> {
@@ -52,7 +48,7 @@ impl<F: Family> Model for Router<F> {
 
     ghost view = { λ r. router_of r.status r.storage r.counts };
 
-    ghost invariant = { λ r. IsStored r.status r.storage r.met r.numbers };
+    ghost invariant = { λ r. IsStored r.status r.storage };
 }
 
 impl<F: Family> Router<F> {
@@ -69,17 +65,11 @@ impl<F: Family> Router<F> {
         }) }
     {
         config.is_faultless();
-        let limits = config.limits();
-        let groups = limits.groups as usize;
-        let numbers = Numbers::with_room(alloc, groups)?;
-        let met = MetGroups::with_room(alloc, groups)?;
-        let storage = Storage::with_room(alloc, &limits)?;
+        let storage = Storage::with_room(alloc, &config.limits())?;
         Ok(Router {
             status: Status::new(config, start),
             storage,
             counts: Counts::none(),
-            met,
-            numbers,
         })
     }
 
@@ -136,14 +126,14 @@ impl<F: Family> Router<F> {
     pub(crate) fn spent(&self) -> u64
         ensures { result ≡ self.now.spent }
     {
-        self.storage.work.meter.spent()
+        self.storage.meter.spent()
     }
 
     /// How many items it has moved to keep its lists.
     pub(crate) fn moved(&self) -> u64
         ensures { result ≡ self.now.moved }
     {
-        self.storage.work.moves.made()
+        self.storage.moves.made()
     }
 
     /// Counts so many queries that were sent, and so many that were not.

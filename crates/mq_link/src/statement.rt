@@ -28,7 +28,7 @@ use crate::answers::Refusal;
 use crate::family::Family;
 use crate::limits::Change;
 use crate::status::{InForce, Status};
-use crate::storage::{Sought, Storage, Workspace, look};
+use crate::storage::{Scratch, Sought, Storage, look};
 use mq_count::{Key, Meter, Moment};
 use mq_held::HeldGroup;
 use mq_sched::{Schedule, Sink};
@@ -102,8 +102,8 @@ fn acted_as(
     }
 }
 
-impl<K: Key> Workspace<K> {
-    /// What a statement changes of a group, which is read where it stands: the new group is written into the workspace,
+impl<K: Key> Scratch<K> {
+    /// What a statement changes of a group, which is read where it stands: the new group is written down,
     /// and with it the sources to ask for, ascending, each of which the new group has. There is room for the sources of
     /// the group and of the statement together. Answers whether the group is to be asked for, or None where the statement
     /// is ignored. The set that is named loses its sources where they don't count.
@@ -113,6 +113,7 @@ impl<K: Key> Workspace<K> {
         said: StatementKind,
         muting: MutingRules,
         at: &InForce,
+        m: &mut Meter,
     ) -> Option<bool>
         requires in_range { at.now.moment ≤ 2 ^ 53 }
         requires ascending { IsAscending (number_in K.number) stored.now.sources.now }
@@ -124,25 +125,25 @@ impl<K: Key> Workspace<K> {
         ensures held { OnSome result ((s : ℕ) → set_of K.number self.new.asked.items s ≡ true → IsSome (timer_at self.new.group.state s)) }
         ensures named { length self.new.named.members ≤ length self.old.named.members }
         ensures kept { KeepsRoom self.old self.new }
-        ensures unmoved { self.new.moves ≡ self.old.moves }
+        ensures met { self.new.met ≡ self.old.met }
 
         // At most two comparisons, and one for each source of the group and of the statement; at least one for each of
         // those that are fewer, the sources of the group or those that count.
         ensures spent { let before = group_stored K.number stored.now in
             let acts = acts_as muting.v1_mutes_leave muting.is_muted (hosts_of before at.now.moment) (statement_of said (named_in K.number self.old.named.members)) in
             let sizes = size_of before + length self.old.named.members in
-            Spends (least_merge (size_of before) acts) (sizes + 2) self.old.meter self.new.meter }
+            Spends (least_merge (size_of before) acts) (sizes + 2) m.old m.new }
     {
         let head = Head {
             mode: stored.mode,
             v1: stored.v1,
             v2: stored.v2,
         };
-        let (kind, is_emptied) = acted_as(&head, said, muting, at.moment, &mut self.meter)?;
+        let (kind, is_emptied) = acted_as(&head, said, muting, at.moment, m)?;
         if is_emptied {
             self.named.clear();
         }
-        let asks_group = self.group.load_changed(
+        let loaded = self.group.load_changed(
             &head,
             stored.sources,
             kind,
@@ -150,18 +151,18 @@ impl<K: Key> Workspace<K> {
             at.moment,
             &at.timing,
             &mut self.asked,
-            &mut self.meter,
+            m,
         );
         if let StatementKind::OlderJoin(version) = said {
             self.group.older(version, at.moment, &at.timing);
         }
-        Some(asks_group)
+        Some(loaded.asks_group)
     }
 
     /// Does to the group that has changed, and to its schedule, what the change asks for: what lost its ground is dropped,
     /// and the querier starts the queries for the group and for the sources to ask for, each of which the group has. At
     /// most one comparison, and two for each source.
-    fn ask(&mut self, schedule: &mut Schedule, asks_group: bool, at: &InForce)
+    fn ask(&mut self, schedule: &mut Schedule, asks_group: bool, at: &InForce, m: &mut Meter)
         requires in_range { at.now.moment ≤ 2 ^ 53 }
         requires ascending { IsAscending K.number self.old.asked.items }
         requires held { (s : ℕ) → set_of K.number self.old.asked.items s ≡ true → IsSome (timer_at self.old.group.state s) }
@@ -170,20 +171,20 @@ impl<K: Key> Workspace<K> {
             e ≡ after_change at.now.is_querier at.now.timing at.now.moment change schedule.old }
         ensures named { self.new.named ≡ self.old.named }
         ensures kept { KeepsRoom self.old self.new }
-        ensures unmoved { self.new.moves ≡ self.old.moves }
-        ensures spent { Spends 0 (2 * size_of self.old.group.state + 1) self.old.meter self.new.meter }
+        ensures met { self.new.met ≡ self.old.met }
+        ensures spent { Spends 0 (2 * size_of self.old.group.state + 1) m.old m.new }
     {
         schedule.settle(&self.group);
         if at.is_querier {
             if asks_group {
-                schedule.start_group(&mut self.group, at.moment, &at.timing, &mut self.meter);
+                schedule.start_group(&mut self.group, at.moment, &at.timing, m);
             }
             schedule.start_sources(
                 &mut self.group,
                 self.asked.as_slice(),
                 at.moment,
                 &at.timing,
-                &mut self.meter,
+                m,
             );
         }
     }
@@ -205,13 +206,14 @@ impl<F: Family> Status<F> {
 
     /// What a statement does for a group that is admitted and was looked for: it is ignored where older hosts or the
     /// source-specific range mute it; refused where what it would leave passes a limit, and then nothing is changed or
-    /// sent; else applied, and what it asks for is sent at once. The sources that it names stand in the workspace. At most
+    /// sent; else applied, and what it asks for is sent at once. The sources that it names stand in `work`. At most
     /// six comparisons for each source of the group and each that it names, twelve more, and one for each binary digit of
     /// how many groups there are; at least one for each of those that are fewer, the sources of the group or those that
     /// count.
     pub(crate) fn apply<S: Sink<F::Address>>(
         &self,
         storage: &mut Storage<F::Address>,
+        work: &mut Scratch<F::Address>,
         sought: Sought<F::Address>,
         said: StatementKind,
         sink: &mut S,
@@ -219,20 +221,22 @@ impl<F: Family> Status<F> {
         requires admitted { is_admitted self.now.config.family (F.Address.number sought.address) ≡ true }
         requires sound { AreSound self.now storage.old.held.groups }
         requires sought { IsSought F.Address.number storage.old.held sought }
-        requires room { HasRoom self.now.config.limits.group_sources storage.old.work }
-        requires named { length storage.old.work.named.members ≤ self.now.config.limits.group_sources }
+        requires room { HasRoom self.now.config.limits.groups self.now.config.limits.group_sources work.old }
+        requires named { length work.old.named.members ≤ self.now.config.limits.group_sources }
         requires group_room { storage.old.held.order.room ≡ self.now.config.limits.groups }
         requires source_room { storage.old.held.source_room ≡ self.now.config.limits.sources }
 
-        ensures outcome { let said_so = statement_of said (named_in F.Address.number storage.old.work.named.members) in
+        ensures outcome { let said_so = statement_of said (named_in F.Address.number work.old.named.members) in
             let outcome = stated self.now (F.Address.number sought.address) said_so storage.old.held.groups in
             HasOutcome S.takes outcome (verdict_of result) storage.new.held.groups sink.old sink.new }
         ensures numbers { KeepsNumbers storage.old.held storage.new.held }
         ensures rooms { KeepsRooms storage.old storage.new }
-        ensures spent { let said_so = statement_of said (named_in F.Address.number storage.old.work.named.members) in
-            let sizes = sources_of (group_at storage.old.held.groups (F.Address.number sought.address)) + length storage.old.work.named.members in
-            Spends (least_work self.now (F.Address.number sought.address) said_so storage.old.held.groups) (6 * sizes + 12 + bitlen (map.len storage.old.held.groups)) storage.old.work.meter storage.new.work.meter }
-        ensures moved { let sizes = sources_of (group_at storage.old.held.groups (F.Address.number sought.address)) + length storage.old.work.named.members in
+        ensures room { KeepsRoom work.old work.new }
+        ensures met { work.new.met ≡ work.old.met }
+        ensures spent { let said_so = statement_of said (named_in F.Address.number work.old.named.members) in
+            let sizes = sources_of (group_at storage.old.held.groups (F.Address.number sought.address)) + length work.old.named.members in
+            Spends (least_work self.now (F.Address.number sought.address) said_so storage.old.held.groups) (6 * sizes + 12 + bitlen (map.len storage.old.held.groups)) storage.old.meter storage.new.meter }
+        ensures moved { let sizes = sources_of (group_at storage.old.held.groups (F.Address.number sought.address)) + length work.old.named.members in
             MovesWithin (5 * sizes + moved_by_edit) storage.old storage.new }
     {
         self.lemma_is_sound();
@@ -244,30 +248,30 @@ impl<F: Family> Status<F> {
             is_muted: self.is_muted(sought.address, said),
         };
         let stored = look(&storage.held, sought);
-        let Some(asks_group) = storage.work.change(&stored, said, muting, &at) else {
+        let Some(asks_group) = work.change(&stored, said, muting, &at, &mut storage.meter) else {
             return Verdict::Ignored;
         };
         let mut schedule = stored.schedule;
-        storage.work.ask(&mut schedule, asks_group, &at);
+        work.ask(&mut schedule, asks_group, &at, &mut storage.meter);
         let change = Change {
             is_held: sought.found.is_ok(),
             sources: stored.sources.len(),
             before: stored.schedule,
             schedule,
         };
-        if let Some(name) = storage.refusal(&change, &limits, at.moment) {
+        if let Some(name) = storage.refusal(&work.group, &change, &limits, at.moment) {
             return Verdict::Refused(name);
         }
         schedule.round(
             sought.address,
-            &mut storage.work.group,
+            &mut work.group,
             at.moment,
             &at.timing,
             F::Address::PER_QUERY,
-            &mut storage.work.meter,
+            &mut storage.meter,
             sink,
         );
-        storage.keep(sought, schedule);
+        storage.keep(sought, &work.group, schedule);
         Verdict::Applied
     }
 }

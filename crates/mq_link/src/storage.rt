@@ -1,4 +1,4 @@
-//! The storage of the groups, and what the work on one of them takes.
+//! The storage of the groups, and what the work on them takes.
 
 ghost use Rattle.std.specs.Prelude.{◌≡◌, ℕ, ◌+◌, ◌-◌, ◌*◌, ◌<◌, ◌≤◌, true, false, length, min, IfOk, is_ok};
 ghost use Rattle.std.specs.FinMap as map;
@@ -12,10 +12,11 @@ ghost use Rattle.mq_sets.specs.NumberedKeys.{IsSpotFor};
 ghost use Rattle.mq_held.specs.Groups.{group_at, kept_as, sources_of, sources_in, with_group};
 ghost use Rattle.mq_held.specs.Held.{HasNumber, IsNumber, empty_state};
 ghost use Rattle.mq_link.specs.Moved.{MovesWithin, moved_by_edit};
-ghost use Rattle.mq_link.specs.Seen.{KeepsNumbers};
+ghost use Rattle.mq_link.specs.Seen.{AreNone, KeepsNumbers};
 ghost use Rattle.mq_link.specs.Storage.{HasRoom, HasSpace, group_stored, IsSought, KeepsRooms};
 
 use crate::configuration::Limits;
+use crate::met::MetGroups;
 use mq_count::{Key, Meter, Moves};
 use mq_held::{HeldGroup, HeldGroups};
 use mq_sched::Schedule;
@@ -23,34 +24,35 @@ use mq_sets::{Memory, SourceSet, Spot};
 use mq_table::{FilterMode, Group};
 use std::alloc::Global;
 
-/// What the work on one group takes: that group, the sources that a record names, those to ask for, and the counts of
-/// comparisons and of what is moved.
+/// What the work on the records of a datagram takes: the group that one of them works on, the sources that it names, those to
+/// ask for, and how many records have met each group.
 #[derive(Drop)]
-pub(crate) struct Workspace<K: Key> {
+pub(crate) struct Scratch<K: Key> {
     pub(crate) group: Group<K>,
     pub(crate) named: SourceSet<K>,
     pub(crate) asked: Vec<K>,
-    pub(crate) meter: Meter,
-    pub(crate) moves: Moves,
+    pub(crate) met: MetGroups,
 }
 
-impl<K: Key> Workspace<K> {
-    /// With room for a group of at most so many sources and a record that names no more; or `Memory`, where that was
-    /// refused or is more than can be counted.
-    pub(crate) fn with_room(alloc: Global, sources: usize) -> Result<Workspace<K>, Memory>
-        ensures room { IfOk result (HasRoom sources) }
-        ensures unspent { IfOk result (λ w. w.meter ≡ 0) }
-        ensures unmoved { IfOk result (λ w. w.moves ≡ 0) }
+impl<K: Key> Scratch<K> {
+    /// With room for so many groups to be met, of at most so many sources, and for a record that names no more; or `Memory`,
+    /// where that was refused or is more than can be counted.
+    pub(crate) fn with_room(
+        alloc: Global,
+        groups: usize,
+        sources: usize,
+    ) -> Result<Scratch<K>, Memory>
+        ensures room { IfOk result (HasRoom groups sources) }
+        ensures none_met { IfOk result (λ w. AreNone w.met) }
     {
         let Some(both) = sources.checked_mul(2) else {
             return Err(Memory);
         };
-        Ok(Workspace {
+        Ok(Scratch {
             group: Group::with_room(alloc, both)?,
             named: SourceSet::with_room(alloc, sources)?,
             asked: Vec::with_capacity(alloc, both)?,
-            meter: Meter::new(),
-            moves: Moves::none(),
+            met: MetGroups::with_room(alloc, groups)?,
         })
     }
 }
@@ -74,11 +76,13 @@ impl Numbers {
     }
 }
 
-/// The groups that a router holds, and what the work on one of them takes. All storage is taken as it is made.
+/// The groups that a router holds, and how many comparisons and moves the work on them has made. All storage is taken as it is
+/// made.
 #[derive(Drop)]
 pub(crate) struct Storage<K: Key> {
     pub(crate) held: HeldGroups<K>,
-    pub(crate) work: Workspace<K>,
+    pub(crate) meter: Meter,
+    pub(crate) moves: Moves,
 }
 
 /// A group that was looked for: its address, and its number, or as an `Err` the spot where it would go.
@@ -132,13 +136,13 @@ impl<K: Key> Storage<K> {
         requires groups { limits.now.groups ≤ 65535 }
         requires sources { limits.now.sources ≤ 65535 }
         ensures held { IfOk result (λ s. s.held ≡ empty_state limits.now.groups limits.now.sources) }
-        ensures room { IfOk result (λ s. HasRoom limits.now.group_sources s.work) }
-        ensures unspent { IfOk result (λ s. s.work.meter ≡ 0) }
-        ensures unmoved { IfOk result (λ s. s.work.moves ≡ 0) }
+        ensures unspent { IfOk result (λ s. s.meter ≡ 0) }
+        ensures unmoved { IfOk result (λ s. s.moves ≡ 0) }
     {
         Ok(Storage {
             held: HeldGroups::with_room(alloc, limits.groups as usize, limits.sources as usize)?,
-            work: Workspace::with_room(alloc, limits.group_sources as usize)?,
+            meter: Meter::new(),
+            moves: Moves::none(),
         })
     }
 
@@ -149,82 +153,77 @@ impl<K: Key> Storage<K> {
         let _free = self.held.free_sources();
     }
 
-    /// Puts the group that was worked on back under its number. One that is INCLUDE without sources, and so no longer held,
+    /// Puts a group that was worked on back under its number. One that is INCLUDE without sources, and so no longer held,
     /// stays until it is taken out. At most one comparison for each of its sources, four more, and one for each binary digit of
     /// how many groups there are.
-    pub(crate) fn put(&mut self, number: u16, schedule: Schedule)
+    pub(crate) fn put(&mut self, number: u16, group: &Group<K>, schedule: Schedule)
         requires number { IsNumber self.old.held number }
-        requires held { is_vacant self.old.work.group.state ≡ false → IsHeld self.old.work.group.state }
+        requires held { is_vacant group.now.state ≡ false → IsHeld group.now.state }
         requires fits { (address : ℕ) → HasNumber self.old.held address number →
-            sources_in self.old.held.groups + size_of self.old.work.group.state ≤ self.old.held.source_room + sources_of (group_at self.old.held.groups address) }
-        ensures groups { let e : ScheduledGroup = record { group = self.old.work.group.state; schedule = schedule } in
+            sources_in self.old.held.groups + size_of group.now.state ≤ self.old.held.source_room + sources_of (group_at self.old.held.groups address) }
+        ensures groups { let e : ScheduledGroup = record { group = group.now.state; schedule = schedule } in
             (address : ℕ) → HasNumber self.old.held address number → self.new.held.groups ≡ map.insert self.old.held.groups address (kept_as e) }
         ensures order { self.new.held.order ≡ self.old.held.order }
         ensures rooms { KeepsRooms self.old self.new }
-        ensures spent { Spends 0 (size_of self.old.work.group.state + 4 + bitlen (map.len self.old.held.groups)) self.old.work.meter self.new.work.meter }
-        ensures moved { MovesWithin (5 * size_of self.old.work.group.state + 5 + bitlen (map.len self.old.held.groups)) self.old self.new }
+        ensures spent { Spends 0 (size_of group.now.state + 4 + bitlen (map.len self.old.held.groups)) self.old.meter self.new.meter }
+        ensures moved { MovesWithin (5 * size_of group.now.state + 5 + bitlen (map.len self.old.held.groups)) self.old self.new }
     {
         self.held.lemma_is_numbered();
-        self.held.put(
-            number,
-            &self.work.group,
-            schedule,
-            &mut self.work.meter,
-            &mut self.work.moves,
-        );
+        self.held
+            .put(number, group, schedule, &mut self.meter, &mut self.moves);
     }
 
-    /// Keeps the group that was worked on, which was looked for: it is put back, made, or, where it isn't held before or
+    /// Keeps a group that was worked on, which was looked for: it is put back, made, or, where it isn't held before or
     /// after, left alone. One that is held stays held. At most one comparison for each of its sources, four more, and one for
     /// each binary digit of how many groups there are.
-    pub(crate) fn keep(&mut self, sought: Sought<K>, schedule: Schedule)
+    pub(crate) fn keep(&mut self, sought: Sought<K>, group: &Group<K>, schedule: Schedule)
         requires few { self.old.held.order.room ≤ 65535 }
         requires sought { IsSought K.number self.old.held sought }
-        requires held { is_vacant self.old.work.group.state ≡ false → IsHeld self.old.work.group.state }
-        requires stays { is_ok sought.found ≡ true → is_vacant self.old.work.group.state ≡ false }
-        requires room { let e : ScheduledGroup = record { group = self.old.work.group.state; schedule = schedule } in
+        requires held { is_vacant group.now.state ≡ false → IsHeld group.now.state }
+        requires stays { is_ok sought.found ≡ true → is_vacant group.now.state ≡ false }
+        requires room { let e : ScheduledGroup = record { group = group.now.state; schedule = schedule } in
             map.len (with_group self.old.held.groups (K.number sought.address) e) ≤ self.old.held.order.room }
-        requires fits { sources_in self.old.held.groups + size_of self.old.work.group.state ≤ self.old.held.source_room + sources_of (group_at self.old.held.groups (K.number sought.address)) }
-        ensures groups { let e : ScheduledGroup = record { group = self.old.work.group.state; schedule = schedule } in
+        requires fits { sources_in self.old.held.groups + size_of group.now.state ≤ self.old.held.source_room + sources_of (group_at self.old.held.groups (K.number sought.address)) }
+        ensures groups { let e : ScheduledGroup = record { group = group.now.state; schedule = schedule } in
             self.new.held.groups ≡ with_group self.old.held.groups (K.number sought.address) e }
         ensures numbers { KeepsNumbers self.old.held self.new.held }
         ensures rooms { KeepsRooms self.old self.new }
-        ensures spent { Spends 0 (size_of self.old.work.group.state + 4 + bitlen (map.len self.old.held.groups)) self.old.work.meter self.new.work.meter }
-        ensures moved { MovesWithin (5 * size_of self.old.work.group.state + moved_by_edit) self.old self.new }
+        ensures spent { Spends 0 (size_of group.now.state + 4 + bitlen (map.len self.old.held.groups)) self.old.meter self.new.meter }
+        ensures moved { MovesWithin (5 * size_of group.now.state + moved_by_edit) self.old self.new }
     {
         self.held.lemma_is_numbered();
         match sought.found {
-            Ok(number) => self.put(number, schedule),
+            Ok(number) => self.put(number, group, schedule),
             Err(spot) => {
-                if !self.work.group.is_vacant() {
-                    self.insert(spot, sought.address, schedule);
+                if !group.is_vacant() {
+                    self.insert(spot, sought.address, group, schedule);
                 }
             }
         }
     }
 
-    /// Makes the group that was worked on, at the spot where it goes.
-    fn insert(&mut self, spot: Spot, address: K, schedule: Schedule)
+    /// Makes a group that was worked on, at the spot where it goes.
+    fn insert(&mut self, spot: Spot, address: K, group: &Group<K>, schedule: Schedule)
         requires few { self.old.held.order.room ≤ 65535 }
         requires spot { IsSpotFor self.old.held.order.items self.old.held.order.pages (K.number address) spot }
-        requires held { IsHeld self.old.work.group.state }
+        requires held { IsHeld group.now.state }
         requires room { map.len self.old.held.groups < self.old.held.order.room }
-        requires fits { sources_in self.old.held.groups + size_of self.old.work.group.state ≤ self.old.held.source_room }
-        ensures groups { let e : ScheduledGroup = record { group = self.old.work.group.state; schedule = schedule } in
+        requires fits { sources_in self.old.held.groups + size_of group.now.state ≤ self.old.held.source_room }
+        ensures groups { let e : ScheduledGroup = record { group = group.now.state; schedule = schedule } in
             self.new.held.groups ≡ map.insert self.old.held.groups (K.number address) e }
         ensures numbers { KeepsNumbers self.old.held self.new.held }
         ensures rooms { KeepsRooms self.old self.new }
-        ensures spent { Spends 0 (size_of self.old.work.group.state + 4 + bitlen (map.len self.old.held.groups)) self.old.work.meter self.new.work.meter }
-        ensures moved { MovesWithin (5 * size_of self.old.work.group.state + moved_by_edit) self.old self.new }
+        ensures spent { Spends 0 (size_of group.now.state + 4 + bitlen (map.len self.old.held.groups)) self.old.meter self.new.meter }
+        ensures moved { MovesWithin (5 * size_of group.now.state + moved_by_edit) self.old self.new }
     {
         self.held.lemma_is_numbered();
         self.held.insert(
             spot,
             address,
-            &self.work.group,
+            group,
             schedule,
-            &mut self.work.meter,
-            &mut self.work.moves,
+            &mut self.meter,
+            &mut self.moves,
         );
     }
 }

@@ -1,7 +1,7 @@
 //! What a tick does: what is due for the router, and then for those groups that have a moment at or before it. No other
 //! group is touched.
 
-ghost use Rattle.std.specs.Prelude.{◌≡◌, ℕ, ◌+◌, ◌-◌, ◌*◌, ◌^◌, ◌<◌, ◌≤◌, false, [], ◌∷◌, ◌++◌, if◌then◌else◌, length, max, Some};
+ghost use Rattle.std.specs.Prelude.{◌≡◌, ℕ, ◌+◌, ◌-◌, ◌*◌, ◌^◌, ◌<◌, ◌≤◌, true, false, [], ◌∷◌, ◌++◌, if◌then◌else◌, length, max, Some};
 ghost use Rattle.std.specs.FinMap as map;
 ghost use Rattle.mq_count.specs.Spending.{Spends};
 ghost use Rattle.mq_sets.specs.Search.{bitlen};
@@ -20,7 +20,8 @@ ghost use Rattle.mq_link.specs.Link.{HasTicked};
 ghost use Rattle.mq_link.specs.Moved.{HasMoved, MovesWithin, most_moved_by_tick};
 ghost use Rattle.mq_link.specs.Router.{HasStep, link_of, state_of};
 ghost use Rattle.mq_link.specs.Sender.{TakesQuery, begun};
-ghost use Rattle.mq_link.specs.Storage.{HasSpace, IsReady, KeepsRoom, KeepsRooms, KeepsSpace};
+ghost use Rattle.mq_link.specs.Storage.{HasSpace, IsReady, KeepsRooms, KeepsSpace};
+ghost use Rattle.mq_link.specs.Workspace.{suffices};
 ghost use Rattle.mq_link.specs.Tick.{group_expired, groups_expired, queries_due, groups_after_round, moment_of, next_of, tick_of};
 
 use crate::family::Family;
@@ -28,47 +29,51 @@ use crate::outlet::Outlet;
 use crate::router::Router;
 use crate::sender::Sender;
 use crate::status::{InForce, Status};
-use crate::storage::{Numbers, Storage, Workspace};
+use crate::storage::{Numbers, Storage};
+use crate::workspace::Workspace;
 use mq_count::{Meter, Moment};
 use mq_sched::{Schedule, Sink};
+use mq_table::Group;
 use mq_wire::WireKey;
 
-impl<K: WireKey> Workspace<K> {
-    /// Ends the timers of the group that have run out, and sends what is due for it then. At most three comparisons for
-    /// each of its sources, and six more.
-    fn serve<S: Sink<K>>(&mut self, address: K, schedule: &mut Schedule, at: &InForce, sink: &mut S)
-        requires in_range { at.now.moment ≤ 2 ^ 53 }
-        ensures sent { let ended = group_expired at.now.moment (record { group = self.old.group.state; schedule = schedule.old }) in
-            Sends S.takes sink.old (messages_due K.PER_QUERY at.now.timing at.now.moment (K.number address) ended) sink.new }
-        ensures left { let ended = group_expired at.now.moment (record { group = self.old.group.state; schedule = schedule.old }) in
-            let e : ScheduledGroup = record { group = self.new.group.state; schedule = schedule.new } in
-            e ≡ after_round at.now.timing at.now.moment ended }
-        ensures room { KeepsRoom self.old self.new }
-        ensures unmoved { self.new.moves ≡ self.old.moves }
-        ensures spent { Spends 0 (3 * size_of self.old.group.state + 6) self.old.meter self.new.meter }
-    {
-        self.group.expire(at.moment, &mut self.meter);
-        schedule.settle(&self.group);
-        schedule.round(
-            address,
-            &mut self.group,
-            at.moment,
-            &at.timing,
-            K::PER_QUERY,
-            &mut self.meter,
-            sink,
-        );
-    }
+/// Ends the timers of a group that have run out, and sends what is due for it then. At most three comparisons for each of its
+/// sources, and six more.
+fn serve<K: WireKey, S: Sink<K>>(
+    address: K,
+    group: &mut Group<K>,
+    schedule: &mut Schedule,
+    at: &InForce,
+    m: &mut Meter,
+    sink: &mut S,
+)
+    requires in_range { at.now.moment ≤ 2 ^ 53 }
+    ensures sent { let ended = group_expired at.now.moment (record { group = group.old.state; schedule = schedule.old }) in
+        Sends S.takes sink.old (messages_due K.PER_QUERY at.now.timing at.now.moment (K.number address) ended) sink.new }
+    ensures left { let ended = group_expired at.now.moment (record { group = group.old.state; schedule = schedule.old }) in
+        let e : ScheduledGroup = record { group = group.new.state; schedule = schedule.new } in
+        e ≡ after_round at.now.timing at.now.moment ended }
+    ensures room { group.old.room ≤ group.new.room }
+    ensures spent { Spends 0 (3 * size_of group.old.state + 6) m.old m.new }
+{
+    group.expire(at.moment, m);
+    schedule.settle(group);
+    schedule.round(address, group, at.moment, &at.timing, K::PER_QUERY, m, sink);
 }
 
 impl<K: WireKey> Storage<K> {
     /// Serves the group of a number, and puts it back; one that is INCLUDE without sources then stays until it is taken out.
     /// At most four comparisons for each of its sources, ten more, and one for each binary digit of how many groups there are.
-    fn tick_group<S: Sink<K>>(&mut self, number: u16, at: &InForce, sink: &mut S)
+    fn tick_group<S: Sink<K>>(
+        &mut self,
+        number: u16,
+        group: &mut Group<K>,
+        at: &InForce,
+        sink: &mut S,
+    )
         requires in_range { at.now.moment ≤ 2 ^ 53 }
         requires number { IsNumber self.old.held number }
         requires room { (address : ℕ) → HasNumber self.old.held address number →
-            sources_of (group_at self.old.held.groups address) ≤ self.old.work.group.room }
+            sources_of (group_at self.old.held.groups address) ≤ group.old.room }
         ensures groups { (address : ℕ) → HasNumber self.old.held address number →
             let ended = group_expired at.now.moment (group_at self.old.held.groups address) in
             self.new.held.groups ≡ map.insert self.old.held.groups address (kept_as (after_round at.now.timing at.now.moment ended)) }
@@ -77,62 +82,70 @@ impl<K: WireKey> Storage<K> {
             let ended = group_expired at.now.moment (group_at self.old.held.groups address) in
             Sends S.takes sink.old (messages_due K.PER_QUERY at.now.timing at.now.moment address ended) sink.new }
         ensures rooms { KeepsRooms self.old self.new }
+        ensures room { group.old.room ≤ group.new.room }
         ensures spent { (address : ℕ) → HasNumber self.old.held address number →
             let own = 4 * sources_of (group_at self.old.held.groups address) in
-            Spends 0 (own + 10 + bitlen (map.len self.old.held.groups)) self.old.work.meter self.new.work.meter }
+            Spends 0 (own + 10 + bitlen (map.len self.old.held.groups)) self.old.meter self.new.meter }
         ensures moved { (address : ℕ) → HasNumber self.old.held address number →
             let own = sources_of (group_at self.old.held.groups address) in
             MovesWithin (5 * own + 5 + bitlen (map.len self.old.held.groups)) self.old self.new }
     {
         self.held.lemma_is_numbered();
         let address = self.held.address(number);
-        let mut schedule = self.held.load(number, &mut self.work.group);
-        self.work.serve(address, &mut schedule, at, sink);
+        let mut schedule = self.held.load(number, group);
+        serve(address, group, &mut schedule, at, &mut self.meter, sink);
         self.lemma_sources_fit();
-        self.put(number, schedule);
+        self.put(number, group, schedule);
     }
 
     /// Ends what has run out of the groups, and sends what is due for them, by ascending group. Those that have no moment
     /// at or before it are left alone. At least one comparison for each group that has such a moment, and one more, where
     /// there is another group; at most four for each source, 44 for each group and one more; where no group has such a
     /// moment, one at most.
-    fn tick_groups<S: Sink<K>>(&mut self, numbers: &mut Numbers, at: &InForce, sink: &mut S)
+    fn tick_groups<S: Sink<K>>(
+        &mut self,
+        numbers: &mut Numbers,
+        group: &mut Group<K>,
+        at: &InForce,
+        sink: &mut S,
+    )
         requires in_range { at.now.moment ≤ 2 ^ 53 }
         requires space { HasSpace (map.len self.old.held.groups) numbers.old }
-        requires ready { IsReady self.old }
+        requires ready { IsReady group.old.room self.old }
         ensures groups { self.new.held.groups ≡ groups_after_round at.now.timing at.now.moment (groups_expired at.now.moment self.old.held.groups) }
         ensures sent { (family : Family) → K.PER_QUERY ≡ definitions.per_query family →
             Sends S.takes sink.old (queries_due family at.now.timing at.now.moment (groups_expired at.now.moment self.old.held.groups)) sink.new }
         ensures rooms { KeepsRooms self.old self.new }
+        ensures room { group.old.room ≤ group.new.room }
         ensures space { KeepsSpace numbers.old numbers.new }
         ensures spent { let groups = self.old.held.groups in
             let least = least_ticked at.now.moment groups in
-            Spends least (4 * sources_in groups + 44 * map.len groups + 1) self.old.work.meter self.new.work.meter }
+            Spends least (4 * sources_in groups + 44 * map.len groups + 1) self.old.meter self.new.meter }
         ensures quiet { let none_is_due =
             (address : ℕ) (e : ScheduledGroup) → map.get self.old.held.groups address ≡ Some e → has_due at.now.moment e ≡ false in
-            none_is_due → Spends 0 1 self.old.work.meter self.new.work.meter }
+            none_is_due → Spends 0 1 self.old.meter self.new.meter }
         ensures moved { let groups = self.old.held.groups in
             MovesWithin (most_moved_by_tick groups) self.old self.new }
         ensures still { let none_is_due =
             (address : ℕ) (e : ScheduledGroup) → map.get self.old.held.groups address ≡ Some e → has_due at.now.moment e ≡ false in
-            none_is_due → self.new.work.moves ≡ self.old.work.moves }
+            none_is_due → self.new.moves ≡ self.old.moves }
     {
         self.held.lemma_is_numbered();
         self.held.due(
             at.moment,
             &mut numbers.due,
             &mut numbers.spare,
-            &mut self.work.meter,
-            &mut self.work.moves,
+            &mut self.meter,
+            &mut self.moves,
         );
         for number in numbers.due.as_slice() {
-            self.tick_group(*number, at, sink);
+            self.tick_group(*number, group, at, sink);
         }
         self.held.take_out_vacant(
             &mut numbers.due,
             &mut numbers.spare,
-            &mut self.work.meter,
-            &mut self.work.moves,
+            &mut self.meter,
+            &mut self.moves,
         );
     }
 }
@@ -162,12 +175,13 @@ fn do_due<F: Family, O: Outlet<F::Address>>(
     status: &mut Status<F>,
     storage: &mut Storage<F::Address>,
     numbers: &mut Numbers,
+    group: &mut Group<F::Address>,
     now: Moment,
     sender: &mut Sender<F, O>,
 )
     requires in_range { now ≤ 2 ^ 53 }
     requires space { HasSpace (map.len storage.old.held.groups) numbers.old }
-    requires ready { IsReady storage.old }
+    requires ready { IsReady group.old.room storage.old }
     ensures status { status.new ≡ record status.old { election = ticked status.old.config.timing now status.old.election; now = now } }
     ensures groups { let in_force = (ticked status.old.config.timing now status.old.election).timing in
         storage.new.held.groups ≡ groups_after_round in_force now (groups_expired now storage.old.held.groups) }
@@ -178,32 +192,40 @@ fn do_due<F: Family, O: Outlet<F::Address>>(
         ++ queries_due F.FAMILY in_force now (groups_expired now storage.old.held.groups))
         sender.new }
     ensures rooms { KeepsRooms storage.old storage.new }
+    ensures room { group.old.room ≤ group.new.room }
     ensures space { KeepsSpace numbers.old numbers.new }
     ensures spent { let groups = storage.old.held.groups in
         let least = least_ticked now groups in
-        Spends (1 + least) (4 * sources_in groups + 44 * map.len groups + 2) storage.old.work.meter storage.new.work.meter }
+        Spends (1 + least) (4 * sources_in groups + 44 * map.len groups + 2) storage.old.meter storage.new.meter }
     ensures moved { MovesWithin (most_moved_by_tick storage.old.held.groups) storage.old storage.new }
     ensures quiet { let is_quiet = (address : ℕ) (e : ScheduledGroup) → map.get storage.old.held.groups address ≡ Some e → has_due now e ≡ false in
-        is_quiet → Spends 1 2 storage.old.work.meter storage.new.work.meter }
+        is_quiet → Spends 1 2 storage.old.meter storage.new.meter }
     ensures still { let is_quiet = (address : ℕ) (e : ScheduledGroup) → map.get storage.old.held.groups address ≡ Some e → has_due now e ≡ false in
-        is_quiet → storage.new.work.moves ≡ storage.old.work.moves }
+        is_quiet → storage.new.moves ≡ storage.old.moves }
 {
-    let is_due = status.tick(now, &mut storage.work.meter);
+    let is_due = status.tick(now, &mut storage.meter);
     status.lemma_is_sound();
     let at = status.in_force();
     sender.begin(status.config(), at.timing);
     send_general(is_due, sender);
-    storage.tick_groups(numbers, &at, sender);
+    storage.tick_groups(numbers, group, &at, sender);
 }
 
 impl<F: Family> Router<F> {
     /// Does what is due at or before `now`; a moment before the last one counts as the last one. At least one comparison for
     /// each group that has something to do, and two more; at most four for each source, 44 for each group and three more;
     /// before the next moment, three at most.
-    pub(crate) fn come_to<O: Outlet<F::Address>>(&mut self, now: Moment, sender: &mut Sender<F, O>)
+    pub(crate) fn come_to<O: Outlet<F::Address>>(
+        &mut self,
+        work: &mut Workspace<F>,
+        now: Moment,
+        sender: &mut Sender<F, O>,
+    )
         requires in_range { now ≤ 2 ^ 53 }
+        requires enough { suffices self.old.at.config.limits work.old ≡ true }
         ensures step { let step = tick_of self.old.at.config now (state_of self.old) in
             HasStep (TakesQuery O.takes F.FAMILY) step self.old self.new (begun self.old.at.config step.timing sender.old) sender.new }
+        ensures workspace { work.new ≡ work.old }
         ensures spent { let groups = self.old.groups in
             let least = least_ticked (moment_of (state_of self.old) now) groups in
             Spends (2 + least) (4 * sources_in groups + 44 * map.len groups + 3) self.old.spent self.new.spent }
@@ -214,22 +236,30 @@ impl<F: Family> Router<F> {
             moment_of state now < next_of state → self.new.moved ≡ self.old.moved }
     {
         self.status.lemma_is_sound();
-        let now = later(self.status.moment(), now, &mut self.storage.work.meter);
+        let now = later(self.status.moment(), now, &mut self.storage.meter);
         do_due(
             &mut self.status,
             &mut self.storage,
-            &mut self.numbers,
+            &mut work.numbers,
+            &mut work.scratch.group,
             now,
             sender,
         );
     }
 
     /// A tick: what is due then is done, and the answers of the outlet are counted.
-    pub(crate) fn tick<O: Outlet<F::Address>>(&mut self, now: Moment, sender: &mut Sender<F, O>)
+    pub(crate) fn tick<O: Outlet<F::Address>>(
+        &mut self,
+        work: &mut Workspace<F>,
+        now: Moment,
+        sender: &mut Sender<F, O>,
+    )
         requires in_range { now ≤ 2 ^ 53 }
+        requires enough { suffices self.old.at.config.limits work.old ≡ true }
         ensures config { self.new.at.config ≡ self.old.at.config }
         ensures ticks { HasTicked O.takes now (link_of self.old) (link_of self.new) sender.old.outlet.now sender.new.outlet.now }
         ensures same_outlet { sender.new.outlet.ghost_name ≡ sender.old.outlet.ghost_name }
+        ensures workspace { work.new ≡ work.old }
         ensures spent { let groups = self.old.groups in
             let least = least_ticked (moment_of (state_of self.old) now) groups in
             Spends (2 + least) (4 * sources_in groups + 44 * map.len groups + 3) self.old.spent self.new.spent }
@@ -240,7 +270,7 @@ impl<F: Family> Router<F> {
             moment_of state now < next_of state → self.new.moved ≡ self.old.moved }
     {
         self.lemma_is_stored();
-        self.come_to(now, sender);
+        self.come_to(work, now, sender);
         self.count_answers(sender.sent(), sender.unsent());
     }
 }

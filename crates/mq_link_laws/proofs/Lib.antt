@@ -3,3 +3,5 @@ pub mod Counting
 pub mod Outlets
 pub mod Named
 pub mod Filters
+pub mod AheadChanges
+pub mod DatagramsAhead

@@ -98,6 +98,13 @@ pub fn ticks_are_quiet_until_the_next_moment()
         ≡ waited (moment_of state now) (tick_of config now state).state }
 {}
 
+/// After a datagram the next moment is later than its own too: no record, query or older message makes something due at once.
+pub fn datagrams_leave_nothing_due()
+    ensures { (config : Configuration) (envelope : Envelope) (bytes : List ℕ) (now : ℕ) (state : LinkState)
+        → IsFaultless config → IsWellFormed config state
+        → moment_of state now < next_of (receipt_of config envelope bytes now state).step.state }
+{}
+
 /// A router that isn't querier after the tick of a moment sends nothing at it, whatever it is handed. No datagram makes
 /// it querier, and no tick before the other querier's deadline.
 pub fn other_routers_send_nothing()

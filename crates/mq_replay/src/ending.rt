@@ -22,7 +22,7 @@ use std::io::Write;
 const A_DAY: u32 = 86_400_000;
 
 /// Whether a moment lies more than a day behind the one before it.
-pub(crate) fn is_gap(before: Moment, moment: Moment) -> bool
+pub fn is_gap(before: Moment, moment: Moment) -> bool
     requires { before ≤ 2 ^ 53 }
     ensures { result ≡ spec.is_gap before moment }
 {

@@ -10,6 +10,7 @@
 //! - The listing of a capture: `show`, and its replay on a link: `replay`; and `ReplayFault`, which says why one ended early.
 //! - Printing on a watched writer: `print`, and `LineFault`, which says that a write failed; `make_room` and `flush`, for
 //!   text that is put together first.
+//! - The moments of a capture's packets: `Stamps` and `first_moment`, and `is_gap`, which says that two lie too far apart.
 #![tactic(auto)]
 
 mod buffer;
@@ -35,6 +36,7 @@ mod ticks;
 
 pub use buffer::{flush, make_room};
 pub use captured_family::{CapturedDatagram, CapturedFamily};
+pub use ending::is_gap;
 pub use line_key::LineKey;
 pub use lines::{igmp_line, mld_line};
 pub use listing::show;
@@ -42,3 +44,4 @@ pub use output::Output;
 pub use printing::{LineFault, print};
 pub use replay_fault::ReplayFault;
 pub use replaying::replay;
+pub use stamps::{Stamps, first_moment};

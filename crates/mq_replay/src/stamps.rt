@@ -7,7 +7,7 @@ use mq_count::Moment;
 
 /// What is kept of the stamps of the packets so far: what the moments of those to come are counted from.
 #[derive(Clone, Copy)]
-pub(crate) struct Stamps {
+pub struct Stamps {
     /// The stamp of the first packet, where there was one.
     first: Option<u64>,
     /// The moment of the last packet, 0 before the first.
@@ -16,7 +16,7 @@ pub(crate) struct Stamps {
 
 impl Stamps {
     /// Before the first packet.
-    pub(crate) fn new() -> Stamps
+    pub fn new() -> Stamps
         ensures { result ≡ record { first = None; before = 0 } }
     {
         Stamps {
@@ -26,7 +26,7 @@ impl Stamps {
     }
 
     /// The moment of the next packet.
-    pub(crate) fn moment_of_next(&mut self, stamp: u64) -> u64
+    pub fn moment_of_next(&mut self, stamp: u64) -> u64
         ensures moment { result ≡ moment_of self.old.first self.old.before stamp }
         ensures after { self.new ≡ record { first = Some (unwrap_or self.old.first stamp); before = result } }
     {
@@ -41,7 +41,7 @@ impl Stamps {
 }
 
 /// The moment of the first packet.
-pub(crate) fn first_moment() -> Moment
+pub fn first_moment() -> Moment
     ensures { result ≡ 0 }
 {
     match Moment::from_ms(0) {

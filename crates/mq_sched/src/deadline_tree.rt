@@ -12,7 +12,7 @@ use crate::node_pairs::nodes_below;
 use crate::settling::settle;
 use mq_count::{Meter, Moment, Moves};
 use mq_sets::Memory;
-use std::alloc::Global;
+use std::alloc::{Allocator, Global};
 use std::marker::Model;
 
 /// Deadlines at the leaves of a binary tree. Of n deadlines the leaves have the numbers from n to 2n - 1, and the
@@ -21,14 +21,14 @@ use std::marker::Model;
 /// above it. A contract sees the deadlines of the nodes by their numbers; node 0 is no node.
 /// `with_room` takes the memory, and no other call takes any. Each node that is written is counted as a move.
 #[derive(Drop)]
-pub(crate) struct DeadlineTree {
-    nodes: Vec<Moment>,
+pub(crate) struct DeadlineTree<A: Allocator = Global> {
+    nodes: Vec<Moment, A>,
     // Whether a node has the deadline of the left one of the two below it.
-    lefts: Vec<bool>,
+    lefts: Vec<bool, A>,
     room: usize,
 }
 
-impl Model for DeadlineTree {
+impl<A: Allocator> Model for DeadlineTree<A> {
     ghost use Rattle.std.specs.Prelude.{◌≤◌, ◌*◌, ◌^◌, length, vec_capacity};
     ghost use Rattle.mq_sched.specs.DeadlineTree.{TreeState, IsTreeBut};
 
@@ -43,9 +43,9 @@ impl Model for DeadlineTree {
         × (t.room ≤ vec_capacity t.lefts) };
 }
 
-impl DeadlineTree {
+impl<A: Allocator + Copy> DeadlineTree<A> {
     /// No deadlines, with room for so many; or `Memory`, where that memory was refused.
-    pub(crate) fn with_room(alloc: Global, room: usize) -> Result<DeadlineTree, Memory>
+    pub(crate) fn with_room(alloc: A, room: usize) -> Result<DeadlineTree<A>, Memory>
         requires { room ≤ 65536 }
         ensures { IfOk result (λ t. t ≡ record { nodes = []; count = 0; room = room }) }
     {
@@ -55,7 +55,9 @@ impl DeadlineTree {
             room,
         })
     }
+}
 
+impl<A: Allocator> DeadlineTree<A> {
     /// The earliest deadline, or None where there is none. No comparison.
     pub(crate) fn earliest(&self) -> Option<Moment>
         ensures { MatchOption result (self.now.count ≡ 0) (IsEarliestLeaf self.now.nodes self.now.count) }

@@ -13,7 +13,7 @@ use crate::leaf_moves::at_or;
 use crate::leaf_numbers::{give_up_number, write_numbers};
 use mq_count::{Meter, Moment, Moves};
 use mq_sets::Memory;
-use std::alloc::Global;
+use std::alloc::{Allocator, Global};
 use std::marker::Model;
 
 /// The earliest moment of each held group, by the number that the group has for as long as it is held. A contract sees the
@@ -23,16 +23,16 @@ use std::marker::Model;
 /// The moments stand at the leaves of a tree, which has the earliest at its top. Beside it stand the leaf of each number and the
 /// number of each leaf. No number is changed where another comes or goes: at most two numbers get another leaf.
 #[derive(Drop)]
-pub struct NumberedMoments {
-    tree: DeadlineTree,
+pub struct NumberedMoments<A: Allocator = Global> {
+    tree: DeadlineTree<A>,
     // By the number; what stands at one that isn't there says nothing.
-    leaves: Vec<u32>,
+    leaves: Vec<u32, A>,
     // By the leaf; what stands before the first leaf says nothing.
-    numbers: Vec<u16>,
+    numbers: Vec<u16, A>,
     room: usize,
 }
 
-impl Model for NumberedMoments {
+impl<A: Allocator> Model for NumberedMoments<A> {
     ghost use Rattle.std.specs.Prelude.{◌≡◌, ◌*◌, ◌^◌, ◌≤◌, length, vec_capacity};
     ghost use Rattle.std.specs.FinMap as map;
     ghost use Rattle.mq_sched.specs.NumberedMoments.{NumberedMomentsState, AreNumbered, moments_at, numbered_code};
@@ -52,9 +52,9 @@ impl Model for NumberedMoments {
         × (2 * n.room ≤ vec_capacity n.numbers) };
 }
 
-impl NumberedMoments {
+impl<A: Allocator + Copy> NumberedMoments<A> {
     /// No moments, with room for those of the numbers below `room`; or `Memory`, where that memory was refused.
-    pub fn with_room(alloc: Global, room: usize) -> Result<NumberedMoments, Memory>
+    pub fn with_room(alloc: A, room: usize) -> Result<NumberedMoments<A>, Memory>
         requires numbered { room ≤ 2 ^ 16 }
         ensures { IfOk result (λ n. n ≡ record { moments = map.empty; room = room }) }
     {
@@ -65,7 +65,9 @@ impl NumberedMoments {
             room,
         })
     }
+}
 
+impl<A: Allocator> NumberedMoments<A> {
     /// How many numbers are there.
     pub fn len(&self) -> usize
         ensures len { result ≡ map.len self.now.moments }

@@ -8,6 +8,7 @@ ghost use Rattle.mq_sets.specs.NumberedKeys.{key_at};
 ghost use Rattle.mq_sets.specs.Search.{bitlen, IsPlaceFor};
 
 use mq_count::{Key, Meter};
+use std::alloc::Allocator;
 use std::cmp::Ordering;
 
 /// What has a first number: a number, and a page that isn't empty.
@@ -36,7 +37,7 @@ impl First for u16 {
     }
 }
 
-impl First for Vec<u16> {
+impl<A: Allocator> First for Vec<u16, A> {
     ghost use Rattle.std.specs.Prelude.{◌≤◌, length, slice_index};
 
     ghost first_of = { λ page. slice_index page.items 0 };

@@ -9,7 +9,7 @@ use crate::extents::{Extent, extent_at, write_over};
 use crate::memory::Memory;
 use crate::packing::make_space_for;
 use mq_count::Moves;
-use std::alloc::Global;
+use std::alloc::{Allocator, Global};
 use std::marker::Model;
 
 /// A row of cells for each number below the room; one that has no cells is not in use. A contract sees the rows by their
@@ -22,15 +22,15 @@ use std::marker::Model;
 /// cell a row, than what the rows may have together. So four times what was written behind the last cell since the time before
 /// is no less than what is copied and looked at.
 #[derive(Drop)]
-pub struct NumberedRows<T: Copy> {
-    extents: Vec<Extent>,
-    cells: Vec<T>,
-    spare: Vec<T>,
+pub struct NumberedRows<T: Copy, A: Allocator = Global> {
+    extents: Vec<Extent, A>,
+    cells: Vec<T, A>,
+    spare: Vec<T, A>,
     used: usize,
     cell_limit: usize,
 }
 
-impl<T: Copy> Model for NumberedRows<T> {
+impl<T: Copy, A: Allocator> Model for NumberedRows<T, A> {
     ghost use Rattle.std.specs.Prelude.{◌≡◌, ◌-◌, ◌^◌, ◌<◌, ◌≤◌, [], length, vec_capacity};
     ghost use Rattle.std.specs.List.{All};
     ghost use Rattle.mq_sets.specs.Pools.{rows_of, IsStored};
@@ -53,9 +53,9 @@ impl<T: Copy> Model for NumberedRows<T> {
         × (cells_reserved (length r.extents.items) r.cell_limit < 2 ^ 32) };
 }
 
-impl<T: Copy> NumberedRows<T> {
+impl<T: Copy, A: Allocator + Copy> NumberedRows<T, A> {
     /// Rows of no cells for the numbers below `rows`, with memory for `cells` cells together; or `Memory`, where that was refused.
-    pub fn with_room(alloc: Global, rows: usize, cells: usize) -> Result<NumberedRows<T>, Memory>
+    pub fn with_room(alloc: A, rows: usize, cells: usize) -> Result<NumberedRows<T, A>, Memory>
         requires counted { cells_reserved rows cells < 2 ^ 32 }
         ensures { IfOk result (λ r. r ≡ record { rows = replicate rows []; cell_limit = cells; ahead = cells_reserved rows cells }) }
     {
@@ -72,7 +72,9 @@ impl<T: Copy> NumberedRows<T> {
             cell_limit: cells,
         })
     }
+}
 
+impl<T: Copy, A: Allocator> NumberedRows<T, A> {
     /// The cells of a number's row.
     pub fn row(&self, number: u16) -> &[T]
         requires number { number < length self.now.rows }

@@ -8,15 +8,16 @@ ghost use Rattle.mq_sets.specs.NumberedRows.{NamesRows, IsPlaced};
 
 use crate::extents::{Extent, extent_at};
 use mq_count::Moves;
+use std::alloc::Allocator;
 use std::mem;
 
 /// Copies the rows that `numbers` names, one after another, into `packed`, which is empty and has space for them. Each cell
 /// that is copied and each number is counted.
-pub(crate) fn pack_named<T: Copy>(
+pub(crate) fn pack_named<T: Copy, A: Allocator>(
     extents: &mut [Extent],
     cells: &[T],
     numbers: &[u16],
-    packed: &mut Vec<T>,
+    packed: &mut Vec<T, A>,
     moves: &mut Moves,
 )
     requires within { All (IsWithin cells.now) extents.old }
@@ -49,10 +50,10 @@ pub(crate) fn pack_named<T: Copy>(
 
 /// Makes space for `count` cells behind the last one, so that there are no more than `size`. Where there is none left, the
 /// rows that `numbers` names are packed into `spare`, which is empty, and the two vectors change places.
-pub(crate) fn make_space_for<T: Copy>(
-    extents: &mut Vec<Extent>,
-    cells: &mut Vec<T>,
-    spare: &mut Vec<T>,
+pub(crate) fn make_space_for<T: Copy, A: Allocator>(
+    extents: &mut Vec<Extent, A>,
+    cells: &mut Vec<T, A>,
+    spare: &mut Vec<T, A>,
     count: usize,
     size: usize,
     numbers: &[u16],

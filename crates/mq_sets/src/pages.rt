@@ -12,7 +12,7 @@ use crate::inserting::insert_at_once;
 use crate::memory::Memory;
 use crate::spots::Spot;
 use mq_count::{Key, Meter, Moves};
-use std::alloc::Global;
+use std::alloc::{Allocator, Global};
 use std::marker::Model;
 
 /// For how many numbers a page has room.
@@ -27,13 +27,13 @@ const FIRST_HALF: usize = 255;
 /// Pages of numbers. A contract sees the list of the pages, each the list of its numbers, and how many pages there may be.
 /// `with_room` takes the memory for them, and no other call takes any.
 #[derive(Drop)]
-pub(crate) struct Pages {
-    used: Vec<Vec<u16>>,
+pub(crate) struct Pages<A: Allocator = Global> {
+    used: Vec<Vec<u16, A>, A>,
     // Empty pages that aren't in the list.
-    spare: Vec<Vec<u16>>,
+    spare: Vec<Vec<u16, A>, A>,
 }
 
-impl Model for Pages {
+impl<A: Allocator> Model for Pages<A> {
     ghost use Rattle.std.specs.Prelude.{◌≡◌, ◌+◌, ◌≤◌, [], length, map, vec_capacity};
     ghost use Rattle.std.specs.List.{All};
     ghost use Rattle.mq_sets.specs.NumberedKeys.{PagesState};
@@ -48,9 +48,9 @@ impl Model for Pages {
         × (length s.used.items + length s.spare.items ≤ vec_capacity s.spare) };
 }
 
-impl Pages {
+impl<A: Allocator + Copy> Pages<A> {
     /// One empty page, with memory for so many; or `Memory`, where that was refused.
-    pub(crate) fn with_room(alloc: Global, limit: usize) -> Result<Pages, Memory>
+    pub(crate) fn with_room(alloc: A, limit: usize) -> Result<Pages<A>, Memory>
         requires some { 1 ≤ limit }
         ensures { IfOk result (λ s. s ≡ record { pages = [] ∷ []; limit = limit }) }
     {
@@ -62,7 +62,9 @@ impl Pages {
         }
         Ok(Pages { used, spare })
     }
+}
 
+impl<A: Allocator> Pages<A> {
     /// How many pages there are.
     pub(crate) fn count(&self) -> usize
         ensures { result ≡ length self.now.pages }
@@ -317,7 +319,7 @@ impl Pages {
 }
 
 /// Moves what stands behind the first half of a full page into one that is empty.
-fn halve(full: &mut Vec<u16>, behind: &mut Vec<u16>)
+fn halve<A: Allocator>(full: &mut Vec<u16, A>, behind: &mut Vec<u16, A>)
     requires full { length full.old.items ≡ 511 }
     requires empty { behind.old.items ≡ [] }
     requires room { 511 ≤ vec_capacity behind.old }

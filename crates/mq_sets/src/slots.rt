@@ -6,7 +6,7 @@ ghost use Rattle.mq_sets.specs.Slots.{SlotListState, AreSlots, IsCell, item_in, 
 
 use crate::inserting::insert_at_once;
 use crate::memory::Memory;
-use std::alloc::Global;
+use std::alloc::{Allocator, Global};
 use std::marker::Model;
 
 /// A list whose items stay where they are when one is made or taken out. A contract
@@ -110,7 +110,11 @@ impl<T: Copy> SlotList<T> {
 
 /// Writes an item into a free cell, or where none is free into a new one behind the last, and answers
 /// which cell.
-pub(crate) fn fill_cell<T: Copy>(cells: &mut Vec<T>, free: &mut Vec<u16>, item: T) -> u16
+pub(crate) fn fill_cell<T: Copy, A: Allocator>(
+    cells: &mut Vec<T, A>,
+    free: &mut Vec<u16, A>,
+    item: T,
+) -> u16
     requires within { All (IsCell cells.old.items) free.old.items }
     requires numbered { length free.old.items ≡ 0 → length cells.old.items < 2 ^ 16 }
     requires space { length free.old.items ≡ 0 → length cells.old.items < vec_capacity cells.old }

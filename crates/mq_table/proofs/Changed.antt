@@ -1,7 +1,10 @@
 -- A record that is merged with its group changes it as the tables say.
-use Rattle.std.proofs.Common.{◌≡◌, ℕ, ◌+◌, ◌==◌, Bool, true, false, cond, List, [], ◌∷◌, Option, None, Some, is_some, refl, sym, ap, ◌∙◌, ◌||◌}
-use Rattle.std.specs.Prelude.{map as list_map}
-use Rattle.std.specs.List.{filter_map, list_any}
+use Rattle.std.proofs.Common.{◌≡◌, ℕ, ◌+◌, ◌==◌, Bool, true, false, cond, List, [], ◌∷◌, Option, None, Some, is_some, refl, sym, ap, ◌∙◌, ◌||◌, arith}
+use Rattle.std.specs.Prelude.{not, map as list_map}
+use Rattle.std.specs.Bool.{beq}
+use Rattle.std.specs.List.{filter_map, cons_option, list_any}
+use Rattle.std.proofs.lemmas.Bool.{true≢false, or_parts}
+use Rattle.std.proofs.lemmas.Bool.Decides.{nat_tests}
 use Rattle.std.specs.Option.{option_map, option_and_then}
 use Rattle.std.specs.FinMap as map
 use Rattle.std.specs.FinSet as set
@@ -16,12 +19,14 @@ use Rattle.mq_table.specs.declared.rules.Rule.{Rule}
 use Rattle.mq_table.specs.declared.sources.Source.{Source}
 use Rattle.mq_table.specs.declared.timing.Timing.{Timing}
 use Rattle.mq_table.specs.Sets.{Set}
-use Rattle.mq_table.specs.Group.{GroupState, FilterMode, Include, Exclude, SourceTimer, running, stopped, timer_at}
+use Rattle.mq_table.specs.Group.{GroupState, FilterMode, Include, Exclude, SourceTimer, running, stopped, timer_at, is_include}
 use Rattle.mq_table.specs.Timing.{membership_interval}
 use Rattle.mq_table.specs.Table.{table_row, timer_by, change_of}
-use Rattle.mq_table.specs.AtSource.{timer_after, is_asked_after, mode_after, asks_group_after}
+use Rattle.mq_table.specs.AtSource.{timer_after, is_asked_after, mode_after, changes_mode, asks_group_after}
 use Rattle.mq_table.specs.Stored.{timers_in, named_in, number_in}
-use Rattle.mq_table.specs.MergedRecord.{source_with, source_made, source_asked}
+use Rattle.mq_table.specs.Filter.{names, changes_filter}
+use Rattle.mq_table.specs.MergedRecord.{source_with, source_made, source_asked, turns, source_turned}
+use Rattle.mq_table.proofs.Filters.{changes-by, named_alike, not_unlike}
 use Rattle.mq_table.proofs.Groups.{same_sources}
 use Rattle.mq_table.proofs.TableRows.{timer_by-nothing, timer_at-change_of}
 use Rattle.mq_table.proofs.SourceLists.{get-timers_in}
@@ -108,11 +113,11 @@ pub address-source_with : {K : Type 0} (address : K) (timer : Option SourceTimer
 address-source_with address None x is = cc
 address-source_with address (Some timer) x is = cc
 
-address-if : {K : Type 0} (address : K) (b : Bool) (x : K) → cond b (Some address) None ≡ Some x → x ≡ address
+pub address-if : {K : Type 0} (address : K) (b : Bool) (x : K) → cond b (Some address) None ≡ Some x → x ≡ address
 address-if address true x is = cc
 address-if address false x is = cc
 
-some-if : {K : Type 0} (address : K) (b : Bool) → is_some (cond b (Some address) None) ≡ b
+pub some-if : {K : Type 0} (address : K) (b : Bool) → is_some (cond b (Some address) None) ≡ b
 some-if address true = refl
 some-if address false = refl
 
@@ -138,6 +143,57 @@ module _ {K : Type 0} (number : K → ℕ) (rule : Rule) where
   asked_at None (Some a) = some-if a _
   asked_at (Some x) named = some-if x.address _
 
+  -- the address of a source that is turned
+  abbrev turned_source : Option (Source K) × Option K → Option K
+  turned_source (Some x, named) = cond (source_turned rule (Some x, named)) (Some x.address) None
+  turned_source (None, Some a) = cond (source_turned rule (None, Some a)) (Some a) None
+  turned_source (None, None) = None
+
+  turned_keeps : KeepsNumbers (number_of (number_in number) number) number turned_source
+  turned_keeps (Some x, named) y is = ap number (address-if x.address _ y is)
+  turned_keeps (None, Some a) y is = ap number (address-if a _ y is)
+  turned_keeps (None, None) y is = cc
+
+  turned_nothing : (mode : FilterMode) (after : Option SourceTimer) → after ≡ None → turns mode None after ≡ false
+  turned_nothing Include after is = rw is refl
+  turned_nothing (Exclude d) after is = rw is refl
+
+  turned_at : (held : Option (Source K)) (named : Option K) → is_some (option_and_then turned_source (paired held named)) ≡ turns rule.mode (option_map (λ (x : Source K). x.timer) held) (timer_after rule.interval_end rule.mode rule.kind (option_map (λ (x : Source K). x.timer) held) (is_some named))
+  turned_at None None = sym (turned_nothing rule.mode _ (timer_by-nothing rule.interval_end rule.mode rule.kind (λ _. false) (λ _. false) (λ _. false) 0 refl refl refl))
+  turned_at None (Some a) = some-if a _
+  turned_at (Some x) named = some-if x.address _
+
+  turned_none : (p : Option (Source K) × Option K) → source_turned rule p ≡ false → turned_source p ≡ None
+  turned_none (Some x, named) e = ap (λ b. cond b (Some x.address) None) e
+  turned_none (None, Some a) e = ap (λ b. cond b (Some a) None) e
+  turned_none (None, None) e = refl
+
+  turned_some : (p : Option (Source K) × Option K) → source_turned rule p ≡ true → (a : K) × (turned_source p ≡ Some a)
+  turned_some (Some x, named) e = (x.address, ap (λ b. cond b (Some x.address) None) e)
+  turned_some (None, Some a) e = (a, ap (λ b. cond b (Some a) None) e)
+  turned_some (None, None) e = absurd (true≢false (sym e))
+
+  none_turned : (ps : List (Option (Source K) × Option K)) → list_any (source_turned rule) ps ≡ false → filter_map turned_source ps ≡ []
+  none_turned [] e = refl
+  none_turned (p ∷ ps) e =
+      let parts = or_parts _ _ e in
+      ap (λ o. cons_option o (filter_map turned_source ps)) (turned_none p parts.0) ∙ none_turned ps parts.1
+
+  same_number : (n : ℕ) → (n == n) ≡ true
+  same_number n = grind (arith, nat_tests)
+
+  one_turned : (ps : List (Option (Source K) × Option K)) → list_any (source_turned rule) ps ≡ true → (s : ℕ) × (set_of number (filter_map turned_source ps) s ≡ true)
+  one_turned [] e = absurd (true≢false (sym e))
+  one_turned (p ∷ ps) e = by_first (source_turned rule p) refl (one_turned ps) e
+    where
+      by_first : (b : Bool) → source_turned rule p ≡ b → (list_any (source_turned rule) ps ≡ true → (s : ℕ) × (set_of number (filter_map turned_source ps) s ≡ true)) → (b || list_any (source_turned rule) ps) ≡ true → (s : ℕ) × (set_of number (filter_map turned_source (p ∷ ps)) s ≡ true)
+      by_first true is one e =
+          let some = turned_some p is in
+          (number some.0, rw some.1 (ap (λ b. b || set_of number (filter_map turned_source ps) (number some.0)) (same_number (number some.0))))
+      by_first false is one e =
+          let behind = one e in
+          (behind.0, rw (turned_none p is) behind.1)
+
   module _ (held : List (Source K)) (named : List K) (up_held : IsAscending (number_in number) held) (up_named : IsAscending number named) where
     abbrev pub pairs : List (Option (Source K) × Option K)
     pairs = merged_lists (number_in number) number held named
@@ -161,6 +217,17 @@ module _ {K : Type 0} (number : K → ℕ) (rule : Rule) where
         ∙ ap is_some (rules_act_at_each_number (number_in number) number number (source_asked rule) held named s asked_keeps up_held up_named)
         ∙ asked_at (item_with (number_in number) held s) (item_with number named s)
         ∙ (λ i. is_asked_after rule.interval_end rule.mode rule.kind (sym (get-timers_in number held s) i) (found_where_member number named s i))
+
+    set_of-turned : (s : ℕ) → set_of number (filter_map turned_source pairs) s ≡ turns rule.mode (map.get (timers_in number held) s) (timer_after rule.interval_end rule.mode rule.kind (map.get (timers_in number held) s) (set_of number named s))
+    set_of-turned s =
+        sym (found_where_member number (filter_map turned_source pairs) s)
+        ∙ ap is_some (rules_act_at_each_number (number_in number) number number turned_source held named s turned_keeps up_held up_named)
+        ∙ turned_at (item_with (number_in number) held s) (item_with number named s)
+        ∙ (λ i. turns rule.mode (sym (get-timers_in number held s) i) (timer_after rule.interval_end rule.mode rule.kind (sym (get-timers_in number held s) i) (found_where_member number named s i)))
+
+    -- the source at a number is turned exactly where the timers that the rules make say so
+    turned-made : (s : ℕ) → set_of number (filter_map turned_source pairs) s ≡ turns rule.mode (map.get (timers_in number held) s) (map.get (timers_in number (filter_map (source_made rule) pairs)) s)
+    turned-made s = set_of-turned s ∙ ap (turns rule.mode (map.get (timers_in number held) s)) (sym (get-made s))
 
 -- the addresses that a record names, as a set
 any-map : {K : Type 0} (number : K → ℕ) (xs : List K) (s : ℕ) → list_any (λ y. y == s) (list_map number xs) ≡ set_of number xs s
@@ -195,6 +262,34 @@ module _ {K : Type 0} (number : K → ℕ) (timing : Timing) (now : ℕ) (mode :
       ∙ ap (is_asked_after gmi mode kind (timer_at state_before s)) (sym (contains-named_in number named s))
       ∙ sym (row-query gmi mode kind state_before (set.contains (named_in number named)) s)
 
+  pub filter_of_after : (after : GroupState) → record { mode = mode_after (now + membership_interval timing) mode kind; sources = timers_in number (filter_map (source_made rule_of_record) (merged_lists (number_in number) number held named)); v1 = v1; v2 = v2 } ≡ after
+      → changes_filter state_before after ≡ (list_any (source_turned rule_of_record) (merged_lists (number_in number) number held named) || changes_mode (now + membership_interval timing) mode kind)
+  filter_of_after after is_after = rw (← is_after) (changes-by state_before made turned (λ e none s. alike e s none) (λ e one. turned_there e one))
+    where
+      pairs_of : List (Option (Source K) × Option K)
+      pairs_of = merged_lists (number_in number) number held named
+
+      made : GroupState
+      made = record { mode = mode_after (now + membership_interval timing) mode kind; sources = timers_in number (filter_map (source_made rule_of_record) pairs_of); v1 = v1; v2 = v2 }
+
+      turned : Bool
+      turned = list_any (source_turned rule_of_record) pairs_of
+
+      alike : not (beq (is_include mode) (is_include made.mode)) ≡ false → (s : ℕ) → turned ≡ false → names mode (timer_at state_before s) ≡ names made.mode (timer_at made s)
+      alike e s none =
+          let here = sym (turned-made number rule_of_record held named up_held up_named s) ∙ ap (λ ys. set_of number ys s) (none_turned number rule_of_record pairs_of none) in
+          not_unlike (names mode (timer_at state_before s)) (names mode (timer_at made s)) here
+          ∙ named_alike mode made.mode (not_unlike (is_include mode) (is_include made.mode) e) (timer_at made s)
+
+      turned_there : not (beq (is_include mode) (is_include made.mode)) ≡ false → turned ≡ true → (s : ℕ) × (not (beq (names mode (timer_at state_before s)) (names made.mode (timer_at made s))) ≡ true)
+      turned_there e one =
+          let some = one_turned number rule_of_record pairs_of one in (
+            some.0,
+            ap (λ b. not (beq (names mode (timer_at state_before some.0)) b)) (sym (named_alike mode made.mode (not_unlike (is_include mode) (is_include made.mode) e) (timer_at made some.0)))
+                ∙ sym (turned-made number rule_of_record held named up_held up_named some.0)
+                ∙ some.1,
+          )
+
   pub group_asked_of : asks_group_after (now + membership_interval timing) mode kind ≡ (change_of timing now state_before kind (named_in number named)).query_group
   group_asked_of = sym (row-query_group (now + membership_interval timing) mode kind (running state_before) (stopped state_before) (set.contains (named_in number named)))
 
@@ -208,3 +303,8 @@ module _ {K : Type 0} (number : K → ℕ) (timing : Timing) (now : ℕ) (mode :
 
     pub recorded_query_group : (b : Bool) → b ≡ asks_group_after end mode kind → b ≡ (change_of timing now g kind (named_in number named)).query_group
     recorded_query_group b is = rw (is, is_end, ← is_before) group_asked_of
+
+    pub recorded_filter : (new_mode : FilterMode) (sources : List (Source K)) (turned other : Bool) → new_mode ≡ mode_after end mode kind → sources ≡ filter_map (source_made (record { kind = kind; mode = mode; interval_end = end })) (merged_lists (number_in number) number held named)
+        → turned ≡ list_any (source_turned (record { kind = kind; mode = mode; interval_end = end })) (merged_lists (number_in number) number held named) → other ≡ changes_mode end mode kind
+        → changes_filter g (record { mode = new_mode; sources = timers_in number sources; v1 = v1; v2 = v2 }) ≡ (turned || other)
+    recorded_filter new_mode sources turned other is_mode are_sources is_turned is_other = rw (is_mode, are_sources, is_turned, is_other, is_end, ← is_before) (filter_of_after _ refl)

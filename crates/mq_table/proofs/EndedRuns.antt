@@ -1,18 +1,20 @@
 -- Runs of sources whose timers run on, in a pass over a list that leaves what the end of timers leaves.
-use Rattle.std.proofs.Common.{◌≡◌, ℕ, zero, suc, ◌+◌, ◌<◌, ◌≤◌, Bool, true, false, cond, refl, List, [], ◌∷◌, ◌++◌, length, length-append, get_or, take, drop, Option, None, Some, sym, ap, subst, ◌∙◌, arith, nat_lt}
-use Rattle.std.specs.List.{AllWithin, filter_map}
+use Rattle.std.proofs.Common.{◌≡◌, ℕ, zero, suc, ◌+◌, ◌<◌, ◌≤◌, Bool, true, false, cond, ◌||◌, refl, List, [], ◌∷◌, ◌++◌, length, length-append, get_or, take, drop, Option, None, Some, sym, ap, subst, ◌∙◌, arith, nat_lt}
+use Rattle.std.specs.Prelude.{not}
+use Rattle.std.specs.List.{AllWithin, filter_map, list_any}
 use Rattle.std.proofs.lemmas.Bool.{true≢false}
 use Rattle.std.proofs.lemmas.List.Elements.{filter_map-append}
+use Rattle.std.proofs.lemmas.List.Folds.{list_any-append, list_any_more}
 use Rattle.std.proofs.lemmas.List.{drop-drop, get_or-drop}
 use Rattle.std.proofs.lemmas.List.Concat.{flat_map-append}
-use Rattle.std.specs.Option.{option_to_list}
+use Rattle.std.specs.Option.{option_to_list, is_some}
 use Rattle.mq_count.specs.Timed.{compared, lies_ahead, moments_by}
 use Rattle.mq_count.proofs.TimedMoments.{moments-more}
 use Rattle.mq_table.specs.declared.sources.Source.{Source}
 use Rattle.mq_table.specs.Group.{FilterMode, SourceTimer, Stopped, Running, deadline_of}
 use Rattle.mq_table.specs.Expiry.{at_zero, source_expired}
 use Rattle.mq_table.specs.MergedRecord.{source_with}
-use Rattle.mq_table.specs.MadeSources.{running_among, source_left}
+use Rattle.mq_table.specs.MadeSources.{running_among, runs_out, timer_runs_out, source_left}
 
 take_none : {X : Type 0} (n : ℕ) → take {A = X} n [] ≡ []
 take_none zero = refl
@@ -119,3 +121,44 @@ running_among-run now place run xs row is within ahead =
     ap running_among (take_parts place run xs)
     ∙ running_among-append (take place xs) (take run (drop place xs))
     ∙ ap (λ n. running_among (take place xs) + n) (ap (λ ys. running_among (take run ys)) (sym is) ∙ all_run now run row within ahead)
+
+-- a timer that runs on doesn't run out, and another runs out where it runs
+stays_ahead : {K : Type 0} (now : ℕ) (x : Source K) → lies_ahead now (deadline_of (Some x.timer)) ≡ true → runs_out now x ≡ false
+stays_ahead now x is = by_timer x.timer is
+  where
+    by_timer : (timer : SourceTimer) → lies_ahead now (deadline_of (Some timer)) ≡ true → timer_runs_out now timer ≡ false
+    by_timer Stopped is = refl
+    by_timer (Running d n) is = ap not is
+
+runs_out_here : {K : Type 0} (now : ℕ) (x : Source K) → lies_ahead now (deadline_of (Some x.timer)) ≡ false → runs_out now x ≡ is_some (deadline_of (Some x.timer))
+runs_out_here now x is = by_timer x.timer is
+  where
+    by_timer : (timer : SourceTimer) → lies_ahead now (deadline_of (Some timer)) ≡ false → timer_runs_out now timer ≡ is_some (deadline_of (Some timer))
+    by_timer Stopped is = refl
+    by_timer (Running d n) is = ap not is
+
+-- of a run that lies ahead none runs out
+none_out : {K : Type 0} (now run : ℕ) (row : List (Source K)) → run ≤ length row → AllWithin (λ x. lies_ahead now (deadline_of (Some x.timer)) ≡ true) row 0 run → list_any (runs_out now) (take run row) ≡ false
+none_out now zero row within ahead = refl
+none_out now (suc run) [] within ahead = absurd (omega (arith, within))
+none_out now (suc run) (x ∷ row) within ahead =
+    rw (stays_ahead now x (ahead 0 x (omega arith) (omega arith)))
+    (none_out now run row (omega (arith, within)) (λ k d low high. ahead (suc k) d (omega arith) (omega (arith, high))))
+
+nothing_more : (b : Bool) → (b || false) ≡ b
+nothing_more true = refl
+nothing_more false = refl
+
+-- whether one of those that were passed ran out, with such a run behind them
+pub any_out-run : {K : Type 0} (now place run : ℕ) (xs row : List (Source K)) → row ≡ drop place xs → run ≤ length row → AllWithin (λ x. lies_ahead now (deadline_of (Some x.timer)) ≡ true) row 0 run → list_any (runs_out now) (take (place + run) xs) ≡ list_any (runs_out now) (take place xs)
+any_out-run now place run xs row is within ahead =
+    ap (list_any (runs_out now)) (take_parts place run xs)
+    ∙ list_any-append (runs_out now) (take place xs) (take run (drop place xs))
+    ∙ ap (λ b. list_any (runs_out now) (take place xs) || b) (ap (λ ys. list_any (runs_out now) (take run ys)) (sym is) ∙ none_out now run row within ahead)
+    ∙ nothing_more (list_any (runs_out now) (take place xs))
+
+-- and with one more, whose timer doesn't run on
+pub any_out-more : {K : Type 0} (now place : ℕ) (sources : List (Source K)) (x : Source K) → place < length sources → x ≡ get_or sources place x → lies_ahead now (deadline_of (Some x.timer)) ≡ false → list_any (runs_out now) (take (place + 1) sources) ≡ (list_any (runs_out now) (take place sources) || is_some (deadline_of (Some x.timer)))
+any_out-more now place sources x within here past =
+    list_any_more (runs_out now) sources place x within
+    ∙ ap (λ b. list_any (runs_out now) (take place sources) || b) (ap (runs_out now) (sym here) ∙ runs_out_here now x past)

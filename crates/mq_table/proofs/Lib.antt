@@ -1,4 +1,5 @@
 pub mod Maps
+pub mod Filters
 pub mod Groups
 pub mod TableRows
 pub mod Held
@@ -14,4 +15,5 @@ pub mod Changed
 pub mod MadeLists
 pub mod Asking
 pub mod Ended
+pub mod EndedFilters
 pub mod EndedRuns

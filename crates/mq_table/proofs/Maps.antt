@@ -14,7 +14,7 @@ use Rattle.std.proofs.lemmas.Bool.Decides.{nat_tests}
 use Rattle.mq_table.specs.Maps.{with_entry, entries_by, by_rule, kept}
 
 -- numbers that tie are equal
-tied : (q k : ℕ) → eq_by_cmp nat_cmp q k ≡ true → q ≡ k
+pub tied : (q k : ℕ) → eq_by_cmp nat_cmp q k ≡ true → q ≡ k
 tied q k e = grind (arith, nat_tests)
 
 -- one entry more: the rule's value at its key, where the rest has the rule's values or nothing

@@ -1,6 +1,6 @@
 -- A list to which the items are pushed that a rule makes of the pairs of a merge, one after another.
-use Rattle.std.proofs.Common.{◌≡◌, ℕ, ◌+◌, ◌<◌, ◌≤◌, List, [], ◌∷◌, ◌++◌, length, Option, None, Some, IsSome, sym, ap, ◌∙◌, arith, append_assoc, length-append}
-use Rattle.std.specs.List.{filter_map, cons_option}
+use Rattle.std.proofs.Common.{◌≡◌, ℕ, ◌+◌, ◌<◌, ◌≤◌, Bool, true, false, ◌||◌, refl, List, [], ◌∷◌, ◌++◌, length, Option, None, Some, IsSome, sym, ap, ◌∙◌, arith, append_assoc, length-append}
+use Rattle.std.specs.List.{filter_map, cons_option, list_any}
 use Rattle.std.specs.Option.{option_to_list}
 use Rattle.std.proofs.lemmas.Bool.{false≢true}
 use Rattle.mq_sets.specs.declared.merge_state.Merged.{Merged}
@@ -15,6 +15,15 @@ cons_pushed xs (Some x) rest = append_assoc xs (x ∷ []) rest
 pub pushed_next : {X P : Type 0} (f : P → Option X) (xs pushed : List X) (p : P) (ahead rest : List P) (all : List X) → pushed ≡ xs ++ option_to_list (f p) → ahead ≡ p ∷ rest → xs ++ filter_map f ahead ≡ all → pushed ++ filter_map f rest ≡ all
 pushed_next f xs pushed p ahead rest all is first so_far =
     ap (λ ys. ys ++ filter_map f rest) is ∙ cons_pushed xs (f p) (filter_map f rest) ∙ ap (λ ps. xs ++ filter_map f ps) (sym first) ∙ so_far
+
+or_assoc : (a b c : Bool) → ((a || b) || c) ≡ (a || (b || c))
+or_assoc true b c = refl
+or_assoc false b c = refl
+
+-- whether the first pair passes a test is known; whether one of the others does is still ahead
+pub tested_next : {P : Type 0} (f : P → Bool) (so_far now : Bool) (p : P) (ahead rest : List P) (all : Bool) → now ≡ (so_far || f p) → ahead ≡ p ∷ rest → (so_far || list_any f ahead) ≡ all → (now || list_any f rest) ≡ all
+tested_next f so_far now p ahead rest all is first before =
+    ap (λ b. b || list_any f rest) is ∙ or_assoc so_far (f p) (list_any f rest) ∙ ap (λ ps. so_far || list_any f ps) (sym first) ∙ before
 
 -- a call of a merge that hands out something hands out one item or two
 one_or_two : {L R : Type 0} (p : Merged L R) → 1 ≤ length (left_of (Some p)) + length (right_of (Some p))

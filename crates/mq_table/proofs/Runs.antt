@@ -1,6 +1,6 @@
 -- A merge handed out run by run: the sources up to each that is named, and it.
-use Rattle.std.proofs.Common.{◌≡◌, ℕ, zero, suc, ◌+◌, ◌<◌, ◌≤◌, List, [], ◌∷◌, ◌++◌, length, get_or, map, take, drop, Option, None, Some, refl, subst, sym, ap, ◌∙◌, arith, append_assoc, ⊎_elim}
-use Rattle.std.specs.List.{All, AllWithin, filter_map}
+use Rattle.std.proofs.Common.{◌≡◌, ℕ, Bool, true, false, ◌||◌, zero, suc, ◌+◌, ◌<◌, ◌≤◌, List, [], ◌∷◌, ◌++◌, length, get_or, map, take, drop, Option, None, Some, refl, subst, sym, ap, ◌∙◌, arith, append_assoc, ⊎_elim}
+use Rattle.std.specs.List.{All, AllWithin, filter_map, list_any}
 use Rattle.std.specs.Option.{option_to_list}
 use Rattle.std.proofs.lemmas.Bool.{cases_lt}
 use Rattle.std.proofs.lemmas.List.{drop_more, take-append-drop, get_or-take, get_or-drop, length-take, length-drop, append-nil, length-append}
@@ -10,7 +10,7 @@ use Rattle.mq_sets.specs.Merging.{merged_lists}
 use Rattle.mq_sets.specs.Search.{IsPlaceFor}
 use Rattle.mq_sets.proofs.Ascents.{IsAscending-tail}
 use Rattle.mq_sets.proofs.Merges.{merged-left_first, merged-right_first, merged-both_first}
-use Rattle.mq_table.proofs.Pushed.{pushed_next}
+use Rattle.mq_table.proofs.Pushed.{pushed_next, tested_next}
 
 -- what is left of an ascending list is ascending
 pub IsAscending-drop : {X : Type 0} (number : X → ℕ) (n : ℕ) (xs : List X) → IsAscending number xs → IsAscending number (drop n xs)
@@ -125,6 +125,27 @@ run_passed f xs pushed run p ahead rest all none is_pushed is_ahead so_far =
     ∙ ap (λ ys. xs ++ ys) (sym (filter_map-append f (map (λ x. (Some x, None)) run) (p ∷ rest)))
     ∙ ap (λ ps. xs ++ filter_map f ps) (sym is_ahead)
     ∙ so_far)
+
+-- a run of which no pair passes a test is passed, and whether the pair behind it does is known
+none_passes_alone : {L R : Type 0} (f : Option L × Option R → Bool) (run : List L) (rest : List (Option L × Option R)) → All (λ x. f (Some x, None) ≡ false) run → list_any f (map (λ x. (Some x, None)) run ++ rest) ≡ list_any f rest
+none_passes_alone f [] rest all = refl
+none_passes_alone f (x ∷ run) rest all =
+    let P : _ → Type 0 = λ x. f (Some x, None) ≡ false in
+    rw (All-head P x run all) (none_passes_alone f run rest (All-tail P x run all))
+
+pub run_tested : {L R : Type 0} (f : Option L × Option R → Bool) (so_far now : Bool) (run : List L) (p : Option L × Option R) (ahead rest : List (Option L × Option R)) (all : Bool) → All (λ x. f (Some x, None) ≡ false) run
+    → now ≡ (so_far || f p) → ahead ≡ map (λ x. (Some x, None)) run ++ p ∷ rest → (so_far || list_any f ahead) ≡ all → (now || list_any f rest) ≡ all
+run_tested f so_far now run p ahead rest all none is is_ahead before =
+    tested_next f so_far now p (p ∷ rest) rest all is refl (ap (λ b. so_far || b) (sym (none_passes_alone f run (p ∷ rest) none) ∙ ap (list_any f) (sym is_ahead)) ∙ before)
+
+pub last_run_tested : {L R : Type 0} (f : Option L × Option R → Bool) (so_far : Bool) (run : List L) (ahead : List (Option L × Option R)) (all : Bool) → All (λ x. f (Some x, None) ≡ false) run
+    → ahead ≡ map (λ x. (Some x, None)) run → (so_far || list_any f ahead) ≡ all → so_far ≡ all
+last_run_tested f so_far run ahead all none is_ahead before =
+    sym (with_nothing so_far) ∙ ap (λ b. so_far || b) (sym (none_passes_alone f run [] none) ∙ ap (list_any f) (append-nil (map (λ x. (Some x, None)) run) ∙ sym is_ahead)) ∙ before
+  where
+    with_nothing : (b : Bool) → (b || false) ≡ b
+    with_nothing true = refl
+    with_nothing false = refl
 
 -- the last run
 pub last_run_pushed : {L R : Type 0} (f : Option L × Option R → Option L) (xs pushed run : List L) (ahead : List (Option L × Option R)) (all : List L) → All (λ x. f (Some x, None) ≡ Some x) run

@@ -1,8 +1,9 @@
 -- What a record does at one source: the tables see of each source its timer, and whether the record
 -- names it.
-use Rattle.std.specs.Prelude.{ℕ, Bool, false, Option}
+use Rattle.std.specs.Prelude.{ℕ, Bool, false, not, Option}
 use Rattle.mq_table.specs.declared.kind.Kind.{Kind}
-use Rattle.mq_table.specs.Group.{FilterMode, SourceTimer, is_running, is_stopped}
+use Rattle.std.specs.Bool.{beq}
+use Rattle.mq_table.specs.Group.{FilterMode, SourceTimer, is_include, is_running, is_stopped}
 use Rattle.mq_table.specs.Table.{TableRow, table_row, timer_by}
 
 -- the row of the tables that the record meets, where every source has this timer and is named or not
@@ -23,6 +24,10 @@ is_asked_after gmi mode kind timer is_named =
 -- the mode after the record, and whether Q(G) is sent: the same at each source
 abbrev pub mode_after : ℕ → FilterMode → Kind → FilterMode
 mode_after gmi mode kind = let l = table_row gmi mode kind (λ _. false) (λ _. false) (λ _. false) in l.mode
+
+-- whether the mode after it is another, but for the deadline: no record makes a group INCLUDE
+abbrev pub changes_mode : ℕ → FilterMode → Kind → Bool
+changes_mode gmi mode kind = not (beq (is_include mode) (is_include (mode_after gmi mode kind)))
 
 abbrev pub asks_group_after : ℕ → FilterMode → Kind → Bool
 asks_group_after gmi mode kind = let l = table_row gmi mode kind (λ _. false) (λ _. false) (λ _. false) in l.query_group

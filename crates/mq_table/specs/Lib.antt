@@ -9,6 +9,7 @@ pub mod AtSource
 pub mod MergedRecord
 pub mod OlderHosts
 pub mod Expiry
+pub mod Filter
 pub mod Lowering
 pub mod Sendings
 pub mod AskedSources

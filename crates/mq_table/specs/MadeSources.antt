@@ -1,8 +1,8 @@
 -- What becomes of each source of a list, where nothing is added to it.
-use Rattle.std.specs.Prelude.{ℕ, ◌==◌, if◌then◌else◌, List, length, Option, Some}
+use Rattle.std.specs.Prelude.{ℕ, ◌==◌, Bool, false, not, if◌then◌else◌, nat_lt, List, length, Option, Some}
 use Rattle.mq_count.specs.Timed.{moments_by}
 use Rattle.mq_table.specs.declared.sources.Source.{Source}
-use Rattle.mq_table.specs.Group.{FilterMode, SourceTimer, deadline_of}
+use Rattle.mq_table.specs.Group.{FilterMode, SourceTimer, Stopped, Running, deadline_of}
 use Rattle.mq_table.specs.Expiry.{source_expired}
 use Rattle.mq_table.specs.Lowering.{source_lowered}
 use Rattle.mq_table.specs.Sendings.{source_counted, source_cleared}
@@ -10,9 +10,18 @@ use Rattle.mq_table.specs.declared.sendings.Recount.{Recount}
 use Rattle.mq_table.specs.declared.sendings.Recount.TheVariants.{OneFewer, NoneLeft}
 use Rattle.mq_table.specs.MergedRecord.{source_with}
 
+-- whether a timer runs out at a moment
+abbrev pub timer_runs_out : (now : ℕ) → SourceTimer → Bool
+timer_runs_out now Stopped = false
+timer_runs_out now (Running d n) = not (nat_lt now d)
+
 -- a source that the end of timers leaves
 abbrev pub source_left : {K : Type 0} → FilterMode → ℕ → Source K → Option (Source K)
 source_left mode now x = source_with x.address (source_expired mode now x.timer)
+
+-- whether the timer of a source runs out at a moment
+abbrev pub runs_out : {K : Type 0} → (now : ℕ) → Source K → Bool
+runs_out now x = timer_runs_out now x.timer
 
 -- how many of some sources have a timer that runs
 abbrev pub running_among : {K : Type 0} → List (Source K) → ℕ

@@ -1,6 +1,7 @@
 -- What a record makes of each pair of a merge: of the group's source, if it holds it, and the record's
 -- source, if it names it.
 use Rattle.std.specs.Prelude.{◌≡◌, ℕ, length, Bool, true, false, ◌&&◌, ◌||◌, not, if◌then◌else◌, is_some, List, Option, None, Some}
+use Rattle.std.specs.Bool.{beq}
 use Rattle.std.specs.List.{All, list_any}
 use Rattle.mq_count.specs.Spending.{Spends}
 use Rattle.mq_sets.specs.Search.{bitlen}
@@ -10,6 +11,7 @@ use Rattle.mq_table.specs.declared.rules.Rule.{Rule}
 use Rattle.mq_table.specs.declared.sources.Source.{Source}
 use Rattle.mq_table.specs.Group.{SourceTimer, FilterMode, is_include, is_stopped}
 use Rattle.mq_table.specs.AtSource.{timer_after, is_asked_after}
+use Rattle.mq_table.specs.Filter.{names}
 
 -- a source with a timer, if there is one
 abbrev pub source_with : {K : Type 0} → K → Option SourceTimer → Option (Source K)
@@ -30,6 +32,17 @@ source_asked rule (Some x, named) =
 source_asked rule (None, Some y) =
     if is_asked_after rule.interval_end rule.mode rule.kind None true then Some y else None
 source_asked rule (None, None) = None
+
+-- whether the filter of the mode from before names a source with one of two timers, and not with the other
+abbrev pub turns : FilterMode → (before after : Option SourceTimer) → Bool
+turns mode before after = not (beq (names mode before) (names mode after))
+
+-- whether the record turns the source of a pair
+abbrev pub source_turned : {K : Type 0} → Rule → Option (Source K) × Option K → Bool
+source_turned rule (Some x, named) =
+    turns rule.mode (Some x.timer) (timer_after rule.interval_end rule.mode rule.kind (Some x.timer) (is_some named))
+source_turned rule (None, Some y) = turns rule.mode None (timer_after rule.interval_end rule.mode rule.kind None true)
+source_turned rule (None, None) = false
 
 -- whether a source is stopped
 abbrev pub item_is_stopped : {K : Type 0} → Source K → Bool
@@ -55,7 +68,8 @@ unfoldable pub LooksByHalves : {K : Type 0} → Kind → FilterMode → List (So
 LooksByHalves kind mode row named before after =
     named ≡ 1 → keeps_unnamed kind mode row ≡ true → Spends 0 (bitlen (length row)) before after
 
--- a record leaves each of these sources as it is where it doesn't name it, and asks for none of them then
+-- a record leaves each of these sources as it is where it doesn't name it, and asks for none of them and turns none then
 pub record LeavesAlone {K : Type 0} (rule : Rule) (xs : List (Source K)) : Type 0 where
   pub made : All (λ x. source_made rule (Some x, None) ≡ Some x) xs
   pub asked : All (λ x. source_asked rule (Some x, None) ≡ None) xs
+  pub turned : All (λ x. source_turned rule (Some x, None) ≡ false) xs

@@ -14,3 +14,12 @@ pub struct Change<K: Key> {
     /// Whether the group itself is to be queried.
     pub query_group: bool,
 }
+
+/// What is known of a group that became what a record leaves.
+#[derive(Clone, Copy)]
+pub struct Loaded {
+    /// Whether the group itself is to be queried.
+    pub asks_group: bool,
+    /// Whether another filter is forwarded of it than before (RFC 3376 section 6.3, RFC 3810 section 7.3).
+    pub changes_filter: bool,
+}

@@ -1,11 +1,12 @@
 //! The end of timers.
 
 ghost use Rattle.std.specs.Prelude.{◌≡◌, ◌+◌, ◌≤◌, ◌++◌, length, take, drop, vec_capacity};
-ghost use Rattle.std.specs.List.{filter_map};
+ghost use Rattle.std.specs.List.{filter_map, list_any};
 ghost use Rattle.std.specs.Option.{option_and_then};
 ghost use Rattle.mq_count.specs.Spending.{Spends};
 ghost use Rattle.mq_table.specs.Expiry.{ahead, at_zero, mode_expired, held_or_vacant, expired};
-ghost use Rattle.mq_table.specs.MadeSources.{running_among, source_left};
+ghost use Rattle.mq_table.specs.Filter.{changes_filter};
+ghost use Rattle.mq_table.specs.MadeSources.{running_among, runs_out, source_left};
 ghost use Rattle.mq_table.specs.Stored.{size_of};
 
 use crate::group::Group;
@@ -62,17 +63,20 @@ fn move_run<K: Key>(sources: &mut Vec<Source<K>>, place: usize, left: usize, run
 }
 
 /// Leaves of a list the sources that the end of their timers leaves in a group of this mode, in one
-/// pass over the list, run by run of those whose timers run on. One comparison for each source with a deadline.
+/// pass over the list, run by run of those whose timers run on. Answers whether a timer ran out. One comparison for each
+/// source with a deadline.
 fn leave_sources<K: Key>(
     sources: &mut Vec<Source<K>>,
     mode: &FilterMode,
     now: Moment,
     m: &mut Meter,
-)
+) -> bool
     ensures items { sources.new.items ≡ filter_map (source_left mode.now now) sources.old.items }
+    ensures ran_out { result ≡ list_any (runs_out now) sources.old.items }
     ensures capacity { vec_capacity sources.new ≡ vec_capacity sources.old }
     ensures spent { let count = running_among sources.old.items in Spends count count m.old m.new }
 {
+    let mut ran_out = false;
     let mut left = 0;
     let mut place = 0;
     while place < sources.len() {
@@ -81,7 +85,8 @@ fn leave_sources<K: Key>(
         left += run;
         place += run;
         if place < sources.len() {
-            let address = sources[place].address;
+            let Source { address, timer } = sources[place];
+            ran_out |= timer.deadline().is_some();
             if let Some(timer) = timer_at_zero(mode) {
                 sources[left] = Source { address, timer };
                 left += 1;
@@ -90,6 +95,7 @@ fn leave_sources<K: Key>(
         }
     }
     sources.truncate(left);
+    ran_out
 }
 
 impl<K: Key> Group<K> {
@@ -107,17 +113,21 @@ impl<K: Key> Group<K> {
     /// Ends the timers that have run out at this moment: sources first, then the group (RFC 3376
     /// sections 6.2.2, 6.3 and 6.5, RFC 3810 sections 7.2.2, 7.2.3 and 7.5). In INCLUDE a source
     /// at zero is removed, in EXCLUDE it stays, stopped. The end of the group timer makes the group
-    /// INCLUDE of the sources that still run; without any the group is vacant.
-    pub fn expire(&mut self, now: Moment, m: &mut Meter)
+    /// INCLUDE of the sources that still run; without any the group is vacant. Answers whether another filter is forwarded
+    /// then than before.
+    pub fn expire(&mut self, now: Moment, m: &mut Meter) -> bool
+        ensures changes_filter { result ≡ changes_filter self.old.state self.new.state }
         ensures state { self.new.state ≡ expired now self.old.state }
         ensures room { self.new.room ≡ self.old.room }
         ensures spent { Spends 0 (size_of self.old.state + 3) m.old m.new }
     {
         let mode = mode_left(&self.mode, now, m);
-        leave_sources(&mut self.sources, &mode, now, m);
+        let ran_out = leave_sources(&mut self.sources, &mode, now, m);
+        let ends = self.mode.is_unlike(&mode);
         self.mode = mode;
         self.v1 = still_ahead(&self.v1, now, m);
         self.v2 = still_ahead(&self.v2, now, m);
         self.let_go_if_vacant();
+        ran_out | ends
     }
 }

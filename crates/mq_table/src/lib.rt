@@ -18,7 +18,7 @@ pub mod sources;
 pub mod timers;
 pub mod timing;
 
-pub use changes::Change;
+pub use changes::{Change, Loaded};
 pub use group::Group;
 pub use heads::Head;
 pub use kind::Kind;

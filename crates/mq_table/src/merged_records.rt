@@ -1,13 +1,13 @@
 //! A record merged with its group: the one pass over both that every form of a record makes.
 
-ghost use Rattle.std.specs.Prelude.{◌≡◌, ◌+◌, ◌≤◌, ◌<◌, ◌++◌, [], min, length, vec_capacity, IsOk, OnOk, OnErr, IsSome};
-ghost use Rattle.std.specs.List.{filter_map};
+ghost use Rattle.std.specs.Prelude.{◌≡◌, ◌+◌, ◌≤◌, ◌<◌, ◌++◌, [], min, length, vec_capacity, IsOk, OnOk, OnErr, IfOk, IsSome};
+ghost use Rattle.std.specs.List.{filter_map, list_any};
 ghost use Rattle.std.specs.Option.{option_to_list};
 ghost use Rattle.mq_count.specs.Spending.{Spends};
 ghost use Rattle.mq_sets.specs.Ascending.{IsAscending};
 ghost use Rattle.mq_sets.specs.Merging.{merged_lists, pair_of};
 ghost use Rattle.mq_table.specs.Stored.{number_in};
-ghost use Rattle.mq_table.specs.MergedRecord.{source_with, source_made, source_asked};
+ghost use Rattle.mq_table.specs.MergedRecord.{source_with, source_made, source_asked, source_turned};
 
 use crate::rules::Rule;
 use crate::sources::Source;
@@ -46,6 +46,18 @@ pub(crate) fn source_asked<K: Key>(rule: &Rule, item: &Merged<'_, Source<K>, K>)
     if is_asked { Some(address) } else { None }
 }
 
+/// Whether the record turns the source of a pair: whether the filter of a mode that stays names it before the record or after
+/// it, and not both times.
+pub(crate) fn source_turned<K: Key>(rule: &Rule, item: &Merged<'_, Source<K>, K>) -> bool
+    ensures { result ≡ source_turned rule.now (pair_of item.now) }
+{
+    match item {
+        Merged::Left(x) => rule.turns(Some(x.timer), false),
+        Merged::Both(x, _) => rule.turns(Some(x.timer), true),
+        Merged::Right(_) => rule.turns(None, true),
+    }
+}
+
 /// Pushes an item, if there is one. A list with room for one more takes no memory.
 pub(crate) fn push_if_some<T: Copy>(list: &mut Vec<T>, item: Option<T>) -> Result<(), AllocError>
     ensures items { OnOk result (list.new.items ≡ list.old.items ++ option_to_list item) }
@@ -61,7 +73,8 @@ pub(crate) fn push_if_some<T: Copy>(list: &mut Vec<T>, item: Option<T>) -> Resul
 }
 
 /// Pushes what the record leaves of each source of the group and of the record, and the sources for
-/// which it sends a query. Each list is ascending then, and has no more than both sides have.
+/// which it sends a query. Each list is ascending then, and has no more than both sides have. Answers whether it turns a
+/// source.
 pub(crate) fn push_changes<'a, K: Key>(
     rule: &Rule,
     held: &'a [Source<K>],
@@ -69,7 +82,7 @@ pub(crate) fn push_changes<'a, K: Key>(
     sources: &mut Vec<Source<K>>,
     asked: &mut Vec<K>,
     m: &mut Meter,
-) -> Result<(), AllocError>
+) -> Result<bool, AllocError>
     requires held_ascending { IsAscending (number_in K.number) held.now }
     requires named_ascending { IsAscending K.number named.now }
     requires no_sources { sources.old.items ≡ [] }
@@ -77,6 +90,7 @@ pub(crate) fn push_changes<'a, K: Key>(
 
     ensures sources { OnOk result (sources.new.items ≡ filter_map (source_made rule.now) (merged_lists (number_in K.number) K.number held.now named.now)) }
     ensures asked { OnOk result (asked.new.items ≡ filter_map (source_asked rule.now) (merged_lists (number_in K.number) K.number held.now named.now)) }
+    ensures turned { IfOk result (λ b. b ≡ list_any (source_turned rule.now) (merged_lists (number_in K.number) K.number held.now named.now)) }
     ensures compares { OnOk result (Spends (min (length held.now) (length named.now)) (length held.now + length named.now) m.old m.new) }
     ensures compares_at_most { Spends 0 (length held.now + length named.now) m.old m.new }
 
@@ -86,10 +100,12 @@ pub(crate) fn push_changes<'a, K: Key>(
     ensures sources_room { vec_capacity sources.old ≤ vec_capacity sources.new }
     ensures asked_room { vec_capacity asked.old ≤ vec_capacity asked.new }
 {
+    let mut turned = false;
     let mut merge = merge(held, named);
     while let Some(item) = merge.next(m) {
+        turned |= source_turned(rule, &item);
         push_if_some(sources, source_made(rule, &item))?;
         push_if_some(asked, source_asked(rule, &item))?;
     }
-    Ok(())
+    Ok(turned)
 }

@@ -9,10 +9,10 @@ ghost use Rattle.mq_sets.specs.Ascending.{IsAscending};
 ghost use Rattle.mq_sets.specs.Merging.{merged_lists, pair_of};
 ghost use Rattle.mq_sets.specs.Search.{IsPlaceFor, bitlen};
 ghost use Rattle.mq_table.specs.Stored.{number_in};
-ghost use Rattle.mq_table.specs.MergedRecord.{source_made, source_asked, item_is_stopped, keeps_unnamed, LeavesAlone, LooksByHalves};
+ghost use Rattle.mq_table.specs.MergedRecord.{source_made, source_asked, source_turned, item_is_stopped, keeps_unnamed, LeavesAlone, LooksByHalves};
 
 use crate::kind::Kind;
-use crate::merged_records::{push_changes, push_if_some, source_asked, source_made};
+use crate::merged_records::{push_changes, push_if_some, source_asked, source_made, source_turned};
 use crate::rules::Rule;
 use crate::sources::{Source, rest_of};
 use crate::timers::{FilterMode, SourceTimer};
@@ -57,7 +57,7 @@ fn any_is_stopped<K: Key>(row: &[Source<K>]) -> bool
     })
 }
 
-/// Whether a record leaves each of some sources as it is where it doesn't name it, and asks for none of these.
+/// Whether a record leaves each of some sources as it is where it doesn't name it, and asks for none of these and turns none.
 fn leaves_alone<K: Key>(rule: &Rule, held: &[Source<K>]) -> bool
     ensures told { result ≡ keeps_unnamed rule.now.kind rule.now.mode held.now }
     ensures alone { result ≡ true → LeavesAlone rule.now held.now }
@@ -84,24 +84,28 @@ fn push_run<K: Key>(list: &mut Vec<Source<K>>, run: &[Source<K>])
 }
 
 /// Pushes what the record leaves of a source that it names, and the source where it asks for it. There is room for both.
+/// Answers whether it turns it.
 fn push_named<K: Key>(
     rule: &Rule,
     item: &Merged<'_, Source<K>, K>,
     sources: &mut Vec<Source<K>>,
     asked: &mut Vec<K>,
-)
+) -> bool
     requires room { length sources.old.items < vec_capacity sources.old }
     requires asked_room { length asked.old.items < vec_capacity asked.old }
     ensures sources { sources.new.items ≡ sources.old.items ++ option_to_list (source_made rule.now (pair_of item.now)) }
     ensures asked { asked.new.items ≡ asked.old.items ++ option_to_list (source_asked rule.now (pair_of item.now)) }
+    ensures turned { result ≡ source_turned rule.now (pair_of item.now) }
     ensures sources_capacity { vec_capacity sources.old ≤ vec_capacity sources.new }
     ensures asked_capacity { vec_capacity asked.old ≤ vec_capacity asked.new }
 {
     push_if_some(sources, source_made(rule, item)).unwrap();
     push_if_some(asked, source_asked(rule, item)).unwrap();
+    source_turned(rule, item)
 }
 
-/// Pushes what `push_changes` pushes, for a record that leaves the sources alone that it doesn't name.
+/// Pushes what `push_changes` pushes, and answers what it answers, for a record that leaves the sources alone that it doesn't
+/// name.
 fn push_runs<K: Key>(
     rule: &Rule,
     held: &[Source<K>],
@@ -109,7 +113,7 @@ fn push_runs<K: Key>(
     sources: &mut Vec<Source<K>>,
     asked: &mut Vec<K>,
     m: &mut Meter,
-)
+) -> bool
     requires held_ascending { IsAscending (number_in K.number) held.now }
     requires named_ascending { IsAscending K.number named.now }
     requires alone { LeavesAlone rule.now held.now }
@@ -119,30 +123,33 @@ fn push_runs<K: Key>(
     requires asked_room { length held.now + length named.now ≤ vec_capacity asked.old }
     ensures sources { sources.new.items ≡ filter_map (source_made rule.now) (merged_lists (number_in K.number) K.number held.now named.now) }
     ensures asked { asked.new.items ≡ filter_map (source_asked rule.now) (merged_lists (number_in K.number) K.number held.now named.now) }
+    ensures turned { result ≡ list_any (source_turned rule.now) (merged_lists (number_in K.number) K.number held.now named.now) }
     ensures compares { Spends (min (length held.now) (length named.now)) (length held.now + length named.now) m.old m.new }
     ensures sources_room { vec_capacity sources.old ≤ vec_capacity sources.new }
     ensures asked_room { vec_capacity asked.old ≤ vec_capacity asked.new }
 {
+    let mut turned = false;
     let mut left = held;
     for name in named {
         match find_ahead(left, *name, m) {
             Ok(place) => {
                 push_run(sources, front_of(left, place));
-                push_named(rule, &Merged::Both(&left[place], name), sources, asked);
+                turned |= push_named(rule, &Merged::Both(&left[place], name), sources, asked);
                 left = rest_of(left, place + 1);
             }
             Err(place) => {
                 push_run(sources, front_of(left, place));
-                push_named(rule, &Merged::Right(name), sources, asked);
+                turned |= push_named(rule, &Merged::Right(name), sources, asked);
                 left = rest_of(left, place);
             }
         }
     }
     push_run(sources, left);
+    turned
 }
 
-/// Pushes what `push_changes` pushes, for a record of one source that leaves the others alone. Its place is looked for by
-/// halves.
+/// Pushes what `push_changes` pushes, and answers what it answers, for a record of one source that leaves the others alone.
+/// Its place is looked for by halves.
 fn push_around<K: Key>(
     rule: &Rule,
     held: &[Source<K>],
@@ -150,7 +157,7 @@ fn push_around<K: Key>(
     sources: &mut Vec<Source<K>>,
     asked: &mut Vec<K>,
     m: &mut Meter,
-)
+) -> bool
     requires held_ascending { IsAscending (number_in K.number) held.now }
     requires alone { LeavesAlone rule.now held.now }
     requires no_sources { sources.old.items ≡ [] }
@@ -159,6 +166,7 @@ fn push_around<K: Key>(
     requires asked_room { 0 < vec_capacity asked.old }
     ensures sources { sources.new.items ≡ filter_map (source_made rule.now) (merged_lists (number_in K.number) K.number held.now (name.now ∷ [])) }
     ensures asked { asked.new.items ≡ filter_map (source_asked rule.now) (merged_lists (number_in K.number) K.number held.now (name.now ∷ [])) }
+    ensures turned { result ≡ list_any (source_turned rule.now) (merged_lists (number_in K.number) K.number held.now (name.now ∷ [])) }
     ensures compares { Spends (min 1 (length held.now)) (bitlen (length held.now)) m.old m.new }
     ensures sources_room { vec_capacity sources.old ≤ vec_capacity sources.new }
     ensures asked_room { vec_capacity asked.old ≤ vec_capacity asked.new }
@@ -166,18 +174,20 @@ fn push_around<K: Key>(
     match find(held, *name, m) {
         Ok(place) => {
             push_run(sources, front_of(held, place));
-            push_named(rule, &Merged::Both(&held[place], name), sources, asked);
+            let turned = push_named(rule, &Merged::Both(&held[place], name), sources, asked);
             push_run(sources, rest_of(held, place + 1));
+            turned
         }
         Err(place) => {
             push_run(sources, front_of(held, place));
-            push_named(rule, &Merged::Right(name), sources, asked);
+            let turned = push_named(rule, &Merged::Right(name), sources, asked);
             push_run(sources, rest_of(held, place));
+            turned
         }
     }
 }
 
-/// Pushes what `push_changes` pushes, to lists that have room for both sides. Where the record names one source and leaves
+/// Pushes what `push_changes` pushes, and answers what it answers, to lists that have room for both sides. Where the record names one source and leaves
 /// the others alone, at most one comparison for each binary digit of how many the group has.
 pub(crate) fn push_within<K: Key>(
     rule: &Rule,
@@ -186,7 +196,7 @@ pub(crate) fn push_within<K: Key>(
     sources: &mut Vec<Source<K>>,
     asked: &mut Vec<K>,
     m: &mut Meter,
-)
+) -> bool
     requires held_ascending { IsAscending (number_in K.number) held.now }
     requires named_ascending { IsAscending K.number named.now }
     requires no_sources { sources.old.items ≡ [] }
@@ -195,16 +205,17 @@ pub(crate) fn push_within<K: Key>(
     requires asked_room { length held.now + length named.now ≤ vec_capacity asked.old }
     ensures sources { sources.new.items ≡ filter_map (source_made rule.now) (merged_lists (number_in K.number) K.number held.now named.now) }
     ensures asked { asked.new.items ≡ filter_map (source_asked rule.now) (merged_lists (number_in K.number) K.number held.now named.now) }
+    ensures turned { result ≡ list_any (source_turned rule.now) (merged_lists (number_in K.number) K.number held.now named.now) }
     ensures compares { Spends (min (length held.now) (length named.now)) (length held.now + length named.now) m.old m.new }
     ensures by_halves { LooksByHalves rule.now.kind rule.now.mode held.now (length named.now) m.old m.new }
     ensures sources_room { vec_capacity sources.old ≤ vec_capacity sources.new }
     ensures asked_room { vec_capacity asked.old ≤ vec_capacity asked.new }
 {
     if !leaves_alone(rule, held) {
-        push_changes(rule, held, named, sources, asked, m).unwrap();
+        push_changes(rule, held, named, sources, asked, m).unwrap()
     } else if named.len() == 1 {
-        push_around(rule, held, &named[0], sources, asked, m);
+        push_around(rule, held, &named[0], sources, asked, m)
     } else {
-        push_runs(rule, held, named, sources, asked, m);
+        push_runs(rule, held, named, sources, asked, m)
     }
 }

@@ -3,12 +3,13 @@
 ghost use Rattle.std.specs.Prelude.{◌≡◌, ℕ, ◌+◌, ◌^◌, ◌≤◌, ◌<◌, true, min, length, vec_capacity, IsSome, IfOk, OnOk, OnErr};
 ghost use Rattle.mq_count.specs.Spending.{Spends};
 ghost use Rattle.mq_sets.specs.Ascending.{IsAscending, set_of};
+ghost use Rattle.mq_table.specs.Filter.{changes_filter};
 ghost use Rattle.mq_table.specs.Group.{timer_at};
 ghost use Rattle.mq_table.specs.MergedRecord.{LooksByHalves};
 ghost use Rattle.mq_table.specs.Table.{change_of};
 ghost use Rattle.mq_table.specs.Stored.{named_in, number_in, size_of, state_of, timers_in};
 
-use crate::changes::Change;
+use crate::changes::{Change, Loaded};
 use crate::group::Group;
 use crate::heads::Head;
 use crate::kind::Kind;
@@ -25,7 +26,7 @@ impl<K: Key> Group<K> {
     /// Becomes what a record leaves of a group, whose head and row of sources are read where they are stored. It takes no
     /// memory: the group and `asked` have room for the sources of the row and of the record together. The sources for which
     /// the record sends a query are written into `asked`, ascending, and the group has each of them. Answers whether the
-    /// record sends a query to the group.
+    /// record sends a query to the group, and whether it changes what is forwarded.
     pub fn load_changed(
         &mut self,
         head: &Head,
@@ -36,7 +37,7 @@ impl<K: Key> Group<K> {
         timing: &Timing,
         asked: &mut Vec<K>,
         m: &mut Meter,
-    ) -> bool
+    ) -> Loaded
         requires in_range { now ≤ 2 ^ 53 }
         requires row_ascending { IsAscending (number_in K.number) row.now }
         requires room { length row.now + length named.now.members ≤ self.old.room }
@@ -50,7 +51,9 @@ impl<K: Key> Group<K> {
             (s : ℕ) → set_of K.number asked.new.items s ≡ change.query s }
         ensures query_group { let before = state_of head.now (timers_in K.number row.now) in
             let change = change_of timing.now now before kind (named_in K.number named.now.members) in
-            result ≡ change.query_group }
+            result.asks_group ≡ change.query_group }
+        ensures changes_filter { let before = state_of head.now (timers_in K.number row.now) in
+            result.changes_filter ≡ changes_filter before self.new.state }
         ensures ascending { IsAscending K.number asked.new.items }
         ensures held { (s : ℕ) → set_of K.number asked.new.items s ≡ true → IsSome (timer_at self.new.state s) }
         ensures room { self.old.room ≤ self.new.room }
@@ -68,11 +71,14 @@ impl<K: Key> Group<K> {
         };
         self.sources.clear();
         asked.clear();
-        push_within(&rule, row, named.as_slice(), &mut self.sources, asked, m);
+        let turned = push_within(&rule, row, named.as_slice(), &mut self.sources, asked, m);
         self.mode = rule.mode_after();
         self.v1 = head.v1;
         self.v2 = head.v2;
-        rule.asks_group()
+        Loaded {
+            asks_group: rule.asks_group(),
+            changes_filter: turned | rule.changes_mode(),
+        }
     }
 
     /// Applies a record. The group stays as it is; the change takes memory from `alloc`. `Memory`

@@ -2,7 +2,8 @@
 
 ghost use Rattle.std.specs.Prelude.{◌≡◌, true, false};
 ghost use Rattle.mq_table.specs.Group.{Include, Exclude, sendings_of};
-ghost use Rattle.mq_table.specs.AtSource.{timer_after, is_asked_after, mode_after, asks_group_after};
+ghost use Rattle.mq_table.specs.AtSource.{timer_after, is_asked_after, mode_after, changes_mode, asks_group_after};
+ghost use Rattle.mq_table.specs.MergedRecord.{turns};
 
 use crate::kind::Kind;
 use crate::timers::{FilterMode, SourceTimer};
@@ -114,6 +115,15 @@ impl Rule {
         }
     }
 
+    /// Whether the filter names a source before the record and not after it, or after it and not before, where the mode
+    /// stays.
+    pub(crate) fn turns(&self, before: Option<SourceTimer>, is_named: bool) -> bool
+        ensures { result ≡ turns self.now.mode before (timer_after self.now.interval_end self.now.mode self.now.kind before is_named) }
+    {
+        let after = self.timer_after(before, is_named);
+        self.mode.names(&before) != self.mode.names(&after)
+    }
+
     /// The mode after the record.
     pub(crate) fn mode_after(&self) -> FilterMode
         ensures { result ≡ mode_after self.now.interval_end self.now.mode self.now.kind }
@@ -122,6 +132,13 @@ impl Rule {
             Kind::IsEx | Kind::ToEx => FilterMode::Exclude(self.interval_end),
             _ => self.mode,
         }
+    }
+
+    /// Whether one of the modes before and after the record is INCLUDE and the other EXCLUDE.
+    pub(crate) fn changes_mode(&self) -> bool
+        ensures { result ≡ changes_mode self.now.interval_end self.now.mode self.now.kind }
+    {
+        self.mode.is_unlike(&self.mode_after())
     }
 
     /// Whether the record sends a query to the group.

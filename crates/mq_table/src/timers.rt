@@ -1,8 +1,10 @@
 //! The filter mode of a group and the timers of its sources.
 
-ghost use Rattle.std.specs.Prelude.{◌≡◌, Some};
+ghost use Rattle.std.specs.Prelude.{◌≡◌, Some, not};
+ghost use Rattle.std.specs.Bool.{beq};
 ghost use Rattle.mq_count.specs.Spending.{Spends};
-ghost use Rattle.mq_table.specs.Group.{is_ahead, deadline_of, group_deadline, wants};
+ghost use Rattle.mq_table.specs.Filter.{names};
+ghost use Rattle.mq_table.specs.Group.{is_ahead, deadline_of, group_deadline, is_include, wants};
 
 use mq_count::{Meter, Moment};
 
@@ -36,6 +38,31 @@ impl FilterMode {
         match self {
             FilterMode::Include => None,
             FilterMode::Exclude(deadline) => Some(*deadline),
+        }
+    }
+
+    /// Whether only what some sources send is forwarded, and not all but what some send.
+    pub fn is_include(&self) -> bool
+        ensures { result ≡ is_include self.now }
+    {
+        matches!(self, FilterMode::Include)
+    }
+
+    /// Whether one of two modes is INCLUDE and the other EXCLUDE.
+    pub(crate) fn is_unlike(&self, other: &FilterMode) -> bool
+        ensures { result ≡ not (beq (is_include self.now) (is_include other.now)) }
+    {
+        self.is_include() != other.is_include()
+    }
+
+    /// Whether the filter of a group of this mode names a source that has this timer, or none: in INCLUDE those are named
+    /// that run, in EXCLUDE those that are stopped (RFC 3376 section 6.3, RFC 3810 section 7.3).
+    pub fn names(&self, timer: &Option<SourceTimer>) -> bool
+        ensures { result ≡ names self.now timer.now }
+    {
+        match self {
+            FilterMode::Include => matches!(timer, Some(SourceTimer::Running(_, _))),
+            FilterMode::Exclude(_) => matches!(timer, Some(SourceTimer::Stopped)),
         }
     }
 

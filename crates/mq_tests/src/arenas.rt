@@ -5,7 +5,7 @@ use mq_arena::{Arena, Unused, block_size};
 use std::alloc::{AllocError, Global};
 
 /// An arena over so many bytes, which are a multiple of 16.
-fn arena_of(alloc: Global, bytes: usize) -> Result<Arena, AllocError> {
+pub(crate) fn arena_of(alloc: Global, bytes: usize) -> Result<Arena, AllocError> {
     Ok(Arena::new(Vec::from_elem(alloc, u128::MAX, bytes / 16)?.leak()))
 }
 

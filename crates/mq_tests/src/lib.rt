@@ -23,6 +23,8 @@ mod readings;
 #[cfg(test)]
 mod source_sets;
 #[cfg(test)]
+mod storages;
+#[cfg(test)]
 mod streams;
 #[cfg(test)]
 mod writing;

@@ -9,9 +9,10 @@ pub conversion_performed : (interface vlan : Option ℕ) (file : Option (Bor (Li
 conversion_performed interface vlan file input output errors status performs =
     let few = performs.at_most_one in
     record {
-      at_most_two = omega (arith, few);
+      at_most_three = omega (arith, few);
       done = performs.done;
       faulty = λ one. inr (performs.faulty one);
       refused = λ two. absurd (omega (arith, two, few));
+      found = λ three. absurd (omega (arith, three, few));
       unread = λ none. absurd none;
     }

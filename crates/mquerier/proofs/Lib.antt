@@ -1,3 +1,4 @@
+pub mod Checkings
 pub mod Conversions
 pub mod Replayed
 pub mod Telling

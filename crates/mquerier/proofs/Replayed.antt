@@ -14,7 +14,7 @@ use Rattle.mq_replay.specs.Printing.{OutputState}
 use Rattle.mq_replay.specs.Replaying.{Replays, ReadCapture, IsWritten, text_of, packets_text}
 use Rattle.mq_wire.specs.Family.{Family}
 use Rattle.mquerier.specs.declared.failure.Failure.{Failure}
-use Rattle.mquerier.specs.declared.failure.Failure.TheVariants.{NoAddresses, NotAnAddress, NotHex, UntilTooLarge, Configuration as Unconfigured, Capture, Gap, Conversion, ConversionRead, NotOpened, Memory, Write}
+use Rattle.mquerier.specs.declared.failure.Failure.TheVariants.{NoAddresses, NotAnAddress, NotHex, UntilTooLarge, Configuration as Unconfigured, Capture, Gap, Waiting, Conversion, ConversionRead, NotOpened, Memory, Write}
 use Rattle.mquerier.specs.Changes.{Input, Output}
 use Rattle.mquerier.specs.Replays.{IsReplayedAt, SpellsAddress, asked_configuration, family_of, is_too_large}
 use Rattle.mquerier.specs.Working.{IsConfigured, WorksAt, WorksOnReplay}
@@ -68,6 +68,7 @@ replayed_for protocol own address settings until input output (Err UntilTooLarge
 replayed_for protocol own address settings until input output (Err (Unconfigured f query_seconds response_interval)) spelled works = (λ e. (address, spelled, works.0 e), λ e. (address, spelled, works.1 e))
 replayed_for protocol own address settings until input output (Err (Capture f)) spelled works = (λ e. (address, spelled, works.0 e), λ e. (address, spelled, works.1 e))
 replayed_for protocol own address settings until input output (Err (Gap number)) spelled works = (λ e. (address, spelled, works.0 e), λ e. (address, spelled, works.1 e))
+replayed_for protocol own address settings until input output (Err (Waiting number)) spelled works = (λ e. (address, spelled, works.0 e), λ e. (address, spelled, works.1 e))
 replayed_for protocol own address settings until input output (Err (Conversion number f)) spelled works = (λ e. (address, spelled, works.0 e), λ e. (address, spelled, works.1 e))
 replayed_for protocol own address settings until input output (Err ConversionRead) spelled works = (λ e. (address, spelled, works.0 e), λ e. (address, spelled, works.1 e))
 replayed_for protocol own address settings until input output (Err NotOpened) spelled works = (λ e. (address, spelled, works.0 e), λ e. (address, spelled, works.1 e))

@@ -12,7 +12,7 @@ use Rattle.mq_replay.specs.Printing.{GrowsByBeginning}
 use Rattle.mq_text.specs.Reading.{SpellsV6}
 use Rattle.mq_wire.specs.Family.{Family}
 use Rattle.mquerier.specs.declared.failure.Failure.{Failure}
-use Rattle.mquerier.specs.declared.failure.Failure.TheVariants.{NoAddresses, NotAnAddress, NotHex, UntilTooLarge, Configuration, Capture, Gap, Conversion, ConversionRead, NotOpened, Memory, Write}
+use Rattle.mquerier.specs.declared.failure.Failure.TheVariants.{NoAddresses, NotAnAddress, NotHex, UntilTooLarge, Configuration, Capture, Gap, Waiting, Conversion, ConversionRead, NotOpened, Memory, Write}
 use Rattle.mquerier.specs.Changes.{Input, Output}
 use Rattle.mquerier.specs.HexLine.{IsHexLine}
 use Rattle.mquerier.specs.Working.{IsUndecoded, Works, WorksOnMessage}
@@ -33,6 +33,7 @@ undecoded from to hex front back output NotHex source destination first second s
 undecoded from to hex front back output UntilTooLarge source destination first second spelled spelled' same why = absurd why
 undecoded from to hex front back output (Configuration f query_seconds response_interval) source destination first second spelled spelled' same why = absurd why
 undecoded from to hex front back output (Gap number) source destination first second spelled spelled' same why = absurd why
+undecoded from to hex front back output (Waiting number) source destination first second spelled spelled' same why = absurd why
 undecoded from to hex front back output (Conversion number f) source destination first second spelled spelled' same why = absurd why
 undecoded from to hex front back output ConversionRead source destination first second spelled spelled' same why = absurd why
 undecoded from to hex front back output NotOpened source destination first second spelled spelled' same why = absurd why

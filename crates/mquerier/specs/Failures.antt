@@ -13,7 +13,7 @@ use Rattle.mq_link.specs.declared.configuration.LimitName.TheVariants as limit
 use Rattle.mq_pcap.specs.declared.fault.PcapFault.{PcapFault}
 use Rattle.mq_pcap.specs.declared.fault.PcapFault.TheVariants as fault
 use Rattle.mquerier.specs.declared.failure.Failure.{Failure}
-use Rattle.mquerier.specs.declared.failure.Failure.TheVariants.{NoAddresses, NotAnAddress, NotHex, UntilTooLarge, Configuration, Capture, Gap, Conversion, ConversionRead, NotOpened, Memory, Write}
+use Rattle.mquerier.specs.declared.failure.Failure.TheVariants.{NoAddresses, NotAnAddress, NotHex, UntilTooLarge, Configuration, Capture, Gap, Waiting, Conversion, ConversionRead, NotOpened, Memory, Write}
 
 -- 2 for a fault of the command line or of a configuration, 1 for one of the input, the output or memory
 abbrev pub status_of : Failure → ℕ
@@ -24,6 +24,7 @@ status_of UntilTooLarge = 2
 status_of (Configuration f query_seconds response_interval) = 2
 status_of (Capture f) = 1
 status_of (Gap number) = 1
+status_of (Waiting number) = 1
 status_of (Conversion number f) = 1
 status_of ConversionRead = 1
 status_of NotOpened = 1
@@ -88,6 +89,7 @@ failure_text UntilTooLarge = codes "until is too large"
 failure_text (Configuration f query_seconds response_interval) = configuration_text f
 failure_text (Capture f) = capture_text f
 failure_text (Gap number) = codes "gap before record " ++ decimal number
+failure_text (Waiting number) = codes "too many wait at record " ++ decimal number
 failure_text (Conversion number f) = conversion_text f ++ decimal number
 failure_text ConversionRead = codes "conversion fault 1"
 failure_text NotOpened = codes "the file can't be opened"
@@ -114,7 +116,7 @@ configuration_words config.LastMember query_seconds response_interval =
     codes "\n  --lmqi has to be 100 to 3174400 for igmp, 1 to 8387584 for mld"
 configuration_words (config.Limit which) query_seconds response_interval = limit_words which
 configuration_words config.OwnAddress query_seconds response_interval =
-    codes "\n  --own has to be an address of a router: for igmp not 0.0.0.0 and below 224.0.0.0, for mld in fe80::/10"
+    codes "\n  --own or --querier has to be an address of a router: for igmp not 0.0.0.0 and below 224.0.0.0, for mld in fe80::/10"
 
 -- what the number of a fault of a capture means
 abbrev pub capture_words : PcapFault → List ℕ
@@ -132,6 +134,7 @@ abbrev pub failure_words : Failure → List ℕ
 failure_words (Configuration f query_seconds response_interval) = configuration_words f query_seconds response_interval
 failure_words (Capture f) = capture_words f
 failure_words (Gap number) = codes "\n  more than a day lies between the packet before and this one, or the end; groups and totals are not printed"
+failure_words (Waiting number) = codes "\n  more than 65536 queries wait for those that they go with; totals are not printed"
 failure_words failure = []
 
 abbrev pub failure_line : Failure → List ℕ

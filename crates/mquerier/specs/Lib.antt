@@ -1,5 +1,6 @@
 pub mod Breaking
 pub mod Changes
+pub mod CheckRuns
 pub mod Failures
 pub mod HexLine
 pub mod Replays

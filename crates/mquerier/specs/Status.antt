@@ -2,10 +2,11 @@
 use Rattle.std.specs.Prelude.{◌≡◌, ◌≤◌, ◌⊎◌, ℕ, Bool, true, false, List, [], ◌++◌, codes, Option, None, Some, Result, Ok, IsErr}
 use Rattle.std.specs.Option.{option_copied}
 use Rattle.hex.specs.Hex.{decode_of}
+use Rattle.mq_check.specs.declared.totals.Totals.{Totals}
 use Rattle.mq_command.specs.declared.Protocol.{Protocol}
 use Rattle.mq_command.specs.declared.Protocol.TheVariants.{Igmp, Mld}
 use Rattle.mq_command.specs.declared.Request.{Request}
-use Rattle.mq_command.specs.declared.Request.TheVariants.{Message, Convert, Show, Replay}
+use Rattle.mq_command.specs.declared.Request.TheVariants.{Message, Convert, Show, Replay, Check}
 use Rattle.mq_command.specs.declared.replay.Settings.{Settings}
 use Rattle.mq_convert.specs.declared.fault.ConvertFault.{ConvertFault}
 use Rattle.mq_convert.specs.declared.unread.Unread.{Unread}
@@ -19,6 +20,7 @@ use Rattle.mquerier.specs.declared.failure.Failure.{Failure}
 use Rattle.mquerier.specs.declared.failure.Failure.TheVariants.{NoAddresses, NotAnAddress, NotHex, Memory, Write}
 use Rattle.mquerier.specs.Breaking.{IsBrokenOff, IsConversionBroken}
 use Rattle.mquerier.specs.Changes.{Input, Output, Writes, BreaksOff}
+use Rattle.mquerier.specs.CheckRuns.{IsBrokenCheck, WritesVerdict, asked_terms}
 use Rattle.mquerier.specs.Failures.{failure_line, unread_line}
 use Rattle.mquerier.specs.HexLine.{IsHexLine}
 use Rattle.mquerier.specs.Replays.{SpellsAddress, IsRefusedAt, IsDoneAt, IsBrokenAt, family_of}
@@ -51,7 +53,7 @@ IsRefusedMessage protocol from to hex NotHex =
     × IsErr (decode_of hex)
 IsRefusedMessage protocol from to hex failure = ⊥
 
--- Why a request for a replay is refused: the first of these that holds.
+-- Why a request for a replay or a check is refused: the first of these that holds.
 abbrev pub IsRefusedReplay : Protocol → (own : List ℕ) → Settings → (until : Option ℕ) → Failure → Type 0
 IsRefusedReplay protocol own settings until NotAnAddress = IsNoAddress protocol (Some own)
 IsRefusedReplay protocol own settings until failure =
@@ -64,6 +66,8 @@ IsRefused (Message protocol hex from to) failure =
 IsRefused (Convert interface vlan file) failure = ⊥
 IsRefused (Show file) failure = ⊥
 IsRefused (Replay protocol own settings until file) failure = IsRefusedReplay protocol own.now settings until failure
+IsRefused (Check protocol querier settings within cite until file) failure =
+    IsRefusedReplay protocol querier.now settings until failure
 
 -- a text that is given spells this IPv6 address
 abbrev pub IsAddress : Option (List ℕ) → ℕ → Type 0
@@ -100,7 +104,7 @@ WritesReport protocol own settings until input output flag =
     × IsDoneAt (family_of protocol) address settings until input output flag
 
 -- What is asked for was done: a line was written, of a message (true) or of its fault (false), or a capture was
--- shown or replayed to its end.
+-- shown, replayed or checked to its end. (Whether a check found something is said apart.)
 abbrev pub IsDone : Request → Input → Output → (flag : Bool) → Type 0
 IsDone (Message protocol hex from to) input output flag =
     WritesMessage protocol (option_copied from) (option_copied to) hex.now output flag
@@ -111,6 +115,9 @@ IsDone (Show file) input output flag =
     (flag ≡ true) × (output.new.failed ≡ output.old.failed) × (count : ℕ) × WritesListing input output (Ok count)
 IsDone (Replay protocol own settings until file) input output flag =
     WritesReport protocol own.now settings until input output flag
+IsDone (Check protocol querier settings within cite until file) input output flag =
+    (flag ≡ true) × (totals : Totals)
+    × WritesVerdict protocol querier.now settings (asked_terms within until cite) input output totals
 
 -- Why a message's line was not written: memory ran out, before any of it was, or the output failed behind a
 -- beginning of it.
@@ -135,6 +142,8 @@ IsBroken (Convert interface vlan file) input output failure =
 IsBroken (Show file) input output failure = IsBrokenOff (WritesListing input output) input output failure
 IsBroken (Replay protocol own settings until file) input output failure =
     IsBrokenReplay protocol own.now settings until input output failure
+IsBroken (Check protocol querier settings within cite until file) input output failure =
+    IsBrokenCheck protocol querier.now settings (asked_terms within until cite) input output failure
 
 -- a message's fault was written and standard error told nothing, or the work broke off and that was told
 abbrev pub IsFaulty : Request → Input → (output errors : Output) → Type 0
@@ -148,6 +157,7 @@ IsOfMessage (Message protocol hex from to) = Unit {0}
 IsOfMessage (Convert interface vlan file) = ⊥
 IsOfMessage (Show file) = ⊥
 IsOfMessage (Replay protocol own settings until file) = ⊥
+IsOfMessage (Check protocol querier settings within cite until file) = ⊥
 
 -- a request for a conversion
 abbrev pub IsConversion : Request → Type 0
@@ -155,6 +165,20 @@ IsConversion (Message protocol hex from to) = ⊥
 IsConversion (Convert interface vlan file) = Unit {0}
 IsConversion (Show file) = ⊥
 IsConversion (Replay protocol own settings until file) = ⊥
+IsConversion (Check protocol querier settings within cite until file) = ⊥
+
+-- a request for a check
+abbrev pub IsCheck : Request → Type 0
+IsCheck (Message protocol hex from to) = ⊥
+IsCheck (Convert interface vlan file) = ⊥
+IsCheck (Show file) = ⊥
+IsCheck (Replay protocol own settings until file) = ⊥
+IsCheck (Check protocol querier settings within cite until file) = Unit {0}
+
+-- A check was made to its end, and standard error told nothing: this is what was counted.
+abbrev pub HasChecked : Protocol → (querier : List ℕ) → Settings → (within until : Option ℕ) → (cite : Bool) → Input → (output errors : Output) → Totals → Type 0
+HasChecked protocol querier settings within until cite input output errors totals =
+    WritesVerdict protocol querier settings (asked_terms within until cite) input output totals × (errors.new ≡ errors.old)
 
 -- standard error was told of packets whose link type isn't read, if some were written
 abbrev pub TellsUnread : (errors : Output) → Unread → Type 0
@@ -172,15 +196,27 @@ IsDoneTelling (Convert interface vlan file) input output errors =
 IsDoneTelling (Show file) input output errors = IsDone (Show file) input output true × (errors.new ≡ errors.old)
 IsDoneTelling (Replay protocol own settings until file) input output errors =
     IsDone (Replay protocol own settings until file) input output true × (errors.new ≡ errors.old)
+IsDoneTelling (Check protocol querier settings within cite until file) input output errors =
+    (totals : Totals) × (totals.findings ≡ 0) × HasChecked protocol querier.now settings within until cite input output errors totals
+
+-- A check found something.
+abbrev pub IsFinding : Request → Input → (output errors : Output) → Type 0
+IsFinding (Message protocol hex from to) input output errors = ⊥
+IsFinding (Convert interface vlan file) input output errors = ⊥
+IsFinding (Show file) input output errors = ⊥
+IsFinding (Replay protocol own settings until file) input output errors = ⊥
+IsFinding (Check protocol querier settings within cite until file) input output errors =
+    (totals : Totals) × (1 ≤ totals.findings) × HasChecked protocol querier.now settings within until cite input output errors totals
 
 -- What is asked for was done, or not, and this is the status.
 pub record Performs (request : Request) (input : Input) (output errors : Output) (status : ℕ) : Type 0 where
-  pub at_most_two : status ≤ 2
+  pub at_most_three : status ≤ 3
   pub done : status ≡ 0 → IsDoneTelling request input output errors
   pub faulty : status ≡ 1 → IsFaulty request input output errors
   -- only a faulty request is refused, and that is told
   pub refused : status ≡ 2 → (input.new ≡ input.old) × (output.new ≡ output.old)
       × (failure : Failure) × IsRefused request failure × Told errors failure
+  pub found : status ≡ 3 → IsFinding request input output errors
   pub unread : IsOfMessage request → input.new ≡ input.old
 
 -- A conversion was done, or broke off, which was told.
@@ -190,6 +226,18 @@ pub record PerformsConversion (interface vlan : Option ℕ) (input : Input) (out
       × WritesConversion interface vlan input output (Ok unread) × TellsUnread errors unread
   pub faulty : status ≡ 1 → (failure : Failure)
       × IsConversionBroken (WritesConversion interface vlan input output) input output failure × Told errors failure
+
+-- A check was made to its end, and found something or nothing; or it was refused, or broke off, which was told.
+pub record PerformsCheck (protocol : Protocol) (querier : List ℕ) (settings : Settings) (within until : Option ℕ) (cite : Bool) (input : Input) (output errors : Output) (status : ℕ) : Type 0 where
+  pub at_most_three : status ≤ 3
+  pub done : status ≡ 0 → (totals : Totals) × (totals.findings ≡ 0)
+      × HasChecked protocol querier settings within until cite input output errors totals
+  pub faulty : status ≡ 1 → (failure : Failure)
+      × IsBrokenCheck protocol querier settings (asked_terms within until cite) input output failure × Told errors failure
+  pub refused : status ≡ 2 → (input.new ≡ input.old) × (output.new ≡ output.old)
+      × (failure : Failure) × IsRefusedReplay protocol querier settings until failure × Told errors failure
+  pub found : status ≡ 3 → (totals : Totals) × (1 ≤ totals.findings)
+      × HasChecked protocol querier settings within until cite input output errors totals
 
 -- standard error was told some text, which is a line at least
 abbrev pub TellsLines : (errors : Output) → Type 0

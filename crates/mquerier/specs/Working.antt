@@ -1,6 +1,8 @@
 -- What the work on a request comes to.
 use Rattle.std.specs.Prelude.{◌≡◌, Bool, true, List, ℕ, Option, Result, Ok, Err, IsErr}
 use Rattle.hex.specs.Hex.{decode_of}
+use Rattle.mq_check.specs.declared.check_terms.CheckTerms.{CheckTerms}
+use Rattle.mq_check.specs.declared.totals.Totals.{Totals}
 use Rattle.mq_command.specs.declared.Protocol.{Protocol}
 use Rattle.mq_command.specs.declared.Request.{Request}
 use Rattle.mq_command.specs.declared.replay.Settings.{Settings}
@@ -12,6 +14,7 @@ use Rattle.mquerier.specs.declared.failure.Failure.TheVariants.{NotHex, Memory}
 use Rattle.mquerier.specs.declared.failure.Failure.TheVariants as failure
 use Rattle.mquerier.specs.Breaking.{IsBrokenOff, IsConversionBroken}
 use Rattle.mquerier.specs.Changes.{Input, Output}
+use Rattle.mquerier.specs.CheckRuns.{IsBrokenCheck, IsCheckBrokenAt, IsCheckDoneAt, WritesVerdict}
 use Rattle.mquerier.specs.Failures.{status_of}
 use Rattle.mquerier.specs.Replays.{HasFault, IsRefusedAt, IsDoneAt, IsBrokenAt}
 use Rattle.mquerier.specs.Status.{IsDone, IsRefused, IsRefusedMessage, IsRefusedReplay, IsBroken, IsBrokenMessage, IsBrokenReplay, WritesConversion, WritesListing, WritesMessage, WritesReport}
@@ -60,6 +63,22 @@ WorksAt family own settings until input output (Ok flag) = IsDoneAt family own s
 WorksAt family own settings until input output (Err failure) =
     (status_of failure ≡ 2 → IsRefusedAt family own settings until failure)
     × (status_of failure ≡ 1 → IsBrokenAt family own settings until input output failure)
+
+-- the same of a check
+abbrev pub WorksOnCheck : Protocol → (querier : List ℕ) → Settings → CheckTerms → Input → Output → Result Totals Failure → Type 0
+WorksOnCheck protocol querier settings terms input output (Ok totals) =
+    WritesVerdict protocol querier settings terms input output totals
+WorksOnCheck protocol querier settings terms input output (Err failure) =
+    (status_of failure ≡ 2 → IsRefusedReplay protocol querier settings terms.until failure)
+    × (status_of failure ≡ 1 → IsBrokenCheck protocol querier settings terms input output failure)
+
+-- the same of one at an address that was read
+abbrev pub ChecksAt : Family → (querier : ℕ) → Settings → CheckTerms → Input → Output → Result Totals Failure → Type 0
+ChecksAt family querier settings terms input output (Ok totals) =
+    IsCheckDoneAt family querier settings terms input output totals
+ChecksAt family querier settings terms input output (Err failure) =
+    (status_of failure ≡ 2 → IsRefusedAt family querier settings terms.until failure)
+    × (status_of failure ≡ 1 → IsCheckBrokenAt family querier settings terms input output failure)
 
 -- the same of a message
 abbrev pub WorksOnMessage : Protocol → (from to : Option (List ℕ)) → (hex : List ℕ) → Output → Result Bool Failure → Type 0

@@ -17,6 +17,8 @@ pub const FAULTY: u8 = 1;
 
 pub const REFUSED: u8 = 2;
 
+pub const FOUND: u8 = 3;
+
 /// Why the program did not do what it was asked for.
 #[derive(Clone, Copy, Debug, PartialEq, Eq)]
 pub enum Failure {
@@ -26,9 +28,9 @@ pub enum Failure {
     NotAnAddress,
     /// HEX isn't hexadecimal.
     NotHex,
-    /// The moment up to which a replay is to run is above 2^53.
+    /// The moment up to which a replay or a check is to run is above 2^53.
     UntilTooLarge,
-    /// The querier of a replay can't be configured so.
+    /// The querier of a replay or of a check can't be configured so.
     Configuration {
         /// Why not.
         fault: ConfigFault,
@@ -39,9 +41,14 @@ pub enum Failure {
     },
     /// The capture has a fault, or a read of it failed.
     Capture(PcapFault),
-    /// A replay came to a packet, or to its end, that lies more than a day behind the packet before.
+    /// A replay or a check came to a packet, or to its end, that lies more than a day behind the packet before.
     Gap {
         /// The number of that packet, or of the one that would follow the last.
+        number: u64,
+    },
+    /// In a check more queries waited for those that they go with than there is room for.
+    Waiting {
+        /// The number of the packet at which that came to be, or of the one that would follow the last.
         number: u64,
     },
     /// A block of a capture that is converted has a fault.
@@ -90,6 +97,10 @@ fn put_words(line: &mut Text, failure: Failure)
             line,
             b"\n  more than a day lies between the packet before and this one, or the end; groups and totals are not printed",
         ),
+        Failure::Waiting { .. } => put(
+            line,
+            b"\n  more than 65536 queries wait for those that they go with; totals are not printed",
+        ),
         _ => {}
     }
 }
@@ -118,7 +129,7 @@ fn put_configuration_words(
         ConfigFault::Limit { which } => put_limit_words(line, which),
         ConfigFault::OwnAddress => put(
             line,
-            b"\n  --own has to be an address of a router: for igmp not 0.0.0.0 and below 224.0.0.0, for mld in fe80::/10",
+            b"\n  --own or --querier has to be an address of a router: for igmp not 0.0.0.0 and below 224.0.0.0, for mld in fe80::/10",
         ),
     }
 }
@@ -188,6 +199,7 @@ pub fn status_of_failure(failure: Failure) -> u8
         | Failure::Configuration { .. } => REFUSED,
         Failure::Capture(_)
         | Failure::Gap { .. }
+        | Failure::Waiting { .. }
         | Failure::Conversion { .. }
         | Failure::ConversionRead
         | Failure::NotOpened
@@ -209,6 +221,7 @@ fn put_failure(line: &mut Text, failure: Failure)
         Failure::Configuration { fault, .. } => put_configuration(line, fault),
         Failure::Capture(fault) => put_capture(line, fault),
         Failure::Gap { number } => put_record(line, b"gap before record ", number),
+        Failure::Waiting { number } => put_record(line, b"too many wait at record ", number),
         Failure::Conversion { number, fault } => put_conversion(line, number, fault),
         Failure::ConversionRead => put(line, b"conversion fault 1"),
         Failure::NotOpened => put(line, b"the file can't be opened"),

@@ -9,6 +9,7 @@
 //! and streams.
 #![tactic(auto)]
 
+mod checking;
 mod converting;
 mod failure;
 mod program;

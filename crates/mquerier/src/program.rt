@@ -5,15 +5,17 @@ ghost use Rattle.mq_count.specs.Streams.{inner_of, has_failed};
 ghost use Rattle.mq_replay.specs.Printing.{Prints};
 ghost use Rattle.mquerier.specs.Changes.{input_by, output_by};
 ghost use Rattle.mquerier.specs.Failures.{status_of};
-ghost use Rattle.mquerier.specs.Status.{IsConversion, IsOfMessage, IsWordless, TellsLines, TellsUnread, Told, Performs, PerformsConversion, Runs};
+ghost use Rattle.mquerier.specs.Status.{IsCheck, IsConversion, IsOfMessage, IsWordless, TellsLines, TellsUnread, Told, Performs, PerformsCheck, PerformsConversion, Runs};
 
+use crate::checking::check_capture;
 use crate::converting::convert_capture;
-use crate::failure::{DONE, FAULTY, Failure, REFUSED, line_of, status_of_failure};
+use crate::failure::{DONE, FAULTY, FOUND, Failure, REFUSED, line_of, status_of_failure};
 use crate::unread::unread_line_of;
 use crate::work::work;
 use clap::Error;
 use clap::error::ErrorKind;
-use mq_command::Request;
+use mq_check::CheckTerms;
+use mq_command::{Protocol, Request, Settings};
 use mq_convert::{Choice, Unread};
 use mq_count::Watched;
 use mq_replay::{LineFault, print};
@@ -70,8 +72,8 @@ fn print_line<W: Write>(text: &str, writer: &mut Watched<W>) -> Result<(), LineF
 }
 
 /// Does what is asked for, and answers the status: 0 where it is done; 1 where the input is faulty, the
-/// output fails or memory runs out; 2 where the request is faulty. Only a message doesn't read the input. A
-/// write to `errors` that fails changes no status.
+/// output fails or memory runs out; 2 where the request is faulty; 3 where a check finds something. Only a message doesn't
+/// read the input. A write to `errors` that fails changes no status.
 pub fn perform<R: Read, W: Write, E: Write>(
     alloc: Global,
     request: &Request<'_>,
@@ -101,11 +103,22 @@ pub fn perform<R: Read, W: Write, E: Write>(
             };
             perform_conversion(alloc, choice, input, output, errors)
         }
+        Request::Check {
+            protocol,
+            querier,
+            settings,
+            within,
+            cite,
+            until,
+            ..
+        } => perform_check(
+            alloc, *protocol, querier, settings, *within, *until, *cite, input, output, errors,
+        ),
         _ => perform_work(alloc, request, input, output, errors),
     }
 }
 
-/// The same of what isn't a conversion.
+/// The same of what is neither a conversion nor a check.
 fn perform_work<R: Read, W: Write, E: Write>(
     alloc: Global,
     request: &Request<'_>,
@@ -113,7 +126,8 @@ fn perform_work<R: Read, W: Write, E: Write>(
     output: &mut Watched<W>,
     errors: &mut Watched<E>,
 ) -> u8
-    requires { IsConversion request.now → ⊥ }
+    requires converts_nothing { IsConversion request.now → ⊥ }
+    requires checks_nothing { IsCheck request.now → ⊥ }
     ensures performs { Performs request.now
         (input_by R.remaining input.old input.new)
         (output_by W.contents output.old output.new)
@@ -149,6 +163,42 @@ fn perform_conversion<R: Read, W: Write, E: Write>(
             tell_unread(&unread, errors);
             DONE
         }
+        Err(failure) => told(failure, errors),
+    }
+}
+
+/// How much earlier or later a query may be, in milliseconds, where it isn't said.
+const WITHIN: u32 = 100;
+
+/// The same of a check.
+fn perform_check<R: Read, W: Write, E: Write>(
+    alloc: Global,
+    protocol: Protocol,
+    querier: &str,
+    settings: &Settings,
+    within: Option<u32>,
+    until: Option<u64>,
+    cite: bool,
+    input: &mut Watched<R>,
+    output: &mut Watched<W>,
+    errors: &mut Watched<E>,
+) -> u8
+    ensures performs { PerformsCheck protocol querier.now settings.now within until cite
+        (input_by R.remaining input.old input.new)
+        (output_by W.contents output.old output.new)
+        (output_by E.contents errors.old errors.new)
+        result }
+    ensures refused { result ≡ 2 → output.new ≡ output.old }
+    ensures unasked { result ≡ 2 → input.new ≡ input.old }
+{
+    let terms = CheckTerms {
+        within: within.unwrap_or(WITHIN),
+        until,
+        cite,
+    };
+    match check_capture(alloc, protocol, querier, settings, terms, input, output) {
+        Ok(totals) if totals.findings == 0 => DONE,
+        Ok(_) => FOUND,
         Err(failure) => told(failure, errors),
     }
 }

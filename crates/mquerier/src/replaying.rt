@@ -86,7 +86,7 @@ where
 }
 
 /// The moment of so many milliseconds, where they are given.
-fn moment_asked(until: Option<u64>) -> Result<Option<Moment>, Failure>
+pub(crate) fn moment_asked(until: Option<u64>) -> Result<Option<Moment>, Failure>
     ensures { MatchResult result
         (λ moment. (moment ≡ until) × (is_too_large until ≡ false))
         (λ failure. (failure ≡ Failure.UntilTooLarge) × (is_too_large until ≡ true)) }
@@ -101,7 +101,10 @@ fn moment_asked(until: Option<u64>) -> Result<Option<Moment>, Failure>
 }
 
 /// The configuration of these settings, with the family's defaults for what isn't given.
-fn configured<F: CapturedFamily>(own: F::Address, settings: &Settings) -> Result<Config<F>, Failure>
+pub(crate) fn configured<F: CapturedFamily>(
+    own: F::Address,
+    settings: &Settings,
+) -> Result<Config<F>, Failure>
 where
     F::Address: LineKey,
     ensures { IsConfigured (asked_configuration F.FAMILY (F.Address.number own) settings.now) result }

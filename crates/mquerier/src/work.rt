@@ -7,7 +7,7 @@ ghost use Rattle.hex.specs.Hex.{decode_of};
 ghost use Rattle.mq_command.specs.declared.Protocol.TheVariants.{Igmp, Mld};
 ghost use Rattle.mq_count.specs.Streams.{inner_of, has_failed};
 ghost use Rattle.mquerier.specs.Changes.{input_by, output_by};
-ghost use Rattle.mquerier.specs.Status.{IsConversion, IsNoAddress, IsOfMessage};
+ghost use Rattle.mquerier.specs.Status.{IsCheck, IsConversion, IsNoAddress, IsOfMessage};
 ghost use Rattle.mquerier.specs.Working.{IsRefusal, IsUndecoded, IsUnwritten, Works, WorksOnListing, WorksOnMessage};
 
 use crate::failure::Failure;
@@ -20,14 +20,16 @@ use mq_text::{read_v4, read_v6};
 use std::alloc::Global;
 use std::io::{Read, Write};
 
-/// Does what is asked for, which isn't a conversion. Of a message it answers whether the line is that of a message, or of a fault.
+/// Does what is asked for, which is neither a conversion nor a check. Of a message it answers whether the line is that of a
+/// message, or of a fault.
 pub fn work<R: Read, W: Write>(
     alloc: Global,
     request: &Request<'_>,
     input: &mut Watched<R>,
     output: &mut Watched<W>,
 ) -> Result<bool, Failure>
-    requires { IsConversion request.now → ⊥ }
+    requires converts_nothing { IsConversion request.now → ⊥ }
+    requires checks_nothing { IsCheck request.now → ⊥ }
     ensures works { Works request.now
         (input_by R.remaining input.old input.new)
         (output_by W.contents output.old output.new)
@@ -43,8 +45,9 @@ pub fn work<R: Read, W: Write>(
             from,
             to,
         } => message(alloc, *protocol, hex, *from, *to, output),
-        // The caller makes conversions itself, since they tell standard error of what they can't read.
-        Request::Convert { .. } => unreachable!(),
+        // The caller makes conversions itself, since they tell standard error of what they can't read, and checks, which have
+        // a status of their own.
+        Request::Convert { .. } | Request::Check { .. } => unreachable!(),
         Request::Show { .. } => listing(alloc, input, output),
         Request::Replay {
             protocol,

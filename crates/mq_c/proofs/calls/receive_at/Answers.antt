@@ -1,20 +1,20 @@
-use Rattle.std.proofs.Common.{refl, sym, ◌∙◌, subst}
+use Rattle.std.proofs.Common.{is_ok, refl, sym, ap, ◌∙◌, subst}
 use Rattle.mq_link.specs.Configuration.{IsFaultless}
 use Rattle.mq_c.specs.Queries.{outbox_of, Puts}
 use Rattle.mq_c.proofs.HandedInto.{handed}
 use Rattle.mq_c.proofs.RoomForReceives.{receive_leaves_none}
 use Rattle.mq_c.proofs.calls.receive_at.Goals as goal
 
-pub returns-clause-receives : goal.returns-clause-receives
-returns-clause-receives g c =
-    let receives = c.receive-received.ensures.receives in
+pub returns-in-Ok-clause-receives : goal.returns-in-Ok-clause-receives
+returns-in-Ok-clause-receives g c enough =
+    let receives = c.in-Ok.ensures.receives in
     let made = c.new-queries.ensures in
     let width = g.F.Address.WireKey.WIDTH in
-    let left = c.receive-received.new.outlet in
+    let left = c.receive.new.outlet in
     let done = handed width c.new-queries.result receives.messages receives.answers left receives.handed in
     rw (c.out-1.given.1.1 (sym (done.1 ∙ made.same_out)))
     (record {
-      received = c.receive-received.result;
+      received = c.in-Ok.received;
       messages = receives.messages;
       answers = receives.answers;
       receives = receives.receives;
@@ -24,7 +24,8 @@ returns-clause-receives g c =
       answer_is = c.answer_to.ensures;
     })
 
-pub returns-clause-none_left_out : goal.returns-clause-none_left_out
-returns-clause-none_left_out g c room short =
+pub returns-in-Ok-clause-none_left_out : goal.returns-in-Ok-clause-none_left_out
+returns-in-Ok-clause-none_left_out g c room short =
+    let enough = sym c.receive.ensures.answer ∙ ap is_ok c.in-Ok.is in
     receive_leaves_none g.F.Address.WireKey.WIDTH (g.F.Family.envelope_of c.args.envelope.now) c.args.body.now c.args.now _ _ _ _ _
-    (subst IsFaultless c.config.ensures c.is_faultless.ensures.faultless) c.is_well_formed.ensures.formed (returns-clause-receives g c) room short
+    (subst IsFaultless c.config.ensures c.is_faultless.ensures.faultless) c.is_well_formed.ensures.formed (returns-in-Ok-clause-receives g c enough) room short

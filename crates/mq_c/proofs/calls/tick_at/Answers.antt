@@ -1,12 +1,12 @@
-use Rattle.std.proofs.Common.{refl, sym, ◌∙◌, subst}
+use Rattle.std.proofs.Common.{is_ok, refl, sym, ap, ◌∙◌, subst}
 use Rattle.mq_c.specs.Queries.{outbox_of, Puts}
 use Rattle.mq_c.proofs.HandedInto.{handed}
 use Rattle.mq_c.proofs.RoomForTicks.{tick_leaves_none}
 use Rattle.mq_c.proofs.calls.tick_at.Goals as goal
 
-pub returns-clause-ticks : goal.returns-clause-ticks
-returns-clause-ticks g c =
-    let ticks = c.tick.ensures.ticks in
+pub returns-in-Ok-clause-ticks : goal.returns-in-Ok-clause-ticks
+returns-in-Ok-clause-ticks g c enough =
+    let ticks = c.tick.ensures.ticks (c.tick.ensures.answer ∙ enough) in
     let made = c.new-queries.ensures in
     let width = g.F.Address.WireKey.WIDTH in
     let left = c.tick.new.outlet in
@@ -22,7 +22,8 @@ returns-clause-ticks g c =
       answer_is = c.answer_to_tick.ensures;
     })
 
-pub returns-clause-none_left_out : goal.returns-clause-none_left_out
-returns-clause-none_left_out g c room =
+pub returns-in-Ok-clause-none_left_out : goal.returns-in-Ok-clause-none_left_out
+returns-in-Ok-clause-none_left_out g c room =
+    let enough = sym c.tick.ensures.answer ∙ ap is_ok c.in-Ok.is in
     tick_leaves_none g.F.Address.WireKey.WIDTH c.args.now _ _ _ _ _
-    c.is_well_formed.ensures.formed (returns-clause-ticks g c) room
+    c.is_well_formed.ensures.formed (returns-in-Ok-clause-ticks g c enough) room

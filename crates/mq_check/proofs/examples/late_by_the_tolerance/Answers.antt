@@ -1,8 +1,9 @@
 -- computed
 use Rattle.std.proofs.Common.{refl}
-use Rattle.mq_check.specs.Checking.{settled, told, with_entry, with_general, with_seen, with_wanted}
+use Rattle.mq_check.specs.Checking.{with_general, with_seen, with_wanted}
+use Rattle.mq_check.specs.Waiting.{settled, told, with_entry, with_partner}
 use Rattle.mq_check.proofs.examples.late_by_the_tolerance.Goals as goal
 
 pub returns : goal.returns
-unfolding settled told with_entry with_general with_seen with_wanted
+unfolding settled told with_entry with_partner with_general with_seen with_wanted
 returns c = refl

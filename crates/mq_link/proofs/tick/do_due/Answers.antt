@@ -14,11 +14,11 @@ use Rattle.mq_link.specs.Record.{Setting}
 use Rattle.mq_link.specs.Sender.{TakesQuery, begun}
 use Rattle.mq_link.specs.Tick.{groups_after_round, groups_expired, queries_due}
 use Rattle.mq_link.proofs.DueSent.{due_sent}
-use Rattle.mq_link.proofs.Rooms.{ready_counted, rooms_counted, rooms_on}
+use Rattle.mq_link.proofs.Rooms.{ready_counted}
 use Rattle.mq_link.proofs.tick.do_due.Goals as goal
 
 pub tick_groups-requires-clause-ready : goal.tick_groups-requires-clause-ready
-tick_groups-requires-clause-ready g c = ready_counted c.args.storage.now c.tick-is_due.new.m c.requires.ready
+tick_groups-requires-clause-ready g c = ready_counted c.args.group.now.room c.args.storage.now c.tick-is_due.new.m c.requires.ready
 
 pub begin-requires : goal.begin-requires
 begin-requires g c =
@@ -50,13 +50,13 @@ returns-clause-sent g c =
     (subst (λ n. Sends (TakesQuery g.O.Outlet.takes family) c.send_general.new.sender (queries_due family c.in_force-at.result.timing n (groups_expired n c.args.storage.now.held.groups)) c.tick_groups.new.sink) moment (c.tick_groups.ensures.sent family g.met.F.Family.per_query))
 
 pub returns-clause-rooms : goal.returns-clause-rooms
-returns-clause-rooms g c = rooms_on (rooms_counted c.args.storage.now c.tick-is_due.new.m) c.tick_groups.ensures.rooms
+returns-clause-rooms g c = record { groups = c.tick_groups.ensures.rooms.groups; sources = c.tick_groups.ensures.rooms.sources }
 
 pub returns-clause-spent : goal.returns-clause-spent
 returns-clause-spent g c =
     let groups = c.args.storage.now.held.groups in
     let moment = ap (λ (f : InForce). f.moment) c.in_force-at.ensures.in_force ∙ ap (λ (s : Setting). s.now) c.tick-is_due.ensures.ticked in
-    let served = subst (λ n. Spends (least_ticked n groups) (4 * sources_in groups + 44 * map.len groups + 1) c.tick-is_due.new.m c.tick_groups.new.self.work.meter) moment c.tick_groups.ensures.spent in
+    let served = subst (λ n. Spends (least_ticked n groups) (4 * sources_in groups + 44 * map.len groups + 1) c.tick-is_due.new.m c.tick_groups.new.self.meter) moment c.tick_groups.ensures.spent in
     Spends-join_within (1 + least_ticked c.args.now groups) _ c.tick-is_due.ensures.spent served (omega arith) (omega arith)
 
 pub returns-clause-quiet : goal.returns-clause-quiet

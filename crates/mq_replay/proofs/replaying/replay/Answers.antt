@@ -21,3 +21,8 @@ returns-in_default-clause-failed g c = sym (or-false _)
 
 pub returns-in_default-new-clause-failed : goal.returns-in_default-new-clause-failed
 returns-in_default-new-clause-failed g c = sym (or-false _)
+
+pub returns-in_err-replay_on-clause-failed : goal.returns-in_err-replay_on-clause-failed
+returns-in_err-replay_on-clause-failed g c =
+    let p = err_from_is_err_and c.from_residual.result c.from_residual.ensures.1 in
+    rw (p.1, p.2) (c.in_err-replay_on.ensures.failed)

@@ -1,14 +1,16 @@
-use Rattle.std.proofs.Common.{◌≡◌, ◌+◌, ◌<◌, ◌≤◌, min, false, refl, Option, List, Some, length, length-drop, get_or, take, drop, sym, ap, subst, ◌∙◌, arith}
+use Rattle.std.proofs.Common.{◌≡◌, ◌+◌, ◌<◌, ◌≤◌, min, false, refl, Option, List, Some, length, length-drop, get_or, take, drop, sym, ap, subst, ◌∙◌, ◌||◌, arith}
 use Rattle.std.proofs.Math.ListN.{length-set}
-use Rattle.std.specs.List.{AllWithin}
+use Rattle.std.specs.List.{AllWithin, list_any}
+use Rattle.std.specs.Option.{is_some}
+use Rattle.std.proofs.lemmas.List.{take_all}
 use Rattle.mq_count.specs.Timed.{lies_ahead}
 use Rattle.mq_count.proofs.Spent.{Spends-join_within}
 use Rattle.mq_count.proofs.TimedMoments.{compared-here, compared-past}
 use Rattle.mq_table.specs.declared.sources.Source.{Source}
 use Rattle.mq_table.specs.Group.{deadline_of}
-use Rattle.mq_table.specs.MadeSources.{running_among, source_left}
+use Rattle.mq_table.specs.MadeSources.{running_among, runs_out, source_left}
 use Rattle.mq_table.specs.MergedRecord.{source_with}
-use Rattle.mq_table.proofs.EndedRuns.{run_stays, ended_leaves, behind_run, run_made, run_rest, running_among-more, running_among-run}
+use Rattle.mq_table.proofs.EndedRuns.{run_stays, ended_leaves, behind_run, run_made, run_rest, running_among-more, running_among-run, any_out-run, any_out-more}
 use Rattle.mq_table.proofs.MadeLists.{passed_some, passed_none, rest_after_some, rest_after_none}
 use Rattle.mq_table.proofs.expiry.leave_sources.Goals as goal
 use Rattle.mq_table.proofs.expiry.leave_sources.Goals.{in-Some, in_default}
@@ -38,12 +40,15 @@ loop-place-preserved-then-place-len g c =
     let rest = run_rest rule initial xs moved left place run so_far.made so_far.rest within stay c.move_run.ensures.moved c.move_run.ensures.rest in
     let next = subst (λ (xs : List (Source g.row.K.Denot)). AllWithin (λ x. lies_ahead c.args.now (deadline_of (Some x.timer)) ≡ false) xs run (min (run + 1) (length xs))) row c.count_ahead-run.ensures.next in
     let is_held = c.index.ensures ∙ behind_run xs moved place run held c.move_run.ensures.rest in
-    let ended = ended_leaves c.args.mode.now c.args.now held (subst (λ (x : Source g.row.K.Denot). lies_ahead c.args.now (deadline_of (Some x.timer)) ≡ false) (sym is_held) (next run held (omega arith) (omega (arith, inside, rest_long, so_far.len)))) in
+    let past = subst (λ (x : Source g.row.K.Denot). lies_ahead c.args.now (deadline_of (Some x.timer)) ≡ false) (sym is_held) (next run held (omega arith) (omega (arith, inside, rest_long, so_far.len))) in
+    let ended = ended_leaves c.args.mode.now c.args.now held past in
     let behind : left + run ≤ place + run = omega (arith, so_far.behind) in
     let of_run = running_among-run c.args.now place run initial c.rest_of.result.now (row ∙ so_far.rest) few c.count_ahead-run.ensures.ahead in
     let here = is_held ∙ ap (λ ys. get_or ys run held) (sym row) in
     let one = compared-here (λ x. deadline_of (Some x.timer)) c.rest_of.result.now run held (omega (arith, long, inside, rest_long, so_far.len)) here in
     let more = running_among-more initial (place + run) held inside (is_held ∙ ap (λ ys. get_or ys run held) so_far.rest ∙ sym (behind_run initial initial place run held refl)) in
+    let ran_out = any_out-more c.args.now (place + run) initial held inside (is_held ∙ ap (λ ys. get_or ys run held) so_far.rest ∙ sym (behind_run initial initial place run held refl)) past ∙ ap (λ b. b || is_some (deadline_of (Some held.timer))) (any_out-run c.args.now place run initial c.rest_of.result.now (row ∙ so_far.rest) few c.count_ahead-run.ensures.ahead ∙ sym so_far.ran_out) in
+    let is_out = ap (λ b. c.loop-place.ran_out || b) (c.is_some-ran_out.ensures ∙ ap is_some c.deadline.ensures) in
     let spent = Spends-join_within (running_among (take (place + run + 1) initial)) (running_among (take (place + run + 1) initial)) so_far.spent c.count_ahead-run.ensures.spent (omega (arith, of_run, one, more)) (omega (arith, of_run, one, more)) in
     elim c.match-timer_at_zero.branch [
       | in-Some w ↦
@@ -54,6 +59,7 @@ loop-place-preserved-then-place-len g c =
             within = omega (arith, inside);
             len = length-set moved (left + run) y ∙ moved_long;
             made = passed_some rule initial moved (left + run) (place + run) held behind inside moved_long made rest c.index.ensures y is;
+            ran_out = is_out ∙ sym ran_out;
             rest = rest_after_some rule initial moved (left + run) (place + run) held behind inside moved_long made rest c.index.ensures y;
             capacity = c.move_run.ensures.capacity ∙ so_far.capacity;
             spent = spent;
@@ -65,6 +71,7 @@ loop-place-preserved-then-place-len g c =
             within = omega (arith, inside);
             len = moved_long;
             made = passed_none rule initial moved (left + run) (place + run) held behind inside moved_long made rest c.index.ensures is;
+            ran_out = is_out ∙ sym ran_out;
             rest = rest_after_none rule initial moved (left + run) (place + run) held behind inside moved_long made rest c.index.ensures;
             capacity = c.move_run.ensures.capacity ∙ so_far.capacity;
             spent = spent;
@@ -95,7 +102,15 @@ loop-place-preserved g c =
       within = omega (arith, within, rest_long, so_far.len, so_far.within);
       len = moved_long ∙ so_far.len;
       made = run_made rule initial xs c.move_run.new.sources.items c.loop-place.left place run so_far.made so_far.rest within stay c.move_run.ensures.moved c.move_run.ensures.rest;
+      ran_out = so_far.ran_out ∙ sym (any_out-run c.args.now place run initial c.rest_of.result.now (row ∙ so_far.rest) few c.count_ahead-run.ensures.ahead);
       rest = run_rest rule initial xs c.move_run.new.sources.items c.loop-place.left place run so_far.made so_far.rest within stay c.move_run.ensures.moved c.move_run.ensures.rest;
       capacity = c.move_run.ensures.capacity ∙ so_far.capacity;
       spent = Spends-join_within (running_among (take (place + run) initial)) (running_among (take (place + run) initial)) so_far.spent c.count_ahead-run.ensures.spent (omega (arith, of_run, none)) (omega (arith, of_run, none));
     }
+
+pub returns-clause-ran_out : goal.returns-clause-ran_out
+returns-clause-ran_out g c =
+    let so_far = c.loop-place.invariant in
+    let end = c.loop-place-test.false in
+    let now_long = c.len.ensures in
+    so_far.ran_out ∙ ap (list_any (runs_out c.args.now)) (take_all c.loop-place.place c.args.sources.now.items (omega (arith, end, now_long, so_far.len)))

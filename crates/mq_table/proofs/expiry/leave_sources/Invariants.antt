@@ -1,7 +1,7 @@
 use Rattle.std.proofs.Common.{◌≡◌, ◌≤◌, ◌-◌, length, take, drop, vec_capacity}
-use Rattle.std.specs.List.{filter_map}
+use Rattle.std.specs.List.{filter_map, list_any}
 use Rattle.mq_count.specs.Spending.{Spends}
-use Rattle.mq_table.specs.MadeSources.{running_among, source_left}
+use Rattle.mq_table.specs.MadeSources.{running_among, runs_out, source_left}
 use Rattle.mq_table.proofs.expiry.leave_sources.Given as goal
 
 -- the places up to `left` have what is left of the sources passed; those ahead are as they were
@@ -11,6 +11,7 @@ invariant-loop-place g l = record {
   within : l.place ≤ length l.initial.sources.items;
   len : length l.sources.items ≡ length l.initial.sources.items;
   made : take l.left l.sources.items ≡ filter_map (source_left l.mode l.now) (take l.place l.initial.sources.items);
+  ran_out : l.ran_out ≡ list_any (runs_out l.now) (take l.place l.initial.sources.items);
   rest : drop l.place l.sources.items ≡ drop l.place l.initial.sources.items;
   capacity : vec_capacity l.sources ≡ vec_capacity l.initial.sources;
   spent : Spends (running_among (take l.place l.initial.sources.items)) (running_among (take l.place l.initial.sources.items)) l.initial.m l.m;

@@ -1,10 +1,10 @@
-use Rattle.std.proofs.Common.{◌≡◌, ◌-◌, ◌++◌, ap, ◌∙◌, arith, refl}
+use Rattle.std.proofs.Common.{◌≡◌, ◌||◌, ◌-◌, ◌++◌, ap, ◌∙◌, arith, refl}
 use Rattle.mq_count.proofs.Spent.{Spends-join_within}
 use Rattle.mq_sets.specs.Merging.{merged, merged_lists, pair_of, comparisons_along}
 use Rattle.std.specs.Option.{option_to_list}
 use Rattle.mq_table.specs.Stored.{number_in}
-use Rattle.mq_table.specs.MergedRecord.{source_made, source_asked}
-use Rattle.mq_table.proofs.Pushed.{pushed_next, pushed_few}
+use Rattle.mq_table.specs.MergedRecord.{source_made, source_asked, source_turned}
+use Rattle.mq_table.proofs.Pushed.{pushed_next, pushed_few, tested_next}
 use Rattle.mq_table.proofs.merged_records.push_changes.Goals as goal
 
 pub returns-clause-compares : goal.returns-clause-compares
@@ -53,6 +53,7 @@ loop-item-preserved g c =
     record {
       sources = pushed_next (source_made rule) c.loop-item.sources.items c.push_if_some.new.list.items pair _ _ _ (c.in_ok-push_if_some.ensures.items ∙ ap (λ o. c.loop-item.sources.items ++ option_to_list o) c.source_made.ensures) next.handed_out c.loop-item.invariant.sources;
       asked = pushed_next (source_asked rule) c.loop-item.asked.items c.push_if_some-in-Some.new.list.items pair _ _ _ (c.in_ok-push_if_some-2.ensures.items ∙ ap (λ o. c.loop-item.asked.items ++ option_to_list o) c.source_asked.ensures) next.handed_out c.loop-item.invariant.asked;
+      turned = tested_next (source_turned rule) c.loop-item.turned _ pair _ _ _ (ap (λ b. c.loop-item.turned || b) c.source_turned-turned.ensures) next.handed_out c.loop-item.invariant.turned;
       few_sources = pushed_few c.source_made.result _ _ c.in-Some.item _ _ _ _ _ c.in_ok-push_if_some.ensures.items next.left next.right c.loop-item.invariant.few_sources;
       few_asked = pushed_few c.source_asked.result _ _ c.in-Some.item _ _ _ _ _ c.in_ok-push_if_some-2.ensures.items next.left next.right c.loop-item.invariant.few_asked;
       sources_room = omega (arith, c.loop-item.invariant.sources_room, c.in_ok-push_if_some.ensures.capacity);

@@ -1,9 +1,9 @@
-use Rattle.std.proofs.Common.{◌≡◌, ◌+◌, ◌-◌, ◌≤◌, ◌++◌, length, vec_capacity}
-use Rattle.std.specs.List.{filter_map}
+use Rattle.std.proofs.Common.{◌≡◌, ◌||◌, ◌+◌, ◌-◌, ◌≤◌, ◌++◌, length, vec_capacity}
+use Rattle.std.specs.List.{filter_map, list_any}
 use Rattle.mq_count.specs.Spending.{Spends}
 use Rattle.mq_sets.specs.Merging.{merged, merged_lists, comparisons_along}
 use Rattle.mq_table.specs.Stored.{number_in}
-use Rattle.mq_table.specs.MergedRecord.{source_made, source_asked}
+use Rattle.mq_table.specs.MergedRecord.{source_made, source_asked, source_turned}
 use Rattle.mq_table.proofs.merged_records.push_changes.Given as goal
 
 -- What is pushed, and what the pairs ahead give, are what the whole merge gives; no more was pushed than
@@ -19,6 +19,7 @@ invariant-loop-item g l =
     record {
       sources : l.sources.items ++ filter_map (source_made l.rule) ahead ≡ filter_map (source_made l.rule) all;
       asked : l.asked.items ++ filter_map (source_asked l.rule) ahead ≡ filter_map (source_asked l.rule) all;
+      turned : (l.turned || list_any (source_turned l.rule) ahead) ≡ list_any (source_turned l.rule) all;
       few_sources : length l.sources.items + rest ≤ both;
       few_asked : length l.asked.items + rest ≤ both;
       sources_room : vec_capacity l.initial.sources ≤ vec_capacity l.sources;

@@ -1,10 +1,10 @@
-use Rattle.std.proofs.Common.{◌≡◌, ◌+◌, ◌-◌, ◌≤◌, ◌++◌, length, drop, max, min, vec_capacity}
-use Rattle.std.specs.List.{filter_map}
+use Rattle.std.proofs.Common.{◌≡◌, ◌||◌, ◌+◌, ◌-◌, ◌≤◌, ◌++◌, length, drop, max, min, vec_capacity}
+use Rattle.std.specs.List.{filter_map, list_any}
 use Rattle.mq_count.specs.Spending.{Spends}
 use Rattle.mq_sets.specs.Ascending.{IsAscending}
 use Rattle.mq_sets.specs.Merging.{merged_lists}
 use Rattle.mq_table.specs.Stored.{number_in}
-use Rattle.mq_table.specs.MergedRecord.{source_made, source_asked, LeavesAlone}
+use Rattle.mq_table.specs.MergedRecord.{source_made, source_asked, source_turned, LeavesAlone}
 use Rattle.mq_table.proofs.merged_runs.push_runs.Given as goal
 
 -- What is pushed, and what the pairs ahead give, are what the whole merge gives; no more was pushed than both sides have
@@ -18,6 +18,7 @@ invariant-loop-name g l =
     record {
       sources : l.sources.items ++ filter_map (source_made l.rule) ahead ≡ filter_map (source_made l.rule) all;
       asked : l.asked.items ++ filter_map (source_asked l.rule) ahead ≡ filter_map (source_asked l.rule) all;
+      turned : (l.turned || list_any (source_turned l.rule) ahead) ≡ list_any (source_turned l.rule) all;
       ascending : IsAscending number l.left;
       named_ascending : IsAscending g.K.Key.number (drop l.name-index l.named);
       alone : LeavesAlone l.rule l.left;

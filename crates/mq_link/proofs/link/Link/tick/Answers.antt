@@ -1,21 +1,6 @@
-use Rattle.std.proofs.Common.{◌+◌, ◌*◌, ◌<◌, sym, subst, arith}
-use Rattle.std.specs.FinMap as map
-use Rattle.mq_count.specs.Spending.{Spends}
-use Rattle.mq_link.specs.Link.{LinkValue}
-use Rattle.mq_link.specs.State.{LinkState, sources_in}
-use Rattle.mq_link.specs.Tick.{next_of, tick_of}
-use Rattle.mq_link.proofs.Moved.{paid_moves}
+use Rattle.std.proofs.Common.{◌∙◌}
+use Rattle.mq_link.specs.Workspace.{suffices}
 use Rattle.mq_link.proofs.link.Link.tick.Goals as goal
 
-pub returns-clause-later : goal.returns-clause-later
-returns-clause-later g c =
-    let now = c.args.now in
-    let later = subst (λ (v : LinkValue). now < next_of (tick_of v.config now v.state).state) (sym c.self.view_is) (c.is_well_formed.ensures.later now) in
-    subst (λ (s : LinkState). now < next_of s) (sym c.tick.ensures.ticks.ticks.leaves) later
-
-pub returns-clause-moved : goal.returns-clause-moved
-returns-clause-moved g c =
-    let before = c.self.inside.router in
-    let most = 6 * sources_in before.groups + 136 * map.len before.groups in
-    subst (λ (v : LinkValue). Spends 0 (6 * sources_in v.state.groups + 136 * map.len v.state.groups) v.moved c.tick.new.self.moved) c.self.view_is
-    (paid_moves most c.tick.ensures.moved (omega (arith, c.lemma_is_stored.ensures.put_by)))
+pub invariant_of-self : goal.invariant_of-self
+invariant_of-self g c = (λ i. suffices (c.tick_in.ensures.config i).limits (c.tick_in.ensures.workspace i)) ∙ c.self.invariant

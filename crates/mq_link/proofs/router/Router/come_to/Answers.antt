@@ -12,7 +12,8 @@ use Rattle.mq_link.specs.Tick.{moment_of, next_of, tick_of}
 use Rattle.mq_link.proofs.Faultless.{timing_in_range}
 use Rattle.mq_link.proofs.LinkStored.{ready_in, stored_next, none_due}
 use Rattle.mq_link.proofs.LinkTicked.{HasDone, does_tick, sound_after_tick}
-use Rattle.mq_link.proofs.Rooms.{ready_counted, rooms_counted, rooms_on}
+use Rattle.mq_link.proofs.Rooms.{enough_room, enough_space, ready_counted, workspace_next}
+use Rattle.mq_link.proofs.RouterSteps.{enough_inside}
 use Rattle.mq_link.proofs.router.Router.come_to.Given.{Over}
 use Rattle.mq_link.proofs.router.Router.come_to.Goals as goal
 use Rattle.mq_link.proofs.router.Router.come_to.Goals.{After-do_due}
@@ -20,7 +21,19 @@ use Rattle.mq_link.proofs.router.Router.come_to.Goals.{After-do_due}
 pub do_due-requires-clause-ready : goal.do_due-requires-clause-ready
 do_due-requires-clause-ready g c =
     let inside = c.self.inside in
-    ready_counted inside.storage c.later-now.new.m (ready_in inside.status inside.storage c.lemma_is_sound.ensures.faultless c.self.invariant.sound c.self.invariant.room)
+    let enough = enough_inside c.self.view_is c.work.view_is c.requires.enough in
+    let room = enough_room inside.status.config.limits _ enough c.work.invariant in
+    ready_counted _ inside.storage c.later-now.new.m (ready_in inside.status inside.storage c.lemma_is_sound.ensures.faultless c.self.invariant.sound _ room.group)
+
+pub do_due-requires-clause-space : goal.do_due-requires-clause-space
+do_due-requires-clause-space g c =
+    let inside = c.self.inside in
+    let enough = enough_inside c.self.view_is c.work.view_is c.requires.enough in
+    let space = enough_space inside.status.config.limits _ enough c.work.invariant in
+    let most = c.self.invariant.sound.within.group_count in
+    let due = space.due in
+    let spare = space.spare in
+    record { due = omega (arith, most, due); spare = omega (arith, most, spare) }
 
 pub do_due-requires-clause-in_range : goal.do_due-requires-clause-in_range
 do_due-requires-clause-in_range g c =
@@ -39,11 +52,14 @@ pub invariant_of-self : goal.invariant_of-self
 invariant_of-self g c =
     let parts = c.self.inside in
     let sure = c.lemma_is_sound.ensures in
-    stored_next parts.status c.do_due.new.status parts.storage c.do_due.new.storage parts.met parts.numbers _ c.self.invariant
+    stored_next parts.status c.do_due.new.status parts.storage c.do_due.new.storage c.self.invariant
     (does_tick _ _ c.args.now _ _ _ _ _ sure.family (at_moment g c) (did g c)).leaves.config
     (sound_after_tick _ _ c.args.now _ _ _ _ _ sure.family (at_moment g c) (did g c) (timing_in_range parts.status.config sure.faultless) sure.timing c.self.invariant.sound)
-    (rooms_on (rooms_counted parts.storage c.later-now.new.m) c.do_due.ensures.rooms)
-    c.do_due.ensures.space
+    (record { groups = c.do_due.ensures.rooms.groups; sources = c.do_due.ensures.rooms.sources })
+
+pub invariant_of-work : goal.invariant_of-work
+invariant_of-work g c =
+    workspace_next _ _ c.work.invariant (record { group = c.do_due.ensures.room; named = refl; asked = omega arith; met = refl }) c.do_due.ensures.space c.work.invariant.none_met
 
 pub returns-clause-step : goal.returns-clause-step
 returns-clause-step g c =
@@ -57,8 +73,8 @@ returns-clause-spent g c =
     let groups = c.self.inside.storage.held.groups in
     let most = 4 * sources_in groups + 44 * map.len groups + 3 in
     let spent = Spends-join_within (2 + least_ticked c.later-now.result groups) most c.later-now.ensures.spent c.do_due.ensures.spent (omega arith) (omega arith) in
-    let there = subst (λ m. Spends (2 + least_ticked m groups) most c.self.inside.storage.work.meter c.do_due.new.storage.work.meter) (at_moment g c) spent in
-    subst (λ (r : RouterValue). Spends (2 + least_ticked (moment_of (state_of r) c.args.now) r.groups) (4 * sources_in r.groups + 44 * map.len r.groups + 3) r.spent c.do_due.new.storage.work.meter) c.self.view_is there
+    let there = subst (λ m. Spends (2 + least_ticked m groups) most c.self.inside.storage.meter c.do_due.new.storage.meter) (at_moment g c) spent in
+    subst (λ (r : RouterValue). Spends (2 + least_ticked (moment_of (state_of r) c.args.now) r.groups) (4 * sources_in r.groups + 44 * map.len r.groups + 3) r.spent c.do_due.new.storage.meter) c.self.view_is there
 
 pub returns-clause-quiet : goal.returns-clause-quiet
 returns-clause-quiet g c before =
@@ -67,20 +83,12 @@ returns-clause-quiet g c before =
     let earlier = subst (λ (r : RouterValue). moment_of (state_of r) c.args.now < next_of (state_of r)) (sym c.self.view_is) before in
     let moment : c.later-now.result < next_of (state_of inside) = subst (λ m. m < next_of (state_of inside)) (sym (at_moment g c)) earlier in
     let spent = Spends-join_within 2 3 c.later-now.ensures.spent (c.do_due.ensures.quiet (none_due (state_of inside) c.later-now.result moment)) (omega arith) (omega arith) in
-    subst (λ (r : RouterValue). Spends 2 3 r.spent c.do_due.new.storage.work.meter) c.self.view_is spent
-
-pub do_due-requires-clause-space : goal.do_due-requires-clause-space
-do_due-requires-clause-space g c =
-    let most = c.self.invariant.sound.within.group_count in
-    let space = c.self.invariant.number_room in
-    let due = space.due in
-    let spare = space.spare in
-    record { due = omega arith; spare = omega arith }
+    subst (λ (r : RouterValue). Spends 2 3 r.spent c.do_due.new.storage.meter) c.self.view_is spent
 
 pub returns-clause-moved : goal.returns-clause-moved
 returns-clause-moved g c =
     let left = c.do_due.new.storage in
-    subst (λ (r : RouterValue). IsPaid (most_moved_by_tick r.groups) r.put_by (put_by_rows left.held) r.moved left.work.moves) c.self.view_is c.do_due.ensures.moved
+    subst (λ (r : RouterValue). IsPaid (most_moved_by_tick r.groups) r.put_by (put_by_rows left.held) r.moved left.moves) c.self.view_is c.do_due.ensures.moved
 
 pub returns-clause-still : goal.returns-clause-still
 returns-clause-still g c before =

@@ -11,11 +11,15 @@ use Rattle.mq_link.specs.State.{sources_in}
 use Rattle.mq_link.specs.Storage.{put_by_rows}
 use Rattle.mq_link.proofs.Faultless.{few_sources, timing_in_range}
 use Rattle.mq_link.proofs.LinkStored.{ready_in, stored_next}
-use Rattle.mq_link.proofs.RouterSteps.{sound_heard}
+use Rattle.mq_link.proofs.Rooms.{enough_room, enough_space, workspace_next}
+use Rattle.mq_link.proofs.RouterSteps.{enough_inside, sound_heard}
 use Rattle.mq_link.proofs.router.Router.hear.Goals as goal
 
 pub hear_query-requires-clause-ready : goal.hear_query-requires-clause-ready
-hear_query-requires-clause-ready g c = ready_in c.self.inside.status c.self.inside.storage c.lemma_is_sound.ensures.faultless c.self.invariant.sound c.self.invariant.room
+hear_query-requires-clause-ready g c =
+    let enough = enough_inside c.self.view_is c.work.view_is c.requires.enough in
+    let room = enough_room c.self.inside.status.config.limits _ enough c.work.invariant in
+    ready_in c.self.inside.status c.self.inside.storage c.lemma_is_sound.ensures.faultless c.self.invariant.sound _ room.group
 
 pub hear_query-requires-clause-small : goal.hear_query-requires-clause-small
 hear_query-requires-clause-small g c address = omega (arith, c.self.invariant.sound.within.group_sources address, few_sources c.self.inside.status.config c.lemma_is_sound.ensures.faultless)
@@ -26,10 +30,15 @@ invariant_of-self g c =
     let inside = router_of parts.status parts.storage parts.counts in
     let sure = c.lemma_is_sound.ensures in
     let heard = c.hear_query.ensures in
-    stored_next parts.status c.hear_query.new.self parts.storage c.hear_query.new.storage parts.met parts.numbers (record parts.numbers { due = c.hear_query.new.numbers }) c.self.invariant
+    stored_next parts.status c.hear_query.new.self parts.storage c.hear_query.new.storage c.self.invariant
     (ap (λ (s : Setting). s.config) heard.election)
     (sound_heard inside _ (numbered_query g.F.Address.Key.number c.args.query.now) c.hear_query.new.self c.hear_query.new.storage.held.groups (timing_in_range inside.at.config sure.faultless) c.requires.carried sure.timing c.self.invariant.sound heard.election heard.groups)
-    heard.rooms (record { due = heard.capacity; spare = refl })
+    heard.rooms
+
+pub invariant_of-work : goal.invariant_of-work
+invariant_of-work g c =
+    let heard = c.hear_query.ensures in
+    workspace_next _ _ c.work.invariant (record { group = heard.room; named = refl; asked = omega arith; met = refl }) (record { due = heard.capacity; spare = refl }) c.work.invariant.none_met
 
 pub returns-clause-leaves : goal.returns-clause-leaves
 returns-clause-leaves g c =
@@ -44,12 +53,15 @@ returns-clause-leaves g c =
 
 pub returns-clause-spent : goal.returns-clause-spent
 returns-clause-spent g c =
-    subst (λ (r : RouterValue). Spends 1 (2 * sources_in r.groups + 20 * map.len r.groups + 12 * source_count c.args.query.now.version + 40) r.spent c.hear_query.new.storage.work.meter) c.self.view_is c.hear_query.ensures.spent
+    subst (λ (r : RouterValue). Spends 1 (2 * sources_in r.groups + 20 * map.len r.groups + 12 * source_count c.args.query.now.version + 40) r.spent c.hear_query.new.storage.meter) c.self.view_is c.hear_query.ensures.spent
 
 pub hear_query-requires-clause-space : goal.hear_query-requires-clause-space
-hear_query-requires-clause-space g c = omega (arith, c.self.invariant.sound.within.group_count, c.self.invariant.number_room.due)
+hear_query-requires-clause-space g c =
+    let enough = enough_inside c.self.view_is c.work.view_is c.requires.enough in
+    let space = enough_space c.self.inside.status.config.limits _ enough c.work.invariant in
+    omega (arith, c.self.invariant.sound.within.group_count, space.due)
 
 pub returns-clause-moved : goal.returns-clause-moved
 returns-clause-moved g c =
     let left = c.hear_query.new.storage in
-    subst (λ (r : RouterValue). IsPaid (10 * sources_in r.groups + 22 * map.len r.groups + 21) r.put_by (put_by_rows left.held) r.moved left.work.moves) c.self.view_is c.hear_query.ensures.moved
+    subst (λ (r : RouterValue). IsPaid (10 * sources_in r.groups + 22 * map.len r.groups + 21) r.put_by (put_by_rows left.held) r.moved left.moves) c.self.view_is c.hear_query.ensures.moved

@@ -9,19 +9,28 @@ use Rattle.mq_link.specs.Receive.{with_outcomes}
 use Rattle.mq_link.specs.Record.{all_judged}
 use Rattle.mq_link.specs.Router.{HasReceipt, RouterValue, router_of, silent_step, state_of}
 use Rattle.mq_link.specs.State.{sources_in}
-use Rattle.mq_link.specs.Storage.{put_by_rows}
-use Rattle.mq_link.proofs.LinkStored.{stored_forgotten}
-use Rattle.mq_link.proofs.Rooms.{space_stays}
+use Rattle.mq_link.specs.Storage.{KeepsRoom, put_by_rows}
+use Rattle.mq_link.proofs.LinkStored.{stored_next}
+use Rattle.mq_link.proofs.Rooms.{enough_room, room_on, space_stays, workspace_next}
+use Rattle.mq_link.proofs.RouterSteps.{enough_inside}
 use Rattle.mq_link.proofs.router.Router.take_records.Goals as goal
 
-pub take_each-received-requires-clause-seen_room : goal.take_each-received-requires-clause-seen_room
-take_each-received-requires-clause-seen_room g c = omega (arith, c.self.invariant.group_room, c.self.invariant.seen_room)
+pub take_each-received-requires-clause-room : goal.take_each-received-requires-clause-room
+take_each-received-requires-clause-room g c =
+    let enough = enough_inside c.self.view_is c.work.view_is c.requires.enough in
+    enough_room c.self.inside.status.config.limits _ enough c.work.invariant
 
 pub invariant_of-self : goal.invariant_of-self
 invariant_of-self g c =
     let parts = c.self.inside in
     let left = c.take_each-received.ensures in
-    stored_forgotten parts.status parts.storage c.take_each-received.new.storage parts.met c.take_each-received.new.seen c.clear.new.self parts.numbers c.self.invariant left.sound left.rooms left.seen_room c.clear.ensures.room c.clear.ensures.none (space_stays parts.numbers)
+    stored_next parts.status parts.status parts.storage c.take_each-received.new.storage c.self.invariant refl left.sound left.rooms
+
+pub invariant_of-work : goal.invariant_of-work
+invariant_of-work g c =
+    let taken = c.take_each-received.new.work in
+    let cleared : KeepsRoom taken (record taken { met = c.clear.new.self }) = record { group = omega arith; named = refl; asked = omega arith; met = c.clear.ensures.room } in
+    workspace_next _ _ c.work.invariant (room_on c.take_each-received.ensures.room cleared) (space_stays c.work.inside.numbers) c.clear.ensures.none
 
 pub returns-clause-receipt : goal.returns-clause-receipt
 returns-clause-receipt g c =
@@ -42,9 +51,9 @@ returns-clause-receipt g c =
 
 pub returns-clause-spent : goal.returns-clause-spent
 returns-clause-spent g c =
-    subst (λ (r : RouterValue). Spends (least_all r.at map.empty c.args.records.now r.groups) (24 * sources_in r.groups + sum_by own_cost c.args.records.now) r.spent c.take_each-received.new.storage.work.meter) c.self.view_is c.take_each-received.ensures.spent
+    subst (λ (r : RouterValue). Spends (least_all r.at map.empty c.args.records.now r.groups) (24 * sources_in r.groups + sum_by own_cost c.args.records.now) r.spent c.take_each-received.new.storage.meter) c.self.view_is c.take_each-received.ensures.spent
 
 pub returns-clause-moved : goal.returns-clause-moved
 returns-clause-moved g c =
     let left = c.take_each-received.new.storage in
-    subst (λ (r : RouterValue). IsPaid (24 * sources_in r.groups + sum_by own_moves c.args.records.now) r.put_by (put_by_rows left.held) r.moved left.work.moves) c.self.view_is c.take_each-received.ensures.moved
+    subst (λ (r : RouterValue). IsPaid (24 * sources_in r.groups + sum_by own_moves c.args.records.now) r.put_by (put_by_rows left.held) r.moved left.moves) c.self.view_is c.take_each-received.ensures.moved

@@ -16,7 +16,7 @@ use Rattle.mq_held.specs.declared.held_group.HeldGroup.{HeldGroup}
 use Rattle.mq_held.specs.Groups.{group_at, sources_in, sources_of, with_group}
 use Rattle.mq_link.specs.declared.status.InForce.{InForce}
 use Rattle.mq_link.specs.declared.storage.Storage.{Storage}
-use Rattle.mq_link.specs.declared.storage.Workspace.{Workspace}
+use Rattle.mq_link.specs.declared.storage.Scratch.{Scratch}
 use Rattle.mq_link.specs.Changing.{acts_as, statement_of, change_written}
 use Rattle.mq_link.specs.Configuration.{Configuration}
 use Rattle.mq_link.specs.Family.{v1_mutes_leave, per_query}
@@ -30,7 +30,7 @@ use Rattle.mq_link.proofs.KeptGroups.{found_or_not, group_found}
 use Rattle.mq_link.proofs.LeastCosts.{worked}
 use Rattle.mq_link.proofs.Moved.{paid_none, paid_within}
 use Rattle.mq_link.proofs.MadeEntries.{round_keeps_size}
-use Rattle.mq_link.proofs.Rooms.{room_on, rooms_counted, rooms_on}
+use Rattle.mq_link.proofs.Rooms.{room_on, rooms_on}
 use Rattle.mq_link.proofs.StatedSteps.{AreFew, IsChanged, stated_ignored, stated_judged, kept_is_held, kept_stays, left_has_place, left_has_room, made_few}
 use Rattle.mq_link.proofs.status.Status.apply.Given.{Over}
 use Rattle.mq_link.proofs.status.Status.apply.Goals as goal
@@ -39,34 +39,34 @@ use Rattle.mq_link.proofs.status.Status.apply.Goals.{After-change, After-ask, Af
 abbrev stored_as : {K : Type 0} → (K → ℕ) → HeldGroup K → ScheduledGroup
 stored_as number stored = record { group = group_stored number stored; schedule = stored.schedule }
 
-abbrev change_as : {K : Type 0} → (K → ℕ) → Workspace K → (asks_group : Bool) → GroupChange
+abbrev change_as : {K : Type 0} → (K → ℕ) → Scratch K → (asks_group : Bool) → GroupChange
 change_as number work asks_group = record { group = work.group.state; query = set_of number work.asked.items; query_group = asks_group }
 
-abbrev asked_as : {K : Type 0} → Workspace K → ScheduleState → ScheduledGroup
+abbrev asked_as : {K : Type 0} → Scratch K → ScheduleState → ScheduledGroup
 asked_as work schedule = record { group = work.group.state; schedule = schedule }
 
 -- what is written is the change of the statement, in its setting
 written : (g : Over) (c : After-change g) → (let number = g.F.Address.Key.number in let at = c.args.self.now in
-    change_stated (v1_mutes_leave at.config.family) (is_muted at.config (number c.args.sought.address) (statement_of c.args.said (named_in number c.args.storage.now.work.named.members))) at.election.timing at.now (statement_of c.args.said (named_in number c.args.storage.now.work.named.members)) (group_stored number c.look-stored.result)
+    change_stated (v1_mutes_leave at.config.family) (is_muted at.config (number c.args.sought.address) (statement_of c.args.said (named_in number c.args.work.now.named.members))) at.election.timing at.now (statement_of c.args.said (named_in number c.args.work.now.named.members)) (group_stored number c.look-stored.result)
     ≡ change_written number c.change.new.self.group.state c.change.new.self.asked.items c.change.result)
 written g c =
     let number = g.F.Address.Key.number in
-    let names = named_in number c.args.storage.now.work.named.members in
+    let names = named_in number c.args.work.now.named.members in
     let mutes = c.V1_MUTES_LEAVE.ensures ∙ g.met.F.Family.v1_mutes_leave ∙ ap v1_mutes_leave (sym c.lemma_is_sound.ensures.family) in
     let in_force = sym c.in_force-at.ensures.in_force in
     (λ i. change_stated (sym mutes i) (sym (c.is_muted.ensures names) i) (in_force i).timing (in_force i).moment (statement_of c.args.said names) (group_stored number c.look-stored.result)) ∙ c.change.ensures.changes
 
 -- what the change has spent is at least the work on the group
-spent_changing : (g : Over) (c : After-change g) → (let number = g.F.Address.Key.number in let members = c.args.storage.now.work.named.members in
-    Spends (least_work c.args.self.now (number c.args.sought.address) (statement_of c.args.said (named_in number members)) c.args.storage.now.held.groups) (size_of (group_stored number c.look-stored.result) + length members + 2) c.args.storage.now.work.meter c.change.new.self.meter)
+spent_changing : (g : Over) (c : After-change g) → (let number = g.F.Address.Key.number in let members = c.args.work.now.named.members in
+    Spends (least_work c.args.self.now (number c.args.sought.address) (statement_of c.args.said (named_in number members)) c.args.storage.now.held.groups) (size_of (group_stored number c.look-stored.result) + length members + 2) c.args.storage.now.meter c.change.new.m)
 spent_changing g c =
     let number = g.F.Address.Key.number in
-    let members = c.args.storage.now.work.named.members in
+    let members = c.args.work.now.named.members in
     let st = statement_of c.args.said (named_in number members) in
     let before = stored_as number c.look-stored.result in
     let mutes = c.V1_MUTES_LEAVE.ensures ∙ g.met.F.Family.v1_mutes_leave ∙ ap v1_mutes_leave (sym c.lemma_is_sound.ensures.family) in
     let moment = ap (λ (f : InForce). f.moment) c.in_force-at.ensures.in_force in
-    let so_far = subst (λ n. Spends (least_merge (size_of before.group) (acts_as c.V1_MUTES_LEAVE.result c.is_muted.result (hosts_of before.group n) st)) (size_of before.group + length members + 2) c.args.storage.now.work.meter c.change.new.self.meter) moment c.change.ensures.spent in
+    let so_far = subst (λ n. Spends (least_merge (size_of before.group) (acts_as c.V1_MUTES_LEAVE.result c.is_muted.result (hosts_of before.group n) st)) (size_of before.group + length members + 2) c.args.storage.now.meter c.change.new.m) moment c.change.ensures.spent in
     worked c.args.self.now (number c.args.sought.address) st c.args.storage.now.held.groups before c.V1_MUTES_LEAVE.result c.is_muted.result _ _ _ mutes (c.is_muted.ensures (named_in number members)) c.look-stored.ensures.group so_far
 
 -- what is asked for is that of the change
@@ -78,15 +78,15 @@ asked_so g c =
     c.ask.ensures.asked ∙ (λ i. after_change (in_force i).is_querier (in_force i).timing (in_force i).moment (change_as number c.change.new.self c.in-Some.asks_group) c.look-stored.result.schedule)
 
 few_so : (g : Over) (c : After-ask g) → (let number = g.F.Address.Key.number in
-    AreFew (size_of (group_stored number c.look-stored.result)) (size_of c.change.new.self.group.state) (size_of c.ask.new.self.group.state) (length c.args.storage.now.work.named.members))
+    AreFew (size_of (group_stored number c.look-stored.result)) (size_of c.change.new.self.group.state) (size_of c.ask.new.self.group.state) (length c.args.work.now.named.members))
 few_so g c =
     let number = g.F.Address.Key.number in
     let at = c.args.self.now in
-    made_few number (v1_mutes_leave at.config.family) _ at.election.timing at.now c.args.said c.args.storage.now.work.named.members (stored_as number c.look-stored.result) c.change.new.self.group.state c.change.new.self.asked.items c.change.result c.in-Some.asks_group (is_querier at.election.role) (asked_as c.ask.new.self c.ask.new.schedule) (written g c.before.before.before.before.before.before) c.in-Some.is (asked_so g c)
+    made_few number (v1_mutes_leave at.config.family) _ at.election.timing at.now c.args.said c.args.work.now.named.members (stored_as number c.look-stored.result) c.change.new.self.group.state c.change.new.self.asked.items c.change.result c.in-Some.asks_group (is_querier at.election.role) (asked_as c.ask.new.self c.ask.new.schedule) (written g c.before.before.before.before.before.before.before) c.in-Some.is (asked_so g c)
 
 -- the change of this group, and which limit it passes
 changed : (g : Over) (c : After-refusal g) → (let number = g.F.Address.Key.number in
-    IsChanged c.args.self.now (number c.args.sought.address) (statement_of c.args.said (named_in number c.args.storage.now.work.named.members)) c.args.storage.now.held.groups (stored_as number c.look-stored.result) (change_as number c.change.new.self c.in-Some.asks_group) (asked_as c.ask.new.self c.ask.new.schedule) c.refusal.result)
+    IsChanged c.args.self.now (number c.args.sought.address) (statement_of c.args.said (named_in number c.args.work.now.named.members)) c.args.storage.now.held.groups (stored_as number c.look-stored.result) (change_as number c.change.new.self c.in-Some.asks_group) (asked_as c.ask.new.self c.ask.new.schedule) c.refusal.result)
 changed g c =
     let number = g.F.Address.Key.number in
     let at = c.args.self.now in
@@ -98,20 +98,20 @@ changed g c =
     let name = c.refusal.ensures.name at.election.timing address (record { is_held = found_or_not c.args.storage.now.held address c.args.sought.found c.requires.sought c.lemma_is_numbered.ensures.held c.lemma_is_numbered.ensures.of_one ∙ sym c.is_ok.ensures.value; sources = sym c.look-stored.ensures.len; schedule = ap (λ (e : ScheduledGroup). e.schedule) (sym c.look-stored.ensures.group) }) in
     record {
       before_is = c.look-stored.ensures.group;
-      change_is = written g c.before.before.before.before.before.before.before.before.before.before.before.before.before.before ∙ ap (change_written number c.change.new.self.group.state c.change.new.self.asked.items) c.in-Some.is;
-      asked_is = asked_so g c.before.before.before.before.before.before.before.before;
+      change_is = written g c.before.before.before.before.before.before.before.before.before.before.before.before.before.before.before.before ∙ ap (change_written number c.change.new.self.group.state c.change.new.self.asked.items) c.in-Some.is;
+      asked_is = asked_so g c.before.before.before.before.before.before.before.before.before;
       passed_is = name ∙ (λ i. limit_passed (limits i) (with_group groups address (after_round at.election.timing (moment i) asked)) (after_round at.election.timing (moment i) asked));
     }
 
 judged : (g : Over) (c : After-refusal g) → (let number = g.F.Address.Key.number in let at = c.args.self.now in let address = number c.args.sought.address in let groups = c.args.storage.now.held.groups in let asked = asked_as c.ask.new.self c.ask.new.schedule in
-    stated at address (statement_of c.args.said (named_in number c.args.storage.now.work.named.members)) groups ≡ unless_passed c.refusal.result groups (with_group groups address (after_sending at asked)) (sent_at_once at address asked))
+    stated at address (statement_of c.args.said (named_in number c.args.work.now.named.members)) groups ≡ unless_passed c.refusal.result groups (with_group groups address (after_sending at asked)) (sent_at_once at address asked))
 judged g c = stated_judged _ _ _ _ _ _ _ _ (changed g c)
 
 -- a statement that is muted is ignored
 pub returns-in_default-clause-outcome : goal.returns-in_default-clause-outcome
 returns-in_default-clause-outcome g c =
     let number = g.F.Address.Key.number in
-    let st = statement_of c.args.said (named_in number c.args.storage.now.work.named.members) in
+    let st = statement_of c.args.said (named_in number c.args.work.now.named.members) in
     let none = ap (change_written number c.change.new.self.group.state c.change.new.self.asked.items) c.in_default.is in
     let ignored = stated_ignored c.args.self.now (number c.args.sought.address) st c.args.storage.now.held.groups (stored_as number c.look-stored.result) c.look-stored.ensures.group (written g c.before ∙ none) in
     rw ignored (record { verdict_is = refl; groups_are = refl; sent = refl })
@@ -122,7 +122,7 @@ returns-in_default-clause-spent g c =
     Spends-within _ _ (spent_changing g c.before) (omega arith) (omega (arith, size_before))
 
 pub returns-in_default-clause-rooms : goal.returns-in_default-clause-rooms
-returns-in_default-clause-rooms g c = record { groups = refl; sources = refl; work = c.change.ensures.kept }
+returns-in_default-clause-rooms g c = record { groups = refl; sources = refl }
 
 pub change-requires-clause-room : goal.change-requires-clause-room
 change-requires-clause-room g c =
@@ -150,7 +150,7 @@ refusal-requires-clause-scheduled g c = omega (arith, c.requires.sound.within.sc
 
 pub refusal-requires-clause-few : goal.refusal-requires-clause-few
 refusal-requires-clause-few g c =
-    let few = few_so g c.before.before.before.before.before.before.before in
+    let few = few_so g c.before.before.before.before.before.before.before.before in
     let a = few.changed in
     let b = few.asked in
     let size_before = ap (λ (e : ScheduledGroup). size_of e.group) c.look-stored.ensures.group in
@@ -166,10 +166,22 @@ refusal-requires-clause-change g c =
 
 -- there is as much room as before
 rooms_so : (g : Over) (c : After-refusal g) → KeepsRooms c.args.storage.now c.refusal.new.self
-rooms_so g c =
-    let between : Storage _ = record c.args.storage.now { work = c.ask.new.self } in
-    let asked : KeepsRooms c.args.storage.now between = record { groups = refl; sources = refl; work = room_on c.change.ensures.kept c.ask.ensures.kept } in
-    subst (KeepsRooms c.args.storage.now) (sym c.refusal.ensures.left) (rooms_on asked (rooms_counted between c.refusal.new.self.work.meter))
+rooms_so g c = subst (KeepsRooms c.args.storage.now) (sym c.refusal.ensures.left) (record { groups = refl; sources = refl })
+
+pub returns-in-Some-refusal-clause-room : goal.returns-in-Some-refusal-clause-room
+returns-in-Some-refusal-clause-room g c = room_on c.change.ensures.kept c.ask.ensures.kept
+
+pub returns-clause-room : goal.returns-clause-room
+returns-clause-room g c =
+    let room = c.round.ensures.room in
+    let sent : KeepsRoom c.ask.new.self (record c.ask.new.self { group = c.round.new.group }) = record { group = omega arith; named = refl; asked = omega arith; met = refl } in
+    room_on (room_on c.change.ensures.kept c.ask.ensures.kept) sent
+
+pub returns-in-Some-refusal-clause-met : goal.returns-in-Some-refusal-clause-met
+returns-in-Some-refusal-clause-met g c = c.ask.ensures.met ∙ c.change.ensures.met
+
+pub returns-clause-met : goal.returns-clause-met
+returns-clause-met g c = c.ask.ensures.met ∙ c.change.ensures.met
 
 pub returns-in-Some-refusal-clause-rooms : goal.returns-in-Some-refusal-clause-rooms
 returns-in-Some-refusal-clause-rooms g c = rooms_so g c.before
@@ -179,14 +191,14 @@ returns-in-Some-refusal-clause-outcome g c =
     rw (judged g c.before, c.in-Some-refusal.is) (record { verdict_is = refl; groups_are = ap (λ (s : Storage _). s.held.groups) c.refusal.ensures.left; sent = refl })
 
 -- what it has spent until it is judged
-spent_judging : (g : Over) (c : After-refusal g) → (let number = g.F.Address.Key.number in let members = c.args.storage.now.work.named.members in
-    Spends (least_work c.args.self.now (number c.args.sought.address) (statement_of c.args.said (named_in number members)) c.args.storage.now.held.groups) (3 * (size_of (group_stored number c.look-stored.result) + length members) + 5) c.args.storage.now.work.meter c.refusal.new.self.work.meter)
+spent_judging : (g : Over) (c : After-refusal g) → (let number = g.F.Address.Key.number in let members = c.args.work.now.named.members in
+    Spends (least_work c.args.self.now (number c.args.sought.address) (statement_of c.args.said (named_in number members)) c.args.storage.now.held.groups) (3 * (size_of (group_stored number c.look-stored.result) + length members) + 5) c.args.storage.now.meter c.refusal.new.self.meter)
 spent_judging g c =
     let number = g.F.Address.Key.number in
-    let a = (few_so g c.before.before.before.before.before.before.before.before).changed in
-    let sizes = size_of (group_stored number c.look-stored.result) + length c.args.storage.now.work.named.members in
-    let work = least_work c.args.self.now (number c.args.sought.address) (statement_of c.args.said (named_in number c.args.storage.now.work.named.members)) c.args.storage.now.held.groups in
-    let changing = Spends-join_within work (3 * sizes + 3) (spent_changing g c.before.before.before.before.before.before.before.before.before.before.before.before.before.before) c.ask.ensures.spent (omega arith) (omega (arith, a)) in
+    let a = (few_so g c.before.before.before.before.before.before.before.before.before).changed in
+    let sizes = size_of (group_stored number c.look-stored.result) + length c.args.work.now.named.members in
+    let work = least_work c.args.self.now (number c.args.sought.address) (statement_of c.args.said (named_in number c.args.work.now.named.members)) c.args.storage.now.held.groups in
+    let changing = Spends-join_within work (3 * sizes + 3) (spent_changing g c.before.before.before.before.before.before.before.before.before.before.before.before.before.before.before.before) c.ask.ensures.spent (omega arith) (omega (arith, a)) in
     Spends-join_within work _ changing c.refusal.ensures.spent (omega arith) (omega arith)
 
 pub returns-in-Some-refusal-clause-spent : goal.returns-in-Some-refusal-clause-spent
@@ -202,11 +214,11 @@ keep-requires-clause-sought g c =
 left_is : (g : Over) (c : After-round g) → ◌≡◌ {A = ScheduledGroup} (record { group = c.round.new.group.state; schedule = c.round.new.self }) (after_sending c.args.self.now (asked_as c.ask.new.self c.ask.new.schedule))
 left_is g c =
     let in_force = c.in_force-at.ensures.in_force in
-    c.round.ensures.after ∙ (λ i. after_round (in_force i).timing (in_force i).moment (asked_as (c.refusal.ensures.left i).work c.ask.new.schedule))
+    c.round.ensures.after ∙ (λ i. after_round (in_force i).timing (in_force i).moment (asked_as c.ask.new.self c.ask.new.schedule))
 
 pub keep-requires-clause-held : goal.keep-requires-clause-held
 keep-requires-clause-held g c =
-    kept_is_held _ _ _ c.args.storage.now.held.groups _ _ _ _ (changed g c.before.before.before.before.before.before.before.before.before.before.before) c.lemma_is_sound.ensures.positive c.requires.admitted c.requires.sound _ (left_is g c.before)
+    kept_is_held _ _ _ c.args.storage.now.held.groups _ _ _ _ (changed g c.before.before.before.before.before.before.before.before.before.before.before.before) c.lemma_is_sound.ensures.positive c.requires.admitted c.requires.sound _ (left_is g c.before.before)
 
 -- a group that was found is one that is held
 pub keep-requires-clause-stays : goal.keep-requires-clause-stays
@@ -215,32 +227,28 @@ keep-requires-clause-stays g c found =
     let groups = c.args.storage.now.held.groups in
     let contained = found_or_not c.args.storage.now.held address c.args.sought.found c.requires.sought c.lemma_is_numbered.ensures.held c.lemma_is_numbered.ensures.of_one ∙ found in
     let held = c.requires.sound.all address (group_at groups address) (group_found groups address contained) in
-    kept_stays _ _ _ groups _ _ _ _ (changed g c.before.before.before.before.before.before.before.before.before.before.before) _ (left_is g c.before) (subst (λ (e : ScheduledGroup). IsHeld e.group) (sym c.look-stored.ensures.group) held.held)
+    kept_stays _ _ _ groups _ _ _ _ (changed g c.before.before.before.before.before.before.before.before.before.before.before.before) _ (left_is g c.before.before) (subst (λ (e : ScheduledGroup). IsHeld e.group) (sym c.look-stored.ensures.group) held.held)
 
 pub keep-requires-clause-room : goal.keep-requires-clause-room
 keep-requires-clause-room g c =
     let address = g.F.Address.Key.number c.args.sought.address in
     let kept = c.refusal.ensures.left in
-    let most = left_has_place _ _ _ c.args.storage.now.held.groups _ _ _ _ (changed g c.before.before.before.before.before.before.before.before.before.before.before) c.lemma_is_sound.ensures.positive c.requires.admitted c.requires.sound c.in_default-refusal.is in
-    let same : map.len (with_group c.refusal.new.self.held.groups address _) ≡ map.len (with_group c.args.storage.now.held.groups address _) = λ i. map.len (with_group (kept i).held.groups address (left_is g c.before i)) in
+    let most = left_has_place _ _ _ c.args.storage.now.held.groups _ _ _ _ (changed g c.before.before.before.before.before.before.before.before.before.before.before.before) c.lemma_is_sound.ensures.positive c.requires.admitted c.requires.sound c.in_default-refusal.is in
+    let same : map.len (with_group c.refusal.new.self.held.groups address _) ≡ map.len (with_group c.args.storage.now.held.groups address _) = λ i. map.len (with_group (kept i).held.groups address (left_is g c.before.before i)) in
     let room = ap (λ (s : Storage _). s.held.order.room) kept ∙ c.requires.group_room in
     omega (arith, most, same, room)
 
 pub keep-requires-clause-fits : goal.keep-requires-clause-fits
 keep-requires-clause-fits g c =
     let address = g.F.Address.Key.number c.args.sought.address in
-    let most = left_has_room _ _ _ c.args.storage.now.held.groups _ _ _ _ (changed g c.before.before.before.before.before.before.before.before.before.before.before) c.lemma_is_sound.ensures.positive c.requires.admitted c.requires.sound c.in_default-refusal.is in
-    let same = ap (λ (e : ScheduledGroup). size_of e.group) (left_is g c.before) in
+    let most = left_has_room _ _ _ c.args.storage.now.held.groups _ _ _ _ (changed g c.before.before.before.before.before.before.before.before.before.before.before.before) c.lemma_is_sound.ensures.positive c.requires.admitted c.requires.sound c.in_default-refusal.is in
+    let same = ap (λ (e : ScheduledGroup). size_of e.group) (left_is g c.before.before) in
     let room = c.requires.source_room in
     subst (λ (s : Storage _). sources_in s.held.groups + size_of c.round.new.group.state ≤ s.held.source_room + sources_of (group_at s.held.groups address)) (sym c.refusal.ensures.left) (omega (arith, most, same, room))
 
 pub returns-clause-rooms : goal.returns-clause-rooms
 returns-clause-rooms g c =
-    let work : Workspace _ = record c.refusal.new.self.work { group = c.round.new.group; meter = c.round.new.m } in
-    let room = c.round.ensures.room in
-    let sent : KeepsRoom c.refusal.new.self.work work = record { group = omega arith; named = refl; asked = omega arith } in
-    let done : KeepsRooms c.refusal.new.self (record c.refusal.new.self { work = work }) = record { groups = refl; sources = refl; work = sent } in
-    rooms_on (rooms_on (rooms_so g c.before.before.before.before.before.before.before.before.before.before.before.before) done) c.keep.ensures.rooms
+    rooms_on (rooms_so g c.before.before.before.before.before.before.before.before.before.before.before.before.before) (record { groups = c.keep.ensures.rooms.groups; sources = c.keep.ensures.rooms.sources })
 
 pub returns-clause-outcome : goal.returns-clause-outcome
 returns-clause-outcome g c =
@@ -248,25 +256,24 @@ returns-clause-outcome g c =
     let kept = c.refusal.ensures.left in
     let in_force = c.in_force-at.ensures.in_force in
     let per = c.PER_QUERY.ensures ∙ g.met.F.Family.per_query ∙ ap per_query (sym c.lemma_is_sound.ensures.family) in
-    rw (judged g c.before.before.before.before.before.before.before.before.before.before.before.before, c.in_default-refusal.is) (record {
+    rw (judged g c.before.before.before.before.before.before.before.before.before.before.before.before.before, c.in_default-refusal.is) (record {
       verdict_is = refl;
-      groups_are = c.keep.ensures.groups ∙ (λ i. with_group (kept i).held.groups address (left_is g c.before.before i));
-      sent = subst (λ queries. Sends g.S.Sink.takes c.args.sink.now queries c.round.new.sink) (λ i. messages_due (per i) (in_force i).timing (in_force i).moment address (asked_as (kept i).work c.ask.new.schedule)) c.round.ensures.sent;
+      groups_are = c.keep.ensures.groups ∙ (λ i. with_group (kept i).held.groups address (left_is g c.before.before.before i));
+      sent = subst (λ queries. Sends g.S.Sink.takes c.args.sink.now queries c.round.new.sink) (λ i. messages_due (per i) (in_force i).timing (in_force i).moment address (asked_as c.ask.new.self c.ask.new.schedule)) c.round.ensures.sent;
     })
 
 pub returns-clause-spent : goal.returns-clause-spent
 returns-clause-spent g c =
     let number = g.F.Address.Key.number in
     let at = c.args.self.now in
-    let few = few_so g c.before.before.before.before.before.before.before.before.before.before.before.before.before.before.before.before.before.before.before.before in
+    let few = few_so g c.before.before.before.before.before.before.before.before.before.before.before.before.before.before.before.before.before.before.before.before.before.before in
     let a = few.changed in
     let b = few.asked in
     let size_before = ap (λ (e : ScheduledGroup). size_of e.group) c.look-stored.ensures.group in
-    let sizes = size_of (group_stored number c.look-stored.result) + length c.args.storage.now.work.named.members in
-    let size = ap (λ (s : Storage _). size_of s.work.group.state) c.refusal.ensures.left in
-    let work = least_work at (number c.args.sought.address) (statement_of c.args.said (named_in number c.args.storage.now.work.named.members)) c.args.storage.now.held.groups in
-    let round = Spends-join_within work (5 * sizes + 8) (spent_judging g c.before.before.before.before.before.before.before.before.before.before.before.before) c.round.ensures.spent (omega arith) (omega (arith, a, b, size)) in
-    let size_left = ap (λ (e : ScheduledGroup). size_of e.group) (left_is g c.before.before) ∙ round_keeps_size at.election.timing at.now (asked_as c.ask.new.self c.ask.new.schedule) in
+    let sizes = size_of (group_stored number c.look-stored.result) + length c.args.work.now.named.members in
+    let work = least_work at (number c.args.sought.address) (statement_of c.args.said (named_in number c.args.work.now.named.members)) c.args.storage.now.held.groups in
+    let round = Spends-join_within work (5 * sizes + 8) (spent_judging g c.before.before.before.before.before.before.before.before.before.before.before.before.before) c.round.ensures.spent (omega arith) (omega (arith, a, b)) in
+    let size_left = ap (λ (e : ScheduledGroup). size_of e.group) (left_is g c.before.before.before) ∙ round_keeps_size at.election.timing at.now (asked_as c.ask.new.self c.ask.new.schedule) in
     let digits = ap (λ (s : Storage _). bitlen (map.len s.held.groups)) c.refusal.ensures.left in
     Spends-join_within work _ round c.keep.ensures.spent (omega arith) (omega (arith, a, b, size_before, size_left, digits))
 
@@ -281,8 +288,8 @@ pub returns-clause-numbers : goal.returns-clause-numbers
 returns-clause-numbers g c = subst (λ (s : Storage _). KeepsNumbers s.held c.keep.new.self.held) c.refusal.ensures.left c.keep.ensures.numbers
 
 -- nothing is moved until it is judged
-unmoved_so : (g : Over) (c : After-refusal g) → c.refusal.new.self.work.moves ≡ c.args.storage.now.work.moves
-unmoved_so g c = ap (λ (s : Storage _). s.work.moves) c.refusal.ensures.left ∙ c.ask.ensures.unmoved ∙ c.change.ensures.unmoved
+unmoved_so : (g : Over) (c : After-refusal g) → c.refusal.new.self.moves ≡ c.args.storage.now.moves
+unmoved_so g c = ap (λ (s : Storage _). s.moves) c.refusal.ensures.left
 
 put_by_so : (g : Over) (c : After-refusal g) → put_by_rows c.refusal.new.self.held ≡ put_by_rows c.args.storage.now.held
 put_by_so g c = ap (λ (s : Storage _). put_by_rows s.held) c.refusal.ensures.left
@@ -291,16 +298,16 @@ pub returns-in_default-clause-moved : goal.returns-in_default-clause-moved
 returns-in_default-clause-moved g c =
     let number = g.F.Address.Key.number in
     let storage = c.args.storage.now in
-    let most = 5 * (sources_of (group_at storage.held.groups (number c.args.sought.address)) + length storage.work.named.members) + moved_by_edit in
-    subst (IsPaid most (put_by_rows storage.held) (put_by_rows storage.held) storage.work.moves) (sym c.change.ensures.unmoved) (paid_within most (paid_none (put_by_rows storage.held) storage.work.moves) (omega arith))
+    let most = 5 * (sources_of (group_at storage.held.groups (number c.args.sought.address)) + length c.args.work.now.named.members) + moved_by_edit in
+    paid_within most (paid_none (put_by_rows storage.held) storage.moves) (omega arith)
 
 pub returns-in-Some-refusal-clause-moved : goal.returns-in-Some-refusal-clause-moved
 returns-in-Some-refusal-clause-moved g c =
     let number = g.F.Address.Key.number in
     let storage = c.args.storage.now in
-    let most = 5 * (sources_of (group_at storage.held.groups (number c.args.sought.address)) + length storage.work.named.members) + moved_by_edit in
-    subst (λ m. IsPaid most (put_by_rows storage.held) (put_by_rows c.refusal.new.self.held) storage.work.moves m) (sym (unmoved_so g c.before))
-    (subst (λ p. IsPaid most (put_by_rows storage.held) p storage.work.moves storage.work.moves) (sym (put_by_so g c.before)) (paid_within most (paid_none (put_by_rows storage.held) storage.work.moves) (omega arith)))
+    let most = 5 * (sources_of (group_at storage.held.groups (number c.args.sought.address)) + length c.args.work.now.named.members) + moved_by_edit in
+    subst (λ m. IsPaid most (put_by_rows storage.held) (put_by_rows c.refusal.new.self.held) storage.moves m) (sym (unmoved_so g c.before))
+    (subst (λ p. IsPaid most (put_by_rows storage.held) p storage.moves storage.moves) (sym (put_by_so g c.before)) (paid_within most (paid_none (put_by_rows storage.held) storage.moves) (omega arith)))
 
 pub returns-clause-moved : goal.returns-clause-moved
 returns-clause-moved g c =
@@ -308,16 +315,16 @@ returns-clause-moved g c =
     let at = c.args.self.now in
     let storage = c.args.storage.now in
     let left = c.keep.new.self in
-    let few = few_so g c.before.before.before.before.before.before.before.before.before.before.before.before.before.before.before.before.before.before.before.before in
+    let few = few_so g c.before.before.before.before.before.before.before.before.before.before.before.before.before.before.before.before.before.before.before.before.before.before in
     let a = few.changed in
     let b = few.asked in
     let size_before = ap (λ (e : ScheduledGroup). size_of e.group) c.look-stored.ensures.group in
-    let size_left = ap (λ (e : ScheduledGroup). size_of e.group) (left_is g c.before.before) ∙ round_keeps_size at.election.timing at.now (asked_as c.ask.new.self c.ask.new.schedule) in
-    let most = 5 * (sources_of (group_at storage.held.groups (number c.args.sought.address)) + length storage.work.named.members) + moved_by_edit in
-    let judging = c.before.before.before.before.before.before.before.before.before.before.before.before in
+    let size_left = ap (λ (e : ScheduledGroup). size_of e.group) (left_is g c.before.before.before) ∙ round_keeps_size at.election.timing at.now (asked_as c.ask.new.self c.ask.new.schedule) in
+    let most = 5 * (sources_of (group_at storage.held.groups (number c.args.sought.address)) + length c.args.work.now.named.members) + moved_by_edit in
+    let judging = c.before.before.before.before.before.before.before.before.before.before.before.before.before in
     let kept = paid_within most c.keep.ensures.moved (omega (arith, a, b, size_before, size_left)) in
-    subst (λ m. IsPaid most (put_by_rows storage.held) (put_by_rows left.held) m left.work.moves) (unmoved_so g judging)
-    (subst (λ p. IsPaid most p (put_by_rows left.held) c.refusal.new.self.work.moves left.work.moves) (put_by_so g judging) kept)
+    subst (λ m. IsPaid most (put_by_rows storage.held) (put_by_rows left.held) m left.moves) (unmoved_so g judging)
+    (subst (λ p. IsPaid most p (put_by_rows left.held) c.refusal.new.self.moves left.moves) (put_by_so g judging) kept)
 
 pub keep-requires-clause-few : goal.keep-requires-clause-few
 keep-requires-clause-few g c =

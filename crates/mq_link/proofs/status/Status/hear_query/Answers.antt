@@ -1,7 +1,8 @@
-use Rattle.std.proofs.Common.{◌≡◌, ◌+◌, ◌*◌, ◌≤◌, cond, sym, ap, ◌∙◌, subst, arith}
+use Rattle.std.proofs.Common.{◌≡◌, ◌+◌, ◌*◌, ◌≤◌, cond, refl, sym, ap, ◌∙◌, subst, arith}
 use Rattle.std.specs.FinMap as map
 use Rattle.mq_count.specs.Spending.{Spends}
 use Rattle.mq_count.proofs.Spent.{Spends-none, Spends-within, Spends-join, Spends-join_within}
+use Rattle.mq_table.specs.Stored.{StoredGroup}
 use Rattle.mq_sched.specs.Election.{loses_role}
 use Rattle.mq_held.specs.Groups.{group_at, sources_of, sources_in}
 use Rattle.mq_held.proofs.Amounts.{own_sources}
@@ -11,22 +12,22 @@ use Rattle.mq_link.specs.declared.storage.Storage.{Storage}
 use Rattle.mq_link.specs.Heard.{groups_cleared, groups_lowered}
 use Rattle.mq_link.specs.Moved.{MovesWithin}
 use Rattle.mq_link.specs.Record.{Setting}
-use Rattle.mq_link.specs.Storage.{IsReady, put_by_rows}
+use Rattle.mq_link.specs.Storage.{KeepsRooms, put_by_rows}
 use Rattle.mq_link.proofs.HeardGroups.{cleared_ready, cleared_sources, cleared_small}
 use Rattle.mq_link.proofs.Moved.{paid_none, paid_within, paid_join}
-use Rattle.mq_link.proofs.Rooms.{ready_counted, rooms_counted, rooms_on}
+use Rattle.mq_link.proofs.Rooms.{ready_counted, rooms_on}
 use Rattle.mq_link.proofs.status.Status.hear_query.Goals as goal
 use Rattle.mq_link.proofs.status.Status.hear_query.Goals.{then-hear, else-hear}
 
 pub lower_held-requires-clause-ready : goal.lower_held-requires-clause-ready
 lower_held-requires-clause-ready g c = elim c.if-hear.branch [
   | then-hear w ↦
-      subst IsReady (sym w.storage-is) (cleared_ready _ _ (ready_counted c.args.storage.now c.hear.new.m c.requires.ready) w.clear_groups.ensures.groups w.clear_groups.ensures.rooms)
-  | else-hear w ↦ subst IsReady (sym w.storage-is) (ready_counted c.args.storage.now c.hear.new.m c.requires.ready)
+      rw (w.storage-is, w.group-is) (cleared_ready c.args.group.now.room w.clear_groups.new.group.room _ _ (ready_counted c.args.group.now.room c.args.storage.now c.hear.new.m c.requires.ready) w.clear_groups.ensures.groups w.clear_groups.ensures.room)
+  | else-hear w ↦ rw (w.storage-is, w.group-is) (ready_counted c.args.group.now.room c.args.storage.now c.hear.new.m c.requires.ready)
 ]
 
 pub clear_groups-requires : goal.clear_groups-requires
-clear_groups-requires g c = record { space = c.requires.space; ready = ready_counted c.args.storage.now c.hear.new.m c.requires.ready }
+clear_groups-requires g c = record { space = c.requires.space; ready = ready_counted c.args.group.now.room c.args.storage.now c.hear.new.m c.requires.ready }
 
 pub lower_held-requires-clause-small : goal.lower_held-requires-clause-small
 lower_held-requires-clause-small g c address = elim c.if-hear.branch [
@@ -58,18 +59,22 @@ returns-clause-groups g c =
     c.lower_held.ensures.groups ∙ (λ i. groups_lowered (timing i) (moment i) query (left i))
 
 pub returns-clause-rooms : goal.returns-clause-rooms
-returns-clause-rooms g c =
-    let counted = rooms_counted c.args.storage.now c.hear.new.m in
-    elim c.if-hear.branch [
-      | then-hear w ↦ rooms_on (rooms_on counted (subst (Rattle.mq_link.specs.Storage.KeepsRooms _) (sym w.storage-is) w.clear_groups.ensures.rooms)) c.lower_held.ensures.rooms
-      | else-hear w ↦ rooms_on (subst (Rattle.mq_link.specs.Storage.KeepsRooms _) (sym w.storage-is) counted) c.lower_held.ensures.rooms
-    ]
+returns-clause-rooms g c = elim c.if-hear.branch [
+  | then-hear w ↦ rooms_on (subst (KeepsRooms c.args.storage.now) (sym w.storage-is) (record { groups = w.clear_groups.ensures.rooms.groups; sources = w.clear_groups.ensures.rooms.sources })) c.lower_held.ensures.rooms
+  | else-hear w ↦ rooms_on (subst (KeepsRooms c.args.storage.now) (sym w.storage-is) (record { groups = refl; sources = refl })) c.lower_held.ensures.rooms
+]
+
+pub returns-clause-room : goal.returns-clause-room
+returns-clause-room g c = elim c.if-hear.branch [
+  | then-hear w ↦ omega (arith, w.clear_groups.ensures.room, ap (λ (x : StoredGroup). x.room) w.group-is, c.lower_held.ensures.room)
+  | else-hear w ↦ omega (arith, ap (λ (x : StoredGroup). x.room) w.group-is, c.lower_held.ensures.room)
+]
 
 pub returns-clause-spent : goal.returns-clause-spent
 returns-clause-spent g c =
     let groups = c.args.storage.now.held.groups in
     let asked = g.F.Address.Key.number c.args.query.now.group in
-    let between : Spends 0 (sources_in groups + 20 * map.len groups) c.hear.new.m c.if-hear.storage.work.meter = elim c.if-hear.branch [
+    let between : Spends 0 (sources_in groups + 20 * map.len groups) c.hear.new.m c.if-hear.storage.meter = elim c.if-hear.branch [
       | then-hear w ↦ rw w.storage-is w.clear_groups.ensures.spent
       | else-hear w ↦ rw w.storage-is (Spends-within 0 (sources_in groups + 20 * map.len groups) (Spends-none c.hear.new.m) (omega arith) (omega arith))
     ] in
@@ -86,7 +91,7 @@ returns-clause-moved g c =
     let asked = g.F.Address.Key.number c.args.query.now.group in
     let between : MovesWithin (5 * sources_in groups + 22 * map.len groups) c.args.storage.now c.if-hear.storage = elim c.if-hear.branch [
       | then-hear w ↦ rw w.storage-is w.clear_groups.ensures.moved
-      | else-hear w ↦ rw w.storage-is (paid_within (5 * sources_in groups + 22 * map.len groups) (paid_none (put_by_rows c.args.storage.now.held) c.args.storage.now.work.moves) (omega arith))
+      | else-hear w ↦ rw w.storage-is (paid_within (5 * sources_in groups + 22 * map.len groups) (paid_none (put_by_rows c.args.storage.now.held) c.args.storage.now.moves) (omega arith))
     ] in
     let fewer : sources_in c.if-hear.storage.held.groups ≤ sources_in groups = elim c.if-hear.branch [
       | then-hear w ↦ rw (w.storage-is, w.clear_groups.ensures.groups) (cleared_sources groups)

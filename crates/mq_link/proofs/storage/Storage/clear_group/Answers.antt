@@ -56,7 +56,7 @@ returns-else-is_some-2-clause-groups g c address has =
     let query = none_of schedule.group_query (ap Rattle.std.specs.Option.is_some (sym c.group_query.ensures) ∙ sym c.is_some.ensures ∙ c.if-is_some.false) in
     let sources = none_of schedule.sources_due (ap Rattle.std.specs.Option.is_some (sym c.sources_due.ensures) ∙ sym c.is_some-else-is_some.ensures ∙ c.if-is_some-2.false) in
     let silent : ◌≡◌ {A = ScheduleState} schedule no_schedule = λ i. record { group_query = query i; sources_due = sources i } in
-    left_alone c.args.self.now.held.groups c.args.self.now.work.group.room address (c.lemma_is_numbered.ensures.of_one _ _ has) (c.requires.served address has)
+    left_alone c.args.self.now.held.groups c.args.group.now.room address (c.lemma_is_numbered.ensures.of_one _ _ has) (c.requires.served address has)
     (ap (λ (e : ScheduledGroup). e.schedule) (sym (c.load-schedule.ensures.group address has)) ∙ silent)
 
 pub returns-else-is_some-2-clause-moved : goal.returns-else-is_some-2-clause-moved

@@ -15,12 +15,12 @@ put-requires-clause-number g c = is_number _ _ _ (rw c.in-Ok.is at c.requires.so
 pub put-requires-clause-fits : goal.put-requires-clause-fits
 put-requires-clause-fits g c address has =
     let same = c.lemma_is_numbered.ensures.same address _ _ has (rw c.in-Ok.is at c.requires.sought) in
-    subst (λ a. sources_in c.args.self.now.held.groups + size_of c.args.self.now.work.group.state ≤ c.args.self.now.held.source_room + sources_of (group_at c.args.self.now.held.groups a)) (sym same) c.requires.fits
+    subst (λ a. sources_in c.args.self.now.held.groups + size_of c.args.group.now.state ≤ c.args.self.now.held.source_room + sources_of (group_at c.args.self.now.held.groups a)) (sym same) c.requires.fits
 
 pub returns-in-Ok-clause-groups : goal.returns-in-Ok-clause-groups
 returns-in-Ok-clause-groups g c =
     c.put.ensures.groups _ (rw c.in-Ok.is at c.requires.sought)
-    ∙ with_other _ _ (record { group = c.args.self.now.work.group.state; schedule = c.args.schedule }) (c.requires.stays (ap is_ok c.in-Ok.is))
+    ∙ with_other _ _ (record { group = c.args.group.now.state; schedule = c.args.schedule }) (c.requires.stays (ap is_ok c.in-Ok.is))
 
 pub returns-in-Ok-clause-numbers : goal.returns-in-Ok-clause-numbers
 returns-in-Ok-clause-numbers g c address number has = number_stays _ _ address number c.put.ensures.order has
@@ -33,7 +33,7 @@ returns-in-Ok-clause-moved g c =
 pub insert-requires-clause-room : goal.insert-requires-clause-room
 insert-requires-clause-room g c =
     let absent = spot_absent _ _ _ (rw c.in-Err.is at c.requires.sought) c.lemma_is_numbered.ensures.held in
-    let grown = len_with_new c.args.self.now.held.groups (g.K.Key.number c.args.sought.address) absent (record { group = c.args.self.now.work.group.state; schedule = c.args.schedule }) (sym c.is_vacant.ensures ∙ c.if-not-is_vacant.true) in
+    let grown = len_with_new c.args.self.now.held.groups (g.K.Key.number c.args.sought.address) absent (record { group = c.args.group.now.state; schedule = c.args.schedule }) (sym c.is_vacant.ensures ∙ c.if-not-is_vacant.true) in
     omega (arith, grown, c.requires.room)
 
 pub insert-requires-clause-fits : goal.insert-requires-clause-fits
@@ -50,7 +50,7 @@ returns-else-not-is_vacant-clause-groups g c =
 pub returns-then-not-is_vacant-clause-groups : goal.returns-then-not-is_vacant-clause-groups
 returns-then-not-is_vacant-clause-groups g c =
     c.insert.ensures.groups
-    ∙ with_new _ _ (record { group = c.args.self.now.work.group.state; schedule = c.args.schedule }) (sym c.is_vacant.ensures ∙ c.if-not-is_vacant.true)
+    ∙ with_new _ _ (record { group = c.args.group.now.state; schedule = c.args.schedule }) (sym c.is_vacant.ensures ∙ c.if-not-is_vacant.true)
 
 pub returns-else-not-is_vacant-clause-moved : goal.returns-else-not-is_vacant-clause-moved
 returns-else-not-is_vacant-clause-moved g c = paid_within _ (paid_none _ _) (omega arith)

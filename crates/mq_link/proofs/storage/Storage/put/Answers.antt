@@ -19,4 +19,4 @@ pub returns-clause-moved : goal.returns-clause-moved
 returns-clause-moved g c =
     let s = c.args.self.now.held in
     let has = number_found s c.args.number c.requires.number in
-    put_paid s c.put.new.self (key_in s.order.items c.args.number) (record { group = c.args.self.now.work.group.state; schedule = c.args.schedule }) _ _ c.lemma_is_numbered.ensures.fits (c.requires.fits _ has) (c.put.ensures.groups _ has) c.put.ensures.order c.put.ensures.source_room (c.put.ensures.ahead _ has) (c.put.ensures.moved _ has)
+    put_paid s c.put.new.self (key_in s.order.items c.args.number) (record { group = c.args.group.now.state; schedule = c.args.schedule }) _ _ c.lemma_is_numbered.ensures.fits (c.requires.fits _ has) (c.put.ensures.groups _ has) c.put.ensures.order c.put.ensures.source_room (c.put.ensures.ahead _ has) (c.put.ensures.moved _ has)

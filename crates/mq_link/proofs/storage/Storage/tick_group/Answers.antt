@@ -6,8 +6,6 @@ use Rattle.mq_sched.specs.Sending.{messages_due}
 use Rattle.mq_sched.specs.Sink.{Sends}
 use Rattle.mq_sets.specs.Search.{bitlen}
 use Rattle.mq_held.specs.Groups.{group_at, sources_of}
-use Rattle.mq_link.specs.Moved.{IsPaid}
-use Rattle.mq_link.specs.Storage.{put_by_rows}
 use Rattle.mq_link.specs.Tick.{group_expired}
 use Rattle.mq_link.proofs.Moved.{paid_within}
 use Rattle.mq_link.proofs.ServedGroups.{served_held, served_size}
@@ -16,7 +14,7 @@ use Rattle.mq_link.proofs.storage.Storage.tick_group.Goals as goal
 pub put-requires-clause-held : goal.put-requires-clause-held
 put-requires-clause-held g c not_vacant =
     let before : ScheduledGroup = record { group = c.load-schedule.new.into.state; schedule = c.load-schedule.result } in
-    let left : ScheduledGroup = record { group = c.serve.new.self.group.state; schedule = c.serve.new.schedule } in
+    let left : ScheduledGroup = record { group = c.serve.new.group.state; schedule = c.serve.new.schedule } in
     served_held c.args.at.now.timing c.args.at.now.moment before left c.serve.ensures.left not_vacant
 
 pub put-requires-clause-fits : goal.put-requires-clause-fits
@@ -46,4 +44,4 @@ returns-clause-moved g c address has =
     let loaded = ap sources_of (c.load-schedule.ensures.group address has) in
     let fewer = served_size c.args.at.now.timing c.args.at.now.moment (record { group = c.load-schedule.new.into.state; schedule = c.load-schedule.result }) in
     let most = 5 * sources_of (group_at c.args.self.now.held.groups address) + 5 + bitlen (map.len c.args.self.now.held.groups) in
-    subst (λ m. IsPaid most (put_by_rows c.args.self.now.held) (put_by_rows c.put.new.self.held) m c.put.new.self.work.moves) c.serve.ensures.unmoved (paid_within most c.put.ensures.moved (omega (arith, left, loaded, fewer)))
+    paid_within most c.put.ensures.moved (omega (arith, left, loaded, fewer))

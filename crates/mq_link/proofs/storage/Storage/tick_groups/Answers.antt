@@ -17,14 +17,14 @@ use Rattle.mq_link.proofs.GroupNumbers.{is_number_stays, number_found, number_st
 use Rattle.mq_link.proofs.Moved.{paid_none, paid_by, paid_join, spends_none}
 use Rattle.mq_link.proofs.PaidEdits.{few_digits, none_of_all, some_of, taken_out_paid}
 use Rattle.mq_link.proofs.ReplacedGroups.{address_of, as_many, entry_at, next_group}
-use Rattle.mq_link.proofs.Rooms.{rooms_moved, rooms_on}
+use Rattle.mq_link.proofs.Rooms.{rooms_on}
 use Rattle.mq_link.proofs.TickedEntries.{queries_at, queries_of_entries}
 use Rattle.mq_link.proofs.TickedNumbers.{served_as, none_ticked, one_ticked, ticked_left, vacant_named}
 use Rattle.mq_link.proofs.storage.Storage.tick_groups.Goals as goal
 
 pub loop-number-init : goal.loop-number-init
 loop-number-init g c =
-    ((0, none_ticked g.K.WireKey.PER_QUERY c.args.at.now.timing c.args.at.now.moment c.args.self.now.held.groups g.S.Sink.takes c.args.sink.now c.due.new.m, paid_none _ _), (λ _. refl), refl, rooms_moved c.args.self.now c.due.new.m c.due.new.moves)
+    ((0, none_ticked g.K.WireKey.PER_QUERY c.args.at.now.timing c.args.at.now.moment c.args.self.now.held.groups g.S.Sink.takes c.args.sink.now c.due.new.m, paid_none _ _), (λ _. refl), refl, record { groups = refl; sources = refl }, omega arith)
 
 pub tick_group-requires-clause-number : goal.tick_group-requires-clause-number
 tick_group-requires-clause-number g c =
@@ -42,8 +42,7 @@ tick_group-requires-clause-room g c address other =
     let key : address ≡ (entry_at (due_entries now old.groups) i).0 = sym known ∙ address_of (key_in old.order.items) _ (due_entries now old.groups) same i c.loop-number-test.true in
     let group = ap (group_at c.loop-number.self.held.groups) key ∙ next_group (served_as c.args.at.now.timing now) old.groups (due_entries now old.groups) (are_due now old.groups) i c.loop-number.self.held.groups c.loop-number.invariant.0.1.done within in
     let fits = (c.requires.ready.served _ _ ((are_due now old.groups).held i within)).room_for in
-    let room = c.loop-number.invariant.3.work.group in
-    omega (arith, ap sources_of group, fits, room)
+    omega (arith, ap sources_of group, fits, c.loop-number.invariant.4)
 
 pub loop-number-preserved : goal.loop-number-preserved
 loop-number-preserved g c =
@@ -62,9 +61,9 @@ loop-number-preserved g c =
     let has = number_stays old current (entry_at es i).0 n c.loop-number.invariant.2 (subst (λ a. HasNumber old a n) key (number_found old n (named i 0 c.loop-number-test.true))) in
     let size = ap sources_of (next_group (served_as timing now) old.groups es (are_due now old.groups) i current.groups so_far.done within) in
     let digits = few_digits (map.len current.groups) (omega (arith, so_far.done.len_is, c.requires.ready.few)) in
-    let more = one_ticked g.K.WireKey.PER_QUERY timing now old.groups g.S.Sink.takes c.args.sink.now c.due.new.m i current.groups c.loop-number.sink c.loop-number.self.work.meter c.loop-number.invariant.0.0 so_far within c.tick_group.new.self.held.groups c.tick_group.new.sink c.tick_group.new.self.work.meter _ (c.tick_group.ensures.groups _ has) (c.tick_group.ensures.sent _ has) (c.tick_group.ensures.spent _ has) digits in
+    let more = one_ticked g.K.WireKey.PER_QUERY timing now old.groups g.S.Sink.takes c.args.sink.now c.due.new.m i current.groups c.loop-number.sink c.loop-number.self.meter c.loop-number.invariant.0.0 so_far within c.tick_group.new.self.held.groups c.tick_group.new.sink c.tick_group.new.self.meter _ (c.tick_group.ensures.groups _ has) (c.tick_group.ensures.sent _ has) (c.tick_group.ensures.spent _ has) digits in
     let paid = paid_join (5 * (c.loop-number.invariant.0.0 + sources_of (entry_at es i).1) + 21 * (i + 1)) c.loop-number.invariant.0.2 (c.tick_group.ensures.moved _ has) (omega (arith, size, digits)) in
-    ((c.loop-number.invariant.0.0 + sources_of (entry_at es i).1, more, paid), (λ first. absurd (omega arith)), c.tick_group.ensures.order ∙ c.loop-number.invariant.2, rooms_on c.loop-number.invariant.3 c.tick_group.ensures.rooms)
+    ((c.loop-number.invariant.0.0 + sources_of (entry_at es i).1, more, paid), (λ first. absurd (omega arith)), c.tick_group.ensures.order ∙ c.loop-number.invariant.2, rooms_on c.loop-number.invariant.3 c.tick_group.ensures.rooms, omega (arith, c.loop-number.invariant.4, c.tick_group.ensures.room))
 
 pub take_out_vacant-requires-clause-there : goal.take_out_vacant-requires-clause-there
 take_out_vacant-requires-clause-there g c k d within =
@@ -83,7 +82,7 @@ take_out_vacant-requires-clause-vacant g c number is vacant =
     let same = ap (list_map (key_in old.order.items)) c.as_slice-number-items.ensures.value ∙ c.due.ensures.due in
     let all : length (due_entries now old.groups) ≤ c.loop-number.number-index = omega (arith, as_many (key_in old.order.items) _ (due_entries now old.groups) same, c.loop-number-test.false) in
     let numbered = c.lemma_is_numbered.ensures in
-    vacant_named c.args.at.now.timing now c.args.self.now.work.group.room old.groups c.requires.ready.served c.loop-number.self.held.groups c.loop-number.number-index c.loop-number.invariant.0.1.done all
+    vacant_named c.args.at.now.timing now c.args.group.now.room old.groups c.requires.ready.served c.loop-number.self.held.groups c.loop-number.number-index c.loop-number.invariant.0.1.done all
     old c.loop-number.self.held c.due.new.numbers.items refl refl c.loop-number.invariant.2 c.due.ensures.numbers c.due.ensures.due numbered.of_one numbered.one number is vacant
 
 pub take_out_vacant-requires-clause-space : goal.take_out_vacant-requires-clause-space
@@ -98,7 +97,7 @@ returns-clause-groups g c =
     let same = ap (list_map (key_in old.order.items)) c.as_slice-number-items.ensures.value ∙ c.due.ensures.due in
     let all : length (due_entries now old.groups) ≤ c.loop-number.number-index = omega (arith, as_many (key_in old.order.items) _ (due_entries now old.groups) same, c.loop-number-test.false) in
     c.take_out_vacant.ensures.groups
-    ∙ ticked_left c.args.at.now.timing now c.args.self.now.work.group.room old.groups c.requires.ready.served c.loop-number.self.held.groups c.loop-number.number-index c.loop-number.invariant.0.1.done all
+    ∙ ticked_left c.args.at.now.timing now c.args.group.now.room old.groups c.requires.ready.served c.loop-number.self.held.groups c.loop-number.number-index c.loop-number.invariant.0.1.done all
 
 pub returns-clause-sent : goal.returns-clause-sent
 returns-clause-sent g c family is =
@@ -109,7 +108,7 @@ returns-clause-sent g c family is =
     let same = ap (list_map (key_in old.order.items)) c.as_slice-number-items.ensures.value ∙ c.due.ensures.due in
     let all : length (due_entries now old.groups) ≤ c.loop-number.number-index = omega (arith, as_many (key_in old.order.items) _ (due_entries now old.groups) same, c.loop-number-test.false) in
     let queries = ap (flat_map (queries_at g.K.WireKey.PER_QUERY timing now)) (take_all c.loop-number.number-index es all)
-    ∙ sent_of_due now old.groups c.args.self.now.work.group.room g.K.WireKey.PER_QUERY timing c.requires.ready.served
+    ∙ sent_of_due now old.groups c.args.group.now.room g.K.WireKey.PER_QUERY timing c.requires.ready.served
     ∙ ap (λ n. flat_map (queries_at n timing now) (map.entries old.groups)) is
     ∙ sym (queries_of_entries family timing now old.groups)
     in
@@ -124,7 +123,7 @@ returns-clause-spent g c =
     let same = ap (list_map (key_in old.order.items)) c.as_slice-number-items.ensures.value ∙ c.due.ensures.due in
     let many = as_many (key_in old.order.items) _ es same in
     let due = are_due now old.groups in
-    let running = all_running c.args.self.now.work.group.room old.groups c.requires.ready.served in
+    let running = all_running c.args.group.now.room old.groups c.requires.ready.served in
     let so_far = c.loop-number.invariant.0.1 in
     Spends-join_within _ _ (Spends-join c.due.ensures.spent so_far.spent) c.take_out_vacant.ensures.spent (omega (arith, running))
     (omega (arith, running, many, due.few, so_far.weight_is, so_far.done.len_is, c.loop-number.auto.number-index-end, some_of (due_in now old.groups) (7 * map.len old.groups), some_of (length c.due.new.numbers.items) (map.len c.loop-number.self.held.groups)))

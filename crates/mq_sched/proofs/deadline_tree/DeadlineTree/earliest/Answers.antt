@@ -5,7 +5,7 @@ use Rattle.mq_sched.proofs.DeadlineTree.{top_is_earliest}
 use Rattle.mq_sched.proofs.deadline_tree.DeadlineTree.earliest.Goals as goal
 
 pub returns : goal.returns
-returns c =
+returns g c =
     let nodes = ap (λ (s : TreeState). s.nodes) c.self.view_is in
     let count = ap (λ (s : TreeState). s.count) c.self.view_is in
     let known = c.self.invariant.0 in

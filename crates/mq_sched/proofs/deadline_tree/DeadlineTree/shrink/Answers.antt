@@ -8,7 +8,7 @@ use Rattle.mq_sched.proofs.deadline_tree.DeadlineTree.shrink.Goals as goal
 use Rattle.mq_sched.proofs.deadline_tree.DeadlineTree.shrink.Goals.{then-leaf-last, else-leaf-last}
 
 pub settle-requires-clause-tree : goal.settle-requires-clause-tree
-settle-requires-clause-tree c =
+settle-requires-clause-tree g c =
     let count = ap (λ (s : TreeState). s.count) c.self.view_is in
     let nodes = c.self.inside.nodes.items in
     let lefts = c.self.inside.lefts.items in
@@ -30,7 +30,7 @@ settle-requires-clause-tree c =
     (shrunk nodes lefts c.args.leaf c.if-leaf-last.changed x y known some (omega (arith, count, c.requires.leaf)) (omega (arith, count, c.requires.within)) (rw (← seconds) is_x) (rw (← firsts) is_y) cases)
 
 pub returns-clause-spent : goal.returns-clause-spent
-returns-clause-spent c =
+returns-clause-spent g c =
     let count = ap (λ (s : TreeState). s.count) c.self.view_is in
     let half : c.if-leaf-last.changed / 2 ≤ c.args.self.now.count - 1 = elim c.if-leaf-last.branch [
       | then-leaf-last w ↦ omega (arith, w.if-leaf-last.true, w.changed-is, c.len-last.ensures, c.self.inside.lefts.ok.0, count)
@@ -39,7 +39,7 @@ returns-clause-spent c =
     Spends-within _ _ c.settle.ensures.spent (omega arith) (bitlen-mono _ _ half)
 
 pub returns-clause-moves : goal.returns-clause-moves
-returns-clause-moves c =
+returns-clause-moves g c =
     let count = ap (λ (s : TreeState). s.count) c.self.view_is in
     let half : c.if-leaf-last.changed / 2 ≤ c.args.self.now.count - 1 = elim c.if-leaf-last.branch [
       | then-leaf-last w ↦ omega (arith, w.if-leaf-last.true, w.changed-is, c.len-last.ensures, c.self.inside.lefts.ok.0, count)
@@ -48,7 +48,7 @@ returns-clause-moves c =
     Spends-join_within _ _ c.settle.ensures.moves c.count.ensures (omega arith) (omega (arith, bitlen-mono _ _ half))
 
 pub returns-clause-leaves : goal.returns-clause-leaves
-returns-clause-leaves c other from below =
+returns-clause-leaves g c other from below =
     let count = ap (λ (s : TreeState). s.count) c.self.view_is in
     let state = ap (λ (s : TreeState). s.nodes) c.self.view_is in
     let nodes = c.self.inside.nodes.items in

@@ -7,7 +7,7 @@ use Rattle.mq_sched.proofs.NumbersAtLeaves.{leaf-told, below-room, leaf-of_there
 use Rattle.mq_sched.proofs.numbered_moments.NumberedMoments.change.Goals as goal
 
 pub index-requires : goal.index-requires
-index-requires c =
+index-requires g c =
     let nodes = c.self.inside.tree.nodes in
     let leaves = c.self.inside.leaves.items in
     let numbers = c.self.inside.numbers.items in
@@ -20,7 +20,7 @@ index-requires c =
     omega (arith, within, c.self.inside.leaves.ok.0)
 
 pub change-requires-clause-leaf : goal.change-requires-clause-leaf
-change-requires-clause-leaf c =
+change-requires-clause-leaf g c =
     let nodes = c.self.inside.tree.nodes in
     let leaves = c.self.inside.leaves.items in
     let numbers = c.self.inside.numbers.items in
@@ -34,7 +34,7 @@ change-requires-clause-leaf c =
     omega (arith, is_leaf, own.1.from)
 
 pub change-requires-clause-within : goal.change-requires-clause-within
-change-requires-clause-within c =
+change-requires-clause-within g c =
     let nodes = c.self.inside.tree.nodes in
     let leaves = c.self.inside.leaves.items in
     let numbers = c.self.inside.numbers.items in
@@ -48,7 +48,7 @@ change-requires-clause-within c =
     omega (arith, is_leaf, own.1.below)
 
 pub invariant_of-self : goal.invariant_of-self
-invariant_of-self c =
+invariant_of-self g c =
     let nodes = c.self.inside.tree.nodes in
     let leaves = c.self.inside.leaves.items in
     let numbers = c.self.inside.numbers.items in
@@ -75,7 +75,7 @@ invariant_of-self c =
     )
 
 pub returns-clause-moments : goal.returns-clause-moments
-returns-clause-moments c =
+returns-clause-moments g c =
     let nodes = c.self.inside.tree.nodes in
     let leaves = c.self.inside.leaves.items in
     let numbers = c.self.inside.numbers.items in

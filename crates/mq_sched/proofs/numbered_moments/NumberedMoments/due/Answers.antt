@@ -7,7 +7,7 @@ use Rattle.mq_sched.proofs.NumbersAtLeaves.{found_behind, due-numbers}
 use Rattle.mq_sched.proofs.numbered_moments.NumberedMoments.due.Goals as goal
 
 pub write_numbers-requires : goal.write_numbers-requires
-write_numbers-requires c =
+write_numbers-requires g c =
     let nodes = c.self.inside.tree.nodes in
     let leaves = c.self.inside.leaves.items in
     let numbers = c.self.inside.numbers.items in
@@ -18,7 +18,7 @@ write_numbers-requires c =
     rw (c.deref.ensures.value, half, all) (found_behind nodes leaves numbers count known c.args.now (take c.due-count.result c.due-count.new.leaves) c.due-count.ensures.due)
 
 pub returns-clause-due : goal.returns-clause-due
-returns-clause-due c number =
+returns-clause-due g c number =
     let nodes = c.self.inside.tree.nodes in
     let leaves = c.self.inside.leaves.items in
     let numbers = c.self.inside.numbers.items in

@@ -4,7 +4,7 @@ use Rattle.mq_sched.proofs.NumbersAtLeaves.{earliest_of_numbers}
 use Rattle.mq_sched.proofs.numbered_moments.NumberedMoments.earliest.Goals as goal
 
 pub returns : goal.returns
-returns c =
+returns g c =
     let nodes = c.self.inside.tree.nodes in
     let leaves = c.self.inside.leaves.items in
     let numbers = c.self.inside.numbers.items in

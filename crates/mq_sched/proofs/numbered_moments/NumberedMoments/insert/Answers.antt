@@ -6,7 +6,7 @@ use Rattle.mq_sched.proofs.NumbersAtLeaves.{first-below, none-of_absent, AreNumb
 use Rattle.mq_sched.proofs.numbered_moments.NumberedMoments.insert.Goals as goal
 
 pub index_mut-requires : goal.index_mut-requires
-index_mut-requires c =
+index_mut-requires g c =
     let nodes = c.self.inside.tree.nodes in
     let leaves = c.self.inside.leaves.items in
     let numbers = c.self.inside.numbers.items in
@@ -21,7 +21,7 @@ index_mut-requires c =
     omega (arith, first-below nodes leaves numbers count n known first within first_is, c.self.inside.leaves.ok.0)
 
 pub invariant_of-self : goal.invariant_of-self
-invariant_of-self c =
+invariant_of-self g c =
     let nodes = c.self.inside.tree.nodes in
     let leaves = c.self.inside.leaves.items in
     let numbers = c.self.inside.numbers.items in
@@ -53,7 +53,7 @@ invariant_of-self c =
     )
 
 pub returns-clause-moments : goal.returns-clause-moments
-returns-clause-moments c =
+returns-clause-moments g c =
     let nodes = c.self.inside.tree.nodes in
     let leaves = c.self.inside.leaves.items in
     let numbers = c.self.inside.numbers.items in

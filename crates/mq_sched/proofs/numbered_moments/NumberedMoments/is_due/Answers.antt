@@ -14,7 +14,7 @@ same_test false x y says asked =
     ⊎_elim (λ (above : y < x). sym (lt-leb x y above)) (λ (upto : x ≤ y). absurd (false≢true (asked upto))) (cases_lt y x)
 
 pub returns-then-leaf-first-clause-due : goal.returns-then-leaf-first-clause-due
-returns-then-leaf-first-clause-due c =
+returns-then-leaf-first-clause-due g c =
     let nodes = c.self.inside.tree.nodes in
     let leaves = c.self.inside.leaves.items in
     let numbers = c.self.inside.numbers.items in
@@ -33,7 +33,7 @@ returns-then-leaf-first-clause-due c =
     sym (ap (λ (s : NumberedMomentsState). is_number_due s.moments c.args.now n) (sym c.self.view_is) ∙ due-none nodes leaves numbers count known c.args.now n absent)
 
 pub returns-clause-due : goal.returns-clause-due
-returns-clause-due c =
+returns-clause-due g c =
     let nodes = c.self.inside.tree.nodes in
     let leaves = c.self.inside.leaves.items in
     let numbers = c.self.inside.numbers.items in

@@ -5,7 +5,7 @@ use Rattle.mq_sched.proofs.NumbersAtLeaves.{dense-leaf, below-room, numbers-once
 use Rattle.mq_sched.proofs.numbered_moments.NumberedMoments.numbers.Goals as goal
 
 pub returns-clause-each : goal.returns-clause-each
-returns-clause-each c number =
+returns-clause-each g c number =
     let nodes = c.self.inside.tree.nodes in
     let leaves = c.self.inside.leaves.items in
     let numbers = c.self.inside.numbers.items in
@@ -17,7 +17,7 @@ returns-clause-each c number =
     rw (c.deref.ensures.value, half, all, ← moments) (numbers-once nodes leaves numbers count known number)
 
 pub returns-clause-within : goal.returns-clause-within
-returns-clause-within c =
+returns-clause-within g c =
     let nodes = c.self.inside.tree.nodes in
     let leaves = c.self.inside.leaves.items in
     let numbers = c.self.inside.numbers.items in

@@ -8,7 +8,7 @@ use Rattle.mq_sched.proofs.NumbersAtLeaves.{IsLeafOf, leaf-told, below-room, lea
 use Rattle.mq_sched.proofs.numbered_moments.NumberedMoments.remove.Goals as goal
 
 pub overflow_sub-last : goal.overflow_sub-last
-overflow_sub-last c =
+overflow_sub-last g c =
     let nodes = c.self.inside.tree.nodes in
     let leaves = c.self.inside.leaves.items in
     let numbers = c.self.inside.numbers.items in
@@ -20,7 +20,7 @@ overflow_sub-last c =
     omega (arith, own.1.below, c.len.ensures, c.self.inside.numbers.ok.0, known.size)
 
 pub index-requires : goal.index-requires
-index-requires c =
+index-requires g c =
     let nodes = c.self.inside.tree.nodes in
     let leaves = c.self.inside.leaves.items in
     let numbers = c.self.inside.numbers.items in
@@ -33,7 +33,7 @@ index-requires c =
     omega (arith, within, c.self.inside.leaves.ok.0)
 
 pub shrink-later-requires-clause-leaf : goal.shrink-later-requires-clause-leaf
-shrink-later-requires-clause-leaf c =
+shrink-later-requires-clause-leaf g c =
     let nodes = c.self.inside.tree.nodes in
     let leaves = c.self.inside.leaves.items in
     let numbers = c.self.inside.numbers.items in
@@ -47,7 +47,7 @@ shrink-later-requires-clause-leaf c =
     omega (arith, is_leaf, own.1.from)
 
 pub shrink-later-requires-clause-within : goal.shrink-later-requires-clause-within
-shrink-later-requires-clause-within c =
+shrink-later-requires-clause-within g c =
     let nodes = c.self.inside.tree.nodes in
     let leaves = c.self.inside.leaves.items in
     let numbers = c.self.inside.numbers.items in
@@ -61,7 +61,7 @@ shrink-later-requires-clause-within c =
     omega (arith, is_leaf, own.1.below)
 
 pub give_up_number-requires-clause-given_up : goal.give_up_number-requires-clause-given_up
-give_up_number-requires-clause-given_up c =
+give_up_number-requires-clause-given_up g c =
     let nodes = c.self.inside.tree.nodes in
     let leaves = c.self.inside.leaves.items in
     let numbers = c.self.inside.numbers.items in
@@ -75,7 +75,7 @@ give_up_number-requires-clause-given_up c =
     omega (arith, is_leaf, own.1.from, own.1.below, c.len.ensures, c.self.inside.numbers.ok.0, known.size)
 
 pub give_up_number-requires-clause-leaf : goal.give_up_number-requires-clause-leaf
-give_up_number-requires-clause-leaf c =
+give_up_number-requires-clause-leaf g c =
     let nodes = c.self.inside.tree.nodes in
     let leaves = c.self.inside.leaves.items in
     let numbers = c.self.inside.numbers.items in
@@ -89,7 +89,7 @@ give_up_number-requires-clause-leaf c =
     omega (arith, is_leaf, own.1.below, c.len.ensures, c.self.inside.numbers.ok.0, known.size)
 
 pub invariant_of-self : goal.invariant_of-self
-invariant_of-self c =
+invariant_of-self g c =
     let nodes = c.self.inside.tree.nodes in
     let leaves = c.self.inside.leaves.items in
     let numbers = c.self.inside.numbers.items in
@@ -135,7 +135,7 @@ invariant_of-self c =
     )
 
 pub returns-clause-moments : goal.returns-clause-moments
-returns-clause-moments c =
+returns-clause-moments g c =
     let nodes = c.self.inside.tree.nodes in
     let leaves = c.self.inside.leaves.items in
     let numbers = c.self.inside.numbers.items in

@@ -4,7 +4,7 @@ use Rattle.std.specs.Ordering.{nat_cmp}
 use Rattle.mq_sched.proofs.numbered_moments.NumberedMoments.with_room.Goals as goal
 
 pub invariant_of-result : goal.invariant_of-result
-invariant_of-result c =
+invariant_of-result g c =
     let none : (leaf : ℕ) → leaf < 2 * 0 → ⊥ = λ leaf below. omega (arith, below) in
     rw (c.in_ok-with_room.ensures, c.in_ok-with_capacity.ensures.items) (
       record { size = refl; below = λ leaf from below. absurd (none leaf below); leaf = λ leaf from below. absurd (none leaf below) },

@@ -4,7 +4,7 @@ use Rattle.std.specs.List.{All}
 use Rattle.mq_sets.proofs.pages.Pages.clear.Given as goal
 
 abbrev pub invariant-loop-page : goal.invariant-loop-page
-invariant-loop-page l =
+invariant-loop-page g l =
     All (λ page. (511 ≤ vec_capacity page) × (length page.items ≤ 511)) l.self-inside.used.items
     × All (λ page. (511 ≤ vec_capacity page) × (page.items ≡ [])) l.self-inside.spare.items
     × (length l.self-inside.used.items + length l.self-inside.spare.items ≡ l.fn.self.limit)
@@ -12,4 +12,4 @@ invariant-loop-page l =
     × (l.fn.self.limit ≤ vec_capacity l.self-inside.spare)
 
 abbrev pub decreases-loop-page : goal.decreases-loop-page
-decreases-loop-page l = length l.self-inside.used.items
+decreases-loop-page g l = length l.self-inside.used.items

@@ -5,7 +5,7 @@ use Rattle.mq_sets.proofs.PagesFilled.{IsFilling, IsFilling-more}
 use Rattle.mq_sets.proofs.pages.Pages.fill.Goals as goal
 
 pub loop-done-preserved : goal.loop-done-preserved
-loop-done-preserved c =
+loop-done-preserved g c =
     let numbers = c.args.numbers.now in
     let pages = c.loop-done.self.pages in
     let done = c.loop-done.done in

@@ -4,9 +4,9 @@ use Rattle.mq_sets.proofs.PagesFilled.{IsFilling}
 use Rattle.mq_sets.proofs.pages.Pages.fill.Given as goal
 
 abbrev pub invariant-loop-done : goal.invariant-loop-done
-invariant-loop-done l =
+invariant-loop-done g l =
     let moved = length l.fn.self.pages + l.done + length l.self.pages in
     IsFilling l.numbers l.self.pages l.done × (l.self.limit ≡ l.fn.self.limit) × Spends moved moved l.fn.moves l.moves
 
 abbrev pub decreases-loop-done : goal.decreases-loop-done
-decreases-loop-done l = length l.numbers - l.done
+decreases-loop-done g l = length l.numbers - l.done

@@ -1,4 +1,4 @@
-use Rattle.std.proofs.Common.{ℕ, ◌≡◌, ◌<◌, ◌≤◌, ◌+◌, suc, List, [], ◌∷◌, ◌++◌, sym, ap, ◌∙◌, subst, arith, length, map, take, drop, set, get_or, length-append, length-set, Vec, Global}
+use Rattle.std.proofs.Common.{ℕ, ◌≡◌, ◌<◌, ◌≤◌, ◌+◌, suc, List, [], ◌∷◌, ◌++◌, sym, ap, ◌∙◌, subst, arith, length, map, take, drop, set, get_or, length-append, length-set, Vec}
 use Rattle.std.specs.Prelude.{vec_capacity}
 use Rattle.std.specs.List.{remove, All}
 use Rattle.std.proofs.lemmas.List.{map-set, get_or-map, length-map}
@@ -9,15 +9,15 @@ use Rattle.mq_sets.proofs.Stored.{map-remove}
 use Rattle.mq_sets.proofs.PagedNumbers.{paged, paged-same}
 use Rattle.mq_sets.proofs.pages.Pages.join.Goals as goal
 
-abbrev IsPage : Vec ℕ Global → Type 0
+abbrev IsPage : {A : Type 0} → Vec ℕ A → Type 0
 IsPage page = (511 ≤ vec_capacity page) × (length page.items ≤ 511)
 
-abbrev IsSpare : Vec ℕ Global → Type 0
+abbrev IsSpare : {A : Type 0} → Vec ℕ A → Type 0
 IsSpare page = (511 ≤ vec_capacity page) × (page.items ≡ [])
 
 pub returns-clause-pages : goal.returns-clause-pages
-returns-clause-pages c =
-    let items : Vec ℕ Global → List ℕ = λ page. page.items in
+returns-clause-pages g c =
+    let items : Vec ℕ g.row.A.Denot → List ℕ = λ page. page.items in
     let used = c.self.inside.used.items in
     let pages = map items used in
     let count = ap (λ (s : PagesState). length s.pages) c.self.view_is in
@@ -48,8 +48,8 @@ returns-clause-pages c =
     ∙ ap (λ (s : PagesState). paged (joined s.pages c.args.page) s.limit) c.self.view_is
 
 pub invariant_of-self : goal.invariant_of-self
-invariant_of-self c =
-    let items : Vec ℕ Global → List ℕ = λ page. page.items in
+invariant_of-self g c =
+    let items : Vec ℕ g.row.A.Denot → List ℕ = λ page. page.items in
     let used = c.self.inside.used.items in
     let pages = map items used in
     let count = ap (λ (s : PagesState). length s.pages) c.self.view_is in

@@ -1,4 +1,4 @@
-use Rattle.std.proofs.Common.{ℕ, ◌≡◌, ◌+◌, ◌-◌, ◌<◌, ◌≤◌, List, [], ap, sym, ◌∙◌, subst, arith, length, map, take, drop, get_or, length-drop, Vec, Global}
+use Rattle.std.proofs.Common.{ℕ, ◌≡◌, ◌+◌, ◌-◌, ◌<◌, ◌≤◌, List, [], ap, sym, ◌∙◌, subst, arith, length, map, take, drop, get_or, length-drop, Vec}
 use Rattle.std.specs.List.{All}
 use Rattle.std.proofs.lemmas.List.{get_or-drop, length-map}
 use Rattle.mq_sets.specs.Ascending.{IsAscending}
@@ -7,7 +7,7 @@ use Rattle.mq_sets.specs.NumberedKeys.{PagesState, first_key, key_at}
 use Rattle.mq_sets.proofs.SearchedPages.{All-unmap, IsAscending-unmap, holds-map, place-map, slice-later, some-later, ascending-later, firsts-later}
 use Rattle.mq_sets.proofs.pages.Pages.page_of.Goals as goal
 
-abbrev items_of : Vec ℕ Global → List ℕ
+abbrev items_of : {A : Type 0} → Vec ℕ A → List ℕ
 items_of page = page.items
 
 pub search-requires-clause-ascending : goal.search-requires-clause-ascending

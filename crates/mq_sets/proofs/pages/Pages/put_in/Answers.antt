@@ -1,4 +1,4 @@
-use Rattle.std.proofs.Common.{ℕ, ◌≡◌, ◌<◌, ◌+◌, List, [], sym, ap, ◌∙◌, arith, length, map, set, get_or, length-set, Vec, Global}
+use Rattle.std.proofs.Common.{ℕ, ◌≡◌, ◌<◌, ◌+◌, List, [], sym, ap, ◌∙◌, arith, length, map, set, get_or, length-set, Vec}
 use Rattle.std.specs.List.{insert}
 use Rattle.std.proofs.lemmas.List.{map-set, get_or-map, length-map}
 use Rattle.mq_sets.specs.NumberedKeys.{PagesState}
@@ -6,8 +6,8 @@ use Rattle.mq_sets.proofs.PagedNumbers.{paged, paged-same}
 use Rattle.mq_sets.proofs.pages.Pages.put_in.Goals as goal
 
 pub returns-clause-pages : goal.returns-clause-pages
-returns-clause-pages c =
-    let items : Vec ℕ Global → List ℕ = λ page. page.items in
+returns-clause-pages g c =
+    let items : Vec ℕ g.row.A.Denot → List ℕ = λ page. page.items in
     let used = c.self.inside.used.items in
     let count = ap (λ (s : PagesState). length s.pages) c.self.view_is in
     let same : length (map items used) ≡ length used = length-map used items in

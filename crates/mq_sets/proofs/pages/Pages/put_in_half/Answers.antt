@@ -8,57 +8,57 @@ use Rattle.mq_sets.proofs.PagedNumbers.{halved, halved-is, room-halved, first-ha
 use Rattle.mq_sets.proofs.pages.Pages.put_in_half.Goals as goal
 
 pub split-second-requires-clause-room : goal.split-second-requires-clause-room
-split-second-requires-clause-room c =
+split-second-requires-clause-room g c =
     room-halved c.args.self.now.pages c.args.spot.page c.args.self.now.limit c.requires.page c.requires.full c.requires.filled c.requires.room
 
 pub put_in-requires-clause-place : goal.put_in-requires-clause-place
-put_in-requires-clause-place c =
+put_in-requires-clause-place g c =
     let is = ap (λ (s : PagesState). length (get_or s.pages c.args.spot.page [])) c.split-second.ensures.pages ∙ ap (λ xs. length (get_or xs c.args.spot.page [])) (halved-is c.args.self.now.pages c.args.spot.page c.requires.page) in
     omega (arith, is, first-fits c.args.self.now.pages c.args.spot.page c.args.spot.place 0 [] c.requires.page c.requires.full c.requires.filled c.if-spot-le-FIRST_HALF.true)
 
 pub put_in-requires-clause-room : goal.put_in-requires-clause-room
-put_in-requires-clause-room c =
+put_in-requires-clause-room g c =
     let is = ap (λ (s : PagesState). length (get_or s.pages c.args.spot.page [])) c.split-second.ensures.pages ∙ ap (λ xs. length (get_or xs c.args.spot.page [])) (halved-is c.args.self.now.pages c.args.spot.page c.requires.page) in
     omega (arith, is, first-room c.args.self.now.pages c.args.spot.page c.args.spot.place 0 [] c.requires.page c.requires.full c.requires.filled)
 
 pub put_in-requires-else-spot-le-FIRST_HALF-clause-place : goal.put_in-requires-else-spot-le-FIRST_HALF-clause-place
-put_in-requires-else-spot-le-FIRST_HALF-clause-place c =
+put_in-requires-else-spot-le-FIRST_HALF-clause-place g c =
     let is = ap (λ (s : PagesState). length (get_or s.pages (c.args.spot.page + 1) [])) c.split-second.ensures.pages ∙ ap (λ xs. length (get_or xs (c.args.spot.page + 1) [])) (halved-is c.args.self.now.pages c.args.spot.page c.requires.page) in
     let at = ap (λ k. length (get_or c.split-second.new.self.pages k [])) c.split-second.ensures.second in
     omega (arith, is, at, second-fits c.args.self.now.pages c.args.spot.page c.args.spot.place 0 [] c.requires.page c.requires.full c.requires.filled c.requires.place)
 
 pub put_in-requires-else-spot-le-FIRST_HALF-clause-room : goal.put_in-requires-else-spot-le-FIRST_HALF-clause-room
-put_in-requires-else-spot-le-FIRST_HALF-clause-room c =
+put_in-requires-else-spot-le-FIRST_HALF-clause-room g c =
     let is = ap (λ (s : PagesState). length (get_or s.pages (c.args.spot.page + 1) [])) c.split-second.ensures.pages ∙ ap (λ xs. length (get_or xs (c.args.spot.page + 1) [])) (halved-is c.args.self.now.pages c.args.spot.page c.requires.page) in
     let at = ap (λ k. length (get_or c.split-second.new.self.pages k [])) c.split-second.ensures.second in
     omega (arith, is, at, second-room c.args.self.now.pages c.args.spot.page c.args.spot.place 0 [] c.requires.page c.requires.full c.requires.filled)
 
 pub returns-then-spot-le-FIRST_HALF-clause-numbers : goal.returns-then-spot-le-FIRST_HALF-clause-numbers
-returns-then-spot-le-FIRST_HALF-clause-numbers c =
+returns-then-spot-le-FIRST_HALF-clause-numbers g c =
     let halves = ap (λ (s : PagesState). s.pages) c.split-second.ensures.pages ∙ halved-is c.args.self.now.pages c.args.spot.page c.requires.page in
     let after = ap (λ (s : PagesState). s.pages) c.put_in.ensures.pages ∙ ap (λ xs. set xs c.args.spot.page (insert (get_or xs c.args.spot.page []) c.args.spot.place c.args.number)) halves in
     numbers-first c.args.self.now.pages c.args.spot.page c.args.spot.place c.args.number c.put_in.new.self.pages c.requires.page c.requires.full c.requires.filled after c.if-spot-le-FIRST_HALF.true
 
 pub returns-then-spot-le-FIRST_HALF-clause-filled : goal.returns-then-spot-le-FIRST_HALF-clause-filled
-returns-then-spot-le-FIRST_HALF-clause-filled c =
+returns-then-spot-le-FIRST_HALF-clause-filled g c =
     let halves = ap (λ (s : PagesState). s.pages) c.split-second.ensures.pages ∙ halved-is c.args.self.now.pages c.args.spot.page c.requires.page in
     let after = ap (λ (s : PagesState). s.pages) c.put_in.ensures.pages ∙ ap (λ xs. set xs c.args.spot.page (insert (get_or xs c.args.spot.page []) c.args.spot.place c.args.number)) halves in
     filled-first c.args.self.now.pages c.args.spot.page c.args.spot.place c.args.number c.put_in.new.self.pages c.requires.page c.requires.full c.requires.filled after c.if-spot-le-FIRST_HALF.true
 
 pub returns-else-spot-le-FIRST_HALF-clause-numbers : goal.returns-else-spot-le-FIRST_HALF-clause-numbers
-returns-else-spot-le-FIRST_HALF-clause-numbers c =
+returns-else-spot-le-FIRST_HALF-clause-numbers g c =
     let halves = ap (λ (s : PagesState). s.pages) c.split-second.ensures.pages ∙ halved-is c.args.self.now.pages c.args.spot.page c.requires.page in
     let after = ap (λ (s : PagesState). s.pages) c.put_in-else-spot-le-FIRST_HALF.ensures.pages ∙ ap (λ xs. set xs c.split-second.result (insert (get_or xs c.split-second.result []) (c.args.spot.place - 255) c.args.number)) halves ∙ ap (λ k. set (halved c.args.self.now.pages c.args.spot.page) k (insert (get_or (halved c.args.self.now.pages c.args.spot.page) k []) (c.args.spot.place - 255) c.args.number)) c.split-second.ensures.second in
     numbers-second c.args.self.now.pages c.args.spot.page c.args.spot.place c.args.number c.put_in-else-spot-le-FIRST_HALF.new.self.pages c.requires.page c.requires.full c.requires.filled after c.if-spot-le-FIRST_HALF.false c.requires.place
 
 pub returns-else-spot-le-FIRST_HALF-clause-filled : goal.returns-else-spot-le-FIRST_HALF-clause-filled
-returns-else-spot-le-FIRST_HALF-clause-filled c =
+returns-else-spot-le-FIRST_HALF-clause-filled g c =
     let halves = ap (λ (s : PagesState). s.pages) c.split-second.ensures.pages ∙ halved-is c.args.self.now.pages c.args.spot.page c.requires.page in
     let after = ap (λ (s : PagesState). s.pages) c.put_in-else-spot-le-FIRST_HALF.ensures.pages ∙ ap (λ xs. set xs c.split-second.result (insert (get_or xs c.split-second.result []) (c.args.spot.place - 255) c.args.number)) halves ∙ ap (λ k. set (halved c.args.self.now.pages c.args.spot.page) k (insert (get_or (halved c.args.self.now.pages c.args.spot.page) k []) (c.args.spot.place - 255) c.args.number)) c.split-second.ensures.second in
     filled-second c.args.self.now.pages c.args.spot.page c.args.spot.place c.args.number c.put_in-else-spot-le-FIRST_HALF.new.self.pages c.requires.page c.requires.full c.requires.filled after c.requires.place
 
 pub returns-then-spot-le-FIRST_HALF-clause-moved : goal.returns-then-spot-le-FIRST_HALF-clause-moved
-returns-then-spot-le-FIRST_HALF-clause-moved c =
+returns-then-spot-le-FIRST_HALF-clause-moved g c =
     let is = ap (λ (s : PagesState). length (get_or s.pages c.args.spot.page [])) c.split-second.ensures.pages ∙ ap (λ xs. length (get_or xs c.args.spot.page [])) (halved-is c.args.self.now.pages c.args.spot.page c.requires.page) in
     let size = ap length (first-halved c.args.self.now.pages c.args.spot.page c.requires.page) in
     let branch = ap (λ b. cond b (moved_behind 255 c.args.spot.place) (moved_behind 256 (c.args.spot.place - 255))) (le-leb c.args.spot.place 255 c.if-spot-le-FIRST_HALF.true) in
@@ -66,7 +66,7 @@ returns-then-spot-le-FIRST_HALF-clause-moved c =
     Spends-within _ _ both (omega (arith, is, size, branch, length-take 255 (get_or c.args.self.now.pages c.args.spot.page []), c.requires.full)) (omega (arith, is, size, branch, length-take 255 (get_or c.args.self.now.pages c.args.spot.page []), c.requires.full))
 
 pub returns-else-spot-le-FIRST_HALF-clause-moved : goal.returns-else-spot-le-FIRST_HALF-clause-moved
-returns-else-spot-le-FIRST_HALF-clause-moved c =
+returns-else-spot-le-FIRST_HALF-clause-moved g c =
     let is = ap (λ (s : PagesState). length (get_or s.pages (c.args.spot.page + 1) [])) c.split-second.ensures.pages ∙ ap (λ xs. length (get_or xs (c.args.spot.page + 1) [])) (halved-is c.args.self.now.pages c.args.spot.page c.requires.page) in
     let at = ap (λ k. length (get_or c.split-second.new.self.pages k [])) c.split-second.ensures.second in
     let size = ap length (second-halved c.args.self.now.pages c.args.spot.page c.requires.page) in

@@ -12,26 +12,26 @@ abbrev least : List (List ℕ) → ℕ → ℕ
 least xs k = min (min (length (get_or xs k [])) (length (get_or xs (k + 1) []))) (length (get_or xs k []) + length (get_or xs (k + 1) []) - 255)
 
 pub returns-else-spot-gt0-clause-numbers : goal.returns-else-spot-gt0-clause-numbers
-returns-else-spot-gt0-clause-numbers c =
+returns-else-spot-gt0-clause-numbers g c =
     ap (λ (s : PagesState). numbers_in s.pages) c.take_out.ensures.pages
     ∙ numbers-remove c.args.self.now.pages c.args.spot.page c.args.spot.place c.requires.taken.0 c.requires.taken.1
 
 pub returns-then-must_join-clause-numbers : goal.returns-then-must_join-clause-numbers
-returns-then-must_join-clause-numbers c =
+returns-then-must_join-clause-numbers g c =
     ap (λ (s : PagesState). numbers_in s.pages) c.join.ensures.pages
     ∙ numbers-joined c.take_out.new.self.pages c.args.spot.page (c.must_join.ensures.yes c.if-must_join.true).0
     ∙ ap (λ (s : PagesState). numbers_in s.pages) c.take_out.ensures.pages
     ∙ numbers-remove c.args.self.now.pages c.args.spot.page c.args.spot.place c.requires.taken.0 c.requires.taken.1
 
 pub returns-then-must_join-2-clause-numbers : goal.returns-then-must_join-2-clause-numbers
-returns-then-must_join-2-clause-numbers c =
+returns-then-must_join-2-clause-numbers g c =
     ap (λ (s : PagesState). numbers_in s.pages) c.join-then-must_join-2.ensures.pages
     ∙ numbers-joined c.take_out.new.self.pages (c.args.spot.page - 1) (c.must_join-then-spot-gt0.ensures.yes c.if-must_join-2.true).0
     ∙ ap (λ (s : PagesState). numbers_in s.pages) c.take_out.ensures.pages
     ∙ numbers-remove c.args.self.now.pages c.args.spot.page c.args.spot.place c.requires.taken.0 c.requires.taken.1
 
 pub returns-then-must_join-clause-filled : goal.returns-then-must_join-clause-filled
-returns-then-must_join-clause-filled c =
+returns-then-must_join-clause-filled g c =
     let P = c.args.self.now.pages in
     let i = c.args.spot.page in
     let e = ap (λ (s : PagesState). s.pages) c.take_out.ensures.pages in
@@ -42,7 +42,7 @@ returns-then-must_join-clause-filled c =
     (subst (λ xs. AreFilled (map length (joined xs i))) (sym e) (filled-joined P i c.args.spot.place c.requires.taken.0 c.requires.taken.1 c.requires.filled (omega (arith, same, yes.0)) small))
 
 pub returns-then-must_join-2-clause-filled : goal.returns-then-must_join-2-clause-filled
-returns-then-must_join-2-clause-filled c =
+returns-then-must_join-2-clause-filled g c =
     let P = c.args.self.now.pages in
     let i = c.args.spot.page in
     let e = ap (λ (s : PagesState). s.pages) c.take_out.ensures.pages in
@@ -53,7 +53,7 @@ returns-then-must_join-2-clause-filled c =
     (subst (λ xs. AreFilled (map length (joined xs (i - 1)))) (sym e) (filled-joined_before P i c.args.spot.place c.requires.taken.0 c.requires.taken.1 c.requires.filled (i - 1) is small))
 
 pub join-requires-clause-fits : goal.join-requires-clause-fits
-join-requires-clause-fits c =
+join-requires-clause-fits g c =
     let P = c.args.self.now.pages in
     let i = c.args.spot.page in
     let e = ap (λ (s : PagesState). s.pages) c.take_out.ensures.pages in
@@ -62,7 +62,7 @@ join-requires-clause-fits c =
     omega (arith, small, ap (λ xs. length (get_or xs i [])) e, ap (λ xs. length (get_or xs (i + 1) [])) e, left-within P i c.args.spot.place i c.requires.taken.0 c.requires.taken.1 c.requires.filled, left-within P i c.args.spot.place (i + 1) c.requires.taken.0 c.requires.taken.1 c.requires.filled)
 
 pub join-requires-then-must_join-2-clause-fits : goal.join-requires-then-must_join-2-clause-fits
-join-requires-then-must_join-2-clause-fits c =
+join-requires-then-must_join-2-clause-fits g c =
     let P = c.args.self.now.pages in
     let i = c.args.spot.page in
     let e = ap (λ (s : PagesState). s.pages) c.take_out.ensures.pages in
@@ -71,7 +71,7 @@ join-requires-then-must_join-2-clause-fits c =
     omega (arith, small, ap (λ xs. length (get_or xs (i - 1) [])) e, ap (λ xs. length (get_or xs (i - 1 + 1) [])) e, left-within P i c.args.spot.place (i - 1) c.requires.taken.0 c.requires.taken.1 c.requires.filled, left-within P i c.args.spot.place (i - 1 + 1) c.requires.taken.0 c.requires.taken.1 c.requires.filled)
 
 pub returns-then-must_join-clause-moved : goal.returns-then-must_join-clause-moved
-returns-then-must_join-clause-moved c =
+returns-then-must_join-clause-moved g c =
     let P = c.args.self.now.pages in
     let i = c.args.spot.page in
     let e = ap (λ (s : PagesState). s.pages) c.take_out.ensures.pages in
@@ -81,7 +81,7 @@ returns-then-must_join-clause-moved c =
     Spends-join_within _ _ c.take_out.ensures.moved c.join.ensures.moved (omega (arith, c.requires.taken.1)) (omega (arith, same, first, second))
 
 pub returns-then-must_join-2-clause-moved : goal.returns-then-must_join-2-clause-moved
-returns-then-must_join-2-clause-moved c =
+returns-then-must_join-2-clause-moved g c =
     let P = c.args.self.now.pages in
     let i = c.args.spot.page in
     let e = ap (λ (s : PagesState). s.pages) c.take_out.ensures.pages in
@@ -91,12 +91,12 @@ returns-then-must_join-2-clause-moved c =
     Spends-join_within _ _ c.take_out.ensures.moved c.join-then-must_join-2.ensures.moved (omega (arith, c.requires.taken.1)) (omega (arith, same, first, second))
 
 pub returns-else-spot-gt0-clause-moved : goal.returns-else-spot-gt0-clause-moved
-returns-else-spot-gt0-clause-moved c =
+returns-else-spot-gt0-clause-moved g c =
     let first = page-within c.args.self.now.pages c.args.spot.page c.requires.filled in
     Spends-within _ _ c.take_out.ensures.moved (omega (arith, c.requires.taken.1)) (omega (arith, first))
 
 pub returns-then-must_join-clause-exact : goal.returns-then-must_join-clause-exact
-returns-then-must_join-clause-exact c =
+returns-then-must_join-clause-exact g c =
     let P = c.args.self.now.pages in
     let T = c.take_out.new.self.pages in
     let i = c.args.spot.page in
@@ -108,7 +108,7 @@ returns-then-must_join-clause-exact c =
     Spends-join_within _ _ c.take_out.ensures.moved c.join.ensures.moved (omega (arith, all, joins)) (omega (arith, all, joins))
 
 pub returns-then-must_join-2-clause-exact : goal.returns-then-must_join-2-clause-exact
-returns-then-must_join-2-clause-exact c =
+returns-then-must_join-2-clause-exact g c =
     let P = c.args.self.now.pages in
     let T = c.take_out.new.self.pages in
     let i = c.args.spot.page in
@@ -121,7 +121,7 @@ returns-then-must_join-2-clause-exact c =
     Spends-join_within _ _ c.take_out.ensures.moved c.join-then-must_join-2.ensures.moved (omega (arith, all, joins)) (omega (arith, all, joins))
 
 pub returns-else-spot-gt0-clause-exact : goal.returns-else-spot-gt0-clause-exact
-returns-else-spot-gt0-clause-exact c =
+returns-else-spot-gt0-clause-exact g c =
     let P = c.args.self.now.pages in
     let T = c.take_out.new.self.pages in
     let i = c.args.spot.page in
@@ -139,7 +139,7 @@ returns-else-spot-gt0-clause-exact c =
     Spends-within _ _ c.take_out.ensures.moved (omega (arith, all, joins)) (omega (arith, all, joins))
 
 pub returns-else-spot-gt0-clause-filled : goal.returns-else-spot-gt0-clause-filled
-returns-else-spot-gt0-clause-filled c =
+returns-else-spot-gt0-clause-filled g c =
     let P = c.args.self.now.pages in
     let i = c.args.spot.page in
     let T = c.take_out.new.self.pages in

@@ -1,4 +1,4 @@
-use Rattle.std.proofs.Common.{ℕ, ◌≡◌, ◌<◌, ◌≤◌, ◌+◌, List, [], ◌∷◌, sym, ap, ◌∙◌, arith, length, map, take, drop, set, get_or, subst, length-append, length-take, length-drop, length-set, Vec, Global}
+use Rattle.std.proofs.Common.{ℕ, ◌≡◌, ◌<◌, ◌≤◌, ◌+◌, List, [], ◌∷◌, sym, ap, ◌∙◌, arith, length, map, take, drop, set, get_or, subst, length-append, length-take, length-drop, length-set, Vec}
 use Rattle.std.specs.Prelude.{vec_capacity}
 use Rattle.std.specs.List.{insert, All}
 use Rattle.std.proofs.lemmas.List.{map-set, get_or-map, length-map}
@@ -9,15 +9,15 @@ use Rattle.mq_sets.proofs.Stored.{map-insert}
 use Rattle.mq_sets.proofs.PagedNumbers.{paged, paged-same}
 use Rattle.mq_sets.proofs.pages.Pages.split.Goals as goal
 
-abbrev IsPage : Vec ℕ Global → Type 0
+abbrev IsPage : {A : Type 0} → Vec ℕ A → Type 0
 IsPage page = (511 ≤ vec_capacity page) × (length page.items ≤ 511)
 
-abbrev IsSpare : Vec ℕ Global → Type 0
+abbrev IsSpare : {A : Type 0} → Vec ℕ A → Type 0
 IsSpare page = (511 ≤ vec_capacity page) × (page.items ≡ [])
 
 pub returns-clause-moved : goal.returns-clause-moved
-returns-clause-moved c =
-    let items : Vec ℕ Global → List ℕ = λ page. page.items in
+returns-clause-moved g c =
+    let items : Vec ℕ g.row.A.Denot → List ℕ = λ page. page.items in
     let used = c.self.inside.used.items in
     let count = ap (λ (s : PagesState). length s.pages) c.self.view_is in
     let same : length (map items used) ≡ length used = length-map used items in
@@ -25,8 +25,8 @@ returns-clause-moved c =
     omega (arith, count, same, longer, c.len.ensures, c.requires.page, c.count.ensures, c.self.inside.used.ok.0)
 
 pub returns-clause-pages : goal.returns-clause-pages
-returns-clause-pages c =
-    let items : Vec ℕ Global → List ℕ = λ page. page.items in
+returns-clause-pages g c =
+    let items : Vec ℕ g.row.A.Denot → List ℕ = λ page. page.items in
     let used = c.self.inside.used.items in
     let count = ap (λ (s : PagesState). length s.pages) c.self.view_is in
     let same : length (map items used) ≡ length used = length-map used items in
@@ -49,8 +49,8 @@ returns-clause-pages c =
     ∙ ap (λ (s : PagesState). paged (insert (set s.pages c.args.page (take 255 (get_or s.pages c.args.page []))) (c.args.page + 1) (drop 255 (get_or s.pages c.args.page []))) s.limit) c.self.view_is
 
 pub invariant_of-self : goal.invariant_of-self
-invariant_of-self c =
-    let items : Vec ℕ Global → List ℕ = λ page. page.items in
+invariant_of-self g c =
+    let items : Vec ℕ g.row.A.Denot → List ℕ = λ page. page.items in
     let used = c.self.inside.used.items in
     let count = ap (λ (s : PagesState). length s.pages) c.self.view_is in
     let same : length (map items used) ≡ length used = length-map used items in

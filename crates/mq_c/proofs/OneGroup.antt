@@ -1,0 +1,54 @@
+-- One group in memory that is lent.
+use Rattle.std.proofs.Common.{◌≡◌, ℕ, ◌<◌, ◌≤◌, Bool, true, false, cond, nat_le, List, [], ◌++◌, length, take, drop, refl, sym, ap, ◌∙◌, arith}
+use Rattle.std.specs.Prelude.{map as list_map}
+use Rattle.std.proofs.lemmas.Bool.Decides.{nat_tests}
+use Rattle.std.proofs.lemmas.List.{take_all}
+use Rattle.std.specs.FinMap as map
+use Rattle.mq_sets.specs.Ascending.{IsAscending}
+use Rattle.mq_table.specs.Stored.{number_in, timers_in}
+use Rattle.mq_table.specs.declared.sources.Source.{Source}
+use Rattle.mq_sched.specs.Schedule.{ScheduledGroup}
+use Rattle.mq_held.specs.Groups.{Groups, group_at, unheld, sources_of}
+use Rattle.mq_c.specs.declared.forms.Page.{Page}
+use Rattle.mq_c.specs.Pages.{Entry, SourceEntry, ShowsGroup}
+use Rattle.mq_c.proofs.ShownGroups.{row_forms}
+
+module _ {G S : Type 0} (group_form : Entry → G) (source_form : SourceEntry → S) (held : Groups) (address : ℕ) where
+  -- it isn't held, and nothing is written
+  pub not_shown : (group : G) (sources : List S) (page : Page) → map.contains_key held address ≡ false → sources_of (group_at held address) ≡ 0 → page ≡ record { groups = 0; sources = 0 } → ShowsGroup group_form source_form held address group group sources sources page
+  not_shown group sources page absent none is = record {
+    count_is = rw (is, absent) refl;
+    source_count_is = rw (is, none) (nothing (nat_le 0 (length sources)));
+    group_is = rw absent refl;
+    sources_are = rw is refl;
+  }
+    where
+      nothing : (b : Bool) → ◌≡◌ {A = ℕ} 0 (cond b 0 0)
+      nothing true = refl
+      nothing false = refl
+
+  -- there is no room for its sources
+  pub shown_alone : (group new_group : G) (sources : List S) (page : Page) → map.contains_key held address ≡ true → length sources < sources_of (group_at held address) → new_group ≡ group_form (address, group_at held address) → page ≡ record { groups = 1; sources = 0 } → ShowsGroup group_form source_form held address group new_group sources sources page
+  shown_alone group new_group sources page here small written is =
+      let over : nat_le (sources_of (group_at held address)) (length sources) ≡ false = grind (arith, nat_tests, small) in
+      record {
+        count_is = rw (is, here) refl;
+        source_count_is = rw (is, over) refl;
+        group_is = rw (here, written) refl;
+        sources_are = rw is refl;
+      }
+
+  -- it is written with its sources
+  pub shown_whole : {K : Type 0} (number : K → ℕ) (row : List (Source K)) (group new_group : G) (sources new_sources : List S) (page : Page) → map.contains_key held address ≡ true → IsAscending (number_in number) row → (group_at held address).group.sources ≡ timers_in number row → length row ≡ sources_of (group_at held address) → length row ≤ length sources
+      → new_group ≡ group_form (address, group_at held address) → new_sources ≡ list_map (λ (x : Source K). source_form (number x.address, x.timer)) row ++ drop (length row) sources → page ≡ record { groups = 1; sources = length row } → ShowsGroup group_form source_form held address group new_group sources new_sources page
+  shown_whole number row group new_group sources new_sources page here up timers size fits written put is =
+      let within : nat_le (sources_of (group_at held address)) (length sources) ≡ true = grind (arith, nat_tests, fits, size) in
+      let all = map.entries (group_at held address).group.sources in
+      let whole : take (length row) all ≡ all = take_all (length row) all (omega (arith, size, map.len-entries (group_at held address).group.sources)) in
+      record {
+        count_is = rw (is, here) refl;
+        source_count_is = rw (is, within) size;
+        group_is = rw (here, written) refl;
+        sources_are = rw is (put ∙ ap (λ (l : List S). l ++ drop (length row) sources)
+            (row_forms number source_form row up ∙ ap (λ m. list_map source_form (map.entries m)) (sym timers) ∙ ap (list_map source_form) (sym whole)));
+      }

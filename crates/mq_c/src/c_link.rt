@@ -1,0 +1,105 @@
+//! A link as C has it: with a workspace of its own, or without one.
+
+ghost use Rattle.std.specs.Prelude.{◌≡◌, ◌+◌, ◌*◌, ◌<◌, ◌≤◌, ◌^◌, IfOk, length, true};
+ghost use Rattle.std.specs.FinMap as map;
+ghost use Rattle.mq_count.specs.Spending.{Spends};
+ghost use Rattle.mq_link.specs.Cost.{cost_of};
+ghost use Rattle.mq_link.specs.Moved.{most_moved};
+ghost use Rattle.mq_link.specs.State.{IsWellFormed, held_of, sources_in};
+ghost use Rattle.mq_link.specs.Tick.{moment_of, next_of};
+ghost use Rattle.mq_c.specs.Calls.{CallsAt, ReceivesInto, TicksInto};
+ghost use Rattle.mq_c.specs.Lent as spec;
+ghost use Rattle.mq_c.specs.Making.{fresh_link};
+ghost use Rattle.mq_c.specs.Rooms.{longest_body, receive_room, tick_room};
+
+use crate::calls;
+use crate::forms::Answer;
+use mq_count::Moment;
+use mq_link::{BareLink, Config, Family, Workspace};
+use mq_sets::Memory;
+use std::alloc::Global;
+
+/// A link, and its own workspace, where it has one. Without one its calls are lent one.
+#[derive(Drop)]
+pub(crate) struct CLink<F: Family> {
+    pub(crate) link: BareLink<F>,
+    pub(crate) workspace: Option<Workspace<F>>,
+}
+
+/// A workspace for links so configured, where one is wanted.
+fn own_workspace<F: Family>(
+    alloc: Global,
+    config: &Config<F>,
+    is_wanted: bool,
+) -> Result<Option<Workspace<F>>, Memory>
+    ensures { IfOk result (λ own. own ≡ spec.own_workspace config.now is_wanted) }
+{
+    if is_wanted {
+        Ok(Some(Workspace::with_room(alloc, &config.limits())?))
+    } else {
+        Ok(None)
+    }
+}
+
+impl<F: Family> CLink<F> {
+    /// One that starts at a moment; or `Memory`, where that was refused.
+    pub(crate) fn new(
+        alloc: Global,
+        config: Config<F>,
+        start: Moment,
+        has_own: bool,
+    ) -> Result<CLink<F>, Memory>
+        requires in_range { start ≤ 2 ^ 53 }
+        ensures link { IfOk result (λ made. made.link ≡ fresh_link config start) }
+        ensures workspace { IfOk result (λ made. made.workspace ≡ spec.own_workspace config has_own) }
+    {
+        let workspace = own_workspace(alloc, &config, has_own)?;
+        Ok(CLink {
+            link: BareLink::new(alloc, config, start)?,
+            workspace,
+        })
+    }
+
+    /// Does what is due, in its own workspace; without one, nothing.
+    pub(crate) fn tick(&mut self, now: u64, out: &mut [u8]) -> Answer
+        ensures workspace { self.new.workspace ≡ self.old.workspace }
+        ensures ticks { CallsAt (spec.has_own self.old) now (TicksInto F.Address.WIDTH now self.old.link self.new.link out.old out.new result)
+            self.old.link self.new.link out.old out.new result }
+        ensures formed { IsWellFormed self.new.link.config self.new.link.state }
+        ensures later { spec.has_own self.old ≡ true → now ≤ 2 ^ 53 → now < next_of self.new.link.state }
+        ensures spent { Spends 0 (cost_of 0 (held_of self.old.link.state)) self.old.link.spent self.new.link.spent }
+        ensures moved { let groups = self.old.link.state.groups in
+            Spends 0 (6 * sources_in groups + 136 * map.len groups) self.old.link.moved self.new.link.moved }
+        ensures still { moment_of self.old.link.state now < next_of self.old.link.state → self.new.link.moved ≡ self.old.link.moved }
+        ensures none_left_out { tick_room F.Address.WIDTH self.old.link.config ≤ length out.old → result.unsent ≡ 0 }
+    {
+        self.link.is_well_formed();
+        match &mut self.workspace {
+            Some(workspace) => calls::tick(&mut self.link, workspace, now, out),
+            None => calls::refused_at(now),
+        }
+    }
+
+    /// Takes a datagram, in its own workspace; without one, it does nothing.
+    pub(crate) fn receive(
+        &mut self,
+        envelope: F::Envelope,
+        body: &[u8],
+        now: u64,
+        out: &mut [u8],
+    ) -> Answer
+        ensures workspace { self.new.workspace ≡ self.old.workspace }
+        ensures receives { CallsAt (spec.has_own self.old) now (ReceivesInto F.Address.WIDTH (F.envelope_of envelope) body.now now self.old.link self.new.link
+            out.old out.new result) self.old.link self.new.link out.old out.new result }
+        ensures formed { IsWellFormed self.new.link.config self.new.link.state }
+        ensures spent { Spends 0 (cost_of (length body.now) (held_of self.old.link.state)) self.old.link.spent self.new.link.spent }
+        ensures moved { Spends 0 (most_moved (length body.now) (held_of self.old.link.state)) self.old.link.moved self.new.link.moved }
+        ensures none_left_out { receive_room F.Address.WIDTH self.old.link.config ≤ length out.old → length body.now ≤ longest_body → result.unsent ≡ 0 }
+    {
+        self.link.is_well_formed();
+        match &mut self.workspace {
+            Some(workspace) => calls::receive(&mut self.link, workspace, envelope, body, now, out),
+            None => calls::refused_at(now),
+        }
+    }
+}

@@ -1,0 +1,65 @@
+//! The object of a workspace for links of IGMP, and where C wants it.
+
+ghost use Rattle.std.specs.Prelude.{◌≡◌, Option, Some};
+ghost use Rattle.std.specs.Coded.{coded_option};
+ghost use Rattle.mq_link.specs.Workspace.{WorkspaceState};
+ghost use Rattle.mq_c.specs.Rows.{igmp_workspace_row};
+
+use crate::loose::Loose;
+use mq_link::{Igmp, Workspace};
+use std::alloc::Global;
+use std::marker::Model;
+
+/// A workspace for links of IGMP as C holds it: a pointer that owns the box of the workspace.
+#[repr(C)]
+pub struct IgmpWorkspace {
+    pub(crate) at: *mut u8,
+    pub(crate) ghost kept: { WorkspaceState } by { igmp_workspace_row.coded },
+}
+
+impl Model for IgmpWorkspace {
+    ghost use Rattle.std_alloc.specs.Box.Ownership.{box_owns};
+    ghost use Rattle.mq_c.specs.Freeing.{freeing};
+    ghost use Rattle.mq_c.specs.Rows.{igmp_workspace_row};
+
+    ghost also_owns = { λ h. box_owns freeing igmp_workspace_row h.at h.kept };
+}
+
+impl IgmpWorkspace {
+    /// The workspace behind its pointer.
+    pub(crate) fn into_loose(self, alloc: Global) -> Loose<Workspace<Igmp>, Global>
+        ensures { result.value ≡ self.kept }
+    {
+        let IgmpWorkspace { at } = self;
+        Loose {
+            at: at as *mut Workspace<Igmp>,
+            alloc,
+        }
+    }
+}
+
+/// The place that C hands in: a pointer, which owns the box of a workspace once one was written there. Nothing is asked of
+/// what stands there before, and it is forgotten.
+#[repr(C)]
+#[derive(Drop)]
+pub struct IgmpWorkspacePlace {
+    at: *mut u8,
+    pub(crate) ghost kept: { Option WorkspaceState } by { coded_option igmp_workspace_row.coded },
+}
+
+impl Model for IgmpWorkspacePlace {
+    ghost use Rattle.mq_c.specs.Placing.{placed};
+    ghost use Rattle.mq_c.specs.Rows.{igmp_workspace_row};
+
+    ghost also_owns = { λ p. placed igmp_workspace_row p.at p.kept };
+}
+
+impl IgmpWorkspacePlace {
+    /// What stands there once a workspace is written: its pointer and its box, which are C's from now on.
+    pub(crate) fn of(workspace: Loose<Workspace<Igmp>, Global>) -> IgmpWorkspacePlace
+        ensures { result.kept ≡ Some workspace.value }
+    {
+        let Loose { at, alloc: _ } = workspace;
+        IgmpWorkspacePlace { at: at as *mut u8 }
+    }
+}

@@ -1,0 +1,159 @@
+//! Links of MLD that are lent a workspace, as C calls them.
+
+ghost use Rattle.std.specs.Prelude.{◌≡◌, ◌+◌, ◌*◌, ◌<◌, ◌≤◌, ◌^◌, MatchOption, None, true, length};
+ghost use types.Logic.{sem};
+ghost use denote.Follow.{follows};
+ghost use Rattle.std.specs.FinMap as map;
+ghost use Rattle.mq_count.specs.Spending.{Spends};
+ghost use Rattle.mq_link.specs.Cost.{cost_of};
+ghost use Rattle.mq_link.specs.Moved.{most_moved};
+ghost use Rattle.mq_link.specs.State as state;
+ghost use Rattle.mq_link.specs.State.{held_of, sources_in};
+ghost use Rattle.mq_link.specs.Tick.{moment_of, next_of};
+ghost use Rattle.mq_link.specs.Workspace.{suffices};
+ghost use Rattle.mq_c.specs.Calls.{CallsAt, ReceivesInto, TicksInto};
+ghost use Rattle.mq_c.specs.Mld.{asked, envelope};
+ghost use Rattle.mq_c.specs.Making.{IsMade, IsRefused, IsWorkspaceMade, IsWorkspaceRefused};
+ghost use Rattle.mq_c.specs.Rooms.{longest_body, receive_room, tick_room};
+ghost use Rattle.mq_c.specs.Rows.{mld_workspace_row};
+ghost use Rattle.mq_c.specs.contracts.mld_workspace.MldWorkspace as object;
+
+use crate::calls;
+use crate::forms::{Answer, MldConfig};
+use crate::making::{made, workspace_made};
+use crate::mld_object::{MldObject, MldPlace};
+use crate::mld_workspace::{MldWorkspace, MldWorkspacePlace};
+use crate::statuses::DONE;
+use mq_count::Addr6;
+use mq_link::{Mld, MldEnvelope, Workspace};
+use std::alloc::Global;
+
+impl MldWorkspace {
+    /// The workspace behind the pointer. Once the loan ends, the object holds what was last written there. It stands apart from
+    /// the object, whose description it names.
+    fn lend(&mut self) -> &mut Workspace<Mld>
+        ensures* writes_back { sem 𝓛 (follows object.the_row mld_workspace_row self.entry.ghost_name result.ghost_name (λ w. record self.old { kept = w })) }
+        ensures value { result.now ≡ self.old.kept }
+    {
+        unsafe { &mut *(self.at as *mut Workspace<Mld>) }
+    }
+}
+
+/// Makes a workspace for links so configured, and writes its pointer to the place.
+#[unsafe(no_mangle)]
+pub extern "C" fn mq_mld_workspace_new(
+    alloc: Global,
+    config: MldConfig,
+    place: &mut MldWorkspacePlace,
+) -> u32
+    ensures made { result ≡ 0 → MatchOption place.new.kept ⊥ (λ kept. IsWorkspaceMade (asked config) kept) }
+    ensures refused { 0 < result → IsWorkspaceRefused (asked config) result }
+    ensures place { 0 < result → place.new ≡ place.old }
+{
+    match workspace_made::<Mld>(
+        alloc,
+        config.settings,
+        Addr6::from_octets(config.own),
+        config.source_specific,
+    ) {
+        Ok(workspace) => {
+            *place = MldWorkspacePlace::of(workspace);
+            DONE
+        }
+        Err(status) => status,
+    }
+}
+
+/// Gives back the memory of a workspace.
+#[unsafe(no_mangle)]
+pub extern "C" fn mq_mld_workspace_free(alloc: Global, workspace: MldWorkspace) {
+    drop(workspace.into_loose(alloc).into_box());
+}
+
+/// Makes a link without a workspace of its own, and writes its pointer to the place.
+#[unsafe(no_mangle)]
+pub extern "C" fn mq_mld_new_bare(
+    alloc: Global,
+    config: MldConfig,
+    start: u64,
+    place: &mut MldPlace,
+) -> u32
+    ensures made { result ≡ 0 → MatchOption place.new.kept ⊥ (λ kept. IsMade (asked config) start None kept) }
+    ensures refused { 0 < result → IsRefused (asked config) start result }
+    ensures place { 0 < result → place.new ≡ place.old }
+{
+    match made::<Mld>(
+        alloc,
+        config.settings,
+        Addr6::from_octets(config.own),
+        config.source_specific,
+        start,
+        false,
+    ) {
+        Ok(link) => {
+            *place = MldPlace::of(link);
+            DONE
+        }
+        Err(status) => status,
+    }
+}
+
+/// Takes a datagram, in a workspace that is lent; with as much memory as the room of a datagram, no query is left out.
+#[unsafe(no_mangle)]
+pub extern "C" fn mq_mld_receive_in(
+    link: &mut MldObject,
+    workspace: &mut MldWorkspace,
+    source: &[u8; 16],
+    destination: &[u8; 16],
+    hop_limit: u8,
+    alert: bool,
+    body: &[u8],
+    now: u64,
+    queries: &mut [u8],
+) -> Answer
+    ensures at { link.new.at ≡ link.old.at }
+    ensures own { link.new.kept.workspace ≡ link.old.kept.workspace }
+    ensures workspace { workspace.new ≡ workspace.old }
+    ensures receives { let before = link.old.kept.link in
+        CallsAt (suffices before.config.limits workspace.old.kept) now (ReceivesInto 16 (envelope source.now destination.now hop_limit alert) body.now now before link.new.kept.link queries.old queries.new result)
+        before link.new.kept.link queries.old queries.new result }
+    ensures formed { state.IsWellFormed link.new.kept.link.config link.new.kept.link.state }
+    ensures spent { Spends 0 (cost_of (length body.now) (held_of link.old.kept.link.state)) link.old.kept.link.spent link.new.kept.link.spent }
+    ensures moved { Spends 0 (most_moved (length body.now) (held_of link.old.kept.link.state)) link.old.kept.link.moved link.new.kept.link.moved }
+    ensures none_left_out { receive_room 16 link.old.kept.link.config ≤ length queries.old → length body.now ≤ longest_body → result.unsent ≡ 0 }
+{
+    let envelope = MldEnvelope {
+        source: Addr6::from_octets(*source),
+        destination: Addr6::from_octets(*destination),
+        hop_limit,
+        alert,
+    };
+    let lent = workspace.lend();
+    calls::receive(&mut link.lend().link, lent, envelope, body, now, queries)
+}
+
+/// Does what is due, in a workspace that is lent; with as much memory as the room of a tick, no query is left out.
+#[unsafe(no_mangle)]
+pub extern "C" fn mq_mld_tick_in(
+    link: &mut MldObject,
+    workspace: &mut MldWorkspace,
+    now: u64,
+    queries: &mut [u8],
+) -> Answer
+    ensures at { link.new.at ≡ link.old.at }
+    ensures own { link.new.kept.workspace ≡ link.old.kept.workspace }
+    ensures workspace { workspace.new ≡ workspace.old }
+    ensures ticks { let before = link.old.kept.link in
+        CallsAt (suffices before.config.limits workspace.old.kept) now (TicksInto 16 now before link.new.kept.link queries.old queries.new result)
+        before link.new.kept.link queries.old queries.new result }
+    ensures formed { state.IsWellFormed link.new.kept.link.config link.new.kept.link.state }
+    ensures later { suffices link.old.kept.link.config.limits workspace.old.kept ≡ true → now ≤ 2 ^ 53 → now < next_of link.new.kept.link.state }
+    ensures spent { Spends 0 (cost_of 0 (held_of link.old.kept.link.state)) link.old.kept.link.spent link.new.kept.link.spent }
+    ensures moved { let groups = link.old.kept.link.state.groups in
+        Spends 0 (6 * sources_in groups + 136 * map.len groups) link.old.kept.link.moved link.new.kept.link.moved }
+    ensures still { moment_of link.old.kept.link.state now < next_of link.old.kept.link.state → link.new.kept.link.moved ≡ link.old.kept.link.moved }
+    ensures none_left_out { tick_room 16 link.old.kept.link.config ≤ length queries.old → result.unsent ≡ 0 }
+{
+    let lent = workspace.lend();
+    calls::tick(&mut link.lend().link, lent, now, queries)
+}

@@ -1,0 +1,109 @@
+-- What a check makes of one datagram, and of one packet.
+use Rattle.std.proofs.Common.{◌≡◌, ℕ, List, ◌++◌, Option, None, Some, Result, Ok, Err, refl, ap, subst, ◌∙◌}
+use Rattle.mq_pcap.specs.declared.link_type.LinkType.{LinkType}
+use Rattle.mq_pcap.specs.Frame.{carried_in}
+use Rattle.mq_wire.specs.declared.query.Query.{Query}
+use Rattle.mq_wire.specs.Family.{Family}
+use Rattle.mq_table.specs.declared.timing.Timing.{Timing}
+use Rattle.mq_link.specs.Configuration.{Configuration}
+use Rattle.mq_link.specs.Link.{LinkValue}
+use Rattle.mq_replay.specs.Printing.{OutputState}
+use Rattle.mq_replay.specs.Report.{Datagram, datagram_of}
+use Rattle.mq_check.specs.declared.finding.Finding.{Finding}
+use Rattle.mq_check.specs.Check.{Checked, Outcome, behind, settled_at, destination_in, received, seen_at, seen_or_received, with_datagram, with_packet, ticked_through}
+use Rattle.mq_check.specs.Checking.{CheckingValue, query_came, settled}
+use Rattle.mq_check.specs.Coming.{Comes, checked_in}
+use Rattle.mq_check.specs.Queries.{query_seen}
+use Rattle.mq_check.specs.Telling.{ToldState}
+use Rattle.mq_check.specs.Wanting.{WantingValue}
+use Rattle.mq_check.proofs.Tellings.{none_told, then_told, told_broken, broken_as}
+
+-- a datagram that the link was handed
+pub datagram_received : (config : Configuration) (link : LinkType) (within moment : ℕ) (frame : List ℕ) (datagram : Datagram) (before after : LinkValue) (queries left new : WantingValue)
+    → left.checking ≡ settled within moment queries.checking → checked_in after new ≡ received config within moment datagram (checked_in before left) → None ≡ query_seen config datagram
+    → checked_in after new ≡ (with_datagram config link within moment frame (Some datagram) (checked_in before queries)).checked
+datagram_received config link within moment frame datagram before after queries left new settles is none =
+    let to = destination_in config.family link frame datagram.envelope in
+    is ∙ ap (λ (c : CheckingValue). received config within moment datagram (record { link = before.state; checking = c })) settles
+    ∙ ap (λ (q : Option (Query ℕ)). seen_or_received config within moment to datagram q (settled_at within moment (checked_in before queries))) none
+
+-- a query of the querier that is checked
+pub datagram_seen : (config : Configuration) (link : LinkType) (within moment to : ℕ) (frame : List ℕ) (datagram : Datagram) (query : Query ℕ) (before : LinkValue) (queries left new : WantingValue)
+    → left.checking ≡ settled within moment queries.checking → new.checking ≡ query_came within config before.state.election.timing moment to query left.checking
+    → to ≡ destination_in config.family link frame datagram.envelope → Some query ≡ query_seen config datagram
+    → checked_in before new ≡ (with_datagram config link within moment frame (Some datagram) (checked_in before queries)).checked
+unfolding seen_at
+datagram_seen config link within moment to frame datagram query before queries left new settles is goes some =
+    let there = destination_in config.family link frame datagram.envelope in
+    let r = settled_at within moment (checked_in before queries) in
+    let here : checked_in before new ≡ seen_at config within moment there query r =
+    λ i. record { link = before.state; checking = (is ∙ (λ j. query_came within config before.state.election.timing moment (goes j) query (settles j))) i } in
+    here ∙ ap (λ (q : Option (Query ℕ)). seen_or_received config within moment there datagram q r) some
+
+-- the same in the terms of the code
+pub received_comes : (config config' : Configuration) (link : LinkType) (within moment m : ℕ) (frame : List ℕ) (datagram : Datagram) (before after : LinkValue) (queries left new : WantingValue)
+    → None ≡ query_seen config' datagram → config' ≡ config → m ≡ moment → left.checking ≡ settled within m queries.checking → checked_in after new ≡ received config within moment datagram (checked_in before left)
+    → checked_in after new ≡ (with_datagram config link within moment frame (Some datagram) (checked_in before queries)).checked
+received_comes config config' link within moment m frame datagram before after queries left new none is_config is_moment settles is =
+    datagram_received config link within moment frame datagram before after queries left new (settles ∙ ap (λ (k : ℕ). settled within k queries.checking) is_moment) is (none ∙ ap (λ (k : Configuration). query_seen k datagram) is_config)
+
+pub seen_comes : (config config' config'' : Configuration) (link : LinkType) (within moment m to : ℕ) (frame : List ℕ) (datagram : Datagram) (query : Query ℕ) (family : Family) (in_force : Timing) (before : LinkValue) (queries left new : WantingValue)
+    → Some query ≡ query_seen config' datagram → config' ≡ config → m ≡ moment → left.checking ≡ settled within m queries.checking
+    → new.checking ≡ query_came within config'' in_force moment to query left.checking → config'' ≡ config → in_force ≡ before.state.election.timing
+    → to ≡ destination_in family link frame datagram.envelope → family ≡ config.family
+    → checked_in before new ≡ (with_datagram config link within moment frame (Some datagram) (checked_in before queries)).checked
+seen_comes config config' config'' link within moment m to frame datagram query family in_force before queries left new some is_config is_moment settles is same_config is_timing goes is_family =
+    datagram_seen config link within moment to frame datagram query before queries left new (settles ∙ ap (λ (k : ℕ). settled within k queries.checking) is_moment)
+    (is ∙ (λ i. query_came within (same_config i) (is_timing i) moment to query left.checking)) (goes ∙ ap (λ (f : Family). destination_in f link frame datagram.envelope) is_family)
+    (some ∙ ap (λ (k : Configuration). query_seen k datagram) is_config)
+
+-- one thing came, and then another, or a write failed by then
+pub both_came : {S T E E' : Type 0} (family : Family) (first second : Outcome) (a b c : LinkValue) (p q r : WantingValue) (t u v : ToldState) (x y z : OutputState) (s : S) (answer : Result T E)
+    → Comes {E = E'} family first a b p q t u x y (Ok s) → Comes family second b c q r u v y z answer → Comes family (behind first.found second) a c p r t v x z answer
+both_came family first second a b c p q r t u v x y z s answer one other =
+    record {
+      same_config = other.same_config ∙ one.same_config;
+      same_own = other.same_own ∙ one.same_own;
+      checked = other.checked;
+      tells = then_told family first.found second.found t u v x y z s answer one.tells other.tells;
+    }
+
+pub first_broken : {T E E' : Type 0} (family : Family) (first : Outcome) (rest : List (Finding ℕ)) (checked : Checked) (a b : LinkValue) (p q : WantingValue) (t u : ToldState) (x y : OutputState) (e : E) (e' : E')
+    → Comes {T = T} family first a b p q t u x y (Err e) → Comes {T = T} family (record { checked = checked; found = first.found ++ rest }) a b p q t u x y (Err e')
+first_broken family first rest checked a b p q t u x y e e' one =
+    record {
+      same_config = one.same_config;
+      same_own = one.same_own;
+      checked = tt;
+      tells = broken_as family _ t u x y e e' (told_broken family first.found rest t u x y e one.tells);
+    }
+
+-- a packet, behind the ticks up to its moment
+pub packet_came : {S T E E' : Type 0} (family : Family) (config : Configuration) (link : LinkType) (within moment : ℕ) (frame : List ℕ) (datagram : Option Datagram) (a b c : LinkValue) (p q r : WantingValue) (t u v : ToldState) (x y z : OutputState)
+    (s : S) (answer : Result T E) → config ≡ a.config → datagram ≡ datagram_of config.family (carried_in link frame)
+    → Comes {E = E'} family (ticked_through a.config within moment (checked_in a p)) a b p q t u x y (Ok s)
+    → Comes family (with_datagram b.config link within moment frame datagram (checked_in b q)) b c q r u v y z answer
+    → Comes family (with_packet a.config link within moment frame (checked_in a p)) a c p r t v x z answer
+unfolding with_packet
+packet_came {S} {T} {E} family config link within moment frame datagram a b c p q r t u v x y z s answer is_config carries one other =
+    let before = ticked_through a.config within moment (checked_in a p) in
+    let same : with_datagram b.config link within moment frame datagram (checked_in b q) ≡ with_datagram a.config link within moment frame (datagram_of a.config.family (carried_in link frame)) before.checked =
+    λ i. with_datagram (one.same_config i) link within moment frame ((carries ∙ ap (λ (k : Configuration). datagram_of k.family (carried_in link frame)) is_config) i) (one.checked i) in
+    both_came family before _ a b c p q r t u v x y z s answer one (subst (λ (o : Outcome). Comes {T = T} {E = E} family o b c q r u v y z answer) same other)
+
+pub packet_broken : {T E E' : Type 0} (family : Family) (link : LinkType) (within moment : ℕ) (frame : List ℕ) (a b : LinkValue) (p q : WantingValue) (t u : ToldState) (x y : OutputState) (e : E) (e' : E')
+    → Comes {T = T} family (ticked_through a.config within moment (checked_in a p)) a b p q t u x y (Err e)
+    → Comes {T = T} family (with_packet a.config link within moment frame (checked_in a p)) a b p q t u x y (Err e')
+unfolding with_packet
+packet_broken family link within moment frame a b p q t u x y e e' one = first_broken family _ _ _ a b p q t u x y e e' one
+
+-- the ticks up to a moment that the code names otherwise
+pub ticks_at : {T E : Type 0} (family : Family) (within m n : ℕ) (a b : LinkValue) (p q : WantingValue) (t u : ToldState) (x y : OutputState) (answer : Result T E) → m ≡ n
+    → Comes family (ticked_through a.config within m (checked_in a p)) a b p q t u x y answer → Comes family (ticked_through a.config within n (checked_in a p)) a b p q t u x y answer
+ticks_at {T} {E} family within m n a b p q t u x y answer same comes =
+    subst (λ (k : ℕ). Comes {T = T} {E = E} family (ticked_through a.config within k (checked_in a p)) a b p q t u x y answer) same comes
+
+-- a packet without a datagram of the family
+pub nothing_came : {E : Type 0} (family : Family) (config : Configuration) (link : LinkType) (within moment : ℕ) (frame : List ℕ) (a : LinkValue) (p : WantingValue) (t : ToldState) (x : OutputState)
+    → Comes {T = Unit} {E = E} family (with_datagram config link within moment frame None (checked_in a p)) a a p p t t x x (Ok tt)
+nothing_came family config link within moment frame a p t x = record { same_config = refl; same_own = refl; checked = refl; tells = none_told family t x tt }

@@ -1,0 +1,78 @@
+-- What a query that is wanted, or one that was seen, makes of a check.
+use Rattle.std.proofs.Common.{◌≡◌, ℕ, Bool, true, refl, ap, ◌∙◌}
+use Rattle.std.specs.Prelude.{Option, None, Some, is_some}
+use Rattle.mq_table.specs.declared.timing.Timing.{Timing}
+use Rattle.mq_check.specs.declared.asked.Asked.{Asked}
+use Rattle.mq_check.specs.declared.asked.Asked.TheVariants.{AllGroups}
+use Rattle.mq_check.specs.declared.entry.Entry.TheVariants.{Wanted, Seen}
+use Rattle.mq_check.specs.declared.phase.Phase.{Phase}
+use Rattle.mq_check.specs.declared.phase.Phase.TheVariants.{NotQuerier}
+use Rattle.mq_check.specs.declared.terms.Terms.{Terms}
+use Rattle.mq_check.specs.declared.waiting.Side.TheVariants.{OfWanted, OfSeen}
+use Rattle.mq_check.specs.Checking.{CheckingValue, with_wanted, with_seen, with_interval, with_silence, with_general, role_lost, role_returned, is_querier_in, counted_up}
+use Rattle.mq_check.specs.Entries.{first_terms, may_be_left_out}
+use Rattle.mq_check.specs.General.{wrong_interval, phase_behind, phase_again, silence_up_to}
+use Rattle.mq_check.specs.Numbered.{numbered_terms_if}
+use Rattle.mq_check.specs.Waiting.{WaitingValue, with_entry, with_partner, is_free}
+
+-- whether there are terms doesn't depend on how addresses are seen
+pub has_terms : {K : Type 0} (number : K → ℕ) (r : Option (Terms K)) → is_some (numbered_terms_if number r) ≡ is_some r
+has_terms number None = refl
+has_terms number (Some terms) = refl
+
+pub wanted_put : (moment : ℕ) (terms : Terms ℕ) (asked : Asked ℕ) (viewed old : CheckingValue) (partnered put : WaitingValue) (is_optional is_found : Bool)
+    → viewed ≡ old → is_optional ≡ may_be_left_out moment asked terms old.waiting.entries → is_found ≡ is_some (first_terms (is_free OfSeen asked) viewed.waiting.entries)
+    → partnered ≡ with_partner OfSeen asked terms viewed.waiting → put ≡ with_entry (Wanted moment asked terms is_optional is_found) partnered
+    → record viewed { waiting = put } ≡ with_wanted moment terms old asked
+unfolding with_wanted
+wanted_put moment terms asked viewed old partnered put is_optional is_found same optional found joined is =
+    let found_too = found ∙ ap (λ (v : CheckingValue). is_some (first_terms (is_free OfSeen asked) v.waiting.entries)) same in
+    let joined_too = joined ∙ ap (λ (v : CheckingValue). with_partner OfSeen asked terms v.waiting) same in
+    λ i. record (same i) { waiting = (is ∙ (λ j. with_entry (Wanted moment asked terms (optional j) (found_too j)) (joined_too j))) i }
+
+pub seen_put : (moment : ℕ) (terms : Terms ℕ) (asked : Asked ℕ) (viewed old : CheckingValue) (partnered put : WaitingValue) (partner : Option (Terms ℕ)) (is_querier : Bool)
+    → viewed ≡ old → is_querier ≡ is_querier_in viewed.phase → partner ≡ first_terms (is_free OfWanted asked) viewed.waiting.entries
+    → partnered ≡ with_partner OfWanted asked terms viewed.waiting → put ≡ with_entry (Seen moment asked terms partner is_querier) partnered
+    → record viewed { waiting = put } ≡ with_seen moment terms old asked
+unfolding with_seen
+seen_put moment terms asked viewed old partnered put partner is_querier same querier found joined is =
+    let here : record viewed { waiting = put } ≡ with_seen moment terms viewed asked = λ i. record viewed { waiting = (is ∙ (λ j. with_entry (Seen moment asked terms (found j) (querier j)) (joined j))) i } in
+    here ∙ ap (λ (v : CheckingValue). with_seen moment terms v asked) same
+
+pub general_put : (within : ℕ) (configured : Timing) (moment at : ℕ) (terms wanted : Terms ℕ) (viewed old : CheckingValue) (judged partnered put : WaitingValue) (passed : Option ℕ) (phase : Phase)
+    → viewed ≡ old → at ≡ moment → passed ≡ wrong_interval within configured moment viewed.phase → judged ≡ with_interval configured moment passed viewed.waiting → phase ≡ phase_behind within configured moment viewed.phase
+    → partnered ≡ with_partner OfWanted AllGroups terms judged → put ≡ with_entry (Seen at AllGroups terms (Some wanted) true) partnered
+    → record viewed { waiting = put; phase = phase } ≡ with_general within configured moment terms wanted old
+unfolding with_general
+general_put within configured moment at terms wanted viewed old judged partnered put passed phase same now wrong judging behind joined is =
+    let judged_too = judging ∙ ap (λ (p : Option ℕ). with_interval configured moment p viewed.waiting) wrong in
+    let joined_too = joined ∙ ap (with_partner OfWanted AllGroups terms) judged_too in
+    let here : record viewed { waiting = put; phase = phase } ≡ with_general within configured moment terms wanted viewed =
+    λ i. record viewed { waiting = (is ∙ (λ j. with_entry (Seen (now j) AllGroups terms (Some wanted) true) (joined_too j))) i; phase = behind i } in
+    here ∙ ap (with_general within configured moment terms wanted) same
+
+pub lost_put : (within : ℕ) (configured : Timing) (moment at : ℕ) (viewed old : CheckingValue) (put : WaitingValue) (passed : Option ℕ)
+    → viewed ≡ old → at ≡ moment → passed ≡ silence_up_to within configured moment viewed.phase → put ≡ with_silence configured moment passed viewed.waiting
+    → record viewed { waiting = put; changed = Some at; phase = NotQuerier } ≡ role_lost within configured moment old
+unfolding role_lost
+lost_put within configured moment at viewed old put passed same now silent is =
+    let here : record viewed { waiting = put; changed = Some at; phase = NotQuerier } ≡ role_lost within configured moment viewed =
+    λ i. record viewed { waiting = (is ∙ ap (λ (p : Option ℕ). with_silence configured moment p viewed.waiting) silent) i; changed = Some (now i); phase = NotQuerier } in
+    here ∙ ap (role_lost within configured moment) same
+
+pub returned : (within moment : ℕ) (viewed old : CheckingValue) (phase : Phase) → viewed ≡ old → phase ≡ phase_again within moment old.last_general
+    → record viewed { changed = Some moment; phase = phase } ≡ role_returned within moment old
+unfolding role_returned
+returned within moment viewed old phase same again = λ i. record (same i) { changed = Some moment; phase = again i }
+
+pub general_counted : (moment : ℕ) (viewed now compared : CheckingValue) (count : ℕ) → viewed ≡ now → now ≡ compared → count ≡ counted_up viewed.general
+    → record viewed { last_general = Some moment; general = count } ≡ record compared { last_general = Some moment; general = counted_up compared.general }
+general_counted moment viewed now compared count same is counts =
+    let all = same ∙ is in
+    λ i. record (all i) { last_general = Some moment; general = (counts ∙ ap (λ (v : CheckingValue). counted_up v.general) all) i }
+
+pub specific_counted : (viewed now seen : CheckingValue) (count : ℕ) → viewed ≡ now → now ≡ seen → count ≡ counted_up viewed.specific
+    → record viewed { specific = count } ≡ record seen { specific = counted_up seen.specific }
+specific_counted viewed now seen count same is counts =
+    let all = same ∙ is in
+    λ i. record (all i) { specific = (counts ∙ ap (λ (v : CheckingValue). counted_up v.specific) all) i }

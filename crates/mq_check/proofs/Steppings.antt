@@ -1,0 +1,161 @@
+-- The steps of a check: a tick, a datagram, and the ticks up to a moment.
+use Rattle.std.proofs.Common.{◌≡◌, ℕ, zero, suc, ◌+◌, ◌<◌, ◌≤◌, Bool, true, false, not, List, [], ◌++◌, Ok, refl, ap, sym, ◌∙◌, append_assoc, append-nil, arith}
+use Rattle.std.proofs.lemmas.Bool.{lt-ltb, le-ltb}
+use Rattle.mq_wire.specs.Family.{Family}
+use Rattle.mq_sched.specs.Election.{is_querier}
+use Rattle.mq_link.specs.Configuration.{Configuration}
+use Rattle.mq_link.specs.Handing.{HandsOver}
+use Rattle.mq_link.specs.Link.{LinkValue}
+use Rattle.mq_link.specs.Receive.{receipt_of}
+use Rattle.mq_link.specs.Run.{HandsOut, answered}
+use Rattle.mq_link.specs.Sent.{Outgoing, outgoing_of}
+use Rattle.mq_link.specs.Tick.{Step, tick_of, next_of}
+use Rattle.mq_replay.specs.Printing.{OutputState}
+use Rattle.mq_replay.specs.Report.{Datagram, all_sent}
+use Rattle.mq_check.specs.declared.finding.Finding.{Finding}
+use Rattle.mq_check.specs.Check.{Checked, Outcome, quiet, behind, settled_at, wanted_by, ticked, ticked_within, received}
+use Rattle.mq_check.specs.Checking.{settled, told, with_messages, role_after_tick, role_changed}
+use Rattle.mq_check.specs.Coming.{Comes, checked_in}
+use Rattle.mq_check.specs.Telling.{ToldState, Tells}
+use Rattle.mq_check.specs.Wanting.{WantingValue, TakesMessage}
+use Rattle.mq_check.proofs.Tellings.{tells_as}
+use Rattle.mq_check.proofs.WantedMessages.{after_messages, all_wanted, each_sent}
+
+-- the outlet as it begins to take what a link sends at a moment
+abbrev pub begun_at : (now : ℕ) → LinkValue → WantingValue → WantingValue
+begun_at now before old = record old { moment = now; is_returning = not (is_querier before.state.election.role) }
+
+-- the state that a step leaves whose messages were all sent
+step_left : (family : Family) (now : ℕ) (before after : LinkValue) (step : Step) (begun new : WantingValue) (messages : List Outgoing) (answers : List Bool)
+    → HandsOut before.config step messages answers after.state → HandsOver (TakesMessage family) begun messages answers new
+    → after.state ≡ answered (all_sent (outgoing_of before.config step)) step
+step_left family now before after step begun new messages answers out handed =
+    out.leaves ∙ ap (λ (given : List Bool). answered given step) (each_sent family begun messages answers new handed ∙ ap all_sent out.handed)
+
+-- what is wanted by a step
+step_wanted : (family : Family) (now : ℕ) (before after : LinkValue) (step : Step) (old begun new : WantingValue) (messages : List Outgoing) (answers : List Bool)
+    → family ≡ before.config.family → old.own ≡ before.config.own → begun ≡ begun_at now before old
+    → HandsOut before.config step messages answers after.state → HandsOver (TakesMessage family) begun messages answers new
+    → new.checking ≡ wanted_by before.config now step (checked_in before old)
+step_wanted family now before after step old begun new messages answers is_family is_own begins out handed =
+    let is_returning = not (is_querier before.state.election.role) in
+    ap (λ (w : WantingValue). w.checking) (all_wanted family begun messages answers new handed ∙ ap (after_messages family messages) begins)
+    ∙ (λ i. with_messages (is_family i) (is_own i) now is_returning (out.handed i) old.checking)
+
+pub ticked_is : (family : Family) (within now : ℕ) (before after : LinkValue) (old begun new last : WantingValue) (messages : List Outgoing) (answers : List Bool)
+    → family ≡ before.config.family → old.own ≡ before.config.own → begun ≡ begun_at now before old
+    → HandsOut before.config (tick_of before.config now before.state) messages answers after.state → HandsOver (TakesMessage family) begun messages answers new
+    → last.checking ≡ role_after_tick within now (is_querier before.state.election.role) (is_querier after.state.election.role) new.checking
+    → checked_in after last ≡ ticked before.config within now (checked_in before old)
+unfolding ticked
+ticked_is family within now before after old begun new last messages answers is_family is_own begins out handed role =
+    let step = tick_of before.config now before.state in
+    let left = step_left family now before after step begun new messages answers out handed in
+    let wanted = step_wanted family now before after step old begun new messages answers is_family is_own begins out handed in
+    λ i. record {
+      link = left i;
+      checking = (role ∙ (λ j. role_after_tick within now (is_querier before.state.election.role) (is_querier (left j).election.role) (wanted j))) i;
+    }
+
+pub received_is : (family : Family) (within now : ℕ) (datagram : Datagram) (before after : LinkValue) (old begun new last : WantingValue) (messages : List Outgoing) (answers : List Bool)
+    → family ≡ before.config.family → old.own ≡ before.config.own → begun ≡ begun_at now before old
+    → HandsOut before.config (receipt_of before.config datagram.envelope datagram.body now before.state).step messages answers after.state → HandsOver (TakesMessage family) begun messages answers new
+    → last.checking ≡ role_changed within before.config.timing now (is_querier before.state.election.role) (is_querier after.state.election.role) new.checking
+    → checked_in after last ≡ received before.config within now datagram (checked_in before old)
+unfolding received
+received_is family within now datagram before after old begun new last messages answers is_family is_own begins out handed role =
+    let step = (receipt_of before.config datagram.envelope datagram.body now before.state).step in
+    let left = step_left family now before after step begun new messages answers out handed in
+    let wanted = step_wanted family now before after step old begun new messages answers is_family is_own begins out handed in
+    λ i. record {
+      link = left i;
+      checking = (role ∙ (λ j. role_changed within before.config.timing now (is_querier before.state.election.role) (is_querier (left j).election.role) (wanted j))) i;
+    }
+
+-- at a moment that the code names otherwise
+pub received_at : (config : Configuration) (within m n : ℕ) (datagram : Datagram) (r s : Checked) → m ≡ n → s ≡ received config within m datagram r → s ≡ received config within n datagram r
+received_at config within m n datagram r s same is = is ∙ ap (λ (k : ℕ). received config within k datagram r) same
+
+-- no tick is left, or one is
+pub none_within : (most : ℕ) (config : Configuration) (within limit : ℕ) (r : Checked) → limit ≤ next_of r.link → ticked_within most config within limit r ≡ quiet r
+unfolding ticked_within
+none_within zero config within limit r reached = refl
+none_within (suc most) config within limit r reached =
+    ap (λ b. elim b [
+      | true ↦ behind (told within (next_of r.link) r.checking) (ticked_within most config within limit (ticked config within (next_of r.link) (settled_at within (next_of r.link) r)))
+      | false ↦ quiet r
+    ]) (le-ltb (next_of r.link) limit reached)
+
+pub one_within : (most : ℕ) (config : Configuration) (within limit : ℕ) (r : Checked) → next_of r.link < limit
+    → ticked_within (suc most) config within limit r ≡ behind (told within (next_of r.link) r.checking) (ticked_within most config within limit (ticked config within (next_of r.link) (settled_at within (next_of r.link) r)))
+unfolding ticked_within
+one_within most config within limit r due =
+    ap (λ b. elim b [
+      | true ↦ behind (told within (next_of r.link) r.checking) (ticked_within most config within limit (ticked config within (next_of r.link) (settled_at within (next_of r.link) r)))
+      | false ↦ quiet r
+    ]) (lt-ltb (next_of r.link) limit due)
+
+-- A check has come to another one by ticks before a limit, by which this was found, and there are as many left as may be to
+-- come.
+pub record IsTickedTo (config : Configuration) (within limit : ℕ) (all : Outcome) (done : List (Finding ℕ)) (to : Checked) : Type 0 where
+  pub left : ℕ
+  pub enough : limit ≤ left + next_of to.link
+  pub same : all ≡ behind done (ticked_within left config within limit to)
+
+pub none_ticked : (config : Configuration) (within limit : ℕ) (from : Checked) → IsTickedTo config within limit (ticked_within limit config within limit from) [] from
+none_ticked config within limit from = record { left = limit; enough = omega arith; same = refl }
+
+pub all_ticked : (config : Configuration) (within limit : ℕ) (all : Outcome) (done : List (Finding ℕ)) (to : Checked) → limit ≤ next_of to.link → IsTickedTo config within limit all done to → all ≡ record { checked = to; found = done }
+all_ticked config within limit all done to reached ticked =
+    ticked.same ∙ ap (behind done) (none_within ticked.left config within limit to reached) ∙ (λ i. record { checked = to; found = append-nil done i })
+
+pub once_more : (config : Configuration) (within limit : ℕ) (all : Outcome) (done : List (Finding ℕ)) (to next : Checked) → next_of to.link < limit → next ≡ ticked config within (next_of to.link) (settled_at within (next_of to.link) to)
+    → next_of to.link < next_of next.link → IsTickedTo config within limit all done to → IsTickedTo config within limit all (done ++ told within (next_of to.link) to.checking) next
+once_more config within limit all done to next due is later ticked_to = by_left ticked_to.left ticked_to.enough ticked_to.same
+  where
+    found : List (Finding ℕ)
+    found = told within (next_of to.link) to.checking
+
+    by_left : (left : ℕ) → limit ≤ left + next_of to.link → all ≡ behind done (ticked_within left config within limit to) → IsTickedTo config within limit all (done ++ found) next
+    by_left zero enough same = absurd (omega arith)
+    by_left (suc n) enough same = record {
+      left = n;
+      enough = omega (arith, enough, later);
+      same = same ∙ ap (behind done) (one_within n config within limit to due ∙ ap (λ (r : Checked). behind found (ticked_within n config within limit r)) (sym is))
+          ∙ (λ i. record { checked = (ticked_within n config within limit next).checked; found = sym (append_assoc done found (ticked_within n config within limit next).found) i });
+    }
+
+-- what is found in all begins with what was found so far and is found at the next tick
+pub found_first : (config : Configuration) (within limit : ℕ) (all : Outcome) (done : List (Finding ℕ)) (to : Checked) → next_of to.link < limit → IsTickedTo config within limit all done to
+    → (rest : List (Finding ℕ)) × (all.found ≡ (done ++ told within (next_of to.link) to.checking) ++ rest)
+found_first config within limit all done to due ticked_to = by_left ticked_to.left ticked_to.enough ticked_to.same
+  where
+    found : List (Finding ℕ)
+    found = told within (next_of to.link) to.checking
+
+    by_left : (left : ℕ) → limit ≤ left + next_of to.link → all ≡ behind done (ticked_within left config within limit to) → (rest : List (Finding ℕ)) × (all.found ≡ (done ++ found) ++ rest)
+    by_left zero enough same = absurd (omega arith)
+    by_left (suc n) enough same =
+        let rest = (ticked_within n config within limit (ticked config within (next_of to.link) (settled_at within (next_of to.link) to))).found in
+        (rest, ap (λ (o : Outcome). o.found) (same ∙ ap (behind done) (one_within n config within limit to due)) ∙ sym (append_assoc done found rest))
+
+-- one tick, in the terms of the code: what is over at its moment is told first
+pub tick_next : (config : Configuration) (within moment : ℕ) (mid after : LinkValue) (queries left new : WantingValue) → mid.config ≡ config → moment ≡ next_of mid.state
+    → left.checking ≡ settled within moment queries.checking → checked_in after new ≡ ticked mid.config within moment (checked_in mid left)
+    → checked_in after new ≡ ticked config within (next_of mid.state) (settled_at within (next_of mid.state) (checked_in mid queries))
+tick_next config within moment mid after queries left new is_config is_next is ticks =
+    let settles = is ∙ ap (λ (m : ℕ). settled within m queries.checking) is_next in
+    ticks ∙ (λ i. ticked (is_config i) within (is_next i) (record { link = mid.state; checking = settles i }))
+
+-- all ticks were made
+pub ticks_done : {E : Type 0} (family : Family) (config : Configuration) (within limit : ℕ) (all : Outcome) (done : List (Finding ℕ)) (before after : LinkValue) (queries new : WantingValue) (old_told new_told : ToldState) (a b : OutputState)
+    → limit ≤ next_of after.state → after.config ≡ before.config → new.own ≡ queries.own → IsTickedTo config within limit all done (checked_in after new) → Tells {T = Unit} {E = E} family done old_told new_told a b (Ok tt)
+    → Comes {T = Unit} {E = E} family all before after queries new old_told new_told a b (Ok tt)
+ticks_done family config within limit all done before after queries new old_told new_told a b reached same_config same_own ticked_to tells =
+    let is = all_ticked config within limit all done (checked_in after new) reached ticked_to in
+    record {
+      same_config = same_config;
+      same_own = same_own;
+      checked = sym (ap (λ (o : Outcome). o.checked) is);
+      tells = tells_as family _ _ old_told new_told a b (Ok tt) (sym (ap (λ (o : Outcome). o.found) is)) tells;
+    }

@@ -1,0 +1,34 @@
+use Rattle.std.proofs.Common.{ℕ, List, [], ◌++◌, length, refl, ap, sym, ◌∙◌, append_assoc, append-nil, arith}
+use Rattle.std.specs.List.{flat_map}
+use Rattle.std.proofs.lemmas.Result.{err_from_is_err_and}
+use Rattle.mq_check.specs.declared.entry.Entry.{Entry}
+use Rattle.mq_check.specs.declared.finding.Finding.{Finding}
+use Rattle.mq_check.specs.Checking.{found_of_last}
+use Rattle.mq_check.proofs.Tellings.{none_told, then_told, told_broken, broken_as, tells_as}
+use Rattle.mq_check.proofs.settling.tell_rest.Goals as goal
+
+pub loop-entry-init : goal.loop-entry-init
+loop-entry-init g c = ([], refl, none_told _ _ _ _)
+
+pub loop-entry-preserved : goal.loop-entry-preserved
+loop-entry-preserved g c =
+    let now = c.loop-entry.invariant in
+    let first = ap (λ (es : List (Entry ℕ)). flat_map found_of_last es) c.in-Some.ensures.some in
+    (_, now.1 ∙ ap (λ (xs : List (Finding ℕ)). now.0 ++ xs) first ∙ sym (append_assoc now.0 _ _), then_told _ _ _ _ _ _ _ _ _ _ _ now.2 c.in_ok-tell_last.ensures)
+
+pub loop-entry-smaller : goal.loop-entry-smaller
+loop-entry-smaller g c = let fewer = ap length c.in-Some.ensures.some in omega (arith, fewer)
+
+pub returns-in_err-tell_last : goal.returns-in_err-tell_last
+returns-in_err-tell_last g c =
+    let p = err_from_is_err_and c.from_residual.result c.from_residual.ensures.1 in
+    let now = c.loop-entry.invariant in
+    let first = ap (λ (es : List (Entry ℕ)). flat_map found_of_last es) c.in-Some.ensures.some in
+    rw p.1 (broken_as _ _ _ _ _ _ _ _ (tells_as _ _ _ _ _ _ _ _ (sym (now.1 ∙ ap (λ (xs : List (Finding ℕ)). now.0 ++ xs) first ∙ sym (append_assoc now.0 _ _)))
+    (told_broken _ _ _ _ _ _ _ _ (then_told _ _ _ _ _ _ _ _ _ _ _ now.2 c.in_err-tell_last.ensures))))
+
+pub returns : goal.returns
+returns g c =
+    let now = c.loop-entry.invariant in
+    let none = ap (λ (es : List (Entry ℕ)). flat_map found_of_last es) c.in_default.ensures.none in
+    tells_as _ _ _ _ _ _ _ _ (sym (now.1 ∙ ap (λ (xs : List (Finding ℕ)). now.0 ++ xs) none ∙ append-nil now.0)) now.2

@@ -1,0 +1,25 @@
+use Rattle.std.proofs.Common.{not, ap, sym, ◌∙◌}
+use Rattle.mq_link.specs.Configuration.{Configuration}
+use Rattle.mq_check.specs.Checking.{role_changed}
+use Rattle.mq_check.specs.Wanting.{WantingValue}
+use Rattle.mq_check.proofs.Steppings.{received_at, received_is}
+use Rattle.mq_check.proofs.WantedMessages.{own_kept}
+use Rattle.mq_check.proofs.stepping.receive.Goals as goal
+
+pub returns-clause-receives : goal.returns-clause-receives
+returns-clause-receives g c =
+    let is_family = sym c.is_faultless.ensures.family ∙ ap (λ (config : Configuration). config.family) c.config.ensures in
+    let now = c.moment-now.result in
+    let begins = c.begin.ensures ∙ (λ i. record c.args.queries.now { moment = now; is_returning = not (c.is_querier-was_querier.ensures i) }) in
+    let receives = c.receive.ensures.receives in
+    let configured = c.timing-configured.ensures ∙ ap (λ (config : Configuration). config.timing) c.config-2.ensures in
+    let role =
+    ap (λ (w : WantingValue). w.checking) c.change_role.ensures
+    ∙ (λ i. role_changed c.args.within (configured i) (sym c.moment-now.ensures.same i) (c.is_querier-was_querier.ensures i) (c.is_querier-stays_querier.ensures i) c.receive.new.outlet.checking) in
+    received_at _ _ _ _ _ _ _ c.moment-now.ensures.same
+    (received_is g.F.Family.FAMILY c.args.within now _ c.args.link.now c.receive.new.self c.args.queries.now c.begin.new.self c.receive.new.outlet c.change_role.new.queries _ _ is_family c.requires.own begins receives.receives.hands_out receives.handed role)
+
+pub returns-clause-own : goal.returns-clause-own
+returns-clause-own g c =
+    ap (λ (w : WantingValue). w.own) c.change_role.ensures ∙ own_kept g.F.Family.FAMILY c.begin.new.self c.receive.new.outlet _ _ c.receive.ensures.receives.handed
+    ∙ ap (λ (w : WantingValue). w.own) c.begin.ensures

@@ -1,0 +1,46 @@
+use Rattle.std.proofs.Common.{Bool, not, ap, sym, ◌∙◌}
+use Rattle.mq_sched.specs.Election.{is_querier}
+use Rattle.mq_link.specs.Configuration.{Configuration}
+use Rattle.mq_check.specs.Checking.{role_after_tick}
+use Rattle.mq_check.specs.Wanting.{WantingValue}
+use Rattle.mq_check.proofs.Steppings.{ticked_is}
+use Rattle.mq_check.proofs.WantedMessages.{own_kept}
+use Rattle.mq_check.proofs.stepping.tick.Goals as goal
+
+pub returns-then-was_querier-clause-ticks : goal.returns-then-was_querier-clause-ticks
+returns-then-was_querier-clause-ticks g c =
+    let is_family = sym c.is_faultless.ensures.family ∙ ap (λ (config : Configuration). config.family) c.config.ensures in
+    let was = sym c.is_querier-was_querier.ensures ∙ c.if-was_querier.true in
+    let begins = c.begin.ensures ∙ (λ i. record c.args.queries.now { moment = c.args.now; is_returning = not (c.is_querier-was_querier.ensures i) }) in
+    let ticks = c.tick.ensures.ticks in
+    ticked_is g.F.Family.FAMILY c.args.within c.args.now c.args.link.now c.tick.new.self c.args.queries.now c.begin.new.self c.tick.new.outlet c.tick.new.outlet _ _ is_family c.requires.own begins ticks.ticks ticks.handed
+    (ap (λ (b : Bool). role_after_tick c.args.within c.args.now b (is_querier c.tick.new.self.state.election.role) c.tick.new.outlet.checking) (sym was))
+
+pub returns-then-was_querier-clause-own : goal.returns-then-was_querier-clause-own
+returns-then-was_querier-clause-own g c = own_kept g.F.Family.FAMILY c.begin.new.self c.tick.new.outlet _ _ c.tick.ensures.ticks.handed ∙ ap (λ (w : WantingValue). w.own) c.begin.ensures
+
+pub returns-then-not-is_querier-clause-ticks : goal.returns-then-not-is_querier-clause-ticks
+returns-then-not-is_querier-clause-ticks g c =
+    let is_family = sym c.is_faultless.ensures.family ∙ ap (λ (config : Configuration). config.family) c.config.ensures in
+    let was = sym c.is_querier-was_querier.ensures ∙ c.if-was_querier.false in
+    let is = sym c.is_querier.ensures ∙ c.if-not-is_querier.true in
+    let begins = c.begin.ensures ∙ (λ i. record c.args.queries.now { moment = c.args.now; is_returning = not (c.is_querier-was_querier.ensures i) }) in
+    let ticks = c.tick.ensures.ticks in
+    ticked_is g.F.Family.FAMILY c.args.within c.args.now c.args.link.now c.tick.new.self c.args.queries.now c.begin.new.self c.tick.new.outlet c.tick.new.outlet _ _ is_family c.requires.own begins ticks.ticks ticks.handed
+    (λ i. role_after_tick c.args.within c.args.now (sym was i) (sym is i) c.tick.new.outlet.checking)
+
+pub returns-then-not-is_querier-clause-own : goal.returns-then-not-is_querier-clause-own
+returns-then-not-is_querier-clause-own g c = own_kept g.F.Family.FAMILY c.begin.new.self c.tick.new.outlet _ _ c.tick.ensures.ticks.handed ∙ ap (λ (w : WantingValue). w.own) c.begin.ensures
+
+pub returns-clause-ticks : goal.returns-clause-ticks
+returns-clause-ticks g c =
+    let is_family = sym c.is_faultless.ensures.family ∙ ap (λ (config : Configuration). config.family) c.config.ensures in
+    let was = sym c.is_querier-was_querier.ensures ∙ c.if-was_querier.false in
+    let is = sym c.is_querier.ensures ∙ c.if-not-is_querier.false in
+    let begins = c.begin.ensures ∙ (λ i. record c.args.queries.now { moment = c.args.now; is_returning = not (c.is_querier-was_querier.ensures i) }) in
+    let ticks = c.tick.ensures.ticks in
+    ticked_is g.F.Family.FAMILY c.args.within c.args.now c.args.link.now c.tick.new.self c.args.queries.now c.begin.new.self c.tick.new.outlet c.return_role.new.self _ _ is_family c.requires.own begins ticks.ticks ticks.handed
+    (ap (λ (w : WantingValue). w.checking) c.return_role.ensures ∙ (λ i. role_after_tick c.args.within c.args.now (sym was i) (sym is i) c.tick.new.outlet.checking))
+
+pub returns-clause-own : goal.returns-clause-own
+returns-clause-own g c = ap (λ (w : WantingValue). w.own) c.return_role.ensures ∙ own_kept g.F.Family.FAMILY c.begin.new.self c.tick.new.outlet _ _ c.tick.ensures.ticks.handed ∙ ap (λ (w : WantingValue). w.own) c.begin.ensures

@@ -1,0 +1,31 @@
+use Rattle.std.proofs.Common.{◌≡◌, ℕ, ◌+◌, ◌<◌, length, ap, sym, ◌∙◌, arith}
+use Rattle.std.specs.Prelude.{nat_lt}
+use Rattle.std.proofs.lemmas.Bool.Decides.{nat_tests}
+use Rattle.mq_check.specs.Numbered.{numbered_entry}
+use Rattle.mq_check.specs.Waiting.{WaitingValue}
+use Rattle.mq_check.proofs.Waits.{made_at, made_long, from_place, none_of_full, none_of_none, none_of_first, none_made, popped}
+use Rattle.mq_check.proofs.waiting.Waiting.pop_over.Goals as goal
+
+pub returns-then-self-clause-none_over : goal.returns-then-self-clause-none_over
+returns-then-self-clause-none_over g c = none_of_full _ _ _ (sym (ap (λ (w : WaitingValue). w.is_full) c.self.view_is) ∙ c.if-self.true)
+
+pub returns-then-is_empty-clause-none_over : goal.returns-then-is_empty-clause-none_over
+returns-then-is_empty-clause-none_over g c =
+    let f = numbered_entry g.F.Address.Key.number in
+    let none : length c.self.inside.entries.items ≡ 0 = grind (arith, nat_tests, c.self.inside.entries.ok.0) in
+    none_of_none _ _ _ (sym (ap (λ (w : WaitingValue). w.is_full) c.self.view_is) ∙ c.if-self.false) (none_made f _ _ (ap (λ (w : WaitingValue). w.entries) c.self.view_is) none)
+
+pub returns-then-not-is_over-clause-none_over : goal.returns-then-not-is_over-clause-none_over
+returns-then-not-is_over-clause-none_over g c =
+    let f = numbered_entry g.F.Address.Key.number in
+    let made = ap (λ (w : WaitingValue). w.entries) c.self.view_is in
+    let some : 0 < length c.self.inside.entries.items = grind (arith, nat_tests, c.self.inside.entries.ok.0) in
+    let within : 0 < length c.args.self.now.entries = omega (arith, some, made_long f _ _ made) in
+    none_of_first _ _ _ _ _ (sym (ap (λ (w : WaitingValue). w.is_full) c.self.view_is) ∙ c.if-self.false) (from_place c.args.self.now.entries 0 _ within (made_at f _ _ 0 _ made c.index.ensures))
+    (ap (λ (m : ℕ). nat_lt (m + c.args.within) c.args.now) (sym c.moment.ensures) ∙ sym c.is_over.ensures ∙ c.if-not-is_over.true)
+
+pub returns-clause-some : goal.returns-clause-some
+returns-clause-some g c =
+    let f = numbered_entry g.F.Address.Key.number in
+    popped f _ _ _ _ _ _ c.index.result.now _ c.if-self.false c.self.view_is c.index.ensures
+    (ap (λ (m : ℕ). nat_lt (m + c.args.within) c.args.now) (sym c.moment.ensures) ∙ sym c.is_over.ensures ∙ c.if-not-is_over.false) c.pop_front.ensures.items

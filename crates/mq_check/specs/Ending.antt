@@ -1,0 +1,108 @@
+-- What the parts of a check come to that go to a writer by way of a buffer.
+use Rattle.std.specs.Prelude.{◌≡◌, ◌⊎◌, ℕ, max, Bool, true, false, if◌then◌else◌, List, [], ◌++◌, length, flat_map, Option, None, Result, Ok, Err, unwrap_or}
+use Rattle.std.specs.Io.KnownBytes.{IsAtEnd}
+use Rattle.mq_pcap.specs.declared.fault.PcapFault.{PcapFault}
+use Rattle.mq_pcap.specs.declared.form.Form.{Form}
+use Rattle.mq_pcap.specs.Capture.{Captured, Captures, AreRecords}
+use Rattle.mq_pcap.specs.Filling.{InputState, Takes}
+use Rattle.mq_wire.specs.Family.{Family}
+use Rattle.mq_table.specs.declared.timing.Timing.{Timing}
+use Rattle.mq_link.specs.Configuration.{Configuration}
+use Rattle.mq_replay.specs.Printing.{GrowsByBeginning, Passes}
+use Rattle.mq_replay.specs.PuttingReports.{behind_header}
+use Rattle.mq_replay.specs.Replaying.{ReadCapture}
+use Rattle.mq_replay.specs.Report.{is_gap}
+use Rattle.mq_check.specs.declared.check_fault.CheckFault.{CheckFault}
+use Rattle.mq_check.specs.declared.check_fault.CheckFault.TheVariants as answer
+use Rattle.mq_check.specs.declared.check_terms.CheckTerms.{CheckTerms}
+use Rattle.mq_check.specs.declared.finding.Finding.{Finding}
+use Rattle.mq_check.specs.declared.totals.Totals.{Totals}
+use Rattle.mq_check.specs.Check.{Checked, Verdict, ticked_through}
+use Rattle.mq_check.specs.CheckedCaptures.{IsEndedBy, is_failed_write, packets_text, text_by, verdict_of}
+use Rattle.mq_check.specs.Checking.{CheckingValue, found_of_last, settled, silence_found, told}
+use Rattle.mq_check.specs.FindingLines.{finding_lines, totals_line}
+use Rattle.mq_check.specs.General.{silence_up_to}
+use Rattle.mq_check.specs.Telling.{counted_times}
+
+-- What was put: the text of the answer; or where a write failed, a beginning of that of the packets was written, or, if the
+-- file had ended, of that of the verdict.
+abbrev pub IsPutBy : (is_failed : Bool) → Configuration → CheckTerms → ReadCapture → InputState → (before after : Option (List ℕ)) → (held left : List ℕ) → Result Totals CheckFault → Type 0
+IsPutBy true config terms c new before after held left r =
+    GrowsByBeginning before after (held ++ packets_text config terms c)
+    ⊎ ((c.end ≡ None) × IsAtEnd new.ahead × GrowsByBeginning before after (held ++ (verdict_of config terms c).text))
+IsPutBy false config terms c new before after held left r = Passes before after held left (text_by config terms c r)
+
+abbrev pub IsVerdictPut : Configuration → CheckTerms → ReadCapture → InputState → (before after : Option (List ℕ)) → (held left : List ℕ) → Result Totals CheckFault → Type 0
+IsVerdictPut config terms c new before after held left r = IsPutBy (is_failed_write r) config terms c new before after held left r
+
+-- the verdict of a capture was put
+pub record PutsVerdict (config : Configuration) (terms : CheckTerms) (old new : InputState) (before after : Option (List ℕ)) (held left : List ℕ)
+    (r : Result Totals CheckFault) : Type 0 where
+  pub read : ReadCapture
+  pub takes : Takes old new read.bytes
+  pub capture : Captures read.bytes read.header read.packets read.end
+  pub ended : IsEndedBy config terms read old new r
+  pub put : IsVerdictPut config terms read new before after held left r
+
+-- the verdict of what stands behind a file's header was put
+pub record PutsPackets (config : Configuration) (terms : CheckTerms) (form : Form) (old new : InputState) (before after : Option (List ℕ)) (held left : List ℕ)
+    (r : Result Totals CheckFault) : Type 0 where
+  pub bytes : List ℕ
+  pub packets : List Captured
+  pub end : Option PcapFault
+  pub takes : Takes old new bytes
+  pub records : AreRecords form 1 bytes packets end
+  pub ended : IsEndedBy config terms (behind_header form bytes packets end) old new r
+  pub put : IsVerdictPut config terms (behind_header form bytes packets end) new before after held left r
+
+-- what is found at the end behind what no longer waits
+abbrev pub last_findings : (within : ℕ) → (configured : Timing) → (moment : ℕ) → CheckingValue → List (Finding ℕ)
+last_findings within configured moment c =
+    flat_map found_of_last c.waiting.entries ++ silence_found configured moment (silence_up_to within configured moment c.phase)
+
+-- what was counted, where so many findings were told before
+abbrev pub counted_behind : (count : ℕ) → CheckingValue → List (Finding ℕ) → Totals
+counted_behind count c found =
+    record { general = c.general; specific = c.specific; findings = counted_times (length found) count }
+
+-- the text of the end
+abbrev pub end_text : Family → (cite : Bool) → List (Finding ℕ) → Totals → List ℕ
+end_text family cite found totals = finding_lines family cite found ++ totals_line totals
+
+-- Up to and including a moment, where so many findings were told before: what comes behind these.
+abbrev pub end_behind : Family → (cite : Bool) → (count number : ℕ) → CheckingValue → (found last : List (Finding ℕ)) → Verdict
+end_behind family cite count number c found last =
+    if c.waiting.is_full
+    then record { text = finding_lines family cite found; answer = Err (answer.Waiting number) }
+    else record {
+      text = end_text family cite (found ++ last) (counted_behind count c (found ++ last));
+      answer = Ok (counted_behind count c (found ++ last));
+    }
+
+unfoldable pub ended_behind : Configuration → (within : ℕ) → (cite : Bool) → (moment count number : ℕ) → Checked → Verdict
+ended_behind config within cite moment count number r =
+    let done = ticked_through config within moment r in
+    let left = settled within moment done.checked.checking in
+    end_behind config.family cite count number left (done.found ++ told within moment done.checked.checking)
+    (last_findings within config.timing moment left)
+
+-- What stands behind the packets of a file that has ended, where so many findings were told before: the moment of the last
+-- packet, and the number of the next.
+abbrev pub rest_behind : Configuration → (within : ℕ) → (until : Option ℕ) → (cite : Bool) → (last count number : ℕ) → Checked → Verdict
+rest_behind config within until cite last count number r =
+    let end = max last (unwrap_or until 0) in
+    elim (is_gap last end) [
+      | true ↦ record { text = []; answer = Err (answer.Gap number) }
+      | false ↦ ended_behind config within cite end count number r
+    ]
+
+-- that was put, or a beginning of it was written
+abbrev pub IsRestPut : Verdict → (before after : Option (List ℕ)) → (held left : List ℕ) → Result Totals CheckFault → Type 0
+IsRestPut v before after held left (Ok totals) = (v.answer ≡ Ok totals) × Passes before after held left v.text
+IsRestPut v before after held left (Err (answer.Gap number)) =
+    (v.answer ≡ Err (answer.Gap number)) × Passes before after held left v.text
+IsRestPut v before after held left (Err (answer.Waiting number)) =
+    (v.answer ≡ Err (answer.Waiting number)) × Passes before after held left v.text
+IsRestPut v before after held left (Err answer.Write) = GrowsByBeginning before after (held ++ v.text)
+IsRestPut v before after held left (Err (answer.Pcap f)) = ⊥
+IsRestPut v before after held left (Err answer.Memory) = ⊥

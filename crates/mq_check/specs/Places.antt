@@ -1,0 +1,32 @@
+-- What the calls say that look for an entry, or take the first one out.
+use Rattle.std.specs.Prelude.{◌≡◌, ℕ, ◌+◌, ◌<◌, List, [], ◌++◌, length, Option, None, slice_set}
+use Rattle.std.specs.List.{HoldsAt}
+use Rattle.mq_check.specs.declared.asked.Asked.{Asked}
+use Rattle.mq_check.specs.declared.entry.Entry.{Entry}
+use Rattle.mq_check.specs.declared.terms.Terms.{Terms}
+use Rattle.mq_check.specs.declared.waiting.Side.{Side}
+use Rattle.mq_check.specs.Entries.{moment_of, terms_in, joined, first_terms, first_joined, findings_of}
+use Rattle.mq_check.specs.Waiting.{WaitingValue, is_free, told, settled}
+
+-- no entry of the side that asks about this is without a partner
+pub record IsNoneFree (side : Side) (asked : Asked ℕ) (entries : List (Entry ℕ)) : Type 0 where
+  pub terms : first_terms (is_free side asked) entries ≡ None
+  pub joined : (other : Terms ℕ) → first_joined (is_free side asked) other entries ≡ entries
+
+-- the first one stands at a place
+pub record IsFirstFree (side : Side) (asked : Asked ℕ) (entries : List (Entry ℕ)) (place : ℕ) : Type 0 where
+  pub within : place < length entries
+  pub terms : HoldsAt (λ entry. first_terms (is_free side asked) entries ≡ terms_in entry) entries place
+  pub joined : (other : Terms ℕ) → HoldsAt (λ entry. first_joined (is_free side asked) other entries ≡ slice_set entries place (joined other entry)) entries place
+
+-- nothing is over at a moment
+pub record IsNoneOver (within now : ℕ) (w : WaitingValue) : Type 0 where
+  pub told : (changed : Option ℕ) → told within now changed w ≡ []
+  pub settled : settled within now w ≡ w
+
+-- the first entry, which is over at a moment, was taken out
+pub record IsFirstOver (within now : ℕ) (old new : WaitingValue) (entry : Entry ℕ) : Type 0 where
+  pub is_over : moment_of entry + within < now
+  pub told : (changed : Option ℕ) → told within now changed old ≡ findings_of within changed entry ++ told within now changed new
+  pub settled : settled within now old ≡ settled within now new
+  pub fewer : length new.entries + 1 ≡ length old.entries

@@ -1,0 +1,49 @@
+-- What waits while its partner may still come, and what is found of it: a query that is wanted and one that was seen are
+-- partners where they ask about the same and no more than the tolerance lies between; each has one partner at most, and
+-- the earlier comes first.
+use Rattle.std.specs.Prelude.{ℕ, nat_lt, Bool, true, false, if◌then◌else◌, List, [], ◌∷◌, ◌++◌, length, drop, Option, take_while, flat_map}
+use Rattle.std.specs.List.{prefix_len}
+use Rattle.mq_check.specs.declared.asked.Asked.{Asked}
+use Rattle.mq_check.specs.declared.entry.Entry.{Entry}
+use Rattle.mq_check.specs.declared.finding.Finding.{Finding}
+use Rattle.mq_check.specs.declared.terms.Terms.{Terms}
+use Rattle.mq_check.specs.declared.waiting.Side.{Side}
+use Rattle.mq_check.specs.declared.waiting.Side.TheVariants.{OfWanted, OfSeen}
+use Rattle.mq_check.specs.Entries.{is_over, is_free_wanted, is_free_seen, first_joined, findings_of}
+
+-- so many entries may wait
+abbrev pub room : ℕ
+room = 65536
+
+-- what waits, in the order of moments, and whether there was no room for something
+pub record WaitingValue : Type 0 where
+  pub entries : List (Entry ℕ)
+  pub is_full : Bool
+
+abbrev pub nothing : WaitingValue
+nothing = record { entries = []; is_full = false }
+
+-- an entry behind those that wait, where there is room
+unfoldable pub with_entry : Entry ℕ → WaitingValue → WaitingValue
+with_entry entry w =
+    if nat_lt (length w.entries) room
+    then record w { entries = w.entries ++ entry ∷ [] }
+    else record w { is_full = true }
+
+-- an entry of one side that asks about this and has no partner
+abbrev pub is_free : Side → Asked ℕ → Entry ℕ → Bool
+is_free OfWanted asked entry = is_free_wanted asked entry
+is_free OfSeen asked entry = is_free_seen asked entry
+
+-- the first of these has found its partner, which says this
+unfoldable pub with_partner : Side → Asked ℕ → Terms ℕ → WaitingValue → WaitingValue
+with_partner side asked other w = record w { entries = first_joined (is_free side asked) other w.entries }
+
+-- Where there was no room for something, nothing more is found. Else what is over at a moment no longer waits.
+unfoldable pub told : (within now : ℕ) → (changed : Option ℕ) → WaitingValue → List (Finding ℕ)
+told within now changed w =
+    if w.is_full then [] else flat_map (findings_of within changed) (take_while (is_over within now) w.entries)
+
+unfoldable pub settled : (within now : ℕ) → WaitingValue → WaitingValue
+settled within now w =
+    if w.is_full then w else record w { entries = drop (prefix_len (is_over within now) w.entries) w.entries }

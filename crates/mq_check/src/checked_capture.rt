@@ -1,0 +1,196 @@
+//! The check of a capture.
+
+ghost use Rattle.std.specs.Prelude.{◌≡◌, ◌≤◌, ◌^◌, ◌||◌, Err, IfSome, length};
+ghost use Rattle.mq_count.specs.Streams.{inner_of, has_failed};
+ghost use Rattle.mq_pcap.specs.declared.reader_state.Progress.TheVariants.{Reading};
+ghost use Rattle.mq_pcap.specs.Capture.{most_bytes};
+ghost use Rattle.mq_pcap.specs.Filling.{input_of};
+ghost use Rattle.mq_pcap.specs.Reading.{form_of, number_of, progress_of};
+ghost use Rattle.mq_check.specs.Check.{at_the_start};
+ghost use Rattle.mq_check.specs.CheckedCaptures as spec;
+ghost use Rattle.mq_check.specs.Coming.{checked_in};
+ghost use Rattle.mq_check.specs.Ending.{PutsPackets, PutsVerdict};
+
+use crate::check_fault::{CheckFault, is_failed_write};
+use crate::check_terms::CheckTerms;
+use crate::checked_family::CheckedFamily;
+use crate::checking::Checking;
+use crate::ending::check_rest;
+use crate::stamp::Stamp;
+use crate::stepping::check_packet;
+use crate::told::Told;
+use crate::totals::Totals;
+use crate::wanted_queries::WantedQueries;
+use mq_count::Watched;
+use mq_link::{Config, Link};
+use mq_pcap::{GREATEST_PACKET, PcapReader};
+use mq_replay::{LineKey, Stamps, first_moment, is_gap};
+use std::alloc::Global;
+use std::io::{Read, Write};
+
+/// Checks the querier of a capture that has the own address of the configuration: the queries that it sent are compared with
+/// those that a link so configured sends that starts at 0 and is handed all other datagrams at their moments. Writes a line
+/// for each finding, and at the end what was counted; and answers that. The end is the moment of the last packet, or `until`,
+/// if that is later. All memory is taken before anything is read or written. Where the capture has a fault or a gap, or more
+/// queries wait for their partners than there is room for, what was found before that is written first.
+pub fn check<F: CheckedFamily, R: Read, W: Write>(
+    alloc: Global,
+    config: Config<F>,
+    terms: CheckTerms,
+    reader: &mut Watched<R>,
+    writer: &mut Watched<W>,
+) -> Result<Totals, CheckFault>
+where
+    F::Address: LineKey,
+    requires { IfSome terms.until (λ ms. ms ≤ 2 ^ 53) }
+    ensures checks { spec.Checks config terms
+        (input_of R.remaining reader.old) (input_of R.remaining reader.new)
+        (W.contents (inner_of writer.old)) (W.contents (inner_of writer.new))
+        result }
+    ensures failed { has_failed writer.new ≡ has_failed writer.old || spec.is_failed_write result }
+    ensures memory { result ≡ Err CheckFault.Memory → (reader.new ≡ reader.old) × (writer.new ≡ writer.old) }
+{
+    let Ok(mut packet) = vec![in alloc; 0; GREATEST_PACKET] else {
+        return Err(CheckFault::Memory);
+    };
+    let timing = config.timing();
+    let own = config.own();
+    let Ok(mut link) = Link::new(alloc, config, first_moment()) else {
+        return Err(CheckFault::Memory);
+    };
+    let Ok(checking) = Checking::<F>::new(alloc, timing) else {
+        return Err(CheckFault::Memory);
+    };
+    let mut queries = WantedQueries::new(checking, own, first_moment());
+    check_on(
+        &mut link,
+        &mut queries,
+        terms,
+        packet.as_mut_slice(),
+        reader,
+        writer,
+    )
+}
+
+/// The same on a link that is made, with room for a packet that is lent.
+fn check_on<F: CheckedFamily, R: Read, W: Write>(
+    link: &mut Link<F>,
+    queries: &mut WantedQueries<F>,
+    terms: CheckTerms,
+    packet: &mut [u8],
+    reader: &mut Watched<R>,
+    writer: &mut Watched<W>,
+) -> Result<Totals, CheckFault>
+where
+    F::Address: LineKey,
+    requires room { most_bytes ≤ length packet.old }
+    requires in_range { IfSome terms.until (λ ms. ms ≤ 2 ^ 53) }
+    requires starts { checked_in link.old queries.old ≡ at_the_start link.old.config }
+    requires own { queries.old.own ≡ link.old.config.own }
+    ensures checks { spec.Checks link.old.config terms
+        (input_of R.remaining reader.old) (input_of R.remaining reader.new)
+        (W.contents (inner_of writer.old)) (W.contents (inner_of writer.new))
+        result }
+    ensures failed { has_failed writer.new ≡ has_failed writer.old || spec.is_failed_write result }
+    ensures no_memory { result ≡ Err CheckFault.Memory → ⊥ }
+{
+    let mut told = Told::new(terms.cite);
+    let answer = check_file(link, queries, terms, packet, &mut told, reader, writer);
+    if is_failed_write(&answer) {
+        return answer;
+    }
+    told.finish(writer)?;
+    answer
+}
+
+/// Tells what is found in a capture.
+fn check_file<F: CheckedFamily, R: Read, W: Write>(
+    link: &mut Link<F>,
+    queries: &mut WantedQueries<F>,
+    terms: CheckTerms,
+    packet: &mut [u8],
+    told: &mut Told,
+    reader: &mut Watched<R>,
+    writer: &mut Watched<W>,
+) -> Result<Totals, CheckFault>
+where
+    F::Address: LineKey,
+    requires room { most_bytes ≤ length packet.old }
+    requires in_range { IfSome terms.until (λ ms. ms ≤ 2 ^ 53) }
+    requires starts { checked_in link.old queries.old ≡ at_the_start link.old.config }
+    requires own { queries.old.own ≡ link.old.config.own }
+    requires cite { told.old.cite ≡ terms.cite }
+    requires count { told.old.count ≡ 0 }
+    ensures puts { PutsVerdict link.old.config terms
+        (input_of R.remaining reader.old) (input_of R.remaining reader.new)
+        (W.contents (inner_of writer.old)) (W.contents (inner_of writer.new))
+        told.old.held told.new.held result }
+    ensures failed { has_failed writer.new ≡ has_failed writer.old || spec.is_failed_write result }
+    ensures no_memory { result ≡ Err CheckFault.Memory → ⊥ }
+{
+    let mut capture = PcapReader::open(reader)?;
+    check_packets(
+        link,
+        queries,
+        terms,
+        &mut capture,
+        packet,
+        told,
+        reader,
+        writer,
+    )
+}
+
+/// Tells what is found in the packets of a capture before its first packet was read, and at the end.
+fn check_packets<F: CheckedFamily, R: Read, W: Write>(
+    link: &mut Link<F>,
+    queries: &mut WantedQueries<F>,
+    terms: CheckTerms,
+    capture: &mut PcapReader,
+    packet: &mut [u8],
+    told: &mut Told,
+    reader: &mut Watched<R>,
+    writer: &mut Watched<W>,
+) -> Result<Totals, CheckFault>
+where
+    F::Address: LineKey,
+    requires room { most_bytes ≤ length packet.old }
+    requires first { number_of capture.old ≡ 1 }
+    requires reading { progress_of capture.old ≡ Reading }
+    requires in_range { IfSome terms.until (λ ms. ms ≤ 2 ^ 53) }
+    requires starts { checked_in link.old queries.old ≡ at_the_start link.old.config }
+    requires own { queries.old.own ≡ link.old.config.own }
+    requires cite { told.old.cite ≡ terms.cite }
+    requires count { told.old.count ≡ 0 }
+    ensures puts { PutsPackets link.old.config terms (form_of capture.old)
+        (input_of R.remaining reader.old) (input_of R.remaining reader.new)
+        (W.contents (inner_of writer.old)) (W.contents (inner_of writer.new))
+        told.old.held told.new.held result }
+    ensures failed { has_failed writer.new ≡ has_failed writer.old || spec.is_failed_write result }
+    ensures no_memory { result ≡ Err CheckFault.Memory → ⊥ }
+{
+    link.config().is_faultless();
+    let within = terms.within;
+    let until = terms.until;
+    let mut number = 0;
+    let mut stamps = Stamps::new();
+    let mut last = Stamp::of(0);
+    while let Some(read) = capture.next(reader, packet)? {
+        number += 1;
+        let ms = stamps.moment_of_next(read.stamp_ms);
+        let stamp = Stamp::of(ms);
+        let before = last.moment();
+        let now = stamp.moment();
+        if is_gap(before, now) {
+            return Err(CheckFault::Gap { number });
+        }
+        last = stamp;
+        let kind = capture.link();
+        let frame = &packet[..read.length];
+        check_packet(link, queries, within, kind, frame, stamp, told, writer)?;
+        if queries.checking().is_full() {
+            return Err(CheckFault::Waiting { number });
+        }
+    }
+    check_rest(link, queries, within, until, last, number + 1, told, writer)
+}

@@ -1,0 +1,423 @@
+//! What a check makes of the queries, one after the other.
+
+ghost use Rattle.std.specs.Prelude.{◌≡◌, ◌≤◌, ◌^◌, [], ◌∷◌, IfOk, flat_map, fold, map as list_map};
+ghost use Rattle.mq_wire.specs.Numbered.{numbered_query, numbered_version};
+ghost use Rattle.mq_replay.specs.Printing.{output_of};
+ghost use Rattle.mq_replay.specs.Text.{query_sources};
+ghost use Rattle.mq_check.specs.declared.asked.Asked.TheVariants.{Source};
+ghost use Rattle.mq_check.specs.Checking as spec;
+ghost use Rattle.mq_check.specs.Entries.{may_be_left_out};
+ghost use Rattle.mq_check.specs.General.{phase_again, silence_up_to};
+ghost use Rattle.mq_check.specs.Numbered.{numbered_asked, numbered_terms};
+ghost use Rattle.mq_check.specs.Queries as queries;
+ghost use Rattle.mq_check.specs.Telling.{Tells};
+
+use crate::asked::Asked;
+use crate::checked_family::CheckedFamily;
+use crate::entry::Entry;
+use crate::general::query_interval;
+use crate::phase::Phase;
+use crate::settling::{settle, tell_rest};
+use crate::stamp::Stamp;
+use crate::terms::{Terms, general_terms, terms_of};
+use crate::told::Told;
+use crate::waiting::{Side, Waiting};
+use mq_count::{Meter, Moment, Span, Watched};
+use mq_link::{Config, Family};
+use mq_replay::{LineFault, LineKey};
+use mq_table::Timing;
+use mq_wire::{Query, QueryVersion, Sources, WireKey};
+use std::alloc::{AllocError, Global};
+use std::io::Write;
+use std::marker::Model;
+
+/// What waits; when the role of querier changed last; the general queries; and how many queries were seen.
+#[derive(Drop)]
+pub(crate) struct Checking<F: Family> {
+    waiting: Waiting<F>,
+    changed: Option<Moment>,
+    phase: Phase,
+    last_general: Option<Stamp>,
+    general: u64,
+    specific: u64,
+}
+
+impl<F: Family> Model for Checking<F> {
+    ghost use Rattle.std.specs.Prelude.{◌≤◌, ◌^◌, IfSome};
+    ghost use Rattle.mq_check.specs.Checking.{CheckingValue};
+
+    ghost Value = { CheckingValue };
+
+    ghost view = { λ c. record { waiting = c.waiting; changed = c.changed; phase = c.phase; last_general = c.last_general; general = c.general; specific = c.specific } };
+
+    ghost invariant = { λ c. IfSome c.changed (λ moment. moment ≤ 2 ^ 53) };
+}
+
+/// The sources of a query, none where its version has none.
+fn sources_of<'a, K: WireKey>(version: &QueryVersion<'a, K>) -> Sources<'a, K>
+    ensures { result ≡ query_sources (numbered_version version.now) }
+{
+    match version {
+        QueryVersion::Older(_) => Sources::lent(&[]),
+        QueryVersion::Current(fields) => fields.sources.iter(),
+    }
+}
+
+/// Whether a query is a general one.
+fn is_general<F: Family>(query: &Query<'_, F::Address>) -> bool
+    ensures { result ≡ queries.is_general (numbered_query F.Address.number query.now) }
+{
+    F::is_zero(query.group) && sources_of(&query.version).is_empty()
+}
+
+/// What a query without sources asks about.
+fn asked_without_sources<F: Family>(group: F::Address) -> Asked<F::Address>
+    ensures { numbered_asked F.Address.number result ≡ queries.asked_for_group (F.Address.number group) }
+{
+    if F::is_zero(group) {
+        Asked::AllGroups
+    } else {
+        Asked::Group(group)
+    }
+}
+
+/// Has an interval wait that isn't what is wanted, where there is one.
+fn put_interval<F: Family>(
+    waiting: &mut Waiting<F>,
+    configured: Timing,
+    stamp: Stamp,
+    passed: Option<u64>,
+)
+    ensures { waiting.new ≡ spec.with_interval configured stamp passed waiting.old }
+{
+    if let Some(passed) = passed {
+        waiting.put(Entry::Interval(stamp.moment(), passed, query_interval(configured)));
+    }
+}
+
+/// Has a time without general queries wait that is too long, where there is one.
+fn put_silence<F: Family>(
+    waiting: &mut Waiting<F>,
+    configured: Timing,
+    stamp: Stamp,
+    passed: Option<u64>,
+)
+    ensures { waiting.new ≡ spec.with_silence configured stamp passed waiting.old }
+{
+    if let Some(passed) = passed {
+        waiting.put(Entry::Silence(stamp.moment(), passed, query_interval(configured)));
+    }
+}
+
+impl<F: Family> Checking<F> {
+    /// At the start of a capture.
+    pub(crate) fn new(alloc: Global, configured: Timing) -> Result<Checking<F>, AllocError>
+        ensures { IfOk result (λ c. c ≡ spec.checking_at_start configured) }
+    {
+        Ok(Checking {
+            waiting: Waiting::new(alloc)?,
+            changed: None,
+            phase: Phase::at_start(configured),
+            last_general: None,
+            general: 0,
+            specific: 0,
+        })
+    }
+
+    /// Whether there was no room for something that had to wait.
+    pub(crate) fn is_full(&self) -> bool
+        ensures { result ≡ self.now.waiting.is_full }
+    {
+        self.waiting.is_full()
+    }
+
+    /// How many general queries were seen.
+    pub(crate) fn general(&self) -> u64
+        ensures { result ≡ self.now.general }
+    {
+        self.general
+    }
+
+    /// How many other queries were seen.
+    pub(crate) fn specific(&self) -> u64
+        ensures { result ≡ self.now.specific }
+    {
+        self.specific
+    }
+
+    /// Something is wanted at a moment.
+    fn want(&mut self, moment: Moment, terms: Terms<F::Address>, asked: Asked<F::Address>)
+        ensures { self.new ≡ spec.with_wanted moment (numbered_terms F.Address.number terms) self.old (numbered_asked F.Address.number asked) }
+    {
+        let is_optional = self.may_be_left_out(moment, asked, &terms);
+        let is_found = self.waiting.join(Side::OfSeen, asked, terms).is_some();
+        self.waiting
+            .put(Entry::Wanted(moment, asked, terms, is_optional, is_found));
+    }
+
+    /// Whether something that is wanted at a moment may be left out.
+    fn may_be_left_out(
+        &self,
+        moment: Moment,
+        asked: Asked<F::Address>,
+        terms: &Terms<F::Address>,
+    ) -> bool
+        ensures { result ≡ may_be_left_out moment (numbered_asked F.Address.number asked) (numbered_terms F.Address.number terms.now) self.now.waiting.entries }
+    {
+        match (asked, terms.querier) {
+            (Asked::Source(group, _), Some(querier)) => {
+                querier.suppress && self.waiting.has_group_wanted(moment, group)
+            }
+            _ => false,
+        }
+    }
+
+    /// Something was seen at a moment.
+    fn see(&mut self, moment: Moment, terms: Terms<F::Address>, asked: Asked<F::Address>)
+        ensures { self.new ≡ spec.with_seen moment (numbered_terms F.Address.number terms) self.old (numbered_asked F.Address.number asked) }
+    {
+        let is_querier = self.phase.is_querier();
+        let partner = self.waiting.join(Side::OfWanted, asked, terms);
+        self.waiting
+            .put(Entry::Seen(moment, asked, terms, partner, is_querier));
+    }
+
+    /// What a query asks about is wanted at a moment.
+    fn want_all(&mut self, moment: Moment, terms: Terms<F::Address>, query: &Query<'_, F::Address>)
+        ensures { self.new ≡ fold (spec.with_wanted moment (numbered_terms F.Address.number terms)) self.old (queries.asked_in (numbered_query F.Address.number query.now)) }
+    {
+        let sources = sources_of(&query.version);
+        if sources.is_empty() {
+            self.want(moment, terms, asked_without_sources::<F>(query.group));
+            return;
+        }
+        self.want_sources(moment, terms, query.group, sources);
+    }
+
+    /// Each of some sources of a group is wanted at a moment.
+    fn want_sources(
+        &mut self,
+        moment: Moment,
+        terms: Terms<F::Address>,
+        group: F::Address,
+        sources: Sources<'_, F::Address>,
+    )
+        ensures { self.new ≡ fold (spec.with_wanted moment (numbered_terms F.Address.number terms)) self.old (list_map (Source (F.Address.number group)) sources.entry) }
+    {
+        for source in sources {
+            self.want(moment, terms, Asked::Source(group, source));
+        }
+    }
+
+    /// What a query asks about was seen at a moment.
+    fn see_all(&mut self, moment: Moment, terms: Terms<F::Address>, query: &Query<'_, F::Address>)
+        ensures { self.new ≡ fold (spec.with_seen moment (numbered_terms F.Address.number terms)) self.old (queries.asked_in (numbered_query F.Address.number query.now)) }
+    {
+        let sources = sources_of(&query.version);
+        if sources.is_empty() {
+            self.see(moment, terms, asked_without_sources::<F>(query.group));
+            return;
+        }
+        self.see_sources(moment, terms, query.group, sources);
+    }
+
+    /// Each of some sources of a group was seen at a moment.
+    fn see_sources(
+        &mut self,
+        moment: Moment,
+        terms: Terms<F::Address>,
+        group: F::Address,
+        sources: Sources<'_, F::Address>,
+    )
+        ensures { self.new ≡ fold (spec.with_seen moment (numbered_terms F.Address.number terms)) self.old (list_map (Source (F.Address.number group)) sources.entry) }
+    {
+        for source in sources {
+            self.see(moment, terms, Asked::Source(group, source));
+        }
+    }
+
+    /// A general query was seen while the router is querier.
+    fn judge_general(
+        &mut self,
+        within: u32,
+        configured: Timing,
+        stamp: Stamp,
+        terms: Terms<F::Address>,
+        wanted: Terms<F::Address>,
+    )
+        ensures { self.new ≡ spec.with_general within configured stamp (numbered_terms F.Address.number terms) (numbered_terms F.Address.number wanted) self.old }
+    {
+        let passed = self.phase.wrong_interval(within, configured, stamp.ms());
+        put_interval(&mut self.waiting, configured, stamp, passed);
+        self.phase = self.phase.behind(within, configured, stamp.ms());
+        self.waiting.join(Side::OfWanted, Asked::AllGroups, terms);
+        self.waiting.put(Entry::Seen(stamp.moment(), Asked::AllGroups, terms, Some(wanted), true));
+    }
+
+    /// A general query was seen: what is made of it beside the counts.
+    fn compare_general(
+        &mut self,
+        within: u32,
+        configured: Timing,
+        stamp: Stamp,
+        terms: Terms<F::Address>,
+        wanted: Terms<F::Address>,
+    )
+        ensures { self.new ≡ spec.general_compared within configured stamp (numbered_terms F.Address.number terms) (numbered_terms F.Address.number wanted) self.old }
+    {
+        if self.phase.is_querier() {
+            self.judge_general(within, configured, stamp, terms, wanted);
+            return;
+        }
+        self.see(stamp.moment(), terms, Asked::AllGroups);
+    }
+
+    /// A general query was seen.
+    fn see_general(
+        &mut self,
+        within: u32,
+        configured: Timing,
+        stamp: Stamp,
+        terms: Terms<F::Address>,
+        wanted: Terms<F::Address>,
+    )
+        ensures { self.new ≡ spec.general_seen within configured stamp (numbered_terms F.Address.number terms) (numbered_terms F.Address.number wanted) self.old }
+    {
+        self.compare_general(within, configured, stamp, terms, wanted);
+        self.last_general = Some(stamp);
+        self.general = self.general.saturating_add(1);
+    }
+
+    /// A query for a group or for sources was seen.
+    fn see_specific(
+        &mut self,
+        moment: Moment,
+        terms: Terms<F::Address>,
+        query: &Query<'_, F::Address>,
+    )
+        ensures { self.new ≡ spec.specific_seen moment (numbered_terms F.Address.number terms) (queries.asked_in (numbered_query F.Address.number query.now)) self.old }
+    {
+        self.see_all(moment, terms, query);
+        self.specific = self.specific.saturating_add(1);
+    }
+
+    /// How long no general query was seen up to a moment, where that is too long.
+    pub(crate) fn silence(&self, within: u32, configured: Timing, stamp: Stamp) -> Option<u64>
+        ensures { result ≡ silence_up_to within configured stamp self.now.phase }
+    {
+        self.phase.silence(within, configured, stamp.ms())
+    }
+
+    /// The role was lost.
+    pub(crate) fn lose_role(&mut self, within: u32, configured: Timing, stamp: Stamp)
+        ensures { self.new ≡ spec.role_lost within configured stamp self.old }
+    {
+        let passed = self.phase.silence(within, configured, stamp.ms());
+        put_silence(&mut self.waiting, configured, stamp, passed);
+        self.changed = Some(stamp.moment());
+        self.phase = Phase::NotQuerier;
+    }
+
+    /// The role is had again.
+    pub(crate) fn return_role(&mut self, within: u32, moment: Moment)
+        requires in_range { moment ≤ 2 ^ 53 }
+        ensures { self.new ≡ spec.role_returned within moment self.old }
+    {
+        self.phase = self.phase_again(within, moment);
+        self.changed = Some(moment);
+    }
+
+    /// How it stands with the general queries where the role is had again.
+    fn phase_again(&self, within: u32, moment: Moment) -> Phase
+        ensures { result ≡ phase_again within moment self.now.last_general }
+    {
+        let Some(last) = self.last_general else {
+            return Phase::Returned;
+        };
+        let latest = last.moment().after(Span::from_ms(within));
+        if Meter::new().reached(moment, latest) {
+            Phase::Heard(last.ms(), 0)
+        } else {
+            Phase::Returned
+        }
+    }
+}
+
+impl<F: CheckedFamily> Checking<F>
+where
+    F::Address: LineKey,
+{
+    /// A query of the router that is checked was seen.
+    pub(crate) fn query_seen(
+        &mut self,
+        within: u32,
+        config: &Config<F>,
+        in_force: Timing,
+        stamp: Stamp,
+        to: F::Address,
+        query: &Query<'_, F::Address>,
+    )
+        ensures { self.new ≡ spec.query_came within config.now in_force stamp (F.Address.number to) (numbered_query F.Address.number query.now) self.old }
+    {
+        config.is_faultless();
+        let terms = terms_of(to, query);
+        let configured = config.timing();
+        if is_general::<F>(query) {
+            let wanted = general_terms(config, in_force);
+            self.see_general(within, configured, stamp, terms, wanted);
+            return;
+        }
+        self.see_specific(stamp.moment(), terms, query);
+    }
+
+    /// A query is wanted that the link sends at a moment; a general one only where the router is querier again.
+    pub(crate) fn query_wanted(
+        &mut self,
+        moment: Moment,
+        is_returning: bool,
+        to: F::Address,
+        query: &Query<'_, F::Address>,
+    )
+        ensures { self.new ≡ spec.one_wanted F.FAMILY moment is_returning (F.Address.number to) (numbered_query F.Address.number query.now) self.old }
+    {
+        if is_general::<F>(query) && !is_returning {
+            return;
+        }
+        self.want_all(moment, terms_of(to, query), query);
+    }
+
+    /// Takes out all that still waits at the end of a capture, and tells what is found of it.
+    pub(crate) fn tell_rest<W: Write>(
+        &mut self,
+        told: &mut Told,
+        writer: &mut Watched<W>,
+    ) -> Result<(), LineFault>
+        ensures { Tells F.Address.family (flat_map spec.found_of_last self.old.waiting.entries) told.old told.new
+            (output_of W.contents writer.old) (output_of W.contents writer.new) result }
+    {
+        tell_rest::<F, W>(&mut self.waiting, told, writer)
+    }
+
+    /// Takes out what is over at a moment, and tells what is found of it.
+    pub(crate) fn settle<W: Write>(
+        &mut self,
+        within: u32,
+        now: Moment,
+        told: &mut Told,
+        writer: &mut Watched<W>,
+    ) -> Result<(), LineFault>
+        requires in_range { now ≤ 2 ^ 53 }
+        ensures settled { IfOk result (λ _. self.new ≡ spec.settled within now self.old) }
+        ensures tells { Tells F.Address.family (spec.told within now self.old) told.old told.new
+            (output_of W.contents writer.old) (output_of W.contents writer.new) result }
+    {
+        settle::<F, W>(
+            &mut self.waiting,
+            Span::from_ms(within),
+            &self.changed,
+            now,
+            told,
+            writer,
+        )
+    }
+}

@@ -1,0 +1,157 @@
+//! The end of a check.
+
+ghost use Rattle.std.specs.Prelude.{◌≡◌, ◌≤◌, ◌^◌, ◌||◌, IfOk, IfSome, is_err, max, unwrap_or};
+ghost use Rattle.mq_count.specs.Streams.{inner_of, has_failed};
+ghost use Rattle.mq_replay.specs.Printing.{Puts, output_of};
+ghost use Rattle.mq_check.specs.CheckedCaptures as spec;
+ghost use Rattle.mq_check.specs.Checking.{silence_found};
+ghost use Rattle.mq_check.specs.Coming.{checked_in};
+ghost use Rattle.mq_check.specs.Ending.{IsRestPut, counted_behind, end_text, ended_behind, last_findings, rest_behind};
+ghost use Rattle.mq_check.specs.Telling.{Tells};
+
+use crate::check_fault::CheckFault;
+use crate::checked_family::CheckedFamily;
+use crate::finding::Finding;
+use crate::general::query_interval;
+use crate::judging::tell_finding;
+use crate::stamp::Stamp;
+use crate::stepping::tick_through;
+use crate::told::Told;
+use crate::totals::Totals;
+use crate::wanted_queries::WantedQueries;
+use mq_count::Watched;
+use mq_link::{Family, Link};
+use mq_replay::{LineFault, LineKey, is_gap};
+use mq_table::Timing;
+use std::io::Write;
+
+/// The moment at which a check ends: that of the last packet, or the one that is asked for, if that is later.
+fn last_moment(until: Option<u64>, last: Stamp) -> Stamp
+    requires { IfSome until (λ ms. ms ≤ 2 ^ 53) }
+    ensures { result ≡ max last (unwrap_or until 0) }
+{
+    match until {
+        Some(until) if last.ms() < until => Stamp::of(until),
+        _ => last,
+    }
+}
+
+/// Checks what stands behind the packets of a capture that has ended, unless there is a gap before the end of the check:
+/// `number` is that of the packet that would follow the last.
+pub(crate) fn check_rest<F: CheckedFamily, W: Write>(
+    link: &mut Link<F>,
+    queries: &mut WantedQueries<F>,
+    within: u32,
+    until: Option<u64>,
+    last: Stamp,
+    number: u64,
+    told: &mut Told,
+    writer: &mut Watched<W>,
+) -> Result<Totals, CheckFault>
+where
+    F::Address: LineKey,
+    requires in_range { IfSome until (λ ms. ms ≤ 2 ^ 53) }
+    requires own { queries.old.own ≡ link.old.config.own }
+    ensures rest { IsRestPut
+        (rest_behind link.old.config within until told.old.cite last told.old.count number (checked_in link.old queries.old))
+        (W.contents (inner_of writer.old)) (W.contents (inner_of writer.new))
+        told.old.held told.new.held result }
+    ensures failed { has_failed writer.new ≡ has_failed writer.old || spec.is_failed_write result }
+{
+    let end = last_moment(until, last);
+    let before = last.moment();
+    let now = end.moment();
+    if is_gap(before, now) {
+        return Err(CheckFault::Gap { number });
+    }
+    check_end(link, queries, within, end, number, told, writer)
+}
+
+/// Checks up to and including the end, and tells what was counted.
+fn check_end<F: CheckedFamily, W: Write>(
+    link: &mut Link<F>,
+    queries: &mut WantedQueries<F>,
+    within: u32,
+    end: Stamp,
+    number: u64,
+    told: &mut Told,
+    writer: &mut Watched<W>,
+) -> Result<Totals, CheckFault>
+where
+    F::Address: LineKey,
+    requires own { queries.old.own ≡ link.old.config.own }
+    ensures rest { IsRestPut
+        (ended_behind link.old.config within told.old.cite end told.old.count number (checked_in link.old queries.old))
+        (W.contents (inner_of writer.old)) (W.contents (inner_of writer.new))
+        told.old.held told.new.held result }
+    ensures failed { has_failed writer.new ≡ has_failed writer.old || spec.is_failed_write result }
+{
+    link.config().is_faultless();
+    let configured = link.config().timing();
+    let now = end.moment();
+    tick_through(link, queries, within, now, told, writer)?;
+    queries.settle(within, now, told, writer)?;
+    if queries.checking().is_full() {
+        return Err(CheckFault::Waiting { number });
+    }
+    let totals = tell_end(queries, within, configured, end, told, writer)?;
+    Ok(totals)
+}
+
+/// Tells what is found of what still waits at the end, and whether no general query was seen for too long, and then what was
+/// counted.
+fn tell_end<F: CheckedFamily, W: Write>(
+    queries: &mut WantedQueries<F>,
+    within: u32,
+    configured: Timing,
+    end: Stamp,
+    told: &mut Told,
+    writer: &mut Watched<W>,
+) -> Result<Totals, LineFault>
+where
+    F::Address: LineKey,
+    ensures text { let found = last_findings within configured end queries.old.checking in Puts
+        (W.contents (inner_of writer.old)) (W.contents (inner_of writer.new))
+        told.old.held told.new.held
+        (end_text F.Address.family told.old.cite found (counted_behind told.old.count queries.old.checking found)) result }
+    ensures totals { let found = last_findings within configured end queries.old.checking in
+        IfOk result (λ totals. totals ≡ counted_behind told.old.count queries.old.checking found) }
+    ensures failed { has_failed writer.new ≡ has_failed writer.old || is_err result }
+{
+    let state = queries.checking();
+    let passed = state.silence(within, configured, end);
+    let general_queries = state.general();
+    let other_queries = state.specific();
+    queries.tell_rest(told, writer)?;
+    tell_silence::<F, W>(configured, end, passed, told, writer)?;
+    let all_findings = told.count();
+    let totals = Totals {
+        general: general_queries,
+        specific: other_queries,
+        findings: all_findings,
+    };
+    told.tell_totals(totals, writer)?;
+    Ok(totals)
+}
+
+/// Tells that no general query was seen for so long up to the end, where that was too long.
+fn tell_silence<F: Family, W: Write>(
+    configured: Timing,
+    end: Stamp,
+    passed: Option<u64>,
+    told: &mut Told,
+    writer: &mut Watched<W>,
+) -> Result<(), LineFault>
+where
+    F::Address: LineKey,
+    ensures { Tells F.Address.family (silence_found configured end passed) told.old told.new
+        (output_of W.contents writer.old) (output_of W.contents writer.new) result }
+{
+    match passed {
+        Some(passed) => {
+            let silence = Finding::Silence(end.moment(), passed, query_interval(configured));
+            tell_finding::<F, W>(silence, told, writer)
+        }
+        None => Ok(()),
+    }
+}

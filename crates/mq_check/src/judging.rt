@@ -1,0 +1,302 @@
+//! What is found of what no longer waits.
+
+ghost use Rattle.std.specs.Prelude.{◌≡◌, ◌≤◌, ◌^◌, ◌==◌, [], ◌∷◌, IfSome, not};
+ghost use Rattle.mq_replay.specs.Printing.{output_of};
+ghost use Rattle.mq_check.specs.declared.finding.Difference.TheVariants as field;
+ghost use Rattle.mq_check.specs.Checking.{found_of_last};
+ghost use Rattle.mq_check.specs.Entries as spec;
+ghost use Rattle.mq_check.specs.Numbered.{difference_list, numbered_asked, numbered_entry, numbered_finding, numbered_terms};
+ghost use Rattle.mq_check.specs.Telling.{Tells};
+
+use crate::asked::Asked;
+use crate::entry::Entry;
+use crate::finding::{Difference, Finding};
+use crate::terms::{QuerierTerms, Terms};
+use crate::told::Told;
+use mq_count::{Meter, Moment, Span, Watched};
+use mq_link::Family;
+use mq_replay::{LineFault, LineKey};
+use mq_wire::WireKey;
+use std::io::Write;
+
+/// Whether the role changed within the tolerance of a moment.
+fn is_near_change(within: Span, moment: Moment, changed: &Option<Moment>) -> bool
+    requires in_range { moment ≤ 2 ^ 53 }
+    requires changed_in_range { IfSome changed.now (λ at. at ≤ 2 ^ 53) }
+    ensures { result ≡ spec.is_near_change within moment changed.now }
+{
+    let Some(changed) = *changed else {
+        return false;
+    };
+    let mut meter = Meter::new();
+    meter.reached(moment, changed.after(within)) && meter.reached(changed, moment.after(within))
+}
+
+/// Tells one finding.
+pub(crate) fn tell_finding<F: Family, W: Write>(
+    finding: Finding<F::Address>,
+    told: &mut Told,
+    writer: &mut Watched<W>,
+) -> Result<(), LineFault>
+where
+    F::Address: LineKey,
+    ensures { Tells F.Address.family (numbered_finding F.Address.number finding ∷ []) told.old told.new
+        (output_of W.contents writer.old) (output_of W.contents writer.new) result }
+{
+    told.tell::<F, W>(finding, writer)
+}
+
+/// Tells what is found of an entry that is over, where the role changed last at `changed`.
+pub(crate) fn tell_entry<F: Family, W: Write>(
+    entry: &Entry<F::Address>,
+    within: Span,
+    changed: &Option<Moment>,
+    told: &mut Told,
+    writer: &mut Watched<W>,
+) -> Result<(), LineFault>
+where
+    F::Address: LineKey,
+    requires in_range { spec.moment_of (numbered_entry F.Address.number entry.now) ≤ 2 ^ 53 }
+    requires changed_in_range { IfSome changed.now (λ at. at ≤ 2 ^ 53) }
+    ensures { Tells F.Address.family (spec.findings_of within changed.now (numbered_entry F.Address.number entry.now)) told.old told.new
+        (output_of W.contents writer.old) (output_of W.contents writer.new) result }
+{
+    match entry {
+        Entry::Wanted(moment, asked, _, is_optional, is_found) => {
+            if *is_optional {
+                return Ok(());
+            }
+            if *is_found {
+                return Ok(());
+            }
+            tell_finding::<F, W>(Finding::Missing(*moment, *asked), told, writer)
+        }
+        Entry::Seen(moment, asked, terms, partner, is_querier) => match partner {
+            Some(wanted) => {
+                tell_differences::<F, W>(*moment, *asked, terms, wanted, told, writer)
+            }
+            None => {
+                if is_near_change(within, *moment, changed) {
+                    return Ok(());
+                }
+                tell_finding::<F, W>(Finding::Extra(*moment, *asked, *is_querier), told, writer)
+            }
+        },
+        Entry::Interval(moment, passed, wanted) => {
+            tell_finding::<F, W>(Finding::Interval(*moment, *passed, *wanted), told, writer)
+        }
+        Entry::Silence(moment, passed, wanted) => {
+            tell_finding::<F, W>(Finding::Silence(*moment, *passed, *wanted), told, writer)
+        }
+    }
+}
+
+/// Tells what is found at the end of a capture of an entry that still waits.
+pub(crate) fn tell_last<F: Family, W: Write>(
+    entry: &Entry<F::Address>,
+    told: &mut Told,
+    writer: &mut Watched<W>,
+) -> Result<(), LineFault>
+where
+    F::Address: LineKey,
+    ensures { Tells F.Address.family (found_of_last (numbered_entry F.Address.number entry.now)) told.old told.new
+        (output_of W.contents writer.old) (output_of W.contents writer.new) result }
+{
+    match entry {
+        Entry::Wanted(..) => Ok(()),
+        Entry::Seen(moment, asked, terms, partner, _) => match partner {
+            Some(wanted) => {
+                tell_differences::<F, W>(*moment, *asked, terms, wanted, told, writer)
+            }
+            None => Ok(()),
+        },
+        Entry::Interval(moment, passed, wanted) => {
+            tell_finding::<F, W>(Finding::Interval(*moment, *passed, *wanted), told, writer)
+        }
+        Entry::Silence(moment, passed, wanted) => {
+            tell_finding::<F, W>(Finding::Silence(*moment, *passed, *wanted), told, writer)
+        }
+    }
+}
+
+/// Tells each field that differs of a query that was seen and of what is wanted.
+fn tell_differences<F: Family, W: Write>(
+    moment: Moment,
+    asked: Asked<F::Address>,
+    seen: &Terms<F::Address>,
+    wanted: &Terms<F::Address>,
+    told: &mut Told,
+    writer: &mut Watched<W>,
+) -> Result<(), LineFault>
+where
+    F::Address: LineKey,
+    ensures { Tells F.Address.family
+        (spec.differences_found moment (numbered_asked F.Address.number asked) (numbered_terms F.Address.number seen.now) (numbered_terms F.Address.number wanted.now))
+        told.old told.new (output_of W.contents writer.old) (output_of W.contents writer.new) result }
+{
+    tell_difference::<F, W>(moment, asked, version_differs(seen, wanted), told, writer)?;
+    tell_difference::<F, W>(
+        moment,
+        asked,
+        response_differs(seen.response, wanted.response),
+        told,
+        writer,
+    )?;
+    tell_querier_differences::<F, W>(moment, asked, seen.querier, wanted.querier, told, writer)?;
+    tell_difference::<F, W>(
+        moment,
+        asked,
+        destination_differs::<F>(seen.to, wanted.to),
+        told,
+        writer,
+    )
+}
+
+/// Tells each field that differs of what queries of IGMPv3 and MLDv2 alone have.
+fn tell_querier_differences<F: Family, W: Write>(
+    moment: Moment,
+    asked: Asked<F::Address>,
+    seen: Option<QuerierTerms>,
+    wanted: Option<QuerierTerms>,
+    told: &mut Told,
+    writer: &mut Watched<W>,
+) -> Result<(), LineFault>
+where
+    F::Address: LineKey,
+    ensures { Tells F.Address.family
+        (spec.differ_at moment (numbered_asked F.Address.number asked) (spec.queriers_differ seen wanted))
+        told.old told.new (output_of W.contents writer.old) (output_of W.contents writer.new) result }
+{
+    match (seen, wanted) {
+        (Some(seen), Some(wanted)) => {
+            tell_fields::<F, W>(moment, asked, seen, wanted, told, writer)
+        }
+        _ => Ok(()),
+    }
+}
+
+/// Tells each of these fields that differs, where both queries have them.
+fn tell_fields<F: Family, W: Write>(
+    moment: Moment,
+    asked: Asked<F::Address>,
+    seen: QuerierTerms,
+    wanted: QuerierTerms,
+    told: &mut Told,
+    writer: &mut Watched<W>,
+) -> Result<(), LineFault>
+where
+    F::Address: LineKey,
+    ensures { Tells F.Address.family
+        (spec.differ_at moment (numbered_asked F.Address.number asked) (spec.fields_differ seen wanted))
+        told.old told.new (output_of W.contents writer.old) (output_of W.contents writer.new) result }
+{
+    tell_difference::<F, W>(moment, asked, suppress_differs(seen, wanted), told, writer)?;
+    tell_difference::<F, W>(
+        moment,
+        asked,
+        robustness_differs(seen, wanted),
+        told,
+        writer,
+    )?;
+    tell_difference::<F, W>(moment, asked, interval_differs(seen, wanted), told, writer)
+}
+
+/// Tells a field that differs, if one does.
+fn tell_difference<F: Family, W: Write>(
+    moment: Moment,
+    asked: Asked<F::Address>,
+    difference: Option<Difference<F::Address>>,
+    told: &mut Told,
+    writer: &mut Watched<W>,
+) -> Result<(), LineFault>
+where
+    F::Address: LineKey,
+    ensures { Tells F.Address.family
+        (spec.differ_at moment (numbered_asked F.Address.number asked) (difference_list F.Address.number difference))
+        told.old told.new (output_of W.contents writer.old) (output_of W.contents writer.new) result }
+{
+    match difference {
+        Some(difference) => {
+            tell_finding::<F, W>(Finding::Differs(moment, asked, difference), told, writer)
+        }
+        None => Ok(()),
+    }
+}
+
+/// The versions, where they differ.
+fn version_differs<K: WireKey>(seen: &Terms<K>, wanted: &Terms<K>) -> Option<Difference<K>>
+    ensures { difference_list K.number result
+        ≡ spec.difference_if (not (seen.now.version == wanted.now.version)) (field.Version seen.now.version wanted.now.version) }
+{
+    if seen.version == wanted.version {
+        None
+    } else {
+        Some(Difference::Version(seen.version, wanted.version))
+    }
+}
+
+/// The responses, where both are there and differ.
+fn response_differs<K: WireKey>(seen: Option<u32>, wanted: Option<u32>) -> Option<Difference<K>>
+    ensures { difference_list K.number result ≡ spec.responses_differ seen wanted }
+{
+    let (Some(seen), Some(wanted)) = (seen, wanted) else {
+        return None;
+    };
+    if seen == wanted {
+        None
+    } else {
+        Some(Difference::Response(seen, wanted))
+    }
+}
+
+/// The S flags, where they differ.
+fn suppress_differs<K: WireKey>(seen: QuerierTerms, wanted: QuerierTerms) -> Option<Difference<K>>
+    ensures { difference_list K.number result
+        ≡ spec.difference_if (spec.is_unlike seen.suppress wanted.suppress) (field.Suppress seen.suppress wanted.suppress) }
+{
+    if seen.suppress == wanted.suppress {
+        None
+    } else {
+        Some(Difference::Suppress(seen.suppress, wanted.suppress))
+    }
+}
+
+/// QRV of both, where they differ.
+fn robustness_differs<K: WireKey>(seen: QuerierTerms, wanted: QuerierTerms) -> Option<Difference<K>>
+    ensures { difference_list K.number result
+        ≡ spec.difference_if (not (seen.robustness == wanted.robustness)) (field.Robustness seen.robustness wanted.robustness) }
+{
+    if seen.robustness == wanted.robustness {
+        None
+    } else {
+        Some(Difference::Robustness(seen.robustness, wanted.robustness))
+    }
+}
+
+/// The seconds of QQIC of both, where they differ.
+fn interval_differs<K: WireKey>(seen: QuerierTerms, wanted: QuerierTerms) -> Option<Difference<K>>
+    ensures { difference_list K.number result
+        ≡ spec.difference_if (not (seen.interval == wanted.interval)) (field.QueryInterval seen.interval wanted.interval) }
+{
+    if seen.interval == wanted.interval {
+        None
+    } else {
+        Some(Difference::QueryInterval(seen.interval, wanted.interval))
+    }
+}
+
+/// The destinations, where they differ.
+fn destination_differs<F: Family>(
+    seen: F::Address,
+    wanted: F::Address,
+) -> Option<Difference<F::Address>>
+    ensures { difference_list F.Address.number result
+        ≡ spec.difference_if (not (F.Address.number seen == F.Address.number wanted))
+        (field.Destination (F.Address.number seen) (F.Address.number wanted)) }
+{
+    if F::is_same(seen, wanted) {
+        None
+    } else {
+        Some(Difference::Destination(seen, wanted))
+    }
+}

@@ -1,0 +1,56 @@
+//! The end of waiting.
+
+ghost use Rattle.std.specs.Prelude.{◌≡◌, ◌≤◌, ◌^◌, IfOk, IfSome};
+ghost use Rattle.std.specs.List.{flat_map};
+ghost use Rattle.mq_replay.specs.Printing.{output_of};
+ghost use Rattle.mq_check.specs.Checking.{found_of_last};
+ghost use Rattle.mq_check.specs.Telling.{Tells};
+ghost use Rattle.mq_check.specs.Waiting as waits;
+
+use crate::judging::{tell_entry, tell_last};
+use crate::told::Told;
+use crate::waiting::Waiting;
+use mq_count::{Moment, Span, Watched};
+use mq_link::Family;
+use mq_replay::{LineFault, LineKey};
+use std::io::Write;
+
+/// Takes out what is over at a moment, and tells what is found of it, where the role changed last at `changed`.
+pub(crate) fn settle<F: Family, W: Write>(
+    waiting: &mut Waiting<F>,
+    within: Span,
+    changed: &Option<Moment>,
+    now: Moment,
+    told: &mut Told,
+    writer: &mut Watched<W>,
+) -> Result<(), LineFault>
+where
+    F::Address: LineKey,
+    requires in_range { now ≤ 2 ^ 53 }
+    requires changed_in_range { IfSome changed.now (λ moment. moment ≤ 2 ^ 53) }
+    ensures settled { IfOk result (λ _. waiting.new ≡ waits.settled within now waiting.old) }
+    ensures tells { Tells F.Address.family (waits.told within now changed.now waiting.old) told.old told.new
+        (output_of W.contents writer.old) (output_of W.contents writer.new) result }
+{
+    while let Some(entry) = waiting.pop_over(within, now) {
+        tell_entry::<F, W>(&entry, within, changed, told, writer)?;
+    }
+    Ok(())
+}
+
+/// Takes out all that still waits at the end of a capture, and tells what is found of it.
+pub(crate) fn tell_rest<F: Family, W: Write>(
+    waiting: &mut Waiting<F>,
+    told: &mut Told,
+    writer: &mut Watched<W>,
+) -> Result<(), LineFault>
+where
+    F::Address: LineKey,
+    ensures { Tells F.Address.family (flat_map found_of_last waiting.old.entries) told.old told.new
+        (output_of W.contents writer.old) (output_of W.contents writer.new) result }
+{
+    while let Some(entry) = waiting.pop() {
+        tell_last::<F, W>(&entry, told, writer)?;
+    }
+    Ok(())
+}

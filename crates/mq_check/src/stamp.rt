@@ -1,0 +1,56 @@
+//! The moments of packets.
+
+ghost use Rattle.std.specs.Prelude.{◌≡◌, ◌≤◌, ◌^◌};
+
+use mq_count::Moment;
+use std::marker::Model;
+
+/// A moment in range, as such and in milliseconds. A contract sees it as that number.
+#[derive(Clone, Copy)]
+pub(crate) struct Stamp {
+    moment: Moment,
+    ms: u64,
+}
+
+impl Model for Stamp {
+    ghost use Rattle.std.specs.Prelude.{◌≡◌, ◌≤◌, ◌^◌, ℕ};
+    ghost use Rattle.std.proofs.Common.{sym};
+
+    ghost Value = { ℕ };
+
+    ghost view = { λ s. s.ms };
+
+    ghost invariant = { λ s. (s.moment ≡ s.ms) × (s.ms ≤ 2 ^ 53) };
+
+    ghost inverse = { λ n. record { moment = n; ms = n } };
+
+    ghost inverse_ok = { λ a h i. record { moment = sym h.0 i; ms = a.ms } };
+}
+
+impl Stamp {
+    /// The moment of so many milliseconds.
+    pub(crate) fn of(ms: u64) -> Stamp
+        requires in_range { ms ≤ 2 ^ 53 }
+        ensures { result ≡ ms }
+    {
+        let Some(moment) = Moment::from_ms(ms) else {
+            unreachable!()
+        };
+        Stamp { moment, ms }
+    }
+
+    /// As a moment.
+    pub(crate) fn moment(self) -> Moment
+        ensures same { result ≡ self }
+        ensures in_range { self ≤ 2 ^ 53 }
+    {
+        self.moment
+    }
+
+    /// In milliseconds.
+    pub(crate) fn ms(self) -> u64
+        ensures { result ≡ self }
+    {
+        self.ms
+    }
+}

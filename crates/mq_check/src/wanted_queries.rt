@@ -1,0 +1,167 @@
+//! The outlet that takes what a link sends as what is wanted.
+
+ghost use Rattle.std.specs.Prelude.{◌≡◌, ◌≤◌, ◌^◌, IfOk, flat_map, false};
+ghost use Rattle.mq_wire.specs.Numbered.{numbered_query};
+ghost use Rattle.mq_replay.specs.Printing.{output_of};
+ghost use Rattle.mq_check.specs.Checking as spec;
+ghost use Rattle.mq_check.specs.Telling.{Tells};
+
+use crate::checked_family::CheckedFamily;
+use crate::checking::Checking;
+use crate::seen_queries::query_spelled;
+use crate::stamp::Stamp;
+use crate::told::Told;
+use mq_count::{Moment, Watched};
+use mq_link::{Config, Outlet};
+use mq_replay::{LineFault, LineKey};
+use mq_table::Timing;
+use mq_wire::Query;
+use std::io::Write;
+use std::marker::Model;
+
+/// A check under way, to which a link hands what it sends at one moment.
+#[derive(Drop)]
+pub(crate) struct WantedQueries<F: CheckedFamily>
+where
+    F::Address: LineKey,
+{
+    checking: Checking<F>,
+    own: F::Address,
+    moment: Moment,
+    is_returning: bool,
+}
+
+impl<F: CheckedFamily> Model for WantedQueries<F>
+where
+    F::Address: LineKey,
+{
+    ghost use Rattle.mq_check.specs.Wanting.{WantingValue};
+
+    ghost Value = { WantingValue };
+
+    ghost view = { λ w. record { checking = w.checking; own = F.Address.number w.own; moment = w.moment; is_returning = w.is_returning } };
+}
+
+impl<F: CheckedFamily> WantedQueries<F>
+where
+    F::Address: LineKey,
+{
+    /// For the queries that the router at `own` sends, which are wanted at the moment that `begin` tells.
+    pub(crate) fn new(checking: Checking<F>, own: F::Address, moment: Moment) -> WantedQueries<F>
+        ensures { result ≡ record { checking = checking; own = F.Address.number own; moment = moment; is_returning = false } }
+    {
+        WantedQueries {
+            checking,
+            own,
+            moment,
+            is_returning: false,
+        }
+    }
+
+    /// The queries that come now are sent at this moment; general ones are wanted where the router may be querier again.
+    pub(crate) fn begin(&mut self, moment: Moment, is_returning: bool)
+        ensures { self.new ≡ record self.old { moment = moment; is_returning = is_returning } }
+    {
+        self.moment = moment;
+        self.is_returning = is_returning;
+    }
+
+    /// The check so far.
+    pub(crate) fn checking(&self) -> &Checking<F>
+        ensures { result.now ≡ self.now.checking }
+    {
+        &self.checking
+    }
+
+    /// Takes out what is over at a moment, and tells what is found of it.
+    pub(crate) fn settle<W: Write>(
+        &mut self,
+        within: u32,
+        now: Moment,
+        told: &mut Told,
+        writer: &mut Watched<W>,
+    ) -> Result<(), LineFault>
+        requires in_range { now ≤ 2 ^ 53 }
+        ensures own { self.new.own ≡ self.old.own }
+        ensures settled { IfOk result (λ _. self.new.checking ≡ spec.settled within now self.old.checking) }
+        ensures tells { Tells F.Address.family (spec.told within now self.old.checking) told.old told.new
+            (output_of W.contents writer.old) (output_of W.contents writer.new) result }
+    {
+        self.checking.settle(within, now, told, writer)
+    }
+
+    /// Takes out all that still waits at the end of a capture, and tells what is found of it.
+    pub(crate) fn tell_rest<W: Write>(
+        &mut self,
+        told: &mut Told,
+        writer: &mut Watched<W>,
+    ) -> Result<(), LineFault>
+        ensures { Tells F.Address.family (flat_map spec.found_of_last self.old.checking.waiting.entries) told.old told.new
+            (output_of W.contents writer.old) (output_of W.contents writer.new) result }
+    {
+        self.checking.tell_rest(told, writer)
+    }
+
+    /// A tick or a datagram may have changed the role: it is had again.
+    pub(crate) fn return_role(&mut self, within: u32, moment: Moment)
+        requires in_range { moment ≤ 2 ^ 53 }
+        ensures { self.new ≡ record self.old { checking = spec.role_returned within moment self.old.checking } }
+    {
+        self.checking.return_role(within, moment);
+    }
+
+    /// It was lost.
+    pub(crate) fn lose_role(&mut self, within: u32, configured: Timing, stamp: Stamp)
+        ensures { self.new ≡ record self.old { checking = spec.role_lost within configured stamp self.old.checking } }
+    {
+        self.checking.lose_role(within, configured, stamp);
+    }
+
+    /// A query of the router that is checked was seen.
+    pub(crate) fn see(
+        &mut self,
+        within: u32,
+        config: &Config<F>,
+        in_force: Timing,
+        stamp: Stamp,
+        to: F::Address,
+        query: &Query<'_, F::Address>,
+    )
+        ensures { self.new ≡ record self.old {
+          checking =
+              spec.query_came within config.now in_force stamp (F.Address.number to) (numbered_query F.Address.number query.now) self.old.checking;
+        } }
+    {
+        self.checking
+            .query_seen(within, config, in_force, stamp, to, query);
+    }
+
+    /// A query is wanted that the link sends.
+    fn want(&mut self, to: F::Address, query: &Query<'_, F::Address>)
+        ensures { self.new ≡ record self.old {
+          checking =
+              spec.one_wanted F.FAMILY self.old.moment self.old.is_returning (F.Address.number to) (numbered_query F.Address.number query.now) self.old.checking;
+        } }
+    {
+        self.checking
+            .query_wanted(self.moment, self.is_returning, to, query);
+    }
+}
+
+impl<F: CheckedFamily> Outlet<F::Address> for WantedQueries<F>
+where
+    F::Address: LineKey,
+{
+    ghost use Rattle.mq_check.specs.Wanting.{TakesMessage};
+
+    ghost takes = { TakesMessage F.FAMILY };
+
+    fn datagram(&mut self, to: F::Address, bytes: &[u8]) -> bool {
+        let envelope = F::envelope_sent(self.own, to);
+        let Some(query) = query_spelled::<F>(&envelope, bytes) else {
+            return true;
+        };
+        self.want(to, &query);
+        true
+    }
+}

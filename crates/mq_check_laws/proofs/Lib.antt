@@ -1,0 +1,13 @@
+pub mod Same
+pub mod Held
+pub mod Partners
+pub mod Steps
+pub mod Comings
+pub mod Rooms
+pub mod Courses
+pub mod Found
+pub mod Moved
+pub mod Followed
+pub mod Told
+pub mod Laws
+pub mod Ordered

@@ -1,0 +1,55 @@
+-- When the queries of a check are those that are wanted, and when some of them are left out.
+use Rattle.std.specs.Prelude.{◌≡◌, ℕ, ◌+◌, ◌<◌, false, List, [], ◌∷◌, map as list_map, ⊤}
+use Rattle.mq_table.specs.declared.timing.Timing.{Timing}
+use Rattle.mq_check.specs.declared.asked.Asked.{Asked}
+use Rattle.mq_check.specs.declared.asked.Asked.TheVariants.{AllGroups, Group, Source}
+use Rattle.mq_check.specs.declared.finding.Finding.{Finding}
+use Rattle.mq_check.specs.declared.finding.Finding.TheVariants.{Missing}
+use Rattle.mq_check.specs.declared.terms.Terms.{Terms}
+use Rattle.mq_check.specs.Entries.{is_suppressed}
+use Rattle.mq_check_laws.specs.Events.{CheckEvent}
+use Rattle.mq_check_laws.specs.OnTime.{IsOnTime}
+use Rattle.mq_check_laws.specs.Pairing.{Ask, Expected, Sent, LeftOut, AllLater, AreMoved, PairUp, asks_of, seen_about, wanted_about}
+use Rattle.mq_check_laws.specs.WantedAndSeen.{all_seen_in, wanted_in}
+
+-- One that was left out is missed: it isn't one for sources with S set, which may be left out where one for their group goes
+-- at the same moment; and the capture goes on for longer than the tolerance.
+abbrev pub HasToBeSent : Asked ℕ → Terms ℕ → Type 0
+HasToBeSent AllGroups terms = ⊤
+HasToBeSent (Group group) terms = ⊤
+HasToBeSent (Source group source) terms = is_suppressed terms.querier ≡ false
+
+pub record IsMissed (within end : ℕ) (ask : Ask) : Type 0 where
+  pub has_to_be_sent : HasToBeSent ask.asked ask.terms
+  pub over : ask.moment + within < end
+
+abbrev pub AreMissed : (within end : ℕ) → List Expected → Type 0
+AreMissed within end [] = ⊤
+AreMissed within end (Sent ask ∷ xs) = AreMissed within end xs
+AreMissed within end (LeftOut ask ∷ xs) = IsMissed within end ask × AreMissed within end xs
+
+-- Of what is wanted, what was sent was seen, in its order and no more than the tolerance from its moment, and nothing else;
+-- the rest was left out.
+pub record IsAsWanted (within : ℕ) (timing : Timing) (end : ℕ) (expected : List Expected) (events : List CheckEvent) : Type 0 where
+  pub on_time : IsOnTime within timing end events
+  pub wanted : asks_of expected ≡ wanted_in 0 events
+  pub pairs : (asked : Asked ℕ) → PairUp within (wanted_about asked expected) (seen_about asked (all_seen_in within events))
+  pub missed : AreMissed within end expected
+
+-- The queries that were seen about each thing are these, at their moments; or these, but for the tolerance.
+abbrev pub AreSeen : (within : ℕ) → List Ask → List CheckEvent → Type 0
+AreSeen within asks events = (asked : Asked ℕ) → seen_about asked (all_seen_in within events) ≡ seen_about asked asks
+
+abbrev pub AreSeenWithin : (within : ℕ) → List Ask → List CheckEvent → Type 0
+AreSeenWithin within asks events = (asked : Asked ℕ) → AreMoved within (seen_about asked asks) (seen_about asked (all_seen_in within events))
+
+-- Some of what is wanted is taken out, as all that one query asks about: more than the tolerance before the next query about
+-- the same thing, and before the end.
+abbrev pub TakesOut : (within end : ℕ) → (taken behind : List Ask) → Type 0
+TakesOut within end [] behind = ⊤
+TakesOut within end (ask ∷ asks) behind =
+    IsMissed within end ask × AllLater (ask.moment + within) (seen_about ask.asked behind) × TakesOut within end asks behind
+
+-- each of these is missing
+abbrev pub all_missing : List Ask → List (Finding ℕ)
+all_missing asks = list_map (λ (ask : Ask). Missing ask.moment ask.asked) asks

@@ -1,0 +1,6 @@
+use Rattle.std.proofs.Common.{◌∙◌}
+use Rattle.mq_link.specs.Workspace.{suffices}
+use Rattle.mq_link.proofs.link.Link.receive.Goals as goal
+
+pub invariant_of-self : goal.invariant_of-self
+invariant_of-self g c = (λ i. suffices (c.receive_in.ensures.config i).limits (c.receive_in.ensures.workspace i)) ∙ c.self.invariant

@@ -1,0 +1,336 @@
+//! One link without a workspace of its own.
+
+ghost use Rattle.std.specs.Prelude.{◌≡◌, ℕ, ◌+◌, ◌*◌, ◌<◌, ◌≤◌, ◌^◌, true, false, length, IfOk, IfSome, is_ok, is_some};
+ghost use Rattle.std.specs.FinMap as map;
+ghost use Rattle.mq_count.specs.Spending.{Spends};
+ghost use Rattle.mq_sets.specs.Ascending.{IsAscending};
+ghost use Rattle.mq_table.specs.Stored.{number_in, timers_in};
+ghost use Rattle.mq_sched.specs.Election.{is_querier};
+ghost use Rattle.mq_sched.specs.StoredElection.{IsOtherOf};
+ghost use Rattle.mq_held.specs.Groups.{group_at, sources_of, sources_in};
+ghost use Rattle.mq_held.specs.Places.{HasPlace};
+ghost use Rattle.mq_link.specs.Cost.{cost_of};
+ghost use Rattle.mq_link.specs.Storage.{IsGroupAt};
+ghost use Rattle.mq_link.specs.LeastCost.{least_received, least_ticked};
+ghost use Rattle.mq_link.specs.Link.{HasTicked, HasReceived, IsUntouched};
+ghost use Rattle.mq_link.specs.Moved.{most_moved};
+ghost use Rattle.mq_link.specs.State as state;
+ghost use Rattle.mq_link.specs.State.{held_of, link_at, IsWellFormed};
+ghost use Rattle.mq_link.specs.Tick.{moment_of, tick_of, next_of};
+ghost use Rattle.mq_link.specs.Workspace.{suffices};
+
+use crate::answers::Received;
+use crate::config::Config;
+use crate::counts::Counts;
+use crate::family::Family;
+use crate::outlet::Outlet;
+use crate::router::Router;
+use crate::sender::{QueryTerms, Sender};
+use crate::workspace::Workspace;
+use mq_count::{Meter, Moment};
+use mq_held::{HeldEntries, HeldGroup};
+use mq_sched::OtherQuerier;
+use mq_sets::Memory;
+use mq_table::Timing;
+use std::alloc::Global;
+use std::marker::Model;
+
+/// Why a call did nothing: the workspace that it was lent has room for fewer groups, or for fewer sources of one, than the link's
+/// limits allow.
+#[derive(Clone, Copy, Debug, PartialEq, Eq)]
+pub struct TooSmall;
+
+/// One link of a multicast router, whose calls are lent a workspace: many links may use one in turn. Beside its groups it takes
+/// no memory that grows with its limits. It is as the definitions have it: its configuration, its state, and how many comparisons
+/// it has made and items it has moved. The memory of its groups is taken by `new`, and no other call takes any.
+#[derive(Drop)]
+pub struct BareLink<F: Family> {
+    router: Router<F>,
+}
+
+impl<F: Family> Model for BareLink<F> {
+    ghost use Rattle.mq_table.specs.contracts.timers.FilterMode as filter_mode;
+    ghost use Rattle.mq_table.specs.contracts.timers.SourceTimer as source_timer;
+    ghost use Rattle.mq_sched.specs.contracts.queries.QuerySchedule as query_schedule;
+    ghost use Rattle.mq_link.specs.Link.{LinkValue};
+    ghost use Rattle.mq_link.specs.LinkCode.{link_code};
+    ghost use Rattle.mq_link.specs.Router.{link_of};
+
+    ghost Value = { LinkValue };
+
+    ghost coded = { link_code filter_mode.the_row.coded source_timer.the_row.coded query_schedule.the_row.coded };
+
+    ghost view = { λ l. link_of l.router };
+}
+
+impl<F: Family> BareLink<F> {
+    /// A link that starts at `start`, as `Link::new` makes it; or `Memory`, where that of its groups was refused.
+    pub fn new(alloc: Global, config: Config<F>, start: Moment) -> Result<BareLink<F>, Memory>
+        requires in_range { start ≤ 2 ^ 53 }
+        ensures { IfOk result (λ link. link ≡ record { config = config; state = link_at config start; spent = 0; moved = 0 }) }
+    {
+        Ok(BareLink {
+            router: Router::new(alloc, config, start)?,
+        })
+    }
+
+    /// Whether a workspace has room for the limits of the link.
+    pub fn fits(&self, workspace: &Workspace<F>) -> bool
+        ensures { result ≡ suffices self.now.config.limits workspace.now }
+    {
+        workspace.suffices(&self.router.config().limits())
+    }
+
+    /// Does what `Link::tick` does, in a workspace that it is lent; nothing, where that is too small. What the workspace held
+    /// before makes no difference.
+    pub fn tick<O: Outlet<F::Address>>(
+        &mut self,
+        workspace: &mut Workspace<F>,
+        now: Moment,
+        outlet: &mut O,
+    ) -> Result<(), TooSmall>
+        requires in_range { now ≤ 2 ^ 53 }
+        ensures answer { is_ok result ≡ suffices self.old.config.limits workspace.old }
+        ensures workspace { workspace.new ≡ workspace.old }
+        ensures ticks { is_ok result ≡ true → HasTicked O.takes now self.old self.new outlet.old outlet.new }
+        ensures untouched { is_ok result ≡ false → IsUntouched self.old self.new outlet.old outlet.new }
+        ensures config { self.new.config ≡ self.old.config }
+        ensures formed { IsWellFormed self.new.config self.new.state }
+        ensures later { is_ok result ≡ true → now < next_of self.new.state }
+        ensures bounded { Spends 0 (cost_of 0 (held_of self.old.state)) self.old.spent self.new.spent }
+        ensures moved { let groups = self.old.state.groups in
+            Spends 0 (6 * sources_in groups + 136 * map.len groups) self.old.moved self.new.moved }
+        ensures quiet { moment_of self.old.state now < next_of self.old.state → Spends 0 3 self.old.spent self.new.spent }
+        ensures still { moment_of self.old.state now < next_of self.old.state → self.new.moved ≡ self.old.moved }
+    {
+        self.is_well_formed();
+        if self.fits(workspace) {
+            self.tick_in(workspace, now, outlet);
+            Ok(())
+        } else {
+            Err(TooSmall)
+        }
+    }
+
+    /// Takes a datagram as `Link::receive` does, in a workspace that it is lent; does nothing, where that is too small. What the
+    /// workspace held before makes no difference.
+    pub fn receive<O: Outlet<F::Address>>(
+        &mut self,
+        workspace: &mut Workspace<F>,
+        envelope: &F::Envelope,
+        body: &[u8],
+        now: Moment,
+        outlet: &mut O,
+    ) -> Result<Received, TooSmall>
+        requires in_range { now ≤ 2 ^ 53 }
+        ensures answer { is_ok result ≡ suffices self.old.config.limits workspace.old }
+        ensures workspace { workspace.new ≡ workspace.old }
+        ensures receives { IfOk result (λ received. HasReceived O.takes (F.envelope_of envelope.now) body.now now received self.old self.new
+            outlet.old outlet.new) }
+        ensures untouched { is_ok result ≡ false → IsUntouched self.old self.new outlet.old outlet.new }
+        ensures config { self.new.config ≡ self.old.config }
+        ensures formed { IsWellFormed self.new.config self.new.state }
+        ensures spent { Spends 0 (cost_of (length body.now) (held_of self.old.state)) self.old.spent self.new.spent }
+        ensures moved { Spends 0 (most_moved (length body.now) (held_of self.old.state)) self.old.moved self.new.moved }
+    {
+        self.is_well_formed();
+        if self.fits(workspace) {
+            Ok(self.receive_in(workspace, envelope, body, now, outlet))
+        } else {
+            Err(TooSmall)
+        }
+    }
+
+    /// A tick, in a workspace that suffices.
+    pub(crate) fn tick_in<O: Outlet<F::Address>>(
+        &mut self,
+        workspace: &mut Workspace<F>,
+        now: Moment,
+        outlet: &mut O,
+    )
+        requires in_range { now ≤ 2 ^ 53 }
+        requires enough { suffices self.old.config.limits workspace.old ≡ true }
+        ensures workspace { workspace.new ≡ workspace.old }
+        ensures config { self.new.config ≡ self.old.config }
+        ensures ticks { HasTicked O.takes now self.old self.new outlet.old outlet.new }
+        ensures formed { IsWellFormed self.new.config self.new.state }
+        ensures later { now < next_of self.new.state }
+        ensures spent { let groups = self.old.state.groups in
+            let least = least_ticked (moment_of self.old.state now) groups in
+            Spends (2 + least) (4 * sources_in groups + 44 * map.len groups + 3) self.old.spent self.new.spent }
+        ensures bounded { Spends 0 (cost_of 0 (held_of self.old.state)) self.old.spent self.new.spent }
+        ensures quiet { moment_of self.old.state now < next_of self.old.state → Spends 2 3 self.old.spent self.new.spent }
+        ensures moved { let groups = self.old.state.groups in
+            Spends 0 (6 * sources_in groups + 136 * map.len groups) self.old.moved self.new.moved }
+        ensures still { moment_of self.old.state now < next_of self.old.state → self.new.moved ≡ self.old.moved }
+    {
+        self.is_well_formed();
+        self.router.lemma_is_stored();
+        let mut terms = QueryTerms::of(self.router.config());
+        let mut sender = Sender::new(&mut terms, outlet);
+        self.router.tick(workspace, now, &mut sender);
+        self.is_well_formed();
+    }
+
+    /// A datagram, in a workspace that suffices.
+    pub(crate) fn receive_in<O: Outlet<F::Address>>(
+        &mut self,
+        workspace: &mut Workspace<F>,
+        envelope: &F::Envelope,
+        body: &[u8],
+        now: Moment,
+        outlet: &mut O,
+    ) -> Received
+        requires in_range { now ≤ 2 ^ 53 }
+        requires enough { suffices self.old.config.limits workspace.old ≡ true }
+        ensures workspace { workspace.new ≡ workspace.old }
+        ensures config { self.new.config ≡ self.old.config }
+        ensures receives { HasReceived O.takes (F.envelope_of envelope.now) body.now now result self.old self.new
+            outlet.old outlet.new }
+        ensures formed { IsWellFormed self.new.config self.new.state }
+        ensures spent { let least = least_received self.old.config (F.envelope_of envelope.now) body.now now self.old.state in
+            Spends (2 + least) (cost_of (length body.now) (held_of self.old.state)) self.old.spent self.new.spent }
+        ensures moved { Spends 0 (most_moved (length body.now) (held_of self.old.state)) self.old.moved self.new.moved }
+    {
+        let mut terms = QueryTerms::of(self.router.config());
+        let mut sender = Sender::new(&mut terms, outlet);
+        let answer = self
+            .router
+            .receive(workspace, envelope, body, now, &mut sender);
+        self.is_well_formed();
+        answer
+    }
+
+    /// The link's configuration.
+    pub fn config(&self) -> &Config<F>
+        ensures { result.now ≡ self.now.config }
+    {
+        self.router.config()
+    }
+
+    /// Its state is one that a link may be in, and after a tick its next moment will be later than that of the tick. It does
+    /// nothing: its contract is the fact.
+    pub fn is_well_formed(&self)
+        ensures formed { IsWellFormed self.now.config self.now.state }
+        ensures later { (now : ℕ) → now < next_of (tick_of self.now.config now self.now.state).state }
+    {
+        self.router.lemma_is_stored();
+    }
+
+    /// The link's counters; the link is given up.
+    pub fn into_counts(self) -> Counts
+        ensures { result ≡ self.state.counters }
+    {
+        self.router.into_counts()
+    }
+
+    /// The link's counters.
+    pub fn counts(&self) -> &Counts
+        ensures { result.now ≡ self.now.state.counters }
+    {
+        self.router.counts()
+    }
+
+    /// How many comparisons `tick` and `receive` have made. It stays at the greatest u64.
+    pub fn spent(&self) -> u64
+        ensures { result ≡ self.now.spent }
+    {
+        self.router.spent()
+    }
+
+    /// How many items of lists `tick` and `receive` have moved to keep the groups. It stays at the greatest u64.
+    pub fn moved(&self) -> u64
+        ensures { result ≡ self.now.moved }
+    {
+        self.router.moved()
+    }
+
+    /// Whether it is querier (RFC 3376 section 6.6.2, RFC 3810 section 7.6.2).
+    pub fn is_querier(&self) -> bool
+        ensures { result ≡ is_querier self.now.state.election.role }
+    {
+        self.router.election().is_querier()
+    }
+
+    /// The other router that is querier, or None where this one is: the router of a lower address whose query came last.
+    pub fn other_querier(&self) -> Option<OtherQuerier<F::Address>>
+        ensures { IsOtherOf F.Address.number self.now.state.election.role result }
+    {
+        self.router.election().other_querier()
+    }
+
+    /// The timing in force: the configured one, but for what was taken over from the queries of other routers (RFC 3376
+    /// sections 4.1.6 and 4.1.7, RFC 3810 sections 5.1.8 and 5.1.9).
+    pub fn timing(&self) -> Timing
+        ensures { result ≡ self.now.state.election.timing }
+    {
+        self.router.election().timing()
+    }
+
+    /// All groups that it holds, by ascending address, each as it stands in the storage.
+    pub fn entries(&self) -> HeldEntries<'_, F::Address>
+        ensures { result ≡ map.entries self.now.state.groups }
+    {
+        self.router.held().entries()
+    }
+
+    /// How many groups it holds.
+    pub fn len(&self) -> usize
+        ensures { result ≡ map.len self.now.state.groups }
+    {
+        self.router.held().len()
+    }
+
+    /// The group at a place, its rank in the ascending list of the addresses of all groups, counted from 0, as it stands in
+    /// the storage.
+    pub fn entry(&self, place: usize) -> HeldGroup<'_, F::Address>
+        requires place { place < map.len self.now.state.groups }
+        ensures place { HasPlace self.now.state.groups (F.Address.number result.address) place }
+        ensures group { (address : ℕ) → HasPlace self.now.state.groups address place →
+            record { group = record { mode = result.mode; sources = timers_in F.Address.number result.sources.now; v1 = result.v1; v2 = result.v2 }; schedule = result.schedule } ≡ group_at self.now.state.groups address }
+        ensures ascending { IsAscending (number_in F.Address.number) result.sources.now }
+        ensures len { (address : ℕ) → HasPlace self.now.state.groups address place →
+            length result.sources.now ≡ sources_of (group_at self.now.state.groups address) }
+    {
+        self.router.held().entry(place)
+    }
+
+    /// A group as it stands in the storage, or None where it isn't held. It compares addresses on a meter of its own: neither
+    /// `spent` nor the bound counts that.
+    pub fn find(&self, group: F::Address) -> Option<HeldGroup<'_, F::Address>>
+        ensures held { is_some result ≡ map.contains_key self.now.state.groups (F.Address.number group) }
+        ensures found { IfSome result (IsGroupAt F.Address.number self.now.state.groups (F.Address.number group)) }
+    {
+        let held = self.router.held();
+        held.lemma_is_numbered();
+        match held.find(group, &mut Meter::new()) {
+            Ok(number) => Some(held.entry_of(number)),
+            Err(_) => None,
+        }
+    }
+
+    /// When a tick has something to do next: the earliest of all deadlines and due moments. It compares two moments on a
+    /// meter of its own: neither `spent` nor the bound counts that.
+    pub fn next_deadline(&self) -> Moment
+        ensures { result ≡ next_of self.now.state }
+    {
+        let next = self.router.election().next_moment();
+        match self.router.held().earliest() {
+            None => next,
+            Some(earliest) => Meter::new().earlier(next, earliest),
+        }
+    }
+
+    /// Whether what a source sends to a group is forwarded, as of the last moment handed in (RFC 3376 section 6.3, RFC
+    /// 3810 section 7.3). It compares addresses on a meter of its own: neither `spent` nor the bound counts that.
+    pub fn forwards(&self, group: F::Address, source: F::Address) -> bool
+        ensures { result ≡ state.forwards self.now.state (F.Address.number group) (F.Address.number source) }
+    {
+        let mut m = Meter::new();
+        let held = self.router.held();
+        match held.find(group, &mut m) {
+            Ok(number) => held.entry_of(number).forwards(source, &mut m),
+            Err(_) => false,
+        }
+    }
+}

@@ -1,0 +1,148 @@
+-- What the filter of a group names, and when two states of a group have the same one.
+use Rattle.std.proofs.Common.{◌≡◌, ℕ, Bool, true, false, not, cond, ◌&&◌, ◌||◌, List, [], ◌∷◌, Option, None, Some, is_some, refl, sym, ap, ◌∙◌}
+use Rattle.std.specs.Prelude.{filter}
+use Rattle.std.specs.Bool.{beq}
+use Rattle.std.specs.List.{list_any}
+use Rattle.std.specs.Ordering.{nat_cmp, eq_by_cmp}
+use Rattle.std.specs.Cmp.{nat_cmp_total}
+use Rattle.std.specs.FinMap as map
+use Rattle.std.specs.FinSet as set
+use Rattle.std.proofs.lemmas.Bool.{true≢false, and_parts, or_parts}
+use Rattle.mq_table.specs.Group.{GroupState, FilterMode, Include, Exclude, SourceTimer, Stopped, Running, is_include, timer_at, wants, forwards_in}
+use Rattle.mq_table.specs.Filter.{Filter, names, filter_of, forwards_by, are_same, changes_filter}
+use Rattle.mq_table.proofs.Maps.{tied}
+
+-- among the keys that pass a test are those that are there and pass it
+module _ (p : ℕ → Bool) (s : ℕ) where
+  any-front : (k : ℕ) (xs : List ℕ) (passes ties here rest : Bool) → eq_by_cmp nat_cmp s k ≡ ties → (ties ≡ true → here ≡ passes) → list_any (eq_by_cmp nat_cmp s) xs ≡ (here && rest) → list_any (eq_by_cmp nat_cmp s) (cond passes (k ∷ xs) xs) ≡ (here && (ties || rest))
+  any-front k xs true true here rest is same so_far = rw (is, same refl) refl
+  any-front k xs true false here rest is same so_far = rw is so_far
+  any-front k xs false true here rest is same so_far = rw (same refl) (so_far ∙ ap (λ b. b && rest) (same refl))
+  any-front k xs false false here rest is same so_far = so_far
+
+  nothing_there : (b : Bool) → false ≡ (b && false)
+  nothing_there true = refl
+  nothing_there false = refl
+
+  any-filter : (ks : List ℕ) → list_any (eq_by_cmp nat_cmp s) (filter p ks) ≡ (p s && list_any (eq_by_cmp nat_cmp s) ks)
+  any-filter [] = nothing_there (p s)
+  any-filter (k ∷ ks) = any-front k (filter p ks) (p k) _ (p s) _ refl (λ e. ap p (tied s k e)) (any-filter ks)
+
+named_is_there : (mode : FilterMode) (timer : Option SourceTimer) → (names mode timer && is_some timer) ≡ names mode timer
+named_is_there Include None = refl
+named_is_there Include (Some Stopped) = refl
+named_is_there Include (Some (Running d n)) = refl
+named_is_there (Exclude e) None = refl
+named_is_there (Exclude e) (Some Stopped) = refl
+named_is_there (Exclude e) (Some (Running d n)) = refl
+
+pub contains-filter_of : (g : GroupState) (s : ℕ) → set.contains (filter_of g).sources s ≡ names g.mode (timer_at g s)
+contains-filter_of g s =
+    set.contains-from_list nat_cmp_total (filter (λ s. names g.mode (timer_at g s)) (map.keys g.sources)) s
+    ∙ any-filter (λ s. names g.mode (timer_at g s)) s (map.keys g.sources)
+    ∙ ap (λ b. names g.mode (timer_at g s) && b) (sym (map.contains_key-keys g.sources s))
+    ∙ named_is_there g.mode (timer_at g s)
+
+-- it forwards what the group forwards
+pub forwards_by-filter_of : (g : GroupState) (s : ℕ) → forwards_by (filter_of g) s ≡ forwards_in g s
+forwards_by-filter_of g s = by_mode g.mode (set.contains (filter_of g).sources s) (timer_at g s) (contains-filter_of g s)
+  where
+    by_mode : (mode : FilterMode) (b : Bool) (timer : Option SourceTimer) → b ≡ names mode timer → cond (is_include mode) b (not b) ≡ wants mode timer
+    by_mode Include b timer is = is
+    by_mode (Exclude d) b timer is = ap not is
+
+beq-itself : (b : Bool) → beq b b ≡ true
+beq-itself true = refl
+beq-itself false = refl
+
+beq-equal : (a b : Bool) → beq a b ≡ true → a ≡ b
+beq-equal true true e = refl
+beq-equal true false e = absurd (true≢false (sym e))
+beq-equal false true e = absurd (true≢false (sym e))
+beq-equal false false e = refl
+
+-- what isn't unlike is equal
+pub not_unlike : (a b : Bool) → not (beq a b) ≡ false → a ≡ b
+not_unlike true true e = refl
+not_unlike true false e = absurd (true≢false e)
+not_unlike false true e = absurd (true≢false e)
+not_unlike false false e = refl
+
+are_same-itself : (f : Filter) → are_same f f ≡ true
+are_same-itself f =
+    let same = set.contains-is_subset nat_cmp_total f.sources f.sources (λ q e. e) in
+    λ i. beq-itself f.is_include i && (same i && same i)
+
+-- filters that are said to be the same are equal
+pub are_same-equal : (f h : Filter) → are_same f h ≡ true → f ≡ h
+are_same-equal f h e =
+    let parts = and_parts _ _ e in
+    let subsets = and_parts _ _ parts.1 in
+    let mode = beq-equal f.is_include h.is_include parts.0 in
+    let sources = set.same_set nat_cmp_total map.nat_cmp-IsAntisymmetric f.sources h.sources (λ q.
+    both (set.contains f.sources q) (set.contains h.sources q)
+    (set.is_subset-contains nat_cmp_total f.sources h.sources subsets.0 q)
+    (set.is_subset-contains nat_cmp_total h.sources f.sources subsets.1 q)) in
+    λ i. record { is_include = mode i; sources = sources i }
+  where
+    both : (a b : Bool) → (a ≡ true → b ≡ true) → (b ≡ true → a ≡ true) → a ≡ b
+    both true b there back = sym (there refl)
+    both false true there back = back refl
+    both false false there back = refl
+
+-- States of a group whose modes are alike, and of whose sources each is named by both or by none, have one filter.
+pub same_filter : (a b : GroupState) → is_include a.mode ≡ is_include b.mode → ((s : ℕ) → names a.mode (timer_at a s) ≡ names b.mode (timer_at b s)) → filter_of a ≡ filter_of b
+same_filter a b mode each =
+    let sources = set.same_set nat_cmp_total map.nat_cmp-IsAntisymmetric (filter_of a).sources (filter_of b).sources (λ s. contains-filter_of a s ∙ each s ∙ sym (contains-filter_of b s)) in
+    λ i. record { is_include = mode i; sources = sources i }
+
+pub changes-same : (a b : GroupState) → is_include a.mode ≡ is_include b.mode → ((s : ℕ) → names a.mode (timer_at a s) ≡ names b.mode (timer_at b s)) → changes_filter a b ≡ false
+unfolding changes_filter
+changes-same a b mode each =
+    ap (λ f. not (are_same (filter_of a) f)) (sym (same_filter a b mode each)) ∙ ap not (are_same-itself (filter_of a))
+
+-- where the modes aren't alike they have two
+pub changes-mode : (a b : GroupState) → not (beq (is_include a.mode) (is_include b.mode)) ≡ true → changes_filter a b ≡ true
+unfolding changes_filter
+changes-mode a b e = by_modes (beq (is_include a.mode) (is_include b.mode)) _ e
+  where
+    by_modes : (x y : Bool) → not x ≡ true → not (x && y) ≡ true
+    by_modes true y e = absurd (true≢false (sym e))
+    by_modes false y e = refl
+
+-- and where one of them alone names a source
+pub changes-at : (a b : GroupState) (s : ℕ) → not (beq (names a.mode (timer_at a s)) (names b.mode (timer_at b s))) ≡ true → changes_filter a b ≡ true
+unfolding changes_filter
+changes-at a b s e = by_value (are_same (filter_of a) (filter_of b)) refl
+  where
+    by_value : (v : Bool) → are_same (filter_of a) (filter_of b) ≡ v → not v ≡ true
+    by_value false is = refl
+    by_value true is =
+        let same = are_same-equal (filter_of a) (filter_of b) is in
+        let alike = sym (contains-filter_of a s) ∙ ap (λ (f : Filter). set.contains f.sources s) same ∙ contains-filter_of b s in
+        absurd (true≢false (sym e ∙ ap (λ x. not (beq x (names b.mode (timer_at b s)))) alike ∙ ap not (beq-itself (names b.mode (timer_at b s)))))
+
+-- So a filter changes where the mode does, or where some source is turned.
+pub changes-by : (a b : GroupState) (turned : Bool) → (not (beq (is_include a.mode) (is_include b.mode)) ≡ false → turned ≡ false → (s : ℕ) → names a.mode (timer_at a s) ≡ names b.mode (timer_at b s))
+    → (not (beq (is_include a.mode) (is_include b.mode)) ≡ false → turned ≡ true → (s : ℕ) × (not (beq (names a.mode (timer_at a s)) (names b.mode (timer_at b s))) ≡ true))
+    → changes_filter a b ≡ (turned || not (beq (is_include a.mode) (is_include b.mode)))
+changes-by a b turned none one = by_case turned (not (beq (is_include a.mode) (is_include b.mode))) refl none one
+  where
+    Pairwise : Type 0
+    Pairwise = (s : ℕ) → names a.mode (timer_at a s) ≡ names b.mode (timer_at b s)
+
+    Somewhere : Type 0
+    Somewhere = (s : ℕ) × (not (beq (names a.mode (timer_at a s)) (names b.mode (timer_at b s))) ≡ true)
+
+    by_case : (turned other : Bool) → not (beq (is_include a.mode) (is_include b.mode)) ≡ other → (other ≡ false → turned ≡ false → Pairwise) → (other ≡ false → turned ≡ true → Somewhere) → changes_filter a b ≡ (turned || other)
+    by_case true true is none one = changes-mode a b is
+    by_case false true is none one = changes-mode a b is
+    by_case true false is none one = let at = one refl refl in changes-at a b at.0 at.1
+    by_case false false is none one = changes-same a b (not_unlike (is_include a.mode) (is_include b.mode) is) (none refl refl)
+
+-- modes that are alike name the same
+pub named_alike : (a b : FilterMode) → is_include a ≡ is_include b → (timer : Option SourceTimer) → names a timer ≡ names b timer
+named_alike Include Include e timer = refl
+named_alike Include (Exclude d) e timer = absurd (true≢false e)
+named_alike (Exclude d) Include e timer = absurd (true≢false (sym e))
+named_alike (Exclude d) (Exclude f) e timer = refl

@@ -1,0 +1,124 @@
+-- What a check comes to once it is flushed, and as a request that is performed.
+use Rattle.std.proofs.Common.{◌≡◌, ◌≤◌, ◌^◌, ◌⊎◌, ◌∙◌, subst, sym, refl, arith, false, ℕ, Bool, Bor, List, Option, None, Some, Result, Ok, Err, inl, inr, ⊎_elim}
+use Rattle.std.proofs.lemmas.Bool.{ltb-false}
+use Rattle.std.specs.Prelude.{IfSome, unwrap_or}
+use Rattle.std.specs.Io.KnownBytes.{Keeps}
+use Rattle.std.proofs.KnownBytes.{Appends-kept}
+use Rattle.mq_check.specs.declared.check_fault.CheckFault.{CheckFault}
+use Rattle.mq_check.specs.declared.check_terms.CheckTerms.{CheckTerms}
+use Rattle.mq_check.specs.declared.totals.Totals.{Totals}
+use Rattle.mq_check.specs.CheckedCaptures.{Checks, IsWrittenBy, is_failed_write, text_by}
+use Rattle.mq_command.specs.declared.Protocol.{Protocol}
+use Rattle.mq_command.specs.declared.Request.TheVariants.{Check}
+use Rattle.mq_command.specs.declared.replay.Settings.{Settings}
+use Rattle.mq_link.specs.Configuration.{Configuration}
+use Rattle.mq_replay.specs.Printing.{OutputState}
+use Rattle.mq_wire.specs.Family.{Family}
+use Rattle.mquerier.specs.declared.failure.Failure.{Failure}
+use Rattle.mquerier.specs.declared.failure.Failure.TheVariants.{NoAddresses, NotAnAddress, NotHex, UntilTooLarge, Configuration as Unconfigured, Capture, Gap, Waiting, Conversion, ConversionRead, NotOpened, Memory, Write}
+use Rattle.mquerier.specs.Changes.{Input, Output}
+use Rattle.mquerier.specs.CheckRuns.{IsBrokenCheck, IsCheckedAt}
+use Rattle.mquerier.specs.Replays.{SpellsAddress, asked_configuration, family_of, is_too_large}
+use Rattle.mquerier.specs.Failures.{status_of}
+use Rattle.mquerier.specs.Status.{Performs, PerformsCheck, Told}
+use Rattle.mquerier.specs.Working.{ChecksAt, IsConfigured, IsUnwritten, WorksOnCheck}
+
+-- the moment of the end, where it isn't too large
+pub until_in_range : (until : Option ℕ) → is_too_large until ≡ false → IfSome until (λ ms. ms ≤ 2 ^ 53)
+until_in_range None is = tt
+until_in_range (Some ms) is = ltb-false (2 ^ 53) ms is
+
+-- a check of the configuration that is asked for, behind a flush
+pub flushed_check : (family : Family) (querier : ℕ) (settings : Settings) (terms : CheckTerms) (config : Configuration) (input : Input) (old : OutputState) (mid : Option (List ℕ)) (new : OutputState) (r : Result Totals CheckFault)
+    → IsConfigured (asked_configuration family querier settings) (Ok config) → Checks config terms input.old input.new old.held mid r → is_failed_write r ≡ false → Keeps mid new.held
+    → IsCheckedAt family querier settings terms input (record { old = old; new = new }) r
+flushed_check family querier settings terms config input old mid new r made checks unlike kept =
+    let whole = subst (λ (b : Bool). IsWrittenBy b config terms checks.read input.new old.held mid r) unlike checks.written in
+    let still : Checks config terms input.old input.new old.held new.held r = record {
+      read = checks.read;
+      takes = checks.takes;
+      capture = checks.capture;
+      ended = checks.ended;
+      written = subst (λ (b : Bool). IsWrittenBy b config terms checks.read input.new old.held new.held r) (sym unlike)
+          (Appends-kept old.held mid new.held (text_by config terms checks.read r) whole kept);
+    } in
+    subst (λ (c : Configuration). Checks c terms input.old input.new old.held new.held r) made.1 still
+
+-- a check at the address that a text spells
+pub checked_for : (protocol : Protocol) (querier : List ℕ) (address : ℕ) (settings : Settings) (terms : CheckTerms) (input : Input) (output : Output) (r : Result Totals Failure) → SpellsAddress protocol querier address
+    → ChecksAt (family_of protocol) address settings terms input output r → WorksOnCheck protocol querier settings terms input output r
+checked_for protocol querier address settings terms input output (Ok totals) spelled works = (address, spelled, works)
+checked_for protocol querier address settings terms input output (Err NoAddresses) spelled works = (λ e. (address, spelled, works.0 e), λ e. (address, spelled, works.1 e))
+checked_for protocol querier address settings terms input output (Err NotAnAddress) spelled works = (λ e. absurd (works.0 e), λ e. (address, spelled, works.1 e))
+checked_for protocol querier address settings terms input output (Err NotHex) spelled works = (λ e. (address, spelled, works.0 e), λ e. (address, spelled, works.1 e))
+checked_for protocol querier address settings terms input output (Err UntilTooLarge) spelled works = (λ e. (address, spelled, works.0 e), λ e. (address, spelled, works.1 e))
+checked_for protocol querier address settings terms input output (Err (Unconfigured f query_seconds response_interval)) spelled works = (λ e. (address, spelled, works.0 e), λ e. (address, spelled, works.1 e))
+checked_for protocol querier address settings terms input output (Err (Capture f)) spelled works = (λ e. (address, spelled, works.0 e), λ e. (address, spelled, works.1 e))
+checked_for protocol querier address settings terms input output (Err (Gap number)) spelled works = (λ e. (address, spelled, works.0 e), λ e. (address, spelled, works.1 e))
+checked_for protocol querier address settings terms input output (Err (Waiting number)) spelled works = (λ e. (address, spelled, works.0 e), λ e. (address, spelled, works.1 e))
+checked_for protocol querier address settings terms input output (Err (Conversion number f)) spelled works = (λ e. (address, spelled, works.0 e), λ e. (address, spelled, works.1 e))
+checked_for protocol querier address settings terms input output (Err ConversionRead) spelled works = (λ e. (address, spelled, works.0 e), λ e. (address, spelled, works.1 e))
+checked_for protocol querier address settings terms input output (Err NotOpened) spelled works = (λ e. (address, spelled, works.0 e), λ e. (address, spelled, works.1 e))
+checked_for protocol querier address settings terms input output (Err Memory) spelled works = (λ e. (address, spelled, works.0 e), λ e. (address, spelled, works.1 e))
+checked_for protocol querier address settings terms input output (Err Write) spelled works = (λ e. (address, spelled, works.0 e), λ e. (address, spelled, works.1 e))
+
+pub check_performed : (protocol : Protocol) (querier : Bor (List ℕ)) (settings : Settings) (within : Option ℕ) (cite : Bool) (until : Option ℕ) (file : Option (Bor (List ℕ))) (input : Input) (output errors : Output) (status : ℕ)
+    → PerformsCheck protocol querier.now settings within until cite input output errors status → Performs (Check protocol querier settings within cite until file) input output errors status
+check_performed protocol querier settings within cite until file input output errors status performs =
+    record {
+      at_most_three = performs.at_most_three;
+      done = performs.done;
+      faulty = λ one. inr (performs.faulty one);
+      refused = performs.refused;
+      found = performs.found;
+      unread = λ none. absurd none;
+    }
+
+-- the status of a failure is 1 or 2
+status_is : (failure : Failure) → (status_of failure ≡ 1) ⊎ (status_of failure ≡ 2)
+status_is NoAddresses = inr refl
+status_is NotAnAddress = inr refl
+status_is NotHex = inr refl
+status_is UntilTooLarge = inr refl
+status_is (Unconfigured f query_seconds response_interval) = inr refl
+status_is (Capture f) = inl refl
+status_is (Gap number) = inl refl
+status_is (Waiting number) = inl refl
+status_is (Conversion number f) = inl refl
+status_is ConversionRead = inl refl
+status_is NotOpened = inl refl
+status_is Memory = inl refl
+status_is Write = inl refl
+
+-- before a failure whose status is 2 nothing was written
+unwritten_of : (failure : Failure) → status_of failure ≡ 2 → IsUnwritten {X = Totals} (Err failure)
+unwritten_of NoAddresses two = two
+unwritten_of NotAnAddress two = two
+unwritten_of NotHex two = two
+unwritten_of UntilTooLarge two = two
+unwritten_of (Unconfigured f query_seconds response_interval) two = two
+unwritten_of (Capture f) two = two
+unwritten_of (Gap number) two = two
+unwritten_of (Waiting number) two = two
+unwritten_of (Conversion number f) two = two
+unwritten_of ConversionRead two = two
+unwritten_of NotOpened two = two
+unwritten_of Memory two = tt
+unwritten_of Write two = two
+
+-- a check that fails, and is told
+pub check_failed : (protocol : Protocol) (querier : List ℕ) (settings : Settings) (within until : Option ℕ) (cite : Bool) (tolerance : ℕ) (input : Input) (output errors : Output) (failure : Failure) (status : ℕ)
+    → tolerance ≡ unwrap_or within 100
+    → WorksOnCheck protocol querier settings (record { within = tolerance; until = until; cite = cite }) input output (Err failure)
+    → (IsUnwritten {X = Totals} (Err failure) → input.new ≡ input.old)
+    → (IsUnwritten {X = Totals} (Err failure) → output.new ≡ output.old)
+    → status ≡ status_of failure → Told errors failure
+    → PerformsCheck protocol querier settings within until cite input output errors status
+check_failed protocol querier settings within until cite tolerance input output errors failure status same works unread unwritten is told =
+    record {
+      at_most_three = ⊎_elim (λ (one : status_of failure ≡ 1). omega (arith, is, one)) (λ (two : status_of failure ≡ 2). omega (arith, is, two)) (status_is failure);
+      done = λ zero. absurd (⊎_elim (λ (one : status_of failure ≡ 1). omega (arith, is, one, zero)) (λ (two : status_of failure ≡ 2). omega (arith, is, two, zero)) (status_is failure));
+      faulty = λ one. (failure, subst (λ (k : ℕ). IsBrokenCheck protocol querier settings (record { within = k; until = until; cite = cite }) input output failure) same (works.1 (sym is ∙ one)), told);
+      refused = λ two. (unread (unwritten_of failure (sym is ∙ two)), unwritten (unwritten_of failure (sym is ∙ two)), failure, works.0 (sym is ∙ two), told);
+      found = λ three. absurd (⊎_elim (λ (one : status_of failure ≡ 1). omega (arith, is, one, three)) (λ (two : status_of failure ≡ 2). omega (arith, is, two, three)) (status_is failure));
+    }

@@ -1,0 +1,91 @@
+//! The check that is asked for.
+
+ghost use Rattle.std.specs.Prelude.{◌≡◌};
+ghost use Rattle.mquerier.specs.Changes.{input_by, output_by};
+ghost use Rattle.mquerier.specs.Working.{ChecksAt, IsUnwritten, WorksOnCheck};
+
+use crate::failure::Failure;
+use crate::replaying::{configured, moment_asked};
+use crate::work::flush;
+use mq_check::{CheckFault, CheckTerms, CheckedFamily, Totals, check};
+use mq_command::{Protocol, Settings};
+use mq_count::Watched;
+use mq_link::{Igmp, Mld};
+use mq_replay::LineKey;
+use mq_text::{read_v4, read_v6};
+use std::alloc::Global;
+use std::io::{Read, Write};
+
+/// Checks the querier with this address and these settings in the capture that the input is. Nothing is read or written
+/// before it is known that the querier can be so, and there is memory.
+pub(crate) fn check_capture<R: Read, W: Write>(
+    alloc: Global,
+    protocol: Protocol,
+    querier: &str,
+    settings: &Settings,
+    terms: CheckTerms,
+    input: &mut Watched<R>,
+    output: &mut Watched<W>,
+) -> Result<Totals, Failure>
+    ensures works { WorksOnCheck protocol querier.now settings.now terms
+        (input_by R.remaining input.old input.new)
+        (output_by W.contents output.old output.new)
+        result }
+    ensures unread { IsUnwritten result → input.new ≡ input.old }
+    ensures unwritten { IsUnwritten result → output.new ≡ output.old }
+{
+    match protocol {
+        Protocol::Igmp => match read_v4(querier) {
+            Some(address) => {
+                check_at::<Igmp, R, W>(alloc, address, settings, terms, input, output)
+            }
+            None => Err(Failure::NotAnAddress),
+        },
+        Protocol::Mld => match read_v6(querier) {
+            Some(address) => check_at::<Mld, R, W>(alloc, address, settings, terms, input, output),
+            None => Err(Failure::NotAnAddress),
+        },
+    }
+}
+
+/// Checks the querier of the family `F` with the address `querier`.
+fn check_at<F: CheckedFamily, R: Read, W: Write>(
+    alloc: Global,
+    querier: F::Address,
+    settings: &Settings,
+    terms: CheckTerms,
+    input: &mut Watched<R>,
+    output: &mut Watched<W>,
+) -> Result<Totals, Failure>
+where
+    F::Address: LineKey,
+    ensures works { ChecksAt F.FAMILY (F.Address.number querier) settings.now terms
+        (input_by R.remaining input.old input.new)
+        (output_by W.contents output.old output.new)
+        result }
+    ensures unread { IsUnwritten result → input.new ≡ input.old }
+    ensures unwritten { IsUnwritten result → output.new ≡ output.old }
+{
+    let _end = moment_asked(terms.until)?;
+    let config = configured::<F>(querier, settings)?;
+    match check(alloc, config, terms, input, output) {
+        Ok(totals) => {
+            flush(output)?;
+            Ok(totals)
+        }
+        Err(CheckFault::Pcap(fault)) => {
+            flush(output)?;
+            Err(Failure::Capture(fault))
+        }
+        Err(CheckFault::Gap { number }) => {
+            flush(output)?;
+            Err(Failure::Gap { number })
+        }
+        Err(CheckFault::Waiting { number }) => {
+            flush(output)?;
+            Err(Failure::Waiting { number })
+        }
+        Err(CheckFault::Write) => Err(Failure::Write),
+        Err(CheckFault::Memory) => Err(Failure::Memory),
+    }
+}

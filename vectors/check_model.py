@@ -1,0 +1,230 @@
+"""A model of the check of another querier, written from the words of docs/FORMATS.md: what a querier at the same address
+sends is wanted, what the capture has from that address was seen, and the two are compared when all is known. It pairs over
+whole lists, each thing asked about by itself, and streams nothing. `check` gives the text of a capture.
+"""
+
+import dataclasses
+
+from model import DAY, Querier
+from wire import IGMP, CaptureFault, Fault, code_of, moments, opened, read, text_of, unwrap, value_of
+
+
+@dataclasses.dataclass
+class Terms:
+    """What a query says besides what it asks about. `querier` is S, QRV and the seconds of QQIC."""
+
+    version: int
+    response: int | None
+    querier: tuple | None
+    to: bytes
+
+
+@dataclasses.dataclass
+class Asked:
+    """A query for one thing: a group, a source of one (`source` is None without), or all groups (`group` is zero). `order` is
+    its place in the order in which things happen."""
+
+    order: int
+    at: int
+    group: bytes
+    source: bytes | None
+    terms: Terms
+    partner: Terms | None = None
+    may_be_left_out: bool = False
+    in_role: bool = True
+
+    def thing(self):
+        return self.group, self.source
+
+    def text(self):
+        return text_of(self.group) + (f" {text_of(self.source)}" if self.source is not None else "")
+
+
+class Observed(Querier):
+    """A querier whose queries are wanted, in place of sent."""
+
+    def __init__(self, family, options):
+        super().__init__(family, options)
+        self.wanted, self.is_back, self.order = [], False, 0
+
+    def next_order(self):
+        self.order += 1
+        return self.order
+
+    def terms(self, group, s, response):
+        bits, unit = (8, 100) if self.family is IGMP else (16, 1)
+        said = unit * value_of(code_of(response // unit, bits), bits)
+        interval = value_of(code_of(self.qi // 1000, 8), 8)
+        to = group if any(group) else self.family.everyone
+        return Terms(self.family.version, said, (int(s), self.rv, interval), to)
+
+    def send(self, group, sources, s, response):
+        if not any(group) and not self.is_back:
+            return
+        terms = self.terms(group, s, response)
+        for source in sources or [None]:
+            other = s and any((it.at, it.group, it.source) == (self.now, group, None) for it in self.wanted)
+            self.wanted.append(Asked(self.next_order(), self.now, group, source, terms, None, other and source is not None))
+
+
+class Check:
+    """A check of a capture. `findings` are lines with their order."""
+
+    def __init__(self, family, options, within):
+        self.family, self.it, self.within = family, options, within
+        self.link = Observed(family, options)
+        self.seen, self.changes, self.findings = [], [], []
+        self.general, self.specific = 0, 0
+        # The last general query in this time as querier; None where there was none, or where it isn't known of any.
+        self.before, self.is_known, self.startup = 0, False, options.rv - 1
+        self.last_general = None
+
+    def is_near(self, one, other):
+        return abs(one - other) <= self.within
+
+    # What happens.
+
+    def step(self, what, *words):
+        """Something that the link does, and whether the role changes by it."""
+        had_role = self.link.other is None
+        self.link.is_back = not had_role
+        what(*words)
+        has_role = self.link.other is None
+        if had_role and not has_role:
+            self.silence(self.link.now, self.link.next_order())
+            self.changes.append(self.link.now)
+            self.before = None
+        if has_role and not had_role:
+            self.changes.append(self.link.now)
+            self.startup, self.is_known = 0, False
+            if self.last_general is not None and self.link.now <= self.last_general + self.within:
+                self.before, self.is_known = self.last_general, True
+
+    def tick_to(self, moment):
+        while self.link.next() <= moment:
+            self.step(self.link.tick, self.link.next())
+
+    def query_in(self, packet):
+        """The query of the router that is checked, where hosts act on it."""
+        if packet.source != self.it.own or self.family is not IGMP and (packet.hops != 1 or not packet.alert):
+            return None
+        try:
+            message = read(self.family, packet.body, packet.source, packet.to)
+        except Fault:
+            return None
+        return message if message.what == "query" else None
+
+    def see(self, moment, message, to):
+        has_response = message.version > 1 or self.family is not IGMP
+        terms = Terms(message.version, message.response if has_response else None, message.fields, to)
+        in_role = self.link.other is None
+        if any(message.group) or message.sources:
+            self.specific += 1
+            for source in message.sources or [None]:
+                self.seen.append(Asked(self.link.next_order(), moment, message.group, source, terms, in_role=in_role))
+            return
+        self.general += 1
+        if in_role:
+            self.interval(moment)
+        it = Asked(self.link.next_order(), moment, message.group, None, terms, in_role=in_role)
+        if in_role:
+            it.partner = self.link.terms(self.family.zero(), False, self.it.qri)
+        self.seen.append(it)
+        self.last_general = moment
+
+    def interval(self, moment):
+        """Judges the time since the general query before this one."""
+        query, first = 1000 * self.it.qi, 1000 * self.it.qi // 4
+        passed = None if self.before is None else moment - self.before
+        startup, self.startup = self.startup, 0
+        if passed is not None and self.is_known and startup and self.is_near(passed, first):
+            self.startup = startup - 1
+        elif passed is not None and (not self.is_near(passed, query) if self.is_known else passed > query + self.within):
+            self.find(self.link.next_order(), f"{moment} general after {passed}, wanted {query}")
+        if not self.is_known and self.before is not None:
+            self.startup = startup
+        self.before, self.is_known = moment, True
+
+    def silence(self, moment, order):
+        if self.link.other is not None and self.before is None:
+            return
+        if self.before is not None and moment - self.before > 1000 * self.it.qi + self.within:
+            self.find(order, f"{moment} general none for {moment - self.before}, wanted {1000 * self.it.qi}")
+
+    # What is found.
+
+    def find(self, order, line):
+        self.findings.append((order, line))
+
+    def pair(self):
+        """For each thing, in the order of moments: a seen query goes with the earliest wanted one within the tolerance that
+        has no partner."""
+        for it in self.seen:
+            of_thing = [one for one in self.link.wanted if one.thing() == it.thing() and self.is_near(one.at, it.at) and not one.partner]
+            # A general query that is seen in the role takes one that is wanted already.
+            of_thing = [one for one in of_thing if one.order < it.order] if it.partner else of_thing
+            if of_thing:
+                of_thing[0].partner = it.terms
+                it.partner = it.partner or of_thing[0].terms
+
+    def differences(self, it):
+        seen, wanted = it.terms, it.partner
+        named = [("version", seen.version, wanted.version)]
+        if None not in (seen.response, wanted.response):
+            named.append(("response", seen.response, wanted.response))
+        if None not in (seen.querier, wanted.querier):
+            named += zip(("s", "qrv", "interval"), seen.querier, wanted.querier)
+        named.append(("to", text_of(seen.to), text_of(wanted.to)))
+        return [f"{it.at} differs {it.text()}: {name} {one}, wanted {other}" for name, one, other in named if one != other]
+
+    def judge(self, end):
+        """All lines, where the capture ends at a moment: of what has no partner by then nothing is said, if one may come."""
+        self.pair()
+        for it in self.link.wanted:
+            if not it.partner and not it.may_be_left_out and it.at + self.within < end:
+                self.find(it.order, f"{it.at} missing {it.text()}")
+        for it in self.seen:
+            if it.partner:
+                for line in self.differences(it):
+                    self.find(it.order, line)
+            elif it.at + self.within < end and not any(self.is_near(it.at, change) for change in self.changes):
+                self.find(it.order, f"{it.at} extra {it.text()}")
+        if self.link.other is None:
+            self.silence(end, self.link.next_order())
+        lines = [line for _, line in sorted(self.findings, key=lambda it: it[0])]
+        return [*lines, f"checked general {self.general} specific {self.specific}: {len(lines)} findings"]
+
+
+def destination(kind, frame, packet):
+    """Where a packet goes."""
+    if packet.to:
+        return packet.to
+    start = 0 if kind == 101 else 18 if frame[12:14] == b"\x81\x00" else 14
+    return frame[start + 16 : start + 20]
+
+
+def check(data, family, options, within=100):
+    """The lines of a check of a whole capture, or None and what it says where a fault or a gap ends it."""
+    it, last, number = Check(family, options, within), 0, 0
+    try:
+        kind, records = opened(data)
+        for number, moment, frame in moments(records):
+            if moment - last > DAY:
+                return None, f"gap before record {number}"
+            last = moment
+            it.tick_to(moment)
+            packet = unwrap(kind, frame)
+            if isinstance(packet, str) or packet.family is not family:
+                continue
+            message = it.query_in(packet)
+            if message:
+                it.see(moment, message, destination(kind, frame, packet))
+            else:
+                it.step(it.link.receive, packet, moment)
+    except CaptureFault as fault:
+        return None, fault.text
+    ending = max(last, options.until or 0)
+    if ending - last > DAY:
+        return None, f"gap before record {number + 1}"
+    it.tick_to(ending)
+    return it.judge(ending), None
