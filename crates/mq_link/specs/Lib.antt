@@ -7,6 +7,7 @@ pub mod Tick
 pub mod Record
 pub mod Heard
 pub mod Receive
+pub mod Forwarding
 pub mod Sent
 pub mod Run
 pub mod Cost

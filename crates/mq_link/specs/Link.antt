@@ -8,12 +8,14 @@ use Rattle.mq_link.specs.Run.{Ticks, Receives}
 use Rattle.mq_link.specs.Sent.{Outgoing}
 use Rattle.mq_link.specs.State.{LinkState}
 
--- Its configuration, its state, how many comparisons its calls have made, and how many items of lists they have moved.
+-- Its configuration, its state, how many comparisons its calls have made, and how many items of lists they have moved; and the
+-- addresses of the groups that its last call has changed: of one without a workspace of its own there are none.
 pub record LinkValue : Type 0 where
   pub config : Configuration
   pub state : LinkState
   pub spent : ℕ
   pub moved : ℕ
+  pub changed : List ℕ
 
 -- A tick at a moment, with the messages that the outlet was handed by it and its answers.
 pub record HasTicked {O : Type 0} (takes : O → ℕ → List ℕ → Bool → O → Type 0) (now : ℕ) (before after : LinkValue) (old new : O) : Type 0 where

@@ -1,6 +1,6 @@
 -- What a contract sees of a link, as data: by this code proofs tell one from others.
-use Rattle.std.specs.Prelude.{◌≡◌, ℕ, Bool, true, false, refl}
-use Rattle.std.specs.Coded.{Coded, code_by, coded×, coded_ℕ, coded_bool}
+use Rattle.std.specs.Prelude.{◌≡◌, ℕ, Bool, true, false, List, refl}
+use Rattle.std.specs.Coded.{Coded, code_by, coded×, coded_ℕ, coded_bool, coded_list}
 use Rattle.std.specs.FinMap as map
 use Rattle.mq_wire.specs.Family.{Family, Igmp, Mld}
 use Rattle.mq_table.specs.declared.timers.FilterMode.{FilterMode}
@@ -75,10 +75,10 @@ role_code = code_by (Bool × (ℕ × ℕ)) (coded× coded_bool (coded× coded_�
 
 abbrev pub link_code : Coded FilterMode → Coded SourceTimer → Coded QuerySchedule → Coded LinkValue
 link_code mode timer query =
-    code_by ((Configuration × (Groups × (Role × Variables))) × (ℕ × (Counters × (ℕ × ℕ))))
+    code_by ((Configuration × (Groups × (Role × Variables))) × (ℕ × (Counters × (ℕ × (ℕ × List ℕ)))))
     (coded× (coded× configuration_code (coded× (map.code coded_ℕ (scheduled_code mode timer query)) (coded× role_code variables_code)))
-    (coded× coded_ℕ (coded× counters_code (coded× coded_ℕ coded_ℕ))))
-    (λ v. ((v.config, (v.state.groups, (v.state.election.role, v.state.election.timing))), (v.state.last, (v.state.counters, (v.spent, v.moved)))))
+    (coded× coded_ℕ (coded× counters_code (coded× coded_ℕ (coded× coded_ℕ (coded_list coded_ℕ))))))
+    (λ v. ((v.config, (v.state.groups, (v.state.election.role, v.state.election.timing))), (v.state.last, (v.state.counters, (v.spent, (v.moved, v.changed))))))
     (λ p. record {
       config = p.0.0;
       state = record {
@@ -88,7 +88,8 @@ link_code mode timer query =
         counters = p.1.1.0;
       };
       spent = p.1.1.1.0;
-      moved = p.1.1.1.1;
+      moved = p.1.1.1.1.0;
+      changed = p.1.1.1.1.1;
     })
     (λ _. refl)
 

@@ -40,7 +40,7 @@ state_of r = record { groups = r.groups; election = r.at.election; last = r.at.n
 
 -- as it is seen of the link around it
 abbrev pub link_of : RouterValue → LinkValue
-link_of r = record { config = r.at.config; state = state_of r; spent = r.spent; moved = r.moved }
+link_of r = record { config = r.at.config; state = state_of r; spent = r.spent; moved = r.moved; changed = [] }
 
 -- a step that has left this state, and of which nothing is to be sent any more
 abbrev pub silent_step : LinkState → Step

@@ -1,5 +1,5 @@
 -- How many records of a datagram have met each group, by the numbers of the groups.
-use Rattle.std.specs.Prelude.{◌≡◌, ℕ, ◌+◌, ◌<◌, ◌≤◌, min, nat_lt, nat_le, false, if◌then◌else◌, List, length, slice_index, slice_set}
+use Rattle.std.specs.Prelude.{◌≡◌, ℕ, ◌+◌, ◌<◌, ◌≤◌, min, nat_lt, nat_le, Bool, false, if◌then◌else◌, List, length, slice_index, slice_set}
 use Rattle.std.specs.FinMap as map
 use Rattle.std.specs.List.{All, count_by}
 use Rattle.mq_sets.specs.Slots.{times}
@@ -18,6 +18,7 @@ counted_again counts number =
 
 -- some numbers are those whose count isn't zero, and each stands there once
 pub record AreListed (counts numbers : List ℕ) : Type 0 where
+  pub once : (number : ℕ) → times number numbers ≡ (if nat_lt 0 (slice_index counts number) then 1 else 0)
   pub within : All (λ number. number < length counts) numbers
   pub each : (number : ℕ) → 1 ≤ slice_index counts number → 1 ≤ times number numbers
   pub count : length numbers ≡ count_by (nat_lt 0) counts
@@ -27,6 +28,16 @@ pub record AreMet (s : HeldState) (counts : List ℕ) (seen : Seen) : Type 0 whe
   pub held : (address number : ℕ) → HasNumber s address number → slice_index counts number ≡ min 4 (met seen address)
   pub absent : (address : ℕ) → map.contains_key s.groups address ≡ false → met seen address ≡ 0
   pub unused : (number : ℕ) → 1 ≤ slice_index counts number → (address : ℕ) × HasNumber s address number
+
+-- The groups that were met are those that pass a test.
+pub record AreMarked (s : HeldState) (counts : List ℕ) (test : ℕ → Bool) : Type 0 where
+  pub seen : Seen
+  pub are_met : AreMet s counts seen
+  pub each : (address : ℕ) → nat_lt 0 (met seen address) ≡ test address
+
+-- how many groups were met
+abbrev pub met_in : List ℕ → ℕ
+met_in counts = count_by (nat_lt 0) counts
 
 -- a group that was held has the number that it had
 abbrev pub KeepsNumbers : (old new : HeldState) → Type 0

@@ -9,7 +9,7 @@ use Rattle.mq_sets.specs.Ascending.{IsAscending}
 use Rattle.mq_held.specs.declared.held_group.HeldGroup.{HeldGroup}
 use Rattle.mq_held.specs.Groups.{Groups, group_at, running_in, sources_in, sources_of}
 use Rattle.mq_held.specs.Held.{HeldState, HasNumber}
-use Rattle.mq_link.specs.declared.storage.Numbers.{Numbers}
+use Rattle.mq_link.specs.declared.storage.Lists.{Lists}
 use Rattle.mq_link.specs.declared.storage.Sought.{Sought}
 use Rattle.mq_link.specs.declared.storage.Storage.{Storage}
 use Rattle.mq_link.specs.declared.storage.Scratch.{Scratch}
@@ -21,11 +21,13 @@ group_stored number stored =
     record { mode = stored.mode; sources = timers_in number stored.sources.now; v1 = stored.v1; v2 = stored.v2 }
 
 -- room for a group of so many sources and a record that names no more, for what both may make, and for so many groups to be met
+-- and changed
 pub record HasRoom {K : Type 0} (groups sources : ℕ) (w : Scratch K) : Type 0 where
   pub group : 2 * sources ≤ w.group.room
   pub named : sources ≤ w.named.room
   pub asked : 2 * sources ≤ vec_capacity w.asked
   pub met : groups ≤ length w.met
+  pub changed : groups ≤ length w.changed
 
 -- room for a group of so many sources, and for as many to ask for
 pub record HasRoomFor {K : Type 0} (sources : ℕ) (w : Scratch K) : Type 0 where
@@ -38,6 +40,7 @@ pub record KeepsRoom {K : Type 0} (old new : Scratch K) : Type 0 where
   pub named : new.named.room ≡ old.named.room
   pub asked : vec_capacity old.asked ≤ vec_capacity new.asked
   pub met : length new.met ≡ length old.met
+  pub changed : length new.changed ≡ length old.changed
 
 -- nor is there less room for groups and their sources
 pub record KeepsRooms {K : Type 0} (old new : Storage K) : Type 0 where
@@ -58,15 +61,21 @@ abbrev pub IsSought : {K : Type 0} → (K → ℕ) → HeldState → Sought K �
 IsSought number held sought =
     MatchResult sought.found (HasNumber held (number sought.address)) (IsSpotFor held.order.items held.order.pages (number sought.address))
 
--- room for the numbers of so many groups, twice
-pub record HasSpace (groups : ℕ) (numbers : Numbers) : Type 0 where
-  pub due : groups ≤ vec_capacity numbers.due
-  pub spare : groups ≤ length numbers.spare.items
+-- room for the numbers of so many groups, twice, and for the addresses of twice as many
+pub record HasSpace {K : Type 0} (groups : ℕ) (lists : Lists K) : Type 0 where
+  pub due : groups ≤ vec_capacity lists.due
+  pub spare : groups ≤ length lists.spare.items
+  pub changed : 2 * groups ≤ vec_capacity lists.changed
+  pub by_tick : 2 * groups ≤ vec_capacity lists.by_tick
+  pub by_records : groups ≤ vec_capacity lists.by_records
 
--- there is no less room for numbers
-pub record KeepsSpace (old new : Numbers) : Type 0 where
+-- a tick leaves no less room for groups
+pub record KeepsSpace {K : Type 0} (old new : Lists K) : Type 0 where
   pub due : vec_capacity old.due ≤ vec_capacity new.due
   pub spare : length new.spare.items ≡ length old.spare.items
+  pub changed : vec_capacity old.changed ≤ vec_capacity new.changed
+  pub by_tick : new.by_tick ≡ old.by_tick
+  pub by_records : new.by_records ≡ old.by_records
 
 -- What is put by for the rows of sources to be packed again: four for each source that was written behind the last one since they
 -- were, but no more than packing them moves.

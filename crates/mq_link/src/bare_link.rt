@@ -1,6 +1,6 @@
 //! One link without a workspace of its own.
 
-ghost use Rattle.std.specs.Prelude.{◌≡◌, ℕ, ◌+◌, ◌*◌, ◌<◌, ◌≤◌, ◌^◌, true, false, length, IfOk, IfSome, is_ok, is_some};
+ghost use Rattle.std.specs.Prelude.{◌≡◌, ℕ, ◌+◌, ◌*◌, ◌<◌, ◌≤◌, ◌^◌, true, false, [], length, IfOk, IfSome, is_ok, is_some};
 ghost use Rattle.std.specs.FinMap as map;
 ghost use Rattle.mq_count.specs.Spending.{Spends};
 ghost use Rattle.mq_sets.specs.Ascending.{IsAscending};
@@ -17,7 +17,8 @@ ghost use Rattle.mq_link.specs.Moved.{most_moved};
 ghost use Rattle.mq_link.specs.State as state;
 ghost use Rattle.mq_link.specs.State.{held_of, link_at, IsWellFormed};
 ghost use Rattle.mq_link.specs.Tick.{moment_of, tick_of, next_of};
-ghost use Rattle.mq_link.specs.Workspace.{suffices};
+ghost use Rattle.mq_link.specs.Workspace.{suffices, with_changed};
+ghost use Rattle.mq_link.specs.Forwarding.{AreThose, changed_by_datagram, changed_by_tick};
 
 use crate::answers::Received;
 use crate::config::Config;
@@ -67,7 +68,7 @@ impl<F: Family> BareLink<F> {
     /// A link that starts at `start`, as `Link::new` makes it; or `Memory`, where that of its groups was refused.
     pub fn new(alloc: Global, config: Config<F>, start: Moment) -> Result<BareLink<F>, Memory>
         requires in_range { start ≤ 2 ^ 53 }
-        ensures { IfOk result (λ link. link ≡ record { config = config; state = link_at config start; spent = 0; moved = 0 }) }
+        ensures { IfOk result (λ link. link ≡ record { config = config; state = link_at config start; spent = 0; moved = 0; changed = [] }) }
     {
         Ok(BareLink {
             router: Router::new(alloc, config, start)?,
@@ -91,7 +92,9 @@ impl<F: Family> BareLink<F> {
     ) -> Result<(), TooSmall>
         requires in_range { now ≤ 2 ^ 53 }
         ensures answer { is_ok result ≡ suffices self.old.config.limits workspace.old }
-        ensures workspace { workspace.new ≡ workspace.old }
+        ensures workspace { workspace.new ≡ with_changed workspace.old workspace.new.changed }
+        ensures changed { is_ok result ≡ true → AreThose (changed_by_tick self.old.config now self.old.state) workspace.new.changed }
+        ensures unchanged { is_ok result ≡ false → workspace.new ≡ workspace.old }
         ensures ticks { is_ok result ≡ true → HasTicked O.takes now self.old self.new outlet.old outlet.new }
         ensures untouched { is_ok result ≡ false → IsUntouched self.old self.new outlet.old outlet.new }
         ensures config { self.new.config ≡ self.old.config }
@@ -124,7 +127,10 @@ impl<F: Family> BareLink<F> {
     ) -> Result<Received, TooSmall>
         requires in_range { now ≤ 2 ^ 53 }
         ensures answer { is_ok result ≡ suffices self.old.config.limits workspace.old }
-        ensures workspace { workspace.new ≡ workspace.old }
+        ensures workspace { workspace.new ≡ with_changed workspace.old workspace.new.changed }
+        ensures changed { is_ok result ≡ true →
+            AreThose (changed_by_datagram self.old.config (F.envelope_of envelope.now) body.now now self.old.state) workspace.new.changed }
+        ensures unchanged { is_ok result ≡ false → workspace.new ≡ workspace.old }
         ensures receives { IfOk result (λ received. HasReceived O.takes (F.envelope_of envelope.now) body.now now received self.old self.new
             outlet.old outlet.new) }
         ensures untouched { is_ok result ≡ false → IsUntouched self.old self.new outlet.old outlet.new }
@@ -150,7 +156,8 @@ impl<F: Family> BareLink<F> {
     )
         requires in_range { now ≤ 2 ^ 53 }
         requires enough { suffices self.old.config.limits workspace.old ≡ true }
-        ensures workspace { workspace.new ≡ workspace.old }
+        ensures workspace { workspace.new ≡ with_changed workspace.old workspace.new.changed }
+        ensures changed { AreThose (changed_by_tick self.old.config now self.old.state) workspace.new.changed }
         ensures config { self.new.config ≡ self.old.config }
         ensures ticks { HasTicked O.takes now self.old self.new outlet.old outlet.new }
         ensures formed { IsWellFormed self.new.config self.new.state }
@@ -183,7 +190,8 @@ impl<F: Family> BareLink<F> {
     ) -> Received
         requires in_range { now ≤ 2 ^ 53 }
         requires enough { suffices self.old.config.limits workspace.old ≡ true }
-        ensures workspace { workspace.new ≡ workspace.old }
+        ensures workspace { workspace.new ≡ with_changed workspace.old workspace.new.changed }
+        ensures changed { AreThose (changed_by_datagram self.old.config (F.envelope_of envelope.now) body.now now self.old.state) workspace.new.changed }
         ensures config { self.new.config ≡ self.old.config }
         ensures receives { HasReceived O.takes (F.envelope_of envelope.now) body.now now result self.old self.new
             outlet.old outlet.new }

@@ -1,10 +1,11 @@
 //! What a datagram does to a link: first what is due, then the datagram is read, and dropped, or taken.
 
-ghost use Rattle.std.specs.Prelude.{◌≡◌, ◌+◌, ◌*◌, ◌^◌, ◌≤◌, true, None, Ok, length};
+ghost use Rattle.std.specs.Prelude.{◌≡◌, ◌+◌, ◌*◌, ◌^◌, ◌≤◌, ◌||◌, ℕ, Bool, true, None, Ok, length};
 ghost use Rattle.std.specs.FinMap as map;
 ghost use Rattle.mq_count.specs.Spending.{Spends};
 ghost use Rattle.mq_held.specs.Groups.{sources_in};
 ghost use Rattle.mq_wire.specs.Numbered.{numbered_message};
+ghost use Rattle.mq_link.specs.Forwarding.{AreThose, changed_by_datagram, changed_by_message, changed_by_read};
 ghost use Rattle.mq_link.specs.Cost.{cost_of, least_length};
 ghost use Rattle.mq_link.specs.LeastCost.{least_after, least_of, least_received};
 ghost use Rattle.mq_link.specs.Link.{HasReceived};
@@ -14,7 +15,7 @@ ghost use Rattle.mq_link.specs.Moved.{HasMoved, most_moved};
 ghost use Rattle.mq_link.specs.Router.{HasReceipt, link_of, silent_step, state_of};
 ghost use Rattle.mq_link.specs.Sender.{TakesQuery};
 ghost use Rattle.mq_link.specs.State.{held_of};
-ghost use Rattle.mq_link.specs.Workspace.{suffices};
+ghost use Rattle.mq_link.specs.Workspace.{suffices, with_changed};
 
 use crate::answers::{MessageKind, Received};
 use crate::counts::Counts;
@@ -74,10 +75,14 @@ impl<F: Family> Router<F> {
         requires carried { IsCarriedIn (numbered_message F.Address.number message.now) }
         requires counted { length (records_in (numbered_message F.Address.number message.now)) ≤ most_records }
         requires enough { suffices self.old.at.config.limits work.old ≡ true }
+        requires few_changed { length work.old.changed ≤ self.old.at.config.limits.groups }
         ensures receipt { let said = numbered_message F.Address.number message.now in
             let receipt = spec.taken_in self.old.at.config (F.envelope_of envelope.now) said (silent_step (state_of self.old)) in
             HasReceipt (TakesQuery O.takes F.FAMILY) receipt result self.old self.new sender.old sender.new }
-        ensures workspace { work.new ≡ work.old }
+        ensures workspace { work.new ≡ with_changed work.old work.new.changed }
+        ensures changed { (by_tick : ℕ → Bool) → AreThose by_tick work.old.changed →
+            let said = numbered_message F.Address.number message.now in
+            AreThose (λ address. by_tick address || changed_by_message self.old.at said self.old.groups address) work.new.changed }
         ensures spent { let said = numbered_message F.Address.number message.now in
             let groups = self.old.groups in
             Spends (least_of self.old.at said groups) (24 * sources_in groups + 20 * map.len groups + 64 * least_length said) self.old.spent self.new.spent }
@@ -117,11 +122,17 @@ impl<F: Family> Router<F> {
         sender: &mut Sender<F, O>,
     ) -> Received
         requires enough { suffices self.old.at.config.limits work.old ≡ true }
+        requires few_changed { length work.old.changed ≤ self.old.at.config.limits.groups }
         ensures receipt { let around = F.envelope_of envelope.now in
             let read = spec.read_of F.FAMILY (spec.pseudo_of F.FAMILY around body.now) body.now in
             let receipt = spec.receipt_after self.old.at.config around read (silent_step (state_of self.old)) in
             HasReceipt (TakesQuery O.takes F.FAMILY) receipt result self.old self.new sender.old sender.new }
-        ensures workspace { work.new ≡ work.old }
+        ensures workspace { work.new ≡ with_changed work.old work.new.changed }
+        ensures changed { (by_tick : ℕ → Bool) → AreThose by_tick work.old.changed →
+            let around = F.envelope_of envelope.now in
+            let read = spec.read_of F.FAMILY (spec.pseudo_of F.FAMILY around body.now) body.now in
+            let reason = spec.drop_reason self.old.at.config around read in
+            AreThose (λ address. by_tick address || changed_by_read self.old.at read reason self.old.groups address) work.new.changed }
         ensures spent { let around = F.envelope_of envelope.now in
             let read = spec.read_of F.FAMILY (spec.pseudo_of F.FAMILY around body.now) body.now in
             let groups = self.old.groups in
@@ -157,7 +168,8 @@ impl<F: Family> Router<F> {
         ensures receives { HasReceived O.takes (F.envelope_of envelope.now) body.now now result (link_of self.old) (link_of self.new)
             sender.old.outlet.now sender.new.outlet.now }
         ensures same_outlet { sender.new.outlet.ghost_name ≡ sender.old.outlet.ghost_name }
-        ensures workspace { work.new ≡ work.old }
+        ensures workspace { work.new ≡ with_changed work.old work.new.changed }
+        ensures changed { AreThose (changed_by_datagram self.old.at.config (F.envelope_of envelope.now) body.now now (state_of self.old)) work.new.changed }
         ensures spent { let least = least_received self.old.at.config (F.envelope_of envelope.now) body.now now (state_of self.old) in
             Spends (2 + least) (cost_of (length body.now) (held_of (state_of self.old))) self.old.spent self.new.spent }
         ensures moved { Spends 0 (most_moved (length body.now) (held_of (state_of self.old))) self.old.moved self.new.moved }

@@ -19,6 +19,7 @@
 
 pub mod answers;
 pub mod bare_link;
+mod changed;
 pub mod config;
 pub mod configuration;
 pub mod counts;

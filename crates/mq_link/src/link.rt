@@ -1,6 +1,6 @@
 //! The whole of one link.
 
-ghost use Rattle.std.specs.Prelude.{◌≡◌, ℕ, ◌+◌, ◌*◌, ◌<◌, ◌≤◌, ◌^◌, length, IfOk, IfSome, is_some};
+ghost use Rattle.std.specs.Prelude.{◌≡◌, ℕ, ◌+◌, ◌*◌, ◌<◌, ◌≤◌, ◌^◌, [], length, map as map_each, IfOk, IfSome, is_some};
 ghost use Rattle.std.specs.FinMap as map;
 ghost use Rattle.mq_count.specs.Spending.{Spends};
 ghost use Rattle.mq_sets.specs.Ascending.{IsAscending};
@@ -11,6 +11,7 @@ ghost use Rattle.mq_held.specs.Groups.{group_at, sources_of, sources_in};
 ghost use Rattle.mq_held.specs.Places.{HasPlace};
 ghost use Rattle.mq_link.specs.Cost.{cost_of};
 ghost use Rattle.mq_link.specs.Storage.{IsGroupAt};
+ghost use Rattle.mq_link.specs.Forwarding.{AreThose, changed_by_datagram, changed_by_tick};
 ghost use Rattle.mq_link.specs.LeastCost.{least_received, least_ticked};
 ghost use Rattle.mq_link.specs.Link.{HasTicked, HasReceived};
 ghost use Rattle.mq_link.specs.Moved.{most_moved};
@@ -54,7 +55,7 @@ impl<F: Family> Model for Link<F> {
 
     ghost coded = { link_code filter_mode.the_row.coded source_timer.the_row.coded query_schedule.the_row.coded };
 
-    ghost view = { λ l. l.bare };
+    ghost view = { λ l. record l.bare { changed = l.workspace.changed } };
 
     ghost invariant = { λ l. suffices l.bare.config.limits l.workspace ≡ true };
 }
@@ -65,7 +66,7 @@ impl<F: Family> Link<F> {
     /// refused: only `new` can run out of memory.
     pub fn new(alloc: Global, config: Config<F>, start: Moment) -> Result<Link<F>, Memory>
         requires in_range { start ≤ 2 ^ 53 }
-        ensures { IfOk result (λ link. link ≡ record { config = config; state = link_at config start; spent = 0; moved = 0 }) }
+        ensures { IfOk result (λ link. link ≡ record { config = config; state = link_at config start; spent = 0; moved = 0; changed = [] }) }
     {
         let workspace = Workspace::with_room(alloc, &config.limits())?;
         Ok(Link {
@@ -83,6 +84,7 @@ impl<F: Family> Link<F> {
     pub fn tick<O: Outlet<F::Address>>(&mut self, now: Moment, outlet: &mut O)
         requires in_range { now ≤ 2 ^ 53 }
         ensures config { self.new.config ≡ self.old.config }
+        ensures changed { AreThose (changed_by_tick self.old.config now self.old.state) self.new.changed }
         ensures ticks { HasTicked O.takes now self.old self.new outlet.old outlet.new }
         ensures formed { IsWellFormed self.new.config self.new.state }
         ensures later { now < next_of self.new.state }
@@ -113,6 +115,7 @@ impl<F: Family> Link<F> {
     ) -> Received
         requires in_range { now ≤ 2 ^ 53 }
         ensures config { self.new.config ≡ self.old.config }
+        ensures changed { AreThose (changed_by_datagram self.old.config (F.envelope_of envelope.now) body.now now self.old.state) self.new.changed }
         ensures receives { HasReceived O.takes (F.envelope_of envelope.now) body.now now result self.old self.new
             outlet.old outlet.new }
         ensures formed { IsWellFormed self.new.config self.new.state }
@@ -225,6 +228,15 @@ impl<F: Family> Link<F> {
         ensures found { IfSome result (IsGroupAt F.Address.number self.now.state.groups (F.Address.number group)) }
     {
         self.bare.find(group)
+    }
+
+    /// The addresses of the groups that the last `tick` or `receive` has changed, ascending: those of which another filter is
+    /// forwarded after the tick, or after one of the datagram's records, than before it (RFC 3376 section 6.3, RFC 3810 section
+    /// 7.3). A timer that is refreshed changes nothing.
+    pub fn changed(&self) -> &[F::Address]
+        ensures { map_each F.Address.number result.now ≡ self.now.changed }
+    {
+        self.workspace.changed()
     }
 
     /// When a tick has something to do next: the earliest of all deadlines and due moments. It compares two moments on a

@@ -1,9 +1,9 @@
-//! How many records of one datagram have met each group, by the numbers of the groups.
+//! How many records of one datagram have met each group, or have changed it, by the numbers of the groups.
 
-ghost use Rattle.std.specs.Prelude.{◌≡◌, ℕ, ◌<◌, ◌≤◌, nat_le, length, slice_index, IfOk};
+ghost use Rattle.std.specs.Prelude.{◌≡◌, ℕ, ◌<◌, ◌≤◌, nat_le, nat_lt, length, slice_index, IfOk};
 ghost use Rattle.std.specs.List.{All};
 ghost use Rattle.mq_sets.specs.Slots.{times};
-ghost use Rattle.mq_link.specs.Seen.{AreNone, counted_again};
+ghost use Rattle.mq_link.specs.Seen.{AreListed, AreNone, counted_again};
 
 use mq_sets::Memory;
 use std::alloc::Global;
@@ -59,6 +59,21 @@ impl MetGroups {
             counts: vec![in alloc; 0; groups]?,
             numbers: Vec::with_capacity(alloc, groups)?,
         })
+    }
+
+    /// The numbers of the groups that were met, each once, in the order in which they were.
+    pub(crate) fn numbers(&self) -> &[u16]
+        ensures { AreListed self.now result.now }
+    {
+        &self.numbers
+    }
+
+    /// Whether the group of a number was met.
+    pub(crate) fn is_met(&self, number: u16) -> bool
+        requires number { number < length self.now }
+        ensures { result ≡ nat_lt 0 (slice_index self.now number) }
+    {
+        self.counts[number as usize] > 0
     }
 
     /// Forgets all groups. It looks at those alone that were met.

@@ -234,7 +234,7 @@ impl<F: Family> Router<F> {
         self.status.lemma_is_sound();
         self.status.hear_query(
             &mut self.storage,
-            &mut work.numbers.due,
+            &mut work.lists.due,
             &mut work.scratch.group,
             source,
             query,

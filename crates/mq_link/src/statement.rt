@@ -1,10 +1,12 @@
 //! What a statement for a group does: it is ignored, refused, or applied.
 
-ghost use Rattle.std.specs.Prelude.{◌≡◌, ℕ, ◌+◌, ◌*◌, ◌^◌, ◌<◌, ◌≤◌, true, length, IsSome, OnSome, vec_capacity};
+ghost use Rattle.std.specs.Prelude.{◌≡◌, ℕ, ◌+◌, ◌*◌, ◌^◌, ◌<◌, ◌≤◌, ◌||◌, Bool, if◌then◌else◌, true, length, IfSome, IsSome, OnSome, vec_capacity};
 ghost use Rattle.std.specs.FinMap as map;
+ghost use Rattle.std.specs.Option.{option_map, option_map_or};
 ghost use Rattle.mq_count.specs.Spending.{Spends};
 ghost use Rattle.mq_sets.specs.Ascending.{IsAscending, set_of};
 ghost use Rattle.mq_sets.specs.Search.{bitlen};
+ghost use Rattle.mq_table.specs.Filter.{changes_filter};
 ghost use Rattle.mq_table.specs.Group.{timer_at};
 ghost use Rattle.mq_table.specs.OlderHosts.{hosts_of, with_sources};
 ghost use Rattle.mq_table.specs.Stored.{named_in, number_in, size_of, state_of};
@@ -14,25 +16,27 @@ ghost use Rattle.mq_sched.specs.Sending.{after_change};
 ghost use Rattle.mq_held.specs.Groups.{group_at, sources_of};
 ghost use Rattle.mq_link.specs.Changing.{statement_of, acts_as, change_written};
 ghost use Rattle.mq_link.specs.Family.{is_admitted};
+ghost use Rattle.mq_link.specs.Forwarding.{changes};
 ghost use Rattle.mq_link.specs.Judging.{verdict_of};
 ghost use Rattle.mq_link.specs.LeastCost.{least_merge, least_work};
 ghost use Rattle.mq_link.specs.Record as record_spec;
 ghost use Rattle.mq_link.specs.Record.{change_stated, stated};
 ghost use Rattle.mq_link.specs.Moved.{MovesWithin, moved_by_edit};
 ghost use Rattle.mq_link.specs.Router.{HasOutcome};
-ghost use Rattle.mq_link.specs.Seen.{KeepsNumbers};
+ghost use Rattle.mq_link.specs.Seen.{AreMarked, KeepsNumbers, counted_again, met_in};
 ghost use Rattle.mq_link.specs.Sound.{AreSound};
 ghost use Rattle.mq_link.specs.Storage.{HasRoom, HasRoomFor, group_stored, IsSought, KeepsRoom, KeepsRooms};
 
 use crate::answers::Refusal;
 use crate::family::Family;
 use crate::limits::Change;
+use crate::met::MetGroups;
 use crate::status::{InForce, Status};
 use crate::storage::{Scratch, Sought, Storage, look};
 use mq_count::{Key, Meter, Moment};
 use mq_held::HeldGroup;
 use mq_sched::{Schedule, Sink};
-use mq_table::{Head, Hosts, Kind, OlderVersion, translate};
+use mq_table::{Head, Hosts, Kind, Loaded, OlderVersion, translate};
 use mq_wire::WireKey;
 
 /// What one message says of one group, whose sources are named apart from it.
@@ -105,8 +109,8 @@ fn acted_as(
 impl<K: Key> Scratch<K> {
     /// What a statement changes of a group, which is read where it stands: the new group is written down,
     /// and with it the sources to ask for, ascending, each of which the new group has. There is room for the sources of
-    /// the group and of the statement together. Answers whether the group is to be asked for, or None where the statement
-    /// is ignored. The set that is named loses its sources where they don't count.
+    /// the group and of the statement together. Answers whether the group is to be asked for, and whether another filter is
+    /// forwarded of it then; or None, where the statement is ignored. The set that is named loses its sources where they don't count.
     fn change(
         &mut self,
         stored: &HeldGroup<'_, K>,
@@ -114,18 +118,20 @@ impl<K: Key> Scratch<K> {
         muting: MutingRules,
         at: &InForce,
         m: &mut Meter,
-    ) -> Option<bool>
+    ) -> Option<Loaded>
         requires in_range { at.now.moment ≤ 2 ^ 53 }
         requires ascending { IsAscending (number_in K.number) stored.now.sources.now }
         requires room { HasRoomFor (length stored.now.sources.now + length self.old.named.members) self.old }
 
         ensures changes { let before = group_stored K.number stored.now in
-            change_stated muting.v1_mutes_leave muting.is_muted at.now.timing at.now.moment (statement_of said (named_in K.number self.old.named.members)) before ≡ change_written K.number self.new.group.state self.new.asked.items result }
+            change_stated muting.v1_mutes_leave muting.is_muted at.now.timing at.now.moment (statement_of said (named_in K.number self.old.named.members)) before ≡ change_written K.number self.new.group.state self.new.asked.items (option_map (λ loaded. loaded.asks_group) result) }
+        ensures changes_filter { IfSome result (λ loaded. loaded.changes_filter ≡ changes_filter (group_stored K.number stored.now) self.new.group.state) }
         ensures ascending { OnSome result (IsAscending K.number self.new.asked.items) }
         ensures held { OnSome result ((s : ℕ) → set_of K.number self.new.asked.items s ≡ true → IsSome (timer_at self.new.group.state s)) }
         ensures named { length self.new.named.members ≤ length self.old.named.members }
         ensures kept { KeepsRoom self.old self.new }
         ensures met { self.new.met ≡ self.old.met }
+        ensures changed { self.new.changed ≡ self.old.changed }
 
         // At most two comparisons, and one for each source of the group and of the statement; at least one for each of
         // those that are fewer, the sources of the group or those that count.
@@ -156,7 +162,7 @@ impl<K: Key> Scratch<K> {
         if let StatementKind::OlderJoin(version) = said {
             self.group.older(version, at.moment, &at.timing);
         }
-        Some(loaded.asks_group)
+        Some(loaded)
     }
 
     /// Does to the group that has changed, and to its schedule, what the change asks for: what lost its ground is dropped,
@@ -172,6 +178,7 @@ impl<K: Key> Scratch<K> {
         ensures named { self.new.named ≡ self.old.named }
         ensures kept { KeepsRoom self.old self.new }
         ensures met { self.new.met ≡ self.old.met }
+        ensures changed { self.new.changed ≡ self.old.changed }
         ensures spent { Spends 0 (2 * size_of self.old.group.state + 1) m.old m.new }
     {
         schedule.settle(&self.group);
@@ -187,6 +194,16 @@ impl<K: Key> Scratch<K> {
                 m,
             );
         }
+    }
+}
+
+/// Counts that a record has changed the group of a number, where it has one and another filter is forwarded of it.
+fn count_changed(changed: &mut MetGroups, number: Option<u16>, changes: bool)
+    requires number { IfSome number (λ number. number < length changed.old) }
+    ensures { changed.new ≡ (if changes then option_map_or (counted_again changed.old) number changed.old else changed.old) }
+{
+    if let (Some(number), true) = (number, changes) {
+        changed.meets_again(number);
     }
 }
 
@@ -206,7 +223,8 @@ impl<F: Family> Status<F> {
 
     /// What a statement does for a group that is admitted and was looked for: it is ignored where older hosts or the
     /// source-specific range mute it; refused where what it would leave passes a limit, and then nothing is changed or
-    /// sent; else applied, and what it asks for is sent at once. The sources that it names stand in `work`. At most
+    /// sent; else applied, and what it asks for is sent at once. The sources that it names stand in `work`, where it is counted for
+    /// a group of which another filter is forwarded then. At most
     /// six comparisons for each source of the group and each that it names, twelve more, and one for each binary digit of
     /// how many groups there are; at least one for each of those that are fewer, the sources of the group or those that
     /// count.
@@ -233,6 +251,9 @@ impl<F: Family> Status<F> {
         ensures rooms { KeepsRooms storage.old storage.new }
         ensures room { KeepsRoom work.old work.new }
         ensures met { work.new.met ≡ work.old.met }
+        ensures changed { (before : ℕ → Bool) → AreMarked storage.old.held work.old.changed before →
+            AreMarked storage.new.held work.new.changed (λ address. before address || changes storage.old.held.groups storage.new.held.groups address) }
+        ensures one_changed { met_in work.new.changed ≤ met_in work.old.changed + 1 }
         ensures spent { let said_so = statement_of said (named_in F.Address.number work.old.named.members) in
             let sizes = sources_of (group_at storage.old.held.groups (F.Address.number sought.address)) + length work.old.named.members in
             Spends (least_work self.now (F.Address.number sought.address) said_so storage.old.held.groups) (6 * sizes + 12 + bitlen (map.len storage.old.held.groups)) storage.old.meter storage.new.meter }
@@ -248,11 +269,11 @@ impl<F: Family> Status<F> {
             is_muted: self.is_muted(sought.address, said),
         };
         let stored = look(&storage.held, sought);
-        let Some(asks_group) = work.change(&stored, said, muting, &at, &mut storage.meter) else {
+        let Some(loaded) = work.change(&stored, said, muting, &at, &mut storage.meter) else {
             return Verdict::Ignored;
         };
         let mut schedule = stored.schedule;
-        work.ask(&mut schedule, asks_group, &at, &mut storage.meter);
+        work.ask(&mut schedule, loaded.asks_group, &at, &mut storage.meter);
         let change = Change {
             is_held: sought.found.is_ok(),
             sources: stored.sources.len(),
@@ -271,7 +292,9 @@ impl<F: Family> Status<F> {
             &mut storage.meter,
             sink,
         );
-        storage.keep(sought, &work.group, schedule);
+        let kept = storage.keep(sought, &work.group, schedule);
+        storage.held.lemma_is_numbered();
+        count_changed(&mut work.changed, kept, loaded.changes_filter);
         Verdict::Applied
     }
 }

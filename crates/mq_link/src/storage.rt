@@ -1,6 +1,6 @@
 //! The storage of the groups, and what the work on them takes.
 
-ghost use Rattle.std.specs.Prelude.{◌≡◌, ℕ, ◌+◌, ◌-◌, ◌*◌, ◌<◌, ◌≤◌, true, false, length, min, IfOk, is_ok};
+ghost use Rattle.std.specs.Prelude.{◌≡◌, ℕ, ◌+◌, ◌-◌, ◌*◌, ◌<◌, ◌≤◌, true, false, length, min, IfOk, is_ok, MatchOption, []};
 ghost use Rattle.std.specs.FinMap as map;
 ghost use Rattle.mq_count.specs.Spending.{Spends};
 ghost use Rattle.mq_sets.specs.Ascending.{IsAscending};
@@ -25,13 +25,14 @@ use mq_table::{FilterMode, Group};
 use std::alloc::Global;
 
 /// What the work on the records of a datagram takes: the group that one of them works on, the sources that it names, those to
-/// ask for, and how many records have met each group.
+/// ask for, and how many records have met each group, and have changed it.
 #[derive(Drop)]
 pub(crate) struct Scratch<K: Key> {
     pub(crate) group: Group<K>,
     pub(crate) named: SourceSet<K>,
     pub(crate) asked: Vec<K>,
     pub(crate) met: MetGroups,
+    pub(crate) changed: MetGroups,
 }
 
 impl<K: Key> Scratch<K> {
@@ -44,6 +45,7 @@ impl<K: Key> Scratch<K> {
     ) -> Result<Scratch<K>, Memory>
         ensures room { IfOk result (HasRoom groups sources) }
         ensures none_met { IfOk result (λ w. AreNone w.met) }
+        ensures none_changed { IfOk result (λ w. AreNone w.changed) }
     {
         let Some(both) = sources.checked_mul(2) else {
             return Err(Memory);
@@ -53,25 +55,38 @@ impl<K: Key> Scratch<K> {
             named: SourceSet::with_room(alloc, sources)?,
             asked: Vec::with_capacity(alloc, both)?,
             met: MetGroups::with_room(alloc, groups)?,
+            changed: MetGroups::with_room(alloc, groups)?,
         })
     }
 }
 
-/// Room for the numbers of all groups, twice: for those that are due, and for what puts them in order.
+/// Lists of groups, with room for all: the numbers of those that are due, or that records changed, and what puts them in order;
+/// the addresses of those that a call changed; and what puts these together.
 #[derive(Drop)]
-pub(crate) struct Numbers {
+pub(crate) struct Lists<K: Key> {
     pub(crate) due: Vec<u16>,
     pub(crate) spare: Vec<u16>,
+    pub(crate) changed: Vec<K>,
+    pub(crate) by_tick: Vec<K>,
+    pub(crate) by_records: Vec<K>,
 }
 
-impl Numbers {
-    /// For so many groups; or `Memory`, where that was refused.
-    pub(crate) fn with_room(alloc: Global, groups: usize) -> Result<Numbers, Memory>
-        ensures { IfOk result (HasSpace groups) }
+impl<K: Key> Lists<K> {
+    /// For so many groups; or `Memory`, where that was refused. A call may change twice as many: those that a tick ends, and those
+    /// that come in their place.
+    pub(crate) fn with_room(alloc: Global, groups: usize) -> Result<Lists<K>, Memory>
+        ensures room { IfOk result (HasSpace groups) }
+        ensures none { IfOk result (λ lists. lists.changed.items ≡ []) }
     {
-        Ok(Numbers {
+        let Some(both) = groups.checked_mul(2) else {
+            return Err(Memory);
+        };
+        Ok(Lists {
             due: Vec::with_capacity(alloc, groups)?,
             spare: vec![in alloc; 0; groups]?,
+            changed: Vec::with_capacity(alloc, both)?,
+            by_tick: Vec::with_capacity(alloc, both)?,
+            by_records: Vec::with_capacity(alloc, groups)?,
         })
     }
 }
@@ -174,9 +189,14 @@ impl<K: Key> Storage<K> {
     }
 
     /// Keeps a group that was worked on, which was looked for: it is put back, made, or, where it isn't held before or
-    /// after, left alone. One that is held stays held. At most one comparison for each of its sources, four more, and one for
+    /// after, left alone. One that is held stays held. Answers its number, where it is held. At most one comparison for each of its sources, four more, and one for
     /// each binary digit of how many groups there are.
-    pub(crate) fn keep(&mut self, sought: Sought<K>, group: &Group<K>, schedule: Schedule)
+    pub(crate) fn keep(
+        &mut self,
+        sought: Sought<K>,
+        group: &Group<K>,
+        schedule: Schedule,
+    ) -> Option<u16>
         requires few { self.old.held.order.room ≤ 65535 }
         requires sought { IsSought K.number self.old.held sought }
         requires held { is_vacant group.now.state ≡ false → IsHeld group.now.state }
@@ -186,6 +206,8 @@ impl<K: Key> Storage<K> {
         requires fits { sources_in self.old.held.groups + size_of group.now.state ≤ self.old.held.source_room + sources_of (group_at self.old.held.groups (K.number sought.address)) }
         ensures groups { let e : ScheduledGroup = record { group = group.now.state; schedule = schedule } in
             self.new.held.groups ≡ with_group self.old.held.groups (K.number sought.address) e }
+        ensures number { MatchOption result (map.contains_key self.new.held.groups (K.number sought.address) ≡ false)
+            (HasNumber self.new.held (K.number sought.address)) }
         ensures numbers { KeepsNumbers self.old.held self.new.held }
         ensures rooms { KeepsRooms self.old self.new }
         ensures spent { Spends 0 (size_of group.now.state + 4 + bitlen (map.len self.old.held.groups)) self.old.meter self.new.meter }
@@ -193,17 +215,21 @@ impl<K: Key> Storage<K> {
     {
         self.held.lemma_is_numbered();
         match sought.found {
-            Ok(number) => self.put(number, group, schedule),
+            Ok(number) => {
+                self.put(number, group, schedule);
+                Some(number)
+            }
             Err(spot) => {
-                if !group.is_vacant() {
-                    self.insert(spot, sought.address, group, schedule);
+                if group.is_vacant() {
+                    return None;
                 }
+                Some(self.insert(spot, sought.address, group, schedule))
             }
         }
     }
 
-    /// Makes a group that was worked on, at the spot where it goes.
-    fn insert(&mut self, spot: Spot, address: K, group: &Group<K>, schedule: Schedule)
+    /// Makes a group that was worked on, at the spot where it goes. Answers its number.
+    fn insert(&mut self, spot: Spot, address: K, group: &Group<K>, schedule: Schedule) -> u16
         requires few { self.old.held.order.room ≤ 65535 }
         requires spot { IsSpotFor self.old.held.order.items self.old.held.order.pages (K.number address) spot }
         requires held { IsHeld group.now.state }
@@ -211,6 +237,7 @@ impl<K: Key> Storage<K> {
         requires fits { sources_in self.old.held.groups + size_of group.now.state ≤ self.old.held.source_room }
         ensures groups { let e : ScheduledGroup = record { group = group.now.state; schedule = schedule } in
             self.new.held.groups ≡ map.insert self.old.held.groups (K.number address) e }
+        ensures number { HasNumber self.new.held (K.number address) result }
         ensures numbers { KeepsNumbers self.old.held self.new.held }
         ensures rooms { KeepsRooms self.old self.new }
         ensures spent { Spends 0 (size_of group.now.state + 4 + bitlen (map.len self.old.held.groups)) self.old.meter self.new.meter }
@@ -224,6 +251,6 @@ impl<K: Key> Storage<K> {
             schedule,
             &mut self.meter,
             &mut self.moves,
-        );
+        )
     }
 }

@@ -1,10 +1,12 @@
 //! What a tick does: what is due for the router, and then for those groups that have a moment at or before it. No other
 //! group is touched.
 
-ghost use Rattle.std.specs.Prelude.{◌≡◌, ℕ, ◌+◌, ◌-◌, ◌*◌, ◌^◌, ◌<◌, ◌≤◌, true, false, [], ◌∷◌, ◌++◌, if◌then◌else◌, length, max, Some};
+ghost use Rattle.std.specs.Prelude.{◌≡◌, ℕ, ◌+◌, ◌-◌, ◌*◌, ◌^◌, ◌<◌, ◌≤◌, true, false, [], ◌∷◌, ◌++◌, if◌then◌else◌, length, max, None, Some, map as list_map};
+ghost use Rattle.std.specs.Option.{option_map};
 ghost use Rattle.std.specs.FinMap as map;
 ghost use Rattle.mq_count.specs.Spending.{Spends};
 ghost use Rattle.mq_sets.specs.Search.{bitlen};
+ghost use Rattle.mq_table.specs.Filter.{changes_filter};
 ghost use Rattle.mq_table.specs.Stored.{size_of};
 ghost use Rattle.mq_sched.specs.Election.{ticked, general_messages};
 ghost use Rattle.mq_sched.specs.Schedule.{ScheduledGroup};
@@ -15,13 +17,14 @@ ghost use Rattle.mq_held.specs.Held.{HasNumber, IsNumber};
 ghost use Rattle.mq_held.specs.Places.{has_due};
 ghost use Rattle.mq_wire.specs.Family.{Family};
 ghost use Rattle.mq_link.specs.Family as definitions;
+ghost use Rattle.mq_link.specs.Forwarding.{AreThose, changed_by_tick, changes};
 ghost use Rattle.mq_link.specs.LeastCost.{least_ticked};
 ghost use Rattle.mq_link.specs.Link.{HasTicked};
 ghost use Rattle.mq_link.specs.Moved.{HasMoved, MovesWithin, most_moved_by_tick};
 ghost use Rattle.mq_link.specs.Router.{HasStep, link_of, state_of};
 ghost use Rattle.mq_link.specs.Sender.{TakesQuery, begun};
 ghost use Rattle.mq_link.specs.Storage.{HasSpace, IsReady, KeepsRooms, KeepsSpace};
-ghost use Rattle.mq_link.specs.Workspace.{suffices};
+ghost use Rattle.mq_link.specs.Workspace.{suffices, with_changed};
 ghost use Rattle.mq_link.specs.Tick.{group_expired, groups_expired, queries_due, groups_after_round, moment_of, next_of, tick_of};
 
 use crate::family::Family;
@@ -29,15 +32,15 @@ use crate::outlet::Outlet;
 use crate::router::Router;
 use crate::sender::Sender;
 use crate::status::{InForce, Status};
-use crate::storage::{Numbers, Storage};
+use crate::storage::{Lists, Storage};
 use crate::workspace::Workspace;
 use mq_count::{Meter, Moment};
 use mq_sched::{Schedule, Sink};
 use mq_table::Group;
 use mq_wire::WireKey;
 
-/// Ends the timers of a group that have run out, and sends what is due for it then. At most three comparisons for each of its
-/// sources, and six more.
+/// Ends the timers of a group that have run out, and sends what is due for it then. Answers whether another filter is forwarded of
+/// it then. At most three comparisons for each of its sources, and six more.
 fn serve<K: WireKey, S: Sink<K>>(
     address: K,
     group: &mut Group<K>,
@@ -45,8 +48,9 @@ fn serve<K: WireKey, S: Sink<K>>(
     at: &InForce,
     m: &mut Meter,
     sink: &mut S,
-)
+) -> bool
     requires in_range { at.now.moment ≤ 2 ^ 53 }
+    ensures changes { result ≡ changes_filter group.old.state group.new.state }
     ensures sent { let ended = group_expired at.now.moment (record { group = group.old.state; schedule = schedule.old }) in
         Sends S.takes sink.old (messages_due K.PER_QUERY at.now.timing at.now.moment (K.number address) ended) sink.new }
     ensures left { let ended = group_expired at.now.moment (record { group = group.old.state; schedule = schedule.old }) in
@@ -55,21 +59,22 @@ fn serve<K: WireKey, S: Sink<K>>(
     ensures room { group.old.room ≤ group.new.room }
     ensures spent { Spends 0 (3 * size_of group.old.state + 6) m.old m.new }
 {
-    group.expire(at.moment, m);
+    let changes = group.expire(at.moment, m);
     schedule.settle(group);
     schedule.round(address, group, at.moment, &at.timing, K::PER_QUERY, m, sink);
+    changes
 }
 
 impl<K: WireKey> Storage<K> {
     /// Serves the group of a number, and puts it back; one that is INCLUDE without sources then stays until it is taken out.
-    /// At most four comparisons for each of its sources, ten more, and one for each binary digit of how many groups there are.
+    /// Answers its address, where another filter is forwarded of it then. At most four comparisons for each of its sources, ten more, and one for each binary digit of how many groups there are.
     fn tick_group<S: Sink<K>>(
         &mut self,
         number: u16,
         group: &mut Group<K>,
         at: &InForce,
         sink: &mut S,
-    )
+    ) -> Option<K>
         requires in_range { at.now.moment ≤ 2 ^ 53 }
         requires number { IsNumber self.old.held number }
         requires room { (address : ℕ) → HasNumber self.old.held address number →
@@ -77,6 +82,8 @@ impl<K: WireKey> Storage<K> {
         ensures groups { (address : ℕ) → HasNumber self.old.held address number →
             let ended = group_expired at.now.moment (group_at self.old.held.groups address) in
             self.new.held.groups ≡ map.insert self.old.held.groups address (kept_as (after_round at.now.timing at.now.moment ended)) }
+        ensures changed { (address : ℕ) → HasNumber self.old.held address number →
+            option_map K.number result ≡ (if changes self.old.held.groups self.new.held.groups address then Some address else None) }
         ensures order { self.new.held.order ≡ self.old.held.order }
         ensures sent { (address : ℕ) → HasNumber self.old.held address number →
             let ended = group_expired at.now.moment (group_at self.old.held.groups address) in
@@ -93,31 +100,35 @@ impl<K: WireKey> Storage<K> {
         self.held.lemma_is_numbered();
         let address = self.held.address(number);
         let mut schedule = self.held.load(number, group);
-        serve(address, group, &mut schedule, at, &mut self.meter, sink);
+        let changes = serve(address, group, &mut schedule, at, &mut self.meter, sink);
         self.lemma_sources_fit();
         self.put(number, group, schedule);
+        changes.then_some(address)
     }
 
     /// Ends what has run out of the groups, and sends what is due for them, by ascending group. Those that have no moment
-    /// at or before it are left alone. At least one comparison for each group that has such a moment, and one more, where
+    /// at or before it are left alone. Lists the addresses of those of which another filter is forwarded then. At least one comparison for each group that has such a moment, and one more, where
     /// there is another group; at most four for each source, 44 for each group and one more; where no group has such a
     /// moment, one at most.
     fn tick_groups<S: Sink<K>>(
         &mut self,
-        numbers: &mut Numbers,
+        lists: &mut Lists<K>,
         group: &mut Group<K>,
         at: &InForce,
         sink: &mut S,
     )
         requires in_range { at.now.moment ≤ 2 ^ 53 }
-        requires space { HasSpace (map.len self.old.held.groups) numbers.old }
+        requires empty { lists.old.changed.items ≡ [] }
+        requires space { HasSpace (map.len self.old.held.groups) lists.old }
         requires ready { IsReady group.old.room self.old }
         ensures groups { self.new.held.groups ≡ groups_after_round at.now.timing at.now.moment (groups_expired at.now.moment self.old.held.groups) }
         ensures sent { (family : Family) → K.PER_QUERY ≡ definitions.per_query family →
             Sends S.takes sink.old (queries_due family at.now.timing at.now.moment (groups_expired at.now.moment self.old.held.groups)) sink.new }
+        ensures changed { AreThose (changes self.old.held.groups self.new.held.groups) (list_map K.number lists.new.changed.items) }
+        ensures few { length lists.new.changed.items ≤ map.len self.old.held.groups }
         ensures rooms { KeepsRooms self.old self.new }
         ensures room { group.old.room ≤ group.new.room }
-        ensures space { KeepsSpace numbers.old numbers.new }
+        ensures space { KeepsSpace lists.old lists.new }
         ensures spent { let groups = self.old.held.groups in
             let least = least_ticked at.now.moment groups in
             Spends least (4 * sources_in groups + 44 * map.len groups + 1) self.old.meter self.new.meter }
@@ -133,17 +144,19 @@ impl<K: WireKey> Storage<K> {
         self.held.lemma_is_numbered();
         self.held.due(
             at.moment,
-            &mut numbers.due,
-            &mut numbers.spare,
+            &mut lists.due,
+            &mut lists.spare,
             &mut self.meter,
             &mut self.moves,
         );
-        for number in numbers.due.as_slice() {
-            self.tick_group(*number, group, at, sink);
+        for number in lists.due.as_slice() {
+            if let Some(address) = self.tick_group(*number, group, at, sink) {
+                lists.changed.push(address).unwrap();
+            }
         }
         self.held.take_out_vacant(
-            &mut numbers.due,
-            &mut numbers.spare,
+            &mut lists.due,
+            &mut lists.spare,
             &mut self.meter,
             &mut self.moves,
         );
@@ -174,13 +187,14 @@ fn send_general<F: Family, O: Outlet<F::Address>>(is_due: bool, sender: &mut Sen
 fn do_due<F: Family, O: Outlet<F::Address>>(
     status: &mut Status<F>,
     storage: &mut Storage<F::Address>,
-    numbers: &mut Numbers,
+    lists: &mut Lists<F::Address>,
     group: &mut Group<F::Address>,
     now: Moment,
     sender: &mut Sender<F, O>,
 )
     requires in_range { now ≤ 2 ^ 53 }
-    requires space { HasSpace (map.len storage.old.held.groups) numbers.old }
+    requires empty { lists.old.changed.items ≡ [] }
+    requires space { HasSpace (map.len storage.old.held.groups) lists.old }
     requires ready { IsReady group.old.room storage.old }
     ensures status { status.new ≡ record status.old { election = ticked status.old.config.timing now status.old.election; now = now } }
     ensures groups { let in_force = (ticked status.old.config.timing now status.old.election).timing in
@@ -191,9 +205,11 @@ fn do_due<F: Family, O: Outlet<F::Address>>(
         (general_messages config.timing now status.old.election
         ++ queries_due F.FAMILY in_force now (groups_expired now storage.old.held.groups))
         sender.new }
+    ensures changed { AreThose (changes storage.old.held.groups storage.new.held.groups) (list_map F.Address.number lists.new.changed.items) }
+    ensures few { length lists.new.changed.items ≤ map.len storage.old.held.groups }
     ensures rooms { KeepsRooms storage.old storage.new }
     ensures room { group.old.room ≤ group.new.room }
-    ensures space { KeepsSpace numbers.old numbers.new }
+    ensures space { KeepsSpace lists.old lists.new }
     ensures spent { let groups = storage.old.held.groups in
         let least = least_ticked now groups in
         Spends (1 + least) (4 * sources_in groups + 44 * map.len groups + 2) storage.old.meter storage.new.meter }
@@ -208,7 +224,7 @@ fn do_due<F: Family, O: Outlet<F::Address>>(
     let at = status.in_force();
     sender.begin(status.config(), at.timing);
     send_general(is_due, sender);
-    storage.tick_groups(numbers, group, &at, sender);
+    storage.tick_groups(lists, group, &at, sender);
 }
 
 impl<F: Family> Router<F> {
@@ -225,7 +241,9 @@ impl<F: Family> Router<F> {
         requires enough { suffices self.old.at.config.limits work.old ≡ true }
         ensures step { let step = tick_of self.old.at.config now (state_of self.old) in
             HasStep (TakesQuery O.takes F.FAMILY) step self.old self.new (begun self.old.at.config step.timing sender.old) sender.new }
-        ensures workspace { work.new ≡ work.old }
+        ensures workspace { work.new ≡ with_changed work.old work.new.changed }
+        ensures changed { AreThose (changed_by_tick self.old.at.config now (state_of self.old)) work.new.changed }
+        ensures few { length work.new.changed ≤ map.len self.old.groups }
         ensures spent { let groups = self.old.groups in
             let least = least_ticked (moment_of (state_of self.old) now) groups in
             Spends (2 + least) (4 * sources_in groups + 44 * map.len groups + 3) self.old.spent self.new.spent }
@@ -237,10 +255,11 @@ impl<F: Family> Router<F> {
     {
         self.status.lemma_is_sound();
         let now = later(self.status.moment(), now, &mut self.storage.meter);
+        work.lists.changed.clear();
         do_due(
             &mut self.status,
             &mut self.storage,
-            &mut work.numbers,
+            &mut work.lists,
             &mut work.scratch.group,
             now,
             sender,
@@ -259,7 +278,9 @@ impl<F: Family> Router<F> {
         ensures config { self.new.at.config ≡ self.old.at.config }
         ensures ticks { HasTicked O.takes now (link_of self.old) (link_of self.new) sender.old.outlet.now sender.new.outlet.now }
         ensures same_outlet { sender.new.outlet.ghost_name ≡ sender.old.outlet.ghost_name }
-        ensures workspace { work.new ≡ work.old }
+        ensures workspace { work.new ≡ with_changed work.old work.new.changed }
+        ensures changed { AreThose (changed_by_tick self.old.at.config now (state_of self.old)) work.new.changed }
+        ensures few { length work.new.changed ≤ map.len self.old.groups }
         ensures spent { let groups = self.old.groups in
             let least = least_ticked (moment_of (state_of self.old) now) groups in
             Spends (2 + least) (4 * sources_in groups + 44 * map.len groups + 3) self.old.spent self.new.spent }
