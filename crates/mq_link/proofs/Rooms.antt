@@ -1,16 +1,18 @@
 -- What keeps room for groups and their sources.
-use Rattle.std.proofs.Common.{◌≡◌, ℕ, ◌≤◌, Bool, ◌&&◌, true, false, refl, ◌∙◌, arith}
+use Rattle.std.proofs.Common.{◌≡◌, ℕ, ◌*◌, ◌≤◌, List, length, Bool, ◌&&◌, true, false, refl, ◌∙◌, sym, subst, arith}
 use Rattle.std.proofs.lemmas.Bool.{le-leb, leb-true}
 use Rattle.mq_link.specs.declared.configuration.Limits.{Limits}
-use Rattle.mq_link.specs.declared.storage.Numbers.{Numbers}
+use Rattle.mq_link.specs.declared.storage.Lists.{Lists}
 use Rattle.mq_link.specs.declared.storage.Scratch.{Scratch}
 use Rattle.mq_link.specs.declared.storage.Storage.{Storage}
+use Rattle.std.specs.Prelude.{vec_capacity}
+use Rattle.mq_sets.specs.Ascending.{IsAscending}
 use Rattle.mq_link.specs.Seen.{AreNone}
 use Rattle.mq_link.specs.Storage.{HasRoom, HasSpace, IsReady, KeepsRoom, KeepsRooms, KeepsSpace, has_counted}
 use Rattle.mq_link.specs.Workspace.{WorkspaceState, IsWorkspace, suffices}
 
 pub room_stays : {K : Type 0} (w : Scratch K) → KeepsRoom w w
-room_stays w = record { group = omega arith; named = refl; asked = omega arith; met = refl }
+room_stays w = record { group = omega arith; named = refl; asked = omega arith; met = refl; changed = refl }
 
 pub rooms_stay : {K : Type 0} (s : Storage K) → KeepsRooms s s
 rooms_stay s = record { groups = refl; sources = refl }
@@ -25,7 +27,7 @@ room_on h k =
     let second = k.group in
     let third = h.asked in
     let fourth = k.asked in
-    record { group = omega arith; named = k.named ∙ h.named; asked = omega arith; met = k.met ∙ h.met }
+    record { group = omega arith; named = k.named ∙ h.named; asked = omega arith; met = k.met ∙ h.met; changed = k.changed ∙ h.changed }
 
 pub rooms_on : {K : Type 0} {a b c : Storage K} → KeepsRooms a b → KeepsRooms b c → KeepsRooms a c
 rooms_on h k = record { groups = k.groups ∙ h.groups; sources = k.sources ∙ h.sources }
@@ -41,19 +43,29 @@ still_room groups n room kept =
     let sixth = kept.asked in
     let seventh = room.met in
     let eighth = kept.met in
-    record { group = omega arith; named = omega arith; asked = omega arith; met = omega arith }
+    let ninth = room.changed in
+    let tenth = kept.changed in
+    record { group = omega arith; named = omega arith; asked = omega arith; met = omega arith; changed = omega arith }
 
--- and for the numbers of groups
-pub space_stays : (numbers : Numbers) → KeepsSpace numbers numbers
-space_stays numbers = record { due = omega arith; spare = refl }
+-- and for lists of groups
+pub space_stays : {K : Type 0} (lists : Lists K) → KeepsSpace lists lists
+space_stays lists = record { due = omega arith; spare = refl; changed = omega arith; by_tick = refl; by_records = refl }
 
-pub still_space : (n : ℕ) {a b : Numbers} → HasSpace n a → KeepsSpace a b → HasSpace n b
-still_space n space kept =
+pub still_space : {K : Type 0} (n : ℕ) {a b : Lists K} → HasSpace n a → KeepsSpace a b → HasSpace n b
+still_space n {a} {b} space kept =
     let first = space.due in
     let second = kept.due in
     let third = space.spare in
     let fourth = kept.spare in
-    record { due = omega arith; spare = omega arith }
+    let fifth = space.changed in
+    let sixth = kept.changed in
+    record {
+      due = omega arith;
+      spare = omega arith;
+      changed = omega arith;
+      by_tick = subst (λ xs. 2 * n ≤ vec_capacity xs) (sym kept.by_tick) space.by_tick;
+      by_records = subst (λ xs. n ≤ vec_capacity xs) (sym kept.by_records) space.by_records;
+    }
 
 both_true : (a b : Bool) → (a && b) ≡ true → (a ≡ true) × (b ≡ true)
 both_true true true h = (refl, refl)
@@ -61,8 +73,8 @@ both_true true false h = cc
 both_true false b h = cc
 
 -- a workspace suffices for the limits that it was made for
-pub suffices_own : (limits : Limits) → suffices limits (record { groups = limits.groups; group_sources = limits.group_sources }) ≡ true
-suffices_own limits = λ i. le-leb limits.groups limits.groups (omega arith) i && le-leb limits.group_sources limits.group_sources (omega arith) i
+pub suffices_own : (limits : Limits) (changed : List ℕ) → suffices limits (record { groups = limits.groups; group_sources = limits.group_sources; changed = changed }) ≡ true
+suffices_own limits changed = λ i. le-leb limits.groups limits.groups (omega arith) i && le-leb limits.group_sources limits.group_sources (omega arith) i
 
 -- a workspace that suffices has room for what the limits allow
 module _ (limits : Limits) (w : WorkspaceState) (enough : suffices limits w ≡ true) where
@@ -72,26 +84,30 @@ module _ (limits : Limits) (w : WorkspaceState) (enough : suffices limits w ≡ 
   pub enough_sources : limits.group_sources ≤ w.group_sources
   enough_sources = leb-true limits.group_sources w.group_sources (both_true _ _ enough).1
 
-  module _ {K : Type 0} {scratch : Scratch K} {numbers : Numbers} (is : IsWorkspace w.groups w.group_sources scratch numbers) where
+  module _ {K : Type 0} (number : K → ℕ) {scratch : Scratch K} {lists : Lists K} (is : IsWorkspace number w.groups w.group_sources scratch lists) where
     pub enough_room : HasRoom limits.groups limits.group_sources scratch
     enough_room =
         let first = is.room.group in
         let second = is.room.named in
         let third = is.room.asked in
         let fourth = is.room.met in
+        let fifth = is.room.changed in
         let groups = enough_groups in
         let sources = enough_sources in
-        record { group = omega arith; named = omega arith; asked = omega arith; met = omega arith }
+        record { group = omega arith; named = omega arith; asked = omega arith; met = omega arith; changed = omega arith }
 
-    pub enough_space : HasSpace limits.groups numbers
+    pub enough_space : HasSpace limits.groups lists
     enough_space =
-        let first = is.number_room.due in
-        let second = is.number_room.spare in
+        let first = is.list_room.due in
+        let second = is.list_room.spare in
+        let third = is.list_room.changed in
+        let fourth = is.list_room.by_tick in
+        let fifth = is.list_room.by_records in
         let groups = enough_groups in
-        record { due = omega arith; spare = omega arith }
+        record { due = omega arith; spare = omega arith; changed = omega arith; by_tick = omega arith; by_records = omega arith }
 
 -- a workspace stays one
-pub workspace_next : {K : Type 0} (groups group_sources : ℕ) {scratch next : Scratch K} {numbers next_numbers : Numbers} → IsWorkspace groups group_sources scratch numbers
-    → KeepsRoom scratch next → KeepsSpace numbers next_numbers → AreNone next.met → IsWorkspace groups group_sources next next_numbers
-workspace_next groups group_sources was room space none =
-    record { room = still_room groups group_sources was.room room; number_room = still_space groups was.number_room space; none_met = none }
+pub workspace_next : {K : Type 0} (number : K → ℕ) (groups group_sources : ℕ) {scratch next : Scratch K} {lists next_lists : Lists K} → IsWorkspace number groups group_sources scratch lists
+    → KeepsRoom scratch next → HasSpace groups next_lists → AreNone next.met → AreNone next.changed → IsAscending number next_lists.changed.items → IsWorkspace number groups group_sources next next_lists
+workspace_next number groups group_sources was room space none none_changed ascending =
+    record { room = still_room groups group_sources was.room room; list_room = space; none_met = none; none_changed = none_changed; ascending = ascending }
