@@ -28,6 +28,8 @@ pub mod GroupNumbers
 pub mod Moved
 pub mod PaidEdits
 pub mod Octets
+pub mod GrownGroups
+pub mod ListedGroups
 pub mod Numbered
 pub mod Lengths
 pub mod HandedOver
