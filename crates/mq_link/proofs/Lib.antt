@@ -60,3 +60,4 @@ pub mod LeastCosts
 pub mod Rooms
 pub mod StatusSteps
 pub mod RouterSteps
+pub mod ChangedNumbers
