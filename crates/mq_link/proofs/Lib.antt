@@ -62,3 +62,5 @@ pub mod LeastCosts
 pub mod Rooms
 pub mod StatusSteps
 pub mod RouterSteps
+pub mod ChangedNumbers
+pub mod UnitedKeys
