@@ -10,17 +10,19 @@ use Rattle.std.proofs.lemmas.List.Sums.{sum_by-set}
 use Rattle.mq_table.specs.declared.timing.Timing.{Timing}
 use Rattle.mq_count.specs.declared.versions.OlderVersion.{OlderVersion}
 use Rattle.mq_count.specs.declared.versions.OlderVersion.TheVariants.{V1, V2}
-use Rattle.mq_table.specs.Filter.{changes_filter}
+use Rattle.mq_table.specs.Filter.{changes_filter, filter_of}
 use Rattle.mq_table.specs.Group.{GroupState, is_vacant}
 use Rattle.mq_table.specs.OlderHosts.{older_host}
-use Rattle.mq_table.proofs.Filters.{changes-same}
+use Rattle.mq_table.specs.Table.{GroupChange}
 use Rattle.mq_sched.specs.Schedule.{ScheduledGroup}
+use Rattle.mq_sched.specs.Sending.{after_change, after_round}
 use Rattle.mq_held.specs.Groups.{Groups, group_at, kept_as, unheld, with_group}
 use Rattle.mq_held.specs.Held.{HeldState, HasNumber}
 use Rattle.mq_held.proofs.Sorted.{tied, ties}
 use Rattle.mq_link.specs.Forwarding.{changes}
 use Rattle.mq_link.specs.Record.{met}
 use Rattle.mq_link.specs.Seen.{AreMarked, AreMet, KeepsNumbers, counted_again, met_in}
+use Rattle.mq_link.proofs.KeptFilters.{alike_after, change_keeps_filter, kept_filter, round_keeps_filter, unchanged}
 use Rattle.mq_link.proofs.KeptGroups.{absent_unheld}
 use Rattle.mq_link.proofs.MetNumbers.{AreNumbered, met_again_by_number, met_still, was_absent, length-counted_again}
 use Rattle.mq_link.proofs.Recorded.{get-with_group}
@@ -32,13 +34,9 @@ unfolding changes_filter
 changes-older_host V1 timing now before after = refl
 changes-older_host V2 timing now before after = refl
 
--- a state has its own filter
-pub changes-itself : (g : GroupState) → changes_filter g g ≡ false
-changes-itself g = changes-same g g refl (λ s. refl)
-
--- so where the groups are as they were none has another
+-- where the groups are as they were none has another filter
 pub none_changes : (groups left : Groups) → left ≡ groups → (address : ℕ) → changes groups left address ≡ false
-none_changes groups left same address = ap (λ gs. changes groups gs address) same ∙ changes-itself (group_at groups address).group
+none_changes groups left same address = ap (λ gs. changes groups gs address) same ∙ unchanged (group_at groups address).group
 
 -- a group that is put in the place of one
 module _ (groups : Groups) (address : ℕ) (e : ScheduledGroup) where
@@ -56,6 +54,24 @@ module _ (groups : Groups) (address : ℕ) (e : ScheduledGroup) where
   other_then other differs =
       ap (λ x. unwrap_or x unheld) (get-with_group groups address e other)
       ∙ ap (λ b. unwrap_or (cond b (cond (is_vacant e.group) None (Some e)) (map.get groups other)) unheld) differs
+
+-- What is done behind the change of a group keeps its filter, so whether the group has another then is known when it is changed.
+pub changed_then : (groups next : Groups) (address : ℕ) (before asked left : ScheduledGroup) (change : GroupChange) (q : Bool) (timing : Timing) (now : ℕ) (changed : Bool)
+    → before ≡ group_at groups address → changed ≡ changes_filter before.group change.group → asked ≡ after_change q timing now change before.schedule → left ≡ after_round timing now asked
+    → next ≡ with_group groups address left → changed ≡ changes groups next address
+changed_then groups next address before asked left change q timing now changed before_is changed_is asked_is left_is next_is =
+    changed_is
+    ∙ alike_after before.group change.group (kept_as left).group (sym same)
+    ∙ (λ i. changes_filter (before_is i).group (sym (group_then groups address left) i).group)
+    ∙ ap (λ gs. changes groups gs address) (sym next_is)
+  where
+    same : filter_of (kept_as left).group ≡ filter_of change.group
+    same =
+        kept_filter left
+        ∙ ap (λ (e : ScheduledGroup). filter_of e.group) left_is
+        ∙ round_keeps_filter timing now asked
+        ∙ ap (λ (e : ScheduledGroup). filter_of e.group) asked_is
+        ∙ change_keeps_filter q timing now change before.schedule
 
 or_none : (a b : Bool) → b ≡ false → a ≡ (a || b)
 or_none true b none = refl
@@ -81,7 +97,7 @@ module _ (s next : HeldState) (numbered : AreNumbered s) (numbered_next : AreNum
   others_stay : (other : ℕ) → eq_by_cmp nat_cmp other address ≡ false → changes s.groups next.groups other ≡ false
   others_stay other differs =
       ap (λ (x : ScheduledGroup). changes_filter (group_at s.groups other).group x.group) (ap (λ groups. group_at groups other) left ∙ other_then s.groups address e other differs)
-      ∙ changes-itself (group_at s.groups other).group
+      ∙ unchanged (group_at s.groups other).group
 
   marked_none : changes s.groups next.groups address ≡ false → AreMarked next counts (λ other. test other || changes s.groups next.groups other)
   marked_none none = record {
@@ -114,7 +130,7 @@ module _ (s next : HeldState) (numbered : AreNumbered s) (numbered_next : AreNum
   absent_stays absent =
       let before = absent_unheld s.groups address (was_absent s next numbered numbered_next keeps counts marked.seen marked.are_met address absent) in
       let after = absent_unheld next.groups address absent in
-      (λ i. changes_filter (before i).group (after i).group) ∙ changes-itself unheld.group
+      (λ i. changes_filter (before i).group (after i).group) ∙ unchanged unheld.group
 
   pub marked_by : (changed : Bool) (number : Option ℕ) → changed ≡ changes s.groups next.groups address → MatchOption number (map.contains_key next.groups address ≡ false) (HasNumber next address)
       → IfSome number (λ n. n < length counts)

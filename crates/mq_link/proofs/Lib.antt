@@ -58,6 +58,7 @@ pub mod SpelledMessages
 pub mod LeastLengths
 pub mod TickedSizes
 pub mod LeastCosts
+pub mod KeptFilters
 pub mod Rooms
 pub mod StatusSteps
 pub mod RouterSteps
