@@ -59,6 +59,7 @@ pub mod LeastLengths
 pub mod TickedSizes
 pub mod LeastCosts
 pub mod KeptFilters
+pub mod TickedFilters
 pub mod Rooms
 pub mod StatusSteps
 pub mod RouterSteps
