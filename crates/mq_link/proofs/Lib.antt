@@ -63,3 +63,4 @@ pub mod TickedFilters
 pub mod Rooms
 pub mod StatusSteps
 pub mod RouterSteps
+pub mod ChangedNumbers
