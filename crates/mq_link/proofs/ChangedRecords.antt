@@ -19,12 +19,14 @@ use Rattle.mq_sched.specs.Sending.{after_change, after_round}
 use Rattle.mq_held.specs.Groups.{Groups, group_at, kept_as, unheld, with_group}
 use Rattle.mq_held.specs.Held.{HeldState, HasNumber}
 use Rattle.mq_held.proofs.Sorted.{tied, ties}
-use Rattle.mq_link.specs.Forwarding.{changes}
-use Rattle.mq_link.specs.Record.{met}
-use Rattle.mq_link.specs.Seen.{AreMarked, AreMet, KeepsNumbers, counted_again, met_in}
+use Rattle.mq_wire.specs.declared.records.RecordView.{RecordView}
+use Rattle.mq_link.specs.Forwarding.{changed_by_all, changes}
+use Rattle.mq_link.specs.Record.{Seen, Setting, judged, met, seen_after}
+use Rattle.mq_link.specs.Seen.{AreMarked, AreMet, AreNone, KeepsNumbers, counted_again, met_in}
 use Rattle.mq_link.proofs.KeptFilters.{alike_after, change_keeps_filter, kept_filter, round_keeps_filter, unchanged}
 use Rattle.mq_link.proofs.KeptGroups.{absent_unheld}
-use Rattle.mq_link.proofs.MetNumbers.{AreNumbered, met_again_by_number, met_still, was_absent, length-counted_again}
+use Rattle.mq_link.proofs.ListedNumbers.{none_listed}
+use Rattle.mq_link.proofs.MetNumbers.{AreNumbered, met_again_by_number, met_still, none_met, was_absent, length-counted_again}
 use Rattle.mq_link.proofs.Recorded.{get-with_group}
 use Rattle.mq_link.proofs.TakenRecords.{again, met_once, met_other}
 
@@ -169,3 +171,63 @@ pub length-by : (counts : List ℕ) (changed : Bool) (number : Option ℕ) → l
 length-by counts false number = refl
 length-by counts true None = refl
 length-by counts true (Some number) = length-counted_again counts number
+
+none_marked : (counts : List ℕ) → AreNone counts → met_in counts ≡ 0
+none_marked counts none = sym (none_listed counts none).count
+
+-- With the records that are left, those that are marked are the groups that all of them change; no more are marked than there were
+-- records.
+pub record AreMarkedSoFar (at : Setting) (all : List (RecordView ℕ)) (was : Groups) (left : List (RecordView ℕ)) (seen : Seen) (s : HeldState) (counts : List ℕ) : Type 0 where
+  pub test : ℕ → Bool
+  pub marked : AreMarked s counts test
+  pub changed : (address : ℕ) → (test address || changed_by_all at seen left s.groups address) ≡ changed_by_all at map.empty all was address
+  pub few : met_in counts + length left ≤ length all
+
+pub none_marked_yet : (at : Setting) (all : List (RecordView ℕ)) (s : HeldState) (counts : List ℕ) → AreNone counts → AreMarkedSoFar at all s.groups all map.empty s counts
+none_marked_yet at all s counts none = record {
+  test = λ address. false;
+  marked = record { seen = map.empty; are_met = none_met s counts none; each = λ address. ap (λ x. ltb 0 (unwrap_or x 0)) (map.get-empty {X = ℕ} nat_cmp address) };
+  changed = λ address. refl;
+  few = omega (arith, none_marked counts none);
+}
+
+or_assoc : (a b c : Bool) → ((a || b) || c) ≡ (a || (b || c))
+or_assoc true b c = refl
+or_assoc false b c = refl
+
+pub one_marked : (at : Setting) (all : List (RecordView ℕ)) (was : Groups) (before rest : List (RecordView ℕ)) (r : RecordView ℕ) (seen : Seen) (s next : HeldState) (counts next_counts : List ℕ)
+    → (h : AreMarkedSoFar at all was before seen s counts) → before ≡ r ∷ rest → next.groups ≡ (judged at seen r s.groups).groups
+    → AreMarked next next_counts (λ address. h.test address || changes s.groups (judged at seen r s.groups).groups address) → met_in next_counts ≤ met_in counts + 1
+    → AreMarkedSoFar at all was rest (seen_after at.config r s.groups seen) next next_counts
+one_marked at all was before rest r seen s next counts next_counts h first left marked one = record {
+  test = λ address. h.test address || changes s.groups then address;
+  marked = marked;
+  changed = λ address.
+      ap (λ groups. (h.test address || changes s.groups then address) || changed_by_all at after rest groups address) left
+      ∙ or_assoc (h.test address) (changes s.groups then address) (changed_by_all at after rest then address)
+      ∙ ap (λ records. h.test address || changed_by_all at seen records s.groups address) (sym first)
+      ∙ h.changed address;
+  few = let most = h.few in omega (arith, most, one, ap length first);
+}
+  where
+    then : Groups
+    then = (judged at seen r s.groups).groups
+
+    after : Seen
+    after = seen_after at.config r s.groups seen
+
+or_false : (a : Bool) → a ≡ (a || false)
+or_false true = refl
+or_false false = refl
+
+pub all_marked : (at : Setting) (all : List (RecordView ℕ)) (was : Groups) (left : List (RecordView ℕ)) (seen : Seen) (s : HeldState) (counts : List ℕ)
+    → AreMarkedSoFar at all was left seen s counts → left ≡ [] → AreMarked s counts (changed_by_all at map.empty all was)
+all_marked at all was left seen s counts h none = record {
+  seen = h.marked.seen;
+  are_met = h.marked.are_met;
+  each = λ address.
+      h.marked.each address
+      ∙ or_false (h.test address)
+      ∙ ap (λ records. h.test address || changed_by_all at seen records s.groups address) (sym none)
+      ∙ h.changed address;
+}
