@@ -1,7 +1,7 @@
 -- What a record takes, with what is left for the records behind it, is no more than what was left before it and what it
 -- brings.
-use Rattle.std.proofs.Common.{◌≡◌, ℕ, ◌+◌, ◌-◌, ◌*◌, ◌≤◌, Bool, true, false, cond, ◌&&◌, refl, List, [], ◌∷◌, length, Option, None, Some, IfSome, sym, ◌∙◌, subst, arith, leb, add_assoc, add-zero, zero-add}
-use Rattle.std.proofs.Math.Nat.{mul-le-mul_right}
+use Rattle.std.proofs.Common.{◌≡◌, ℕ, ◌+◌, ◌-◌, ◌*◌, ◌≤◌, max, Bool, true, false, cond, ◌&&◌, refl, List, [], ◌∷◌, length, Option, None, Some, IfSome, sym, ◌∙◌, subst, arith, leb, add_assoc, add-zero, zero-add}
+use Rattle.std.proofs.Math.Nat.{le-max_right, mul-le-mul_right}
 use Rattle.std.proofs.lemmas.Bool.{leb-false}
 use Rattle.std.proofs.lemmas.List.Sums.{sum_by-cons}
 use Rattle.std.specs.FinMap as map
