@@ -61,3 +61,4 @@ pub mod Rooms
 pub mod StatusSteps
 pub mod RouterSteps
 pub mod ChangedNumbers
+pub mod UnitedKeys
