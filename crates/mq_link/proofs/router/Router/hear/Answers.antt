@@ -8,7 +8,8 @@ use Rattle.mq_link.specs.Moved.{IsPaid}
 use Rattle.mq_link.specs.Record.{Setting}
 use Rattle.mq_link.specs.Router.{Leaves, RouterValue, router_of, state_of}
 use Rattle.mq_link.specs.State.{sources_in}
-use Rattle.mq_link.specs.Storage.{put_by_rows}
+use Rattle.mq_link.specs.declared.storage.Lists.{Lists}
+use Rattle.mq_link.specs.Storage.{KeepsSpace, put_by_rows}
 use Rattle.mq_link.proofs.Faultless.{few_sources, timing_in_range}
 use Rattle.mq_link.proofs.LinkStored.{ready_in, stored_next}
 use Rattle.mq_link.proofs.Rooms.{enough_room, enough_space, still_space, workspace_next}
@@ -39,8 +40,9 @@ pub invariant_of-work : goal.invariant_of-work
 invariant_of-work g c =
     let heard = c.hear_query.ensures in
     let was = c.work.invariant in
-    let space = still_space _ was.list_room (record { due = heard.capacity; spare = refl; changed = omega arith; by_tick = refl; by_records = refl }) in
-    workspace_next _ _ _ was (record { group = heard.room; named = refl; asked = omega arith; met = refl; changed = refl }) space was.none_met was.none_changed was.ascending
+    let lists : Lists _ = record c.work.inside.lists { due = c.hear_query.new.numbers } in
+    let kept : KeepsSpace c.work.inside.lists lists = record { due = heard.capacity; spare = refl; changed = omega arith; by_tick = refl; by_records = refl } in
+    workspace_next _ _ _ was (record { group = heard.room; named = refl; asked = omega arith; met = refl; changed = refl }) (still_space _ was.list_room kept) was.none_met was.none_changed was.ascending
 
 pub returns-clause-leaves : goal.returns-clause-leaves
 returns-clause-leaves g c =
