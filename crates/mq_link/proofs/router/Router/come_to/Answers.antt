@@ -22,18 +22,27 @@ pub do_due-requires-clause-ready : goal.do_due-requires-clause-ready
 do_due-requires-clause-ready g c =
     let inside = c.self.inside in
     let enough = enough_inside c.self.view_is c.work.view_is c.requires.enough in
-    let room = enough_room inside.status.config.limits _ enough c.work.invariant in
+    let room = enough_room inside.status.config.limits _ enough g.F.Address.Key.number c.work.invariant in
     ready_counted _ inside.storage c.later-now.new.m (ready_in inside.status inside.storage c.lemma_is_sound.ensures.faultless c.self.invariant.sound _ room.group)
 
 pub do_due-requires-clause-space : goal.do_due-requires-clause-space
 do_due-requires-clause-space g c =
     let inside = c.self.inside in
     let enough = enough_inside c.self.view_is c.work.view_is c.requires.enough in
-    let space = enough_space inside.status.config.limits _ enough c.work.invariant in
+    let space = enough_space inside.status.config.limits _ enough g.F.Address.Key.number c.work.invariant in
     let most = c.self.invariant.sound.within.group_count in
     let due = space.due in
     let spare = space.spare in
-    record { due = omega (arith, most, due); spare = omega (arith, most, spare) }
+    let changed = space.changed in
+    let by_tick = space.by_tick in
+    let by_records = space.by_records in
+    record {
+      due = omega (arith, most, due);
+      spare = omega (arith, most, spare);
+      changed = omega (arith, most, changed, c.clear.ensures.capacity);
+      by_tick = omega (arith, most, by_tick);
+      by_records = omega (arith, most, by_records);
+    }
 
 pub do_due-requires-clause-in_range : goal.do_due-requires-clause-in_range
 do_due-requires-clause-in_range g c =
@@ -59,7 +68,7 @@ invariant_of-self g c =
 
 pub invariant_of-work : goal.invariant_of-work
 invariant_of-work g c =
-    workspace_next _ _ c.work.invariant (record { group = c.do_due.ensures.room; named = refl; asked = omega arith; met = refl }) c.do_due.ensures.space c.work.invariant.none_met
+    workspace_next g.F.Address.Key.number _ _ c.work.invariant ? ? c.work.invariant.none_met c.work.invariant.none_changed ?
 
 pub returns-clause-step : goal.returns-clause-step
 returns-clause-step g c =
