@@ -28,6 +28,8 @@ pub mod GroupNumbers
 pub mod Moved
 pub mod PaidEdits
 pub mod Octets
+pub mod GrownGroups
+pub mod ListedGroups
 pub mod Numbered
 pub mod Lengths
 pub mod HandedOver
@@ -46,6 +48,7 @@ pub mod HandedOut
 pub mod LinkTicked
 pub mod TranslatedRecords
 pub mod ChangedSizes
+pub mod ChangedRecords
 pub mod StatedSteps
 pub mod RecordsRead
 pub mod LinkReceived
@@ -62,3 +65,5 @@ pub mod TickedFilters
 pub mod Rooms
 pub mod StatusSteps
 pub mod RouterSteps
+pub mod ChangedNumbers
+pub mod UnitedKeys

@@ -20,7 +20,7 @@ counts_so c = cond (ltb 0 c) 1 0
 
 -- where no count is another, none is listed
 
-none_counted : (counts : List ℕ) → AreNone counts → count_by (ltb 0) counts ≡ 0
+pub none_counted : (counts : List ℕ) → AreNone counts → count_by (ltb 0) counts ≡ 0
 none_counted [] none = omega arith
 none_counted (c ∷ counts) none =
     let rest = none_counted counts (λ n. none (suc n)) in
@@ -29,10 +29,16 @@ none_counted (c ∷ counts) none =
 
 pub none_listed : (counts : List ℕ) → AreNone counts → AreListed counts []
 none_listed counts none = record {
+  once = λ number. sym (ap counts_so (none number));
   within = λ k d in_list. absurd (omega (arith, in_list));
-  each = λ number some. absurd (omega (arith, some, none number));
   count = sym (none_counted counts none);
 }
+
+-- a number whose count isn't zero is listed
+pub listed_each : (counts numbers : List ℕ) → AreListed counts numbers → (number : ℕ) → 1 ≤ slice_index counts number → 1 ≤ times number numbers
+listed_each counts numbers known number some =
+    let one : counts_so (slice_index counts number) ≡ 1 = ap one_or_none (lt-ltb 0 (slice_index counts number) (omega (arith, some))) in
+    omega (arith, known.once number, one)
 
 pub none_at_start : (groups : ℕ) → AreNone (replicate groups 0)
 none_at_start groups number = by_room (cases_lt number groups)
@@ -57,22 +63,30 @@ module _ (counts numbers : List ℕ) (known : AreListed counts numbers) (number 
   changed : count_by (ltb 0) counted + counts_so (slice_index counts number) ≡ count_by (ltb 0) counts + counts_so count
   changed = sum_by-set counts_so counts number count 0 within
 
+  here : counts_so (slice_index counted number) ≡ 1
+  here = ap counts_so (get_or-set_same counts number count 0 within) ∙ has_one
+
   -- a number that is listed is counted again
   pub listed_again : 1 ≤ slice_index counts number → AreListed counted numbers
   listed_again had = record {
+    once = λ n. by_number n (eq_by_cmp nat_cmp n number) refl;
     within = still_within;
-    each = λ n more. by_number n more (eq_by_cmp nat_cmp n number) refl;
-    count =
-        let one : counts_so (slice_index counts number) ≡ 1 = ap one_or_none (lt-ltb 0 (slice_index counts number) (omega (arith, had))) in
-        let all = known.count in
-        omega (arith, all, changed, has_one, one);
+    count = let all = known.count in omega (arith, all, changed, has_one, one);
   }
     where
-      by_number : (n : ℕ) → 1 ≤ slice_index counted n → (b : Bool) → eq_by_cmp nat_cmp n number ≡ b → 1 ≤ times n numbers
-      by_number n more true same = known.each n (let there = ap (slice_index counts) (tied n number same) in omega (arith, had, there))
-      by_number n more false differs =
-          let there = elsewhere n (λ same. true≢false (sym (ties n number same) ∙ differs)) in
-          known.each n (omega (arith, more, there))
+      one : counts_so (slice_index counts number) ≡ 1
+      one = ap one_or_none (lt-ltb 0 (slice_index counts number) (omega (arith, had)))
+
+      by_number : (n : ℕ) (b : Bool) → eq_by_cmp nat_cmp n number ≡ b → times n numbers ≡ counts_so (slice_index counted n)
+      by_number n true same =
+          let is = tied n number same in
+          known.once n
+          ∙ ap (λ m. counts_so (slice_index counts m)) is
+          ∙ one
+          ∙ sym here
+          ∙ ap (λ m. counts_so (slice_index counted m)) (sym is)
+      by_number n false differs =
+          known.once n ∙ ap counts_so (sym (elsewhere n (λ same. true≢false (sym (ties n number same) ∙ differs))))
 
   module _ (none : slice_index counts number ≡ 0) where
     had_none : counts_so (slice_index counts number) ≡ 0
@@ -89,22 +103,26 @@ module _ (counts numbers : List ℕ) (known : AreListed counts numbers) (number 
     -- one that isn't is put behind the others
     pub listed_first : AreListed counted (numbers ++ number ∷ [])
     listed_first = record {
+      once = λ n. by_number n (eq_by_cmp nat_cmp n number) refl;
       within = All-push (λ n. n < length counted) numbers number still_within (let same = length-set counts number count in omega (arith, within, same));
-      each = λ n more. by_number n more (eq_by_cmp nat_cmp n number) refl;
       count =
           let all = known.count in
           let long = length-append numbers (number ∷ []) in
           omega (arith, all, changed, has_one, had_none, long);
     }
       where
-        by_number : (n : ℕ) → 1 ≤ slice_index counted n → (b : Bool) → eq_by_cmp nat_cmp n number ≡ b → 1 ≤ times n (numbers ++ number ∷ [])
-        by_number n more true same =
-            let here = is_cell-same n number (sym (tied n number same)) in
-            omega (arith, sum_by-append (is_cell n) numbers (number ∷ []), sum_by-cons (is_cell n) number [], here)
-        by_number n more false differs =
-            let there = elsewhere n (λ same. true≢false (sym (ties n number same) ∙ differs)) in
-            let had = known.each n (omega (arith, more, there)) in
-            omega (arith, had, sum_by-append (is_cell n) numbers (number ∷ []))
+        by_number : (n : ℕ) (b : Bool) → eq_by_cmp nat_cmp n number ≡ b → times n (numbers ++ number ∷ []) ≡ counts_so (slice_index counted n)
+        by_number n true same =
+            let is = tied n number same in
+            let had = known.once n in
+            let had_not = ap (λ m. counts_so (slice_index counts m)) is in
+            let counts_now = ap (λ m. counts_so (slice_index counted m)) is in
+            omega (arith, had, had_not, had_none, counts_now, here, sum_by-append (is_cell n) numbers (number ∷ []), sum_by-cons (is_cell n) number [], is_cell-same n number (sym is))
+        by_number n false differs =
+            let apart : n ≢ number = λ same. true≢false (sym (ties n number same) ∙ differs) in
+            let had = known.once n in
+            let there = ap counts_so (elsewhere n apart) in
+            omega (arith, had, there, sum_by-append (is_cell n) numbers (number ∷ []), sum_by-cons (is_cell n) number [], is_cell-other n number (λ same. apart (sym same)))
 
 -- Counts are set to zero, one listed number after the other: what isn't zero is of a number that is left.
 abbrev pub IsLeft : (counts numbers : List ℕ) (index : ℕ) → Type 0

@@ -32,7 +32,7 @@ pub record AreNumbered (s : HeldState) : Type 0 where
 
 -- Where each group that was held keeps its number, the counts stay those of the map: a new group gets a number that none had.
 module _ (s next : HeldState) (numbered : AreNumbered s) (numbered_next : AreNumbered next) (keeps : KeepsNumbers s next) (counts : List ℕ) (seen : Seen) (is : AreMet s counts seen) where
-  was_absent : (address : ℕ) → map.contains_key next.groups address ≡ false → map.contains_key s.groups address ≡ false
+  pub was_absent : (address : ℕ) → map.contains_key next.groups address ≡ false → map.contains_key s.groups address ≡ false
   was_absent address absent = by_test (map.contains_key s.groups address) refl
     where
       by_test : (b : Bool) → map.contains_key s.groups address ≡ b → b ≡ false

@@ -110,4 +110,4 @@ module _ (limits : Limits) (w : WorkspaceState) (enough : suffices limits w ≡ 
 pub workspace_next : {K : Type 0} (number : K → ℕ) (groups group_sources : ℕ) {scratch next : Scratch K} {lists next_lists : Lists K} → IsWorkspace number groups group_sources scratch lists
     → KeepsRoom scratch next → HasSpace groups next_lists → AreNone next.met → AreNone next.changed → IsAscending number next_lists.changed.items → IsWorkspace number groups group_sources next next_lists
 workspace_next number groups group_sources was room space none none_changed ascending =
-    record { room = still_room groups group_sources was.room room; list_room = space; none_met = none; none_changed = none_changed; ascending = ascending }
+    record { room = still_room groups group_sources was.room room; list_room = space; marks = room.changed ∙ was.marks; none_met = none; none_changed = none_changed; ascending = ascending }

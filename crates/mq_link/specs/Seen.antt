@@ -20,7 +20,6 @@ counted_again counts number =
 pub record AreListed (counts numbers : List ℕ) : Type 0 where
   pub once : (number : ℕ) → times number numbers ≡ (if nat_lt 0 (slice_index counts number) then 1 else 0)
   pub within : All (λ number. number < length counts) numbers
-  pub each : (number : ℕ) → 1 ≤ slice_index counts number → 1 ≤ times number numbers
   pub count : length numbers ≡ count_by (nat_lt 0) counts
 
 -- The counts are those of a map by address: of each group that is held, up to four; no other group was met.

@@ -4,3 +4,8 @@ use Rattle.mq_link.proofs.link.Link.receive.Goals as goal
 
 pub invariant_of-self : goal.invariant_of-self
 invariant_of-self g c = (λ i. suffices (c.receive_in.ensures.config i).limits (c.receive_in.ensures.workspace i)) ∙ c.self.invariant
+
+pub returns-clause-receives : goal.returns-clause-receives
+returns-clause-receives g c =
+    let did = c.receive_in.ensures.receives in
+    record { messages = did.messages; answers = did.answers; receives = did.receives; handed = did.handed }

@@ -1,6 +1,6 @@
 use Rattle.std.proofs.Common.{sym, arith, subst}
 use Rattle.mq_link.specs.Seen.{AreListed}
-use Rattle.mq_link.proofs.ListedNumbers.{none_listed}
+use Rattle.mq_link.proofs.ListedNumbers.{listed_each, none_listed}
 use Rattle.mq_link.proofs.met.MetGroups.clear.Goals as goal
 
 pub invariant_of-self : goal.invariant_of-self
@@ -8,3 +8,7 @@ invariant_of-self c = (
   subst (AreListed c.set_to_zero.new.counts.items) (sym c.clear.ensures.items) (none_listed c.set_to_zero.new.counts.items c.set_to_zero.ensures.none),
   omega (arith, c.self.invariant.1, c.set_to_zero.ensures.len, c.clear.ensures.capacity),
 )
+
+pub set_to_zero-requires-clause-each : goal.set_to_zero-requires-clause-each
+set_to_zero-requires-clause-each c =
+    rw c.deref.ensures.value (listed_each c.self.inside.counts.items c.self.inside.numbers.items c.self.invariant.0)

@@ -33,7 +33,7 @@ returns-in-Ok-clause-moved g c =
 pub insert-requires-clause-room : goal.insert-requires-clause-room
 insert-requires-clause-room g c =
     let absent = spot_absent _ _ _ (rw c.in-Err.is at c.requires.sought) c.lemma_is_numbered.ensures.held in
-    let grown = len_with_new c.args.self.now.held.groups (g.K.Key.number c.args.sought.address) absent (record { group = c.args.group.now.state; schedule = c.args.schedule }) (sym c.is_vacant.ensures ∙ c.if-not-is_vacant.true) in
+    let grown = len_with_new c.args.self.now.held.groups (g.K.Key.number c.args.sought.address) absent (record { group = c.args.group.now.state; schedule = c.args.schedule }) (sym c.is_vacant.ensures ∙ c.if-is_vacant.false) in
     omega (arith, grown, c.requires.room)
 
 pub insert-requires-clause-fits : goal.insert-requires-clause-fits
@@ -42,15 +42,15 @@ insert-requires-clause-fits g c =
     let none = absent_sources c.args.self.now.held.groups (g.K.Key.number c.args.sought.address) absent in
     omega (arith, none, c.requires.fits)
 
-pub returns-else-not-is_vacant-clause-groups : goal.returns-else-not-is_vacant-clause-groups
-returns-else-not-is_vacant-clause-groups g c =
+pub returns-then-is_vacant-clause-groups : goal.returns-then-is_vacant-clause-groups
+returns-then-is_vacant-clause-groups g c =
     let absent = spot_absent _ _ _ (rw c.in-Err.is at c.requires.sought) c.lemma_is_numbered.ensures.held in
-    with_none _ _ absent _ (sym c.is_vacant.ensures ∙ c.if-not-is_vacant.false)
+    with_none _ _ absent _ (sym c.is_vacant.ensures ∙ c.if-is_vacant.true)
 
-pub returns-then-not-is_vacant-clause-groups : goal.returns-then-not-is_vacant-clause-groups
-returns-then-not-is_vacant-clause-groups g c =
+pub returns-else-is_vacant-clause-groups : goal.returns-else-is_vacant-clause-groups
+returns-else-is_vacant-clause-groups g c =
     c.insert.ensures.groups
-    ∙ with_new _ _ (record { group = c.args.group.now.state; schedule = c.args.schedule }) (sym c.is_vacant.ensures ∙ c.if-not-is_vacant.true)
+    ∙ with_new _ _ (record { group = c.args.group.now.state; schedule = c.args.schedule }) (sym c.is_vacant.ensures ∙ c.if-is_vacant.false)
 
-pub returns-else-not-is_vacant-clause-moved : goal.returns-else-not-is_vacant-clause-moved
-returns-else-not-is_vacant-clause-moved g c = paid_within _ (paid_none _ _) (omega arith)
+pub returns-then-is_vacant-clause-moved : goal.returns-then-is_vacant-clause-moved
+returns-then-is_vacant-clause-moved g c = paid_within _ (paid_none _ _) (omega arith)
