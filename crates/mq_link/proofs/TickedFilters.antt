@@ -171,3 +171,12 @@ module _ (timing : Timing) (now : ℕ) (groups : Groups) where
               ∙ sym (changes_left address)
               ∙ ap (λ (m : Groups). changes groups m address) (sym after_is);
         }
+
+-- keys ascend where their numbers do
+pub ascending_keys : {K : Type 0} (number : K → ℕ) (keys : List K) → IsAscending (λ a. a) (list_map number keys) → IsAscending number keys
+ascending_keys number keys up i j d before within =
+    let size = length-map keys number in
+    let first = get_or-map number keys i d (number d) (omega (arith, before, within)) in
+    let last = get_or-map number keys j d (number d) within in
+    let rises = up i j (number d) before (omega (arith, within, size)) in
+    omega (arith, first, last, rises)
