@@ -85,10 +85,15 @@ loop-number-preserved g c =
     let size = ap sources_of (next_group (served_as timing now) old.groups es (are_due now old.groups) i current.groups so_far.done within) in
     let digits = few_digits (map.len current.groups) (omega (arith, so_far.done.len_is, c.requires.ready.few)) in
     let more = one_ticked g.K.WireKey.PER_QUERY timing now old.groups g.S.Sink.takes c.args.sink.now c.due.new.m i current.groups c.loop-number.sink c.loop-number.self.meter c.loop-number.invariant.0.0 so_far within c.tick_group.new.self.held.groups c.tick_group.new.sink c.tick_group.new.self.meter _ (c.tick_group.ensures.groups _ has) (c.tick_group.ensures.sent _ has) (c.tick_group.ensures.spent _ has) digits in
-    let paid = paid_join (5 * (c.loop-number.invariant.0.0 + sources_of (entry_at es i).1) + 21 * (i + 1)) c.loop-number.invariant.0.2 (c.tick_group.ensures.moved _ has) (omega (arith, size, digits)) in
-    ((c.loop-number.invariant.0.0 + sources_of (entry_at es i).1, more, paid), (λ first. absurd (omega arith)), c.tick_group.ensures.order ∙ c.loop-number.invariant.2, rooms_on c.loop-number.invariant.3 c.tick_group.ensures.rooms, omega (arith, c.loop-number.invariant.4, c.tick_group.ensures.room),
-    one_turned timing now old.groups i within current.groups c.tick_group.new.self.held.groups so_far.done (c.tick_group.ensures.groups _ has) g.K.Key.number c.tick_group.result c.loop-number.lists.1.1.1.0.items c.match-tick_group.lists.1.1.1.0.items (c.tick_group.ensures.changed _ has) c.loop-number.invariant.5 (named_more g c),
-    omega (arith, c.loop-number.invariant.6, room_stays g c))
+    let paid = paid_join (5 * (c.loop-number.invariant.0.0 + sources_of (entry_at es i).1) + 21 * (i + 1)) c.loop-number.invariant.0.2 (c.tick_group.ensures.moved _ has) (omega (arith, size, digits)) in (
+      (c.loop-number.invariant.0.0 + sources_of (entry_at es i).1, more, paid),
+      (λ first. absurd (omega arith)),
+      c.tick_group.ensures.order ∙ c.loop-number.invariant.2,
+      rooms_on c.loop-number.invariant.3 c.tick_group.ensures.rooms,
+      omega (arith, c.loop-number.invariant.4, c.tick_group.ensures.room),
+      one_turned timing now old.groups i within current.groups c.tick_group.new.self.held.groups so_far.done (c.tick_group.ensures.groups _ has) g.K.Key.number c.tick_group.result c.loop-number.lists.1.1.1.0.items c.match-tick_group.lists.1.1.1.0.items (c.tick_group.ensures.changed _ has) c.loop-number.invariant.5 (named_more g c),
+      omega (arith, c.loop-number.invariant.6, room_stays g c),
+    )
 
 pub take_out_vacant-requires-clause-there : goal.take_out_vacant-requires-clause-there
 take_out_vacant-requires-clause-there g c k d within =
