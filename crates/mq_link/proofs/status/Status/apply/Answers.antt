@@ -397,7 +397,7 @@ returns-clause-changed g c before marked =
     let left : kept.groups ≡ with_group storage.held.groups address e = c.keep-kept.ensures.groups ∙ (λ i. with_group (unmoved i).held.groups address e) in
     let did = changed g c.before.before.before.before.before.before.before.before.before.before.before.before.before.before.before.before.before in
     let so = changed_then storage.held.groups kept.groups address (stored_as number c.look-stored.result) (asked_as c.ask.new.self c.ask.new.schedule) e (change_as number c.change.new.self c.in-Some.loaded.asks_group) (is_querier at.election.role) at.election.timing at.now c.in-Some.loaded.changes_filter
-        did.before_is (rw c.in-Some.is at c.change.ensures.changes_filter) did.asked_is (left_is g c.before.before.before.before.before.before.before) left in
+    did.before_is (rw c.in-Some.is at c.change.ensures.changes_filter) did.asked_is (left_is g c.before.before.before.before.before.before.before) left in
     let counts = c.ask.ensures.changed ∙ c.change.ensures.changed in
     subst (λ counts. AreMarked kept counts (λ other. before other || changes storage.held.groups kept.groups other)) (sym c.count_changed.ensures)
     (marked_by storage.held kept numbered numbered_next keeps address e left c.ask.new.self.changed before (subst (λ counts. AreMarked storage.held counts before) (sym counts) marked) c.in-Some.loaded.changes_filter c.keep-kept.result so c.keep-kept.ensures.number (within_so g c.before.before))
