@@ -27,16 +27,14 @@ pub do_due-requires-clause-ready : goal.do_due-requires-clause-ready
 do_due-requires-clause-ready g c =
     let inside = c.self.inside in
     let enough = enough_inside c.self.view_is c.work.view_is c.requires.enough in
-    let lent : WorkspaceState = record { groups = c.work.inside.groups; group_sources = c.work.inside.group_sources; changed = list_map g.F.Address.Key.number c.work.inside.lists.changed.items } in
-    let room = enough_room inside.status.config.limits lent enough g.F.Address.Key.number c.work.invariant in
+    let room = enough_room inside.status.config.limits _ _ enough _ c.work.invariant in
     ready_counted _ inside.storage c.later-now.new.m (ready_in inside.status inside.storage c.lemma_is_sound.ensures.faultless c.self.invariant.sound _ room.group)
 
 pub do_due-requires-clause-space : goal.do_due-requires-clause-space
 do_due-requires-clause-space g c =
     let inside = c.self.inside in
     let enough = enough_inside c.self.view_is c.work.view_is c.requires.enough in
-    let lent : WorkspaceState = record { groups = c.work.inside.groups; group_sources = c.work.inside.group_sources; changed = list_map g.F.Address.Key.number c.work.inside.lists.changed.items } in
-    let space = enough_space inside.status.config.limits lent enough g.F.Address.Key.number c.work.invariant in
+    let space = enough_space inside.status.config.limits _ _ enough _ c.work.invariant in
     let most = c.self.invariant.sound.within.group_count in
     let due = space.due in
     let spare = space.spare in

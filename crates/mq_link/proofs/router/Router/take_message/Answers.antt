@@ -1,8 +1,12 @@
-use Rattle.std.proofs.Common.{◌+◌, ◌*◌, ◌≤◌, length, refl, sym, subst, arith}
+use Rattle.std.proofs.Common.{◌≡◌, ◌+◌, ◌*◌, ◌≤◌, length, refl, sym, subst, arith}
 use Rattle.std.specs.FinMap as map
 use Rattle.std.proofs.Math.Nat.{le-max_left, le-max_right}
 use Rattle.mq_count.proofs.Spent.{Spends-within}
 use Rattle.mq_held.proofs.Amounts.{own_sources}
+use Rattle.mq_wire.specs.declared.query.QueryVersion.{QueryVersion}
+use Rattle.mq_wire.specs.declared.query.QueryVersion.TheVariants.{Older, Current}
+use Rattle.mq_wire.specs.Canon.{source_count}
+use Rattle.mq_wire.specs.Numbered.{numbered_version}
 use Rattle.mq_link.specs.Forwarding.{AreThose}
 use Rattle.mq_link.specs.Receive.{taken_in}
 use Rattle.mq_link.specs.Workspace.{WorkspaceState, with_changed}
@@ -48,10 +52,16 @@ returns-in-Report-clause-spent g c =
     let most = le-max_right (20 * map.len c.args.self.now.groups) (length c.args.work.now.changed) in
     rw c.in-Report.is (Spends-within _ _ c.take_records.ensures.spent (omega arith) (omega (arith, report_within c.in-Report.records, most)))
 
+-- a query names as many sources, whatever its addresses are
+as_many_named : {K : Type 0} (version : QueryVersion K) → source_count (numbered_version version) ≡ source_count version
+as_many_named (Older version) = refl
+as_many_named (Current fields) = refl
+
 pub returns-in-Query-clause-spent : goal.returns-in-Query-clause-spent
 returns-in-Query-clause-spent g c =
     let most = le-max_left (20 * map.len c.args.self.now.groups) (length c.args.work.now.changed) in
-    rw c.in-Query.is (Spends-within _ _ c.hear.ensures.spent (omega arith) (omega (arith, most)))
+    let named = as_many_named c.in-Query.query.version in
+    rw c.in-Query.is (Spends-within _ _ c.hear.ensures.spent (omega arith) (omega (arith, most, named)))
 
 pub returns-in-Query-clause-workspace : goal.returns-in-Query-clause-workspace
 returns-in-Query-clause-workspace g c = λ i. with_changed (c.hear.ensures.workspace i) c.hear.new.work.changed

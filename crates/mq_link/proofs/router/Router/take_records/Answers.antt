@@ -29,12 +29,12 @@ use Rattle.mq_link.proofs.router.Router.take_records.Goals as goal
 pub take_each-received-requires-clause-room : goal.take_each-received-requires-clause-room
 take_each-received-requires-clause-room g c =
     let enough = enough_inside c.self.view_is c.work.view_is c.requires.enough in
-    enough_room c.self.inside.status.config.limits _ enough _ c.work.invariant
+    enough_room c.self.inside.status.config.limits _ _ enough _ c.work.invariant
 
 pub list_changed-requires-clause-room : goal.list_changed-requires-clause-room
 list_changed-requires-clause-room g c =
     let enough = enough_inside c.self.view_is c.work.view_is c.requires.enough in
-    let room = enough_room c.self.inside.status.config.limits _ enough _ c.work.invariant in
+    let room = enough_room c.self.inside.status.config.limits _ _ enough _ c.work.invariant in
     let left = c.take_each-received.ensures in
     omega (arith, room.changed, left.room.changed, left.rooms.groups, c.self.invariant.group_room)
 
@@ -51,7 +51,7 @@ list_changed-requires-clause-few g c =
     let enough = enough_inside c.self.view_is c.work.view_is c.requires.enough in
     let limits = ap (λ (r : RouterValue). r.at.config.limits.groups) c.self.view_is in
     let few = few_inside g.F.Address.Key.number c.work.inside.lists _ _ _ c.work.view_is refl c.requires.few_changed in
-    omega (arith, few, limits, enough_groups c.self.inside.status.config.limits _ enough, c.take_each-received.ensures.room.changed, c.work.invariant.marks)
+    omega (arith, few, limits, enough_groups c.self.inside.status.config.limits _ _ enough, c.take_each-received.ensures.room.changed, c.work.invariant.marks)
 
 pub list_changed-requires-clause-marked : goal.list_changed-requires-clause-marked
 list_changed-requires-clause-marked g c = numbers_marked _ _ _ c.take_each-received.ensures.changed
