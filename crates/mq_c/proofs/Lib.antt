@@ -17,4 +17,5 @@ mod RoomForTicks
 mod RoomSuffices
 mod RoomTaken
 mod ShownGroups
+mod ToldAddresses
 mod UnheldGroups

@@ -22,6 +22,10 @@ abbrev pub own_changed : Option WorkspaceState → List ℕ
 own_changed None = []
 own_changed (Some workspace) = workspace.changed
 
+-- an address as it crosses, by what a family makes of its number
+abbrev pub stored_octets : {K A : Type 0} → (number : K → ℕ) → (octets_of : ℕ → A) → K → A
+stored_octets number octets_of a = octets_of (number a)
+
 -- The addresses from a place on, as many as there is room for, stand at the front of the memory, each as it crosses; the memory
 -- behind them is as it was. The answer is how many addresses there are in all.
 pub record TellsChanged {A : Type 0} (octets_of : ℕ → A) (changed : List ℕ) (first : ℕ) (old new : List A) (answer : ℕ) : Type 0 where

@@ -1,7 +1,7 @@
 //! The groups that a call changed, as the workspace that it worked in tells.
 
 ghost use Rattle.std.specs.Prelude.{◌≡◌, ◌++◌, length, take, drop, map as list_map};
-ghost use Rattle.mq_c.specs.Changed.{TellsChanged, own_changed};
+ghost use Rattle.mq_c.specs.Changed.{TellsChanged, own_changed, stored_octets};
 
 use crate::c_family::CFamily;
 use crate::c_link::CLink;
@@ -10,7 +10,7 @@ use mq_link::Workspace;
 
 /// Writes addresses to the front, as many as fit.
 fn put_addresses<F: CFamily>(from: &[F::Address], out: &mut [F::Octets])
-    ensures { out.new ≡ list_map (λ a. F.octets_with (F.Address.number a)) (take (length out.old) from.now) ++ drop (length from.now) out.old }
+    ensures { out.new ≡ list_map (stored_octets F.Address.number F.octets_with) (take (length out.old) from.now) ++ drop (length from.now) out.old }
 {
     for (i, address) in from.iter().enumerate() {
         if out.len() <= i {
@@ -30,7 +30,7 @@ pub(crate) fn put_changed<F: CFamily>(
     ensures { TellsChanged F.octets_with workspace.now.changed first out.old out.new result }
 {
     let changed = workspace.changed();
-    let first = changed.len().min(first as usize);
+    let first = (first as usize).min(changed.len());
     put_addresses::<F>(&changed[first..], out);
     few(changed.len())
 }
