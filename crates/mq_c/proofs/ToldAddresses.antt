@@ -10,10 +10,10 @@ pub record StandSoFar {X Y : Type 0} (f : X → Y) (from : List X) (old out : Li
   pub put : out ≡ list_map f (take i from) ++ drop i old
   pub within : i ≤ length old
 
-pub stand_more : {X Y : Type 0} (f : X → Y) (from : List X) (old out : List Y) (i : ℕ) (d : X) → i < length from → i < length old
-    → StandSoFar f from old out i → StandSoFar f from old (set out i (f (get_or from i d))) (i + 1)
-stand_more f from old out i d within room so_far = record {
-  put = one_more f from old out i d within room so_far.put;
+pub stand_more : {X Y : Type 0} (f : X → Y) (from : List X) (old out : List Y) (i : ℕ) (d : X) (y : Y) → y ≡ f (get_or from i d) → i < length from → i < length old
+    → StandSoFar f from old out i → StandSoFar f from old (set out i y) (i + 1)
+stand_more f from old out i d y is within room so_far = record {
+  put = ap (set out i) is ∙ one_more f from old out i d within room so_far.put;
   within = omega (arith, room);
 }
 
