@@ -19,3 +19,4 @@ mod RoomTaken
 mod ShownGroups
 mod ToldAddresses
 mod UnheldGroups
+mod WorkedIn
