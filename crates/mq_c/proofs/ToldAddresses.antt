@@ -1,7 +1,7 @@
 -- Addresses that are written to memory, one by one.
-use Rattle.std.proofs.Common.{◌≡◌, ℕ, ◌+◌, ◌<◌, ◌≤◌, List, [], ◌∷◌, ◌++◌, length, take, drop, get_or, set, refl, sym, ap, ◌∙◌, arith}
+use Rattle.std.proofs.Common.{◌≡◌, ℕ, ◌+◌, ◌<◌, ◌≤◌, List, [], ◌∷◌, ◌++◌, length, take, drop, get_or, set, min, refl, sym, ap, ◌∙◌, arith}
 use Rattle.std.specs.Prelude.{map as list_map}
-use Rattle.std.proofs.lemmas.List.{take-map, drop-map, length-map, take_all, drop_all}
+use Rattle.std.proofs.lemmas.List.{take-map, drop-map, length-map, take_all, drop_all, drop_min}
 use Rattle.mq_c.specs.Changed.{stored_octets}
 use Rattle.mq_c.proofs.ShownGroups.{one_more, all_put}
 
@@ -47,3 +47,15 @@ of_numbers {K} {A} number octets_of addresses first old =
     fused : (l : List K) → list_map (stored_octets number octets_of) l ≡ list_map octets_of (list_map number l)
     fused [] = refl
     fused (a ∷ l) = ap (λ (l : List A). octets_of (number a) ∷ l) (fused l)
+
+-- of a workspace's addresses those from a place on, which may lie behind them all
+pub told_from : {K A : Type 0} (number : K → ℕ) (octets_of : ℕ → A) (addresses : List K) (changed : List ℕ) (first place : ℕ) (old new : List A)
+    → list_map number addresses ≡ changed → place ≡ min first (length addresses)
+    → new ≡ list_map (stored_octets number octets_of) (take (length old) (drop place addresses)) ++ drop (length (drop place addresses)) old
+    → new ≡ list_map octets_of (take (length old) (drop first changed)) ++ drop (length (drop first changed)) old
+told_from {K} {A} number octets_of addresses changed first place old new changed_is place_is new_is =
+    let rest_is : drop place addresses ≡ drop first addresses = ap (λ (k : ℕ). drop k addresses) place_is ∙ drop_min first addresses in
+    new_is
+    ∙ ap (λ (l : List K). list_map (stored_octets number octets_of) (take (length old) l) ++ drop (length l) old) rest_is
+    ∙ of_numbers number octets_of addresses first old
+    ∙ ap (λ (l : List ℕ). list_map octets_of (take (length old) (drop first l)) ++ drop (length (drop first l)) old) changed_is
