@@ -1,5 +1,5 @@
 -- Addresses that are written to memory, one by one.
-use Rattle.std.proofs.Common.{◌≡◌, ℕ, ◌+◌, ◌<◌, ◌≤◌, List, [], ◌∷◌, ◌++◌, length, take, drop, get_or, set, min, refl, sym, ap, ◌∙◌, arith}
+use Rattle.std.proofs.Common.{◌≡◌, ℕ, ◌+◌, ◌-◌, ◌<◌, ◌≤◌, List, [], ◌∷◌, ◌++◌, length, take, drop, get_or, set, min, refl, sym, ap, ◌∙◌, arith, length-drop}
 use Rattle.std.specs.Prelude.{map as list_map}
 use Rattle.std.proofs.lemmas.List.{take-map, drop-map, length-map, take_all, drop_all, drop_min}
 use Rattle.mq_c.specs.Changed.{stored_octets}
@@ -51,10 +51,12 @@ of_numbers {K} {A} number octets_of addresses first old =
 -- of a workspace's addresses those from a place on, which may lie behind them all
 pub told_from : {K A : Type 0} (number : K → ℕ) (octets_of : ℕ → A) (addresses : List K) (changed : List ℕ) (first place : ℕ) (old new : List A)
     → list_map number addresses ≡ changed → place ≡ min first (length addresses)
-    → new ≡ list_map (stored_octets number octets_of) (take (length old) (drop place addresses)) ++ drop (length (drop place addresses)) old
+    → (let rest = take (length addresses - place) (drop place addresses) in new ≡ list_map (stored_octets number octets_of) (take (length old) rest) ++ drop (length rest) old)
     → new ≡ list_map octets_of (take (length old) (drop first changed)) ++ drop (length (drop first changed)) old
 told_from {K} {A} number octets_of addresses changed first place old new changed_is place_is new_is =
-    let rest_is : drop place addresses ≡ drop first addresses = ap (λ (k : ℕ). drop k addresses) place_is ∙ drop_min first addresses in
+    let rest_is : take (length addresses - place) (drop place addresses) ≡ drop first addresses =
+    take_all (length addresses - place) (drop place addresses) (omega (arith, length-drop place addresses))
+    ∙ ap (λ (k : ℕ). drop k addresses) place_is ∙ drop_min first addresses in
     new_is
     ∙ ap (λ (l : List K). list_map (stored_octets number octets_of) (take (length old) l) ++ drop (length l) old) rest_is
     ∙ of_numbers number octets_of addresses first old
