@@ -10,7 +10,7 @@ import time
 from frames import data_frame, report_frame
 from lab import GROUPS, LAST_MEMBER, MANY, MEMBERSHIP, PROGRAM, SOURCES, Wrong, ip, is_true
 
-SNOOPING = "mcast_snooping 1 mcast_querier 0 mcast_igmp_version 3 mcast_mld_version 2".split()
+SNOOPING = "mcast_snooping 1 mcast_querier 0 mcast_igmp_version 3 mcast_mld_version 2 mcast_hash_max 65536".split()
 PORT = "p2"
 PROTOCOL = {"igmp": "211", "mld": "212"}  # what the entries say of who made them
 OTHERS = {"igmp": ["239.7.7.1", "239.7.7.2"], "mld": ["ff0e::7:1", "ff0e::7:2"]}
@@ -282,6 +282,22 @@ def refusals_are_told(lab):
     is_true(querier.end() == 0 and not kept(lab), "something is left")
 
 
+def settings_are_told(lab):
+    """Of a bridge as the kernel makes it, but without snooping, what stands in the way is told, and not more."""
+    lab.host(2)
+    ip("-n", lab.switch, "link", "set", "br0", "type", "bridge", "mcast_hash_max", "4096")
+    name, version = ("mcast_igmp_version", 3) if lab.family == "igmp" else ("mcast_mld_version", 2)
+    told = [
+        "br0: mcast_snooping is 0: it takes no entry, and floods",
+        f"br0: {name} is below {version}: it looks at no source",
+        "br0: mcast_hash_max is 4096, and --groups and --sources allow 4097 entries: beyond, it snoops no more",
+    ]
+    querier = keeper(lab, "--groups", "97", "--sources", "4000")
+    is_true(querier.end() == 0 and querier.errors == [f"mquerier-live: {line}" for line in told], f"{querier.errors}")
+    querier = keeper(lab, "--groups", "96", "--sources", "4000")
+    is_true(querier.end() == 0 and querier.errors == [f"mquerier-live: {line}" for line in told[:2]], f"{querier.errors}")
+
+
 def only_one_privilege(lab):
     """It is nobody, and has one capability left, CAP_NET_ADMIN, and nothing open but its two sockets."""
     snooping(lab)
@@ -400,7 +416,8 @@ def has_the_kernel_kept_out(lab, *ports):
 
 
 BOTH = [joins_and_leaves, sources_come_and_go, a_source_is_blocked, ends_by_timers, one_source_for_another, many_at_once]
-BOTH += [those_of_others_stay, what_was_left, more_sources, refusals_are_told, modes_change, frames_with_a_tag, two_ports]
+BOTH += [those_of_others_stay, what_was_left, more_sources, refusals_are_told, modes_change, frames_with_a_tag]
+BOTH += [two_ports, settings_are_told]
 CASES = [(f"{family}: bridge: {case.__name__}", family, case, ()) for family in ("igmp", "mld") for case in BOTH] + [
     (f"{family}: bridge: forwards, querier at {interface}", family, forwards, (interface,))
     for family in ("igmp", "mld")

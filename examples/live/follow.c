@@ -13,13 +13,16 @@ static void end_kept(void) {
     mdb_close(kept);
 }
 
-void follow_begin(struct follower *follower, bool prints, const char *bridge, const char *port, bool is_mld, size_t groups) {
-    follower->prints = prints;
-    follower->keeps = bridge != NULL;
+void follow_begin(struct follower *follower, const struct command *command) {
+    const union configuration *configuration = &command->configuration;
+    size_t groups = command->is_mld ? configuration->mld.groups : configuration->igmp.groups;
+    size_t sources = command->is_mld ? configuration->mld.sources : configuration->igmp.sources;
+    follower->prints = command->prints_changes;
+    follower->keeps = command->bridge != NULL;
     if (follower->prints || follower->keeps)
         follower->filters = filters_new(groups);
     if (follower->keeps) {
-        mdb_open(&follower->mdb, bridge, port, is_mld);
+        mdb_open(&follower->mdb, command->bridge, command->port, command->is_mld, groups + sources);
         kept = &follower->mdb;
         atexit(end_kept);
     }

@@ -282,8 +282,7 @@ int main(int count, char **words) {
     if (status != 0)
         fail(status == MQ_MEMORY ? STATUS_FAILED : STATUS_USAGE, "configuration", mq_status_text(status));
     open_socket(&live, command.is_mld, command.port != NULL && strcmp(command.port, command.interface) == 0);
-    size_t groups = command.is_mld ? command.configuration.mld.groups : command.configuration.igmp.groups;
-    follow_begin(&live.follower, command.prints_changes, command.bridge, command.port, command.is_mld, groups);
+    follow_begin(&live.follower, &command);
     drop_privileges(command.bridge != NULL);
     clock_gettime(CLOCK_MONOTONIC, &live.start);
     static char printed[PRINTED];

@@ -3,6 +3,7 @@
 
 #include "fail.h"
 #include "netlink.h"
+#include "settings.h"
 #include "text.h"
 
 #include <arpa/inet.h>
@@ -86,15 +87,12 @@ static int remove_all(const struct mdb *mdb, struct answer *answer) {
 
 /* The interface that a port belongs to, or 0. */
 static int master_of(const struct mdb *mdb, const char *port) {
-    struct request request;
     struct answer answer;
-    struct ifinfomsg head = {.ifi_family = AF_UNSPEC, .ifi_index = mdb->port};
-    request_begin(&request, RTM_GETLINK, 0, &head, sizeof head);
-    if (netlink_ask(mdb->netlink, &request, &answer) != 0)
-        fail(STATUS_FAILED, port, answer.why);
-    const uint8_t *at = answer.message + NLMSG_ALIGN(sizeof head), *end = answer.message + answer.length;
-    const struct nlattr *master = attribute_find(at, end, IFLA_MASTER);
+    const uint8_t *at, *end;
     int index = 0;
+    if (netlink_ask_interface(mdb->netlink, mdb->port, &answer, &at, &end) != 0)
+        fail(STATUS_FAILED, port, answer.why);
+    const struct nlattr *master = attribute_find(at, end, IFLA_MASTER);
     if (master != NULL)
         memcpy(&index, attribute_data(master), sizeof index);
     return index;
@@ -107,7 +105,7 @@ static int index_of(const char *interface) {
     return index;
 }
 
-void mdb_open(struct mdb *mdb, const char *bridge, const char *port, bool is_mld) {
+void mdb_open(struct mdb *mdb, const char *bridge, const char *port, bool is_mld, size_t entries) {
     struct answer answer;
     *mdb = (struct mdb){.netlink = netlink_open(), .is_mld = is_mld};
     if (mdb->netlink < 0)
@@ -118,6 +116,7 @@ void mdb_open(struct mdb *mdb, const char *bridge, const char *port, bool is_mld
         fail(STATUS_FAILED, bridge, answer.why);
     if (master_of(mdb, port) != mdb->bridge)
         fail(STATUS_FAILED, port, "it is no port of the bridge");
+    tell_settings(mdb->netlink, mdb->bridge, bridge, is_mld, entries);
 }
 
 void mdb_close(struct mdb *mdb) {

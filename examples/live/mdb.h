@@ -14,8 +14,9 @@ struct mdb {
 };
 
 /* Opens the database of a bridge for a port of it, and takes away what an earlier run of this family has left there. Where that
-   can't be done it ends the program. It needs the capability CAP_NET_ADMIN, as all calls here do. */
-void mdb_open(struct mdb *mdb, const char *bridge, const char *port, bool is_mld);
+   can't be done it ends the program. It needs the capability CAP_NET_ADMIN, as all calls here do. A line tells each setting of
+   the bridge that stands in the way, where it gets `entries` at most: one for each group, and one for each source. */
+void mdb_open(struct mdb *mdb, const char *bridge, const char *port, bool is_mld, size_t entries);
 /* Takes away all that was made. */
 void mdb_close(struct mdb *mdb);
 

@@ -130,3 +130,13 @@ int netlink_ask(int netlink, struct request *request, struct answer *answer) {
         kept = NLMSG_ALIGN((size_t)length);
     }
 }
+
+int netlink_ask_interface(int netlink, int index, struct answer *answer, const uint8_t **at, const uint8_t **end) {
+    struct request request;
+    struct ifinfomsg head = {.ifi_family = AF_UNSPEC, .ifi_index = index};
+    request_begin(&request, RTM_GETLINK, 0, &head, sizeof head);
+    int error = netlink_ask(netlink, &request, answer);
+    *at = answer->message + NLMSG_ALIGN(sizeof head);
+    *end = answer->message + answer->length;
+    return error;
+}

@@ -32,6 +32,9 @@ void request_end_nest(struct request *request, size_t nest);
 /* Sends a request, and waits for what the kernel says: 0, or an error of <errno.h>. The answer stands until the next call. */
 int netlink_ask(int netlink, struct request *request, struct answer *answer);
 
+/* Asks for an interface: its attributes stand from `*at` to `*end`, until the next call. */
+int netlink_ask_interface(int netlink, int index, struct answer *answer, const uint8_t **at, const uint8_t **end);
+
 /* The attribute at `*at`, and steps behind it; NULL where no whole one stands before `end`. */
 const struct nlattr *attribute_next(const uint8_t **at, const uint8_t *end);
 /* The first attribute of a type from `at` on, or NULL. */
