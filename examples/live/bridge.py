@@ -251,7 +251,7 @@ def frames_with_a_tag(lab):
 
 
 def more_sources(lab):
-    """Of a group with more sources than an entry can have all is forwarded; with as many as it can, those."""
+    """Of a group with more sources than an entry can have all is forwarded; with as many as it can, those, also later."""
     (group, other), host = OTHERS[lab.family], snooping(lab)
     querier = keeper(lab)
     front = "10.9.8." if lab.family == "igmp" else "2001:db8::"
@@ -263,6 +263,9 @@ def more_sources(lab):
     querier.error(f"mdb {group}: more sources than the kernel takes: all are forwarded")
     is_true(changes(querier, group) == [written("include", most)], f"{changes(querier, group)}")
     is_true(kept(lab).get(group) == "exclude", "it isn't forwarded whole")
+    time.sleep(MEMBERSHIP / 1000 / 2)
+    host.do("put", report_frame(lab.family, IS_IN, group, most[:GREATEST_LIST]).hex())
+    comes_to(lab, querier, group, written("include", most[:GREATEST_LIST]), MEMBERSHIP / 1000 / 2 + 1)
     querier.until(lambda state: not {group, other} & set(state.groups), "ended", MEMBERSHIP / 1000 + 1)
     is_true(not agreed(lab, querier).keys() & {group, other}, "it is still there")
 
