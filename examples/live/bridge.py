@@ -261,6 +261,7 @@ def more_sources(lab):
     is_true(not querier.errors, f"{querier.errors}")
     host.do("put", report_frame(lab.family, IS_IN, group, most).hex())
     querier.error(f"mdb {group}: more sources than the kernel takes: all are forwarded")
+    querier.state()  # the lines of changes are there by then
     is_true(changes(querier, group) == [written("include", most)], f"{changes(querier, group)}")
     is_true(kept(lab).get(group) == "exclude", "it isn't forwarded whole")
     time.sleep(MEMBERSHIP / 1000 / 2)
