@@ -60,8 +60,10 @@ class Querier:
         # pylint: disable-next=consider-using-with
         self.process = subprocess.Popen(words, stdout=subprocess.PIPE, stderr=subprocess.PIPE, text=True)
         self.lines, self.errors, self.news = [], [], threading.Condition()
-        for stream, lines in ((self.process.stdout, self.lines), (self.process.stderr, self.errors)):
-            threading.Thread(target=self.listen, args=(stream, lines), daemon=True).start()
+        streams = ((self.process.stdout, self.lines), (self.process.stderr, self.errors))
+        self.listening = [threading.Thread(target=self.listen, args=it, daemon=True) for it in streams]
+        for thread in self.listening:
+            thread.start()
         self.line(lambda line: " send " in line, "its first query")
 
     def listen(self, stream, lines):
@@ -111,8 +113,12 @@ class Querier:
         return [int(words[0]) for words in sent if words[2] == to]
 
     def end(self):
+        """Ends it, and answers its status, once all is read that it said."""
         self.process.send_signal(signal.SIGTERM)
-        return self.process.wait(10)
+        status = self.process.wait(10)
+        for thread in self.listening:
+            thread.join(10)
+        return status
 
 
 class Host:
