@@ -143,8 +143,7 @@ def ends_by_timers(lab):
 
 
 def one_source_for_another(lab):
-    """A source ends by its timer while another one comes, both as the querier is stopped: then one call changes the one for the
-    other, unless a tick comes between."""
+    """A source ends by its timer in the same call in which another one comes: the querier is stopped while both happen."""
     (group, _), (one, other), host = OTHERS[lab.family], SOURCES[lab.family], snooping(lab)
     querier = keeper(lab)
     host.do("put", report_frame(lab.family, IS_IN, group, [one]).hex())
@@ -153,9 +152,9 @@ def one_source_for_another(lab):
     host.do("put", report_frame(lab.family, IS_IN, group, [other]).hex())
     time.sleep(MEMBERSHIP / 1000 + 0.5)
     querier.process.send_signal(signal.SIGCONT)
+    querier.line(lambda line: f" change {group} include {other}" in line, "the other source")  # a signal would call for a tick
     comes_to(lab, querier, group, f"include {other}")
-    told = [it for it in changes(querier, group) if it != "none"]
-    is_true(told == [f"include {one}", f"include {other}"], f"{told}")
+    is_true(changes(querier, group) == [f"include {one}", f"include {other}"], f"{changes(querier, group)}")
 
 
 def many_at_once(lab):
