@@ -1,5 +1,5 @@
 -- What a call leaves of the workspace that it was lent.
-use Rattle.std.proofs.Common.{◌≡◌, ℕ, ◌<◌, ◌≤◌, ◌^◌, Bool, true, false, refl, sym, ◌∙◌, arith}
+use Rattle.std.proofs.Common.{◌≡◌, ℕ, ◌<◌, ◌≤◌, ◌^◌, Bool, true, false, refl, ◌∙◌, arith}
 use Rattle.mq_link.specs.Forwarding.{AreThose}
 use Rattle.mq_link.specs.Workspace.{WorkspaceState, with_changed}
 use Rattle.mq_c.specs.Changed.{WorksIn}

@@ -36,11 +36,7 @@ pub(crate) fn put_changed<F: CFamily>(
 }
 
 /// The same of a link's own workspace; without one there are none.
-pub(crate) fn put_own_changed<F: CFamily>(
-    link: &CLink<F>,
-    first: u32,
-    out: &mut [F::Octets],
-) -> u32
+pub(crate) fn put_own_changed<F: CFamily>(link: &CLink<F>, first: u32, out: &mut [F::Octets]) -> u32
     ensures { TellsChanged F.octets_with (own_changed link.now.workspace) first out.old out.new result }
 {
     match &link.workspace {

@@ -1,6 +1,6 @@
 use Rattle.std.proofs.Common.{ap, ◌∙◌, arith}
 use Rattle.mq_c.specs.Changed.{stored_octets}
-use Rattle.mq_c.proofs.ToldAddresses.{stand_more, stand_full, stand_whole}
+use Rattle.mq_c.proofs.ToldAddresses.{stand_more, stand_whole}
 use Rattle.mq_c.proofs.changed.put_addresses.Goals as goal
 
 pub loop-i-preserved : goal.loop-i-preserved

@@ -1,5 +1,3 @@
-use Rattle.std.proofs.Common.{◌≡◌, ◌≤◌, ℕ, List, ◌++◌, length, take, drop}
-use Rattle.std.specs.Prelude.{map as list_map}
 use Rattle.mq_c.specs.Changed.{stored_octets}
 use Rattle.mq_c.proofs.ToldAddresses.{StandSoFar}
 use Rattle.mq_c.proofs.changed.put_addresses.Given as goal
