@@ -28,6 +28,8 @@ pub mod GroupNumbers
 pub mod Moved
 pub mod PaidEdits
 pub mod Octets
+pub mod GrownGroups
+pub mod ListedGroups
 pub mod Numbered
 pub mod Lengths
 pub mod HandedOver
@@ -64,3 +66,4 @@ pub mod Rooms
 pub mod StatusSteps
 pub mod RouterSteps
 pub mod ChangedNumbers
+pub mod UnitedKeys

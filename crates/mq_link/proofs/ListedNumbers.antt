@@ -20,7 +20,7 @@ counts_so c = cond (ltb 0 c) 1 0
 
 -- where no count is another, none is listed
 
-none_counted : (counts : List ℕ) → AreNone counts → count_by (ltb 0) counts ≡ 0
+pub none_counted : (counts : List ℕ) → AreNone counts → count_by (ltb 0) counts ≡ 0
 none_counted [] none = omega arith
 none_counted (c ∷ counts) none =
     let rest = none_counted counts (λ n. none (suc n)) in

@@ -74,7 +74,7 @@ all_moved all held from from_put_by left seen groups moved put_by so_far none =
     paid_within (24 * sources_in held + sum_by own_moves all) h.paid (omega (arith, enough))
 
 -- What the records of a Report bring is within 256 for each byte that they take.
-pub report_moves_within : (rs : List (RecordView ℕ)) → sum_by own_moves rs ≤ 256 * sum_by (λ r. 8 + 4 * length r.sources) rs
+pub report_moves_within : (rs : List (RecordView ℕ)) → sum_by own_moves rs + 65 * length rs ≤ 256 * sum_by (λ r. 8 + 4 * length r.sources) rs
 report_moves_within [] = omega arith
 report_moves_within (r ∷ rs) =
     let rest = report_moves_within rs in

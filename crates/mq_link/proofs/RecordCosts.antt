@@ -1,7 +1,7 @@
 -- What a record takes, with what is left for the records behind it, is no more than what was left before it and what it
 -- brings.
-use Rattle.std.proofs.Common.{◌≡◌, ℕ, ◌+◌, ◌-◌, ◌*◌, ◌≤◌, Bool, true, false, cond, ◌&&◌, refl, List, [], ◌∷◌, length, Option, None, Some, IfSome, sym, ◌∙◌, subst, arith, leb, add_assoc, add-zero, zero-add}
-use Rattle.std.proofs.Math.Nat.{mul-le-mul_right}
+use Rattle.std.proofs.Common.{◌≡◌, ℕ, ◌+◌, ◌-◌, ◌*◌, ◌≤◌, max, Bool, true, false, cond, ◌&&◌, refl, List, [], ◌∷◌, length, Option, None, Some, IfSome, sym, ◌∙◌, subst, arith, leb, add_assoc, add-zero, zero-add}
+use Rattle.std.proofs.Math.Nat.{le-max_right, mul-le-mul_right}
 use Rattle.std.proofs.lemmas.Bool.{leb-false}
 use Rattle.std.proofs.lemmas.List.Sums.{sum_by-cons}
 use Rattle.std.specs.FinMap as map
@@ -134,14 +134,15 @@ all_paid at all held from left seen groups m so_far none =
     Spends-within _ _ h.counted (omega (arith, whole)) (omega (arith, enough))
 
 -- What the records of a Report bring is within 64 for each byte that they take, and so is what one statement takes.
-pub report_within : (rs : List (RecordView ℕ)) → sum_by own_cost rs ≤ 64 * sum_by (λ r. 8 + 4 * length r.sources) rs
+pub report_within : (rs : List (RecordView ℕ)) → sum_by own_cost rs + 7 * length rs ≤ 64 * sum_by (λ r. 8 + 4 * length r.sources) rs
 report_within [] = omega arith
 report_within (r ∷ rs) =
     let rest = report_within rs in
     omega (arith, rest, sum_by-cons own_cost r rs, sum_by-cons (λ (r : RecordView ℕ). 8 + 4 * length r.sources) r rs)
 
-pub statement_within : (groups : Groups) (group least from m : ℕ) → map.len groups ≤ 65535
-    → Spends least (6 * sources_of (group_at groups group) + 14 + 2 * bitlen (map.len groups)) from m
-    → Spends least (24 * sources_in groups + 20 * map.len groups + 64 * 8) from m
-statement_within groups group least from m few spent =
-    Spends-within least _ spent (omega arith) (omega (arith, few_digits (map.len groups) few, own_sources groups group))
+pub statement_within : (groups : Groups) (group listed least from m : ℕ) → map.len groups ≤ 65535
+    → Spends least (6 * sources_of (group_at groups group) + 21 + 2 * bitlen (map.len groups) + listed) from m
+    → Spends least (24 * sources_in groups + max (20 * map.len groups) listed + 64 * 8) from m
+statement_within groups group listed least from m few spent =
+    let most = le-max_right (20 * map.len groups) listed in
+    Spends-within least _ spent (omega arith) (omega (arith, few_digits (map.len groups) few, own_sources groups group, most))

@@ -1,5 +1,5 @@
 -- What keeps room for groups and their sources.
-use Rattle.std.proofs.Common.{◌≡◌, ℕ, ◌*◌, ◌≤◌, List, length, Bool, ◌&&◌, true, false, refl, ◌∙◌, sym, subst, arith}
+use Rattle.std.proofs.Common.{◌≡◌, ℕ, ◌*◌, ◌≤◌, List, length, Bool, ◌&&◌, leb, true, false, refl, ◌∙◌, sym, subst, arith}
 use Rattle.std.proofs.lemmas.Bool.{le-leb, leb-true}
 use Rattle.mq_link.specs.declared.configuration.Limits.{Limits}
 use Rattle.mq_link.specs.declared.storage.Lists.{Lists}
@@ -9,7 +9,7 @@ use Rattle.std.specs.Prelude.{vec_capacity}
 use Rattle.mq_sets.specs.Ascending.{IsAscending}
 use Rattle.mq_link.specs.Seen.{AreNone}
 use Rattle.mq_link.specs.Storage.{HasRoom, HasSpace, IsReady, KeepsRoom, KeepsRooms, KeepsSpace, has_counted}
-use Rattle.mq_link.specs.Workspace.{WorkspaceState, IsWorkspace, suffices}
+use Rattle.mq_link.specs.Workspace.{IsWorkspace, suffices}
 
 pub room_stays : {K : Type 0} (w : Scratch K) → KeepsRoom w w
 room_stays w = record { group = omega arith; named = refl; asked = omega arith; met = refl; changed = refl }
@@ -77,14 +77,14 @@ pub suffices_own : (limits : Limits) (changed : List ℕ) → suffices limits (r
 suffices_own limits changed = λ i. le-leb limits.groups limits.groups (omega arith) i && le-leb limits.group_sources limits.group_sources (omega arith) i
 
 -- a workspace that suffices has room for what the limits allow
-module _ (limits : Limits) (w : WorkspaceState) (enough : suffices limits w ≡ true) where
-  pub enough_groups : limits.groups ≤ w.groups
-  enough_groups = leb-true limits.groups w.groups (both_true _ _ enough).0
+module _ (limits : Limits) (groups group_sources : ℕ) (enough : (leb limits.groups groups && leb limits.group_sources group_sources) ≡ true) where
+  pub enough_groups : limits.groups ≤ groups
+  enough_groups = leb-true limits.groups groups (both_true _ _ enough).0
 
-  pub enough_sources : limits.group_sources ≤ w.group_sources
-  enough_sources = leb-true limits.group_sources w.group_sources (both_true _ _ enough).1
+  pub enough_sources : limits.group_sources ≤ group_sources
+  enough_sources = leb-true limits.group_sources group_sources (both_true _ _ enough).1
 
-  module _ {K : Type 0} (number : K → ℕ) {scratch : Scratch K} {lists : Lists K} (is : IsWorkspace number w.groups w.group_sources scratch lists) where
+  module _ {K : Type 0} (number : K → ℕ) {scratch : Scratch K} {lists : Lists K} (is : IsWorkspace number groups group_sources scratch lists) where
     pub enough_room : HasRoom limits.groups limits.group_sources scratch
     enough_room =
         let first = is.room.group in
@@ -92,7 +92,7 @@ module _ (limits : Limits) (w : WorkspaceState) (enough : suffices limits w ≡ 
         let third = is.room.asked in
         let fourth = is.room.met in
         let fifth = is.room.changed in
-        let groups = enough_groups in
+        let many = enough_groups in
         let sources = enough_sources in
         record { group = omega arith; named = omega arith; asked = omega arith; met = omega arith; changed = omega arith }
 
@@ -103,11 +103,11 @@ module _ (limits : Limits) (w : WorkspaceState) (enough : suffices limits w ≡ 
         let third = is.list_room.changed in
         let fourth = is.list_room.by_tick in
         let fifth = is.list_room.by_records in
-        let groups = enough_groups in
+        let many = enough_groups in
         record { due = omega arith; spare = omega arith; changed = omega arith; by_tick = omega arith; by_records = omega arith }
 
 -- a workspace stays one
 pub workspace_next : {K : Type 0} (number : K → ℕ) (groups group_sources : ℕ) {scratch next : Scratch K} {lists next_lists : Lists K} → IsWorkspace number groups group_sources scratch lists
     → KeepsRoom scratch next → HasSpace groups next_lists → AreNone next.met → AreNone next.changed → IsAscending number next_lists.changed.items → IsWorkspace number groups group_sources next next_lists
 workspace_next number groups group_sources was room space none none_changed ascending =
-    record { room = still_room groups group_sources was.room room; list_room = space; none_met = none; none_changed = none_changed; ascending = ascending }
+    record { room = still_room groups group_sources was.room room; list_room = space; marks = room.changed ∙ was.marks; none_met = none; none_changed = none_changed; ascending = ascending }

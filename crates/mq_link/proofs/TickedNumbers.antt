@@ -87,7 +87,7 @@ module _ (n : ℕ) (timing : Timing) (now : ℕ) (groups : Groups) where
 
 -- once all are served, and those that are vacant taken out, the groups are what a tick leaves
 module _ (timing : Timing) (now room : ℕ) (groups : Groups) (are : AreServed room groups) (current : Groups) (i : ℕ) (done : IsReplacedTo (served_as timing now) groups (due_entries now groups) (are_due now groups) i current) (all : length (due_entries now groups) ≤ i) where
-  replaced_at : (q : ℕ) → map.get current q ≡ cond (among (addresses_due now groups) q) (Some (served_as timing now (group_at groups q))) (map.get groups q)
+  pub replaced_at : (q : ℕ) → map.get current q ≡ cond (among (addresses_due now groups) q) (Some (served_as timing now (group_at groups q))) (map.get groups q)
   replaced_at q = done.at q ∙ ap (λ (ks : List ℕ). cond (among ks q) (Some (served_as timing now (group_at groups q))) (map.get groups q)) (take_all i (addresses_of (due_entries now groups)) (let l = length-map (due_entries now groups) (λ (e : ℕ × ScheduledGroup). e.0) in omega (arith, l, all)))
 
   running_left : (q : ℕ) (e : ScheduledGroup) → if_running q (served_as timing now e) ≡ ticked_group timing now q e

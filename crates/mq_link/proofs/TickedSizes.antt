@@ -1,7 +1,8 @@
 -- A tick leaves no more groups and sources than were held, and so a datagram spends within what was held before both; and
 -- at least what it takes on what the tick leaves.
-use Rattle.std.proofs.Common.{◌≡◌, ℕ, ◌+◌, ◌*◌, ◌≤◌, List, Some, sym, ap, ◌∙◌, subst, arith}
+use Rattle.std.proofs.Common.{◌≡◌, ℕ, ◌+◌, ◌*◌, ◌≤◌, max, List, Some, sym, ap, ◌∙◌, subst, arith}
 use Rattle.std.specs.FinMap as map
+use Rattle.std.proofs.Math.Nat.{max-le}
 use Rattle.mq_count.specs.Spending.{Spends}
 use Rattle.mq_count.proofs.Spent.{Spends-join_within}
 use Rattle.mq_table.specs.declared.timing.Timing.{Timing}
@@ -37,14 +38,15 @@ module _ (timing : Timing) (now : ℕ) (groups : Groups) where
       let sent = len-kept (λ group e. Some (after_round timing now e)) (groups_expired now groups) in
       omega (arith, expired, sent)
 
-  pub received_within : (after : Groups) (length least old ticked new : ℕ) → after ≡ left_groups
+  pub received_within : (after : Groups) (length listed least old ticked new : ℕ) → after ≡ left_groups → listed ≤ map.len groups
       → Spends 2 (4 * sources_in groups + 44 * map.len groups + 3) old ticked
-      → Spends least (24 * sources_in after + 20 * map.len after + 64 * length) ticked new
+      → Spends least (24 * sources_in after + max (20 * map.len after) listed + 64 * length) ticked new
       → Spends (2 + least) (cost_of length (map.len groups + sources_in groups)) old new
-  received_within after length least old ticked new is due taken =
+  received_within after length listed least old ticked new is few due taken =
       let fewer : sources_in after ≤ sources_in groups = subst (λ g. sources_in g ≤ sources_in groups) (sym is) sources_left in
       let fewer_groups : map.len after ≤ map.len groups = subst (λ (g : Groups). map.len g ≤ map.len groups) (sym is) groups_left in
-      Spends-join_within (2 + least) _ due taken (omega arith) (omega (arith, fewer, fewer_groups))
+      let most : max (20 * map.len after) listed ≤ 20 * map.len groups = max-le (omega (arith, fewer_groups)) (omega (arith, few)) in
+      Spends-join_within (2 + least) _ due taken (omega arith) (omega (arith, fewer, most))
 
   pub moved_within : (after : Groups) (length before between left old ticked new : ℕ) → after ≡ left_groups → before ≤ sources_in groups + map.len groups
       → IsPaid (most_moved_by_tick groups) before between old ticked

@@ -1,5 +1,5 @@
 -- What a contract sees of a workspace, and what it suffices for.
-use Rattle.std.specs.Prelude.{ℕ, nat_le, Bool, ◌&&◌, List, map, refl}
+use Rattle.std.specs.Prelude.{◌≡◌, ℕ, nat_le, Bool, ◌&&◌, List, map, length, refl}
 use Rattle.std.specs.Coded.{Coded, code_by, coded×, coded_ℕ, coded_list}
 use Rattle.mq_link.specs.declared.configuration.Limits.{Limits}
 use Rattle.mq_link.specs.declared.storage.Lists.{Lists}
@@ -34,6 +34,7 @@ with_changed w changed = record w { changed = changed }
 pub record IsWorkspace {K : Type 0} (number : K → ℕ) (groups group_sources : ℕ) (scratch : Scratch K) (lists : Lists K) : Type 0 where
   pub room : HasRoom groups group_sources scratch
   pub list_room : HasSpace groups lists
+  pub marks : length scratch.changed ≡ groups
   pub none_met : AreNone scratch.met
   pub none_changed : AreNone scratch.changed
   pub ascending : IsAscending number lists.changed.items

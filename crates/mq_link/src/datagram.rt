@@ -1,6 +1,6 @@
 //! What a datagram does to a link: first what is due, then the datagram is read, and dropped, or taken.
 
-ghost use Rattle.std.specs.Prelude.{◌≡◌, ◌+◌, ◌*◌, ◌^◌, ◌≤◌, ◌||◌, ℕ, Bool, true, None, Ok, length};
+ghost use Rattle.std.specs.Prelude.{◌≡◌, ◌+◌, ◌*◌, ◌^◌, ◌≤◌, ◌||◌, ℕ, Bool, true, max, None, Ok, length};
 ghost use Rattle.std.specs.FinMap as map;
 ghost use Rattle.mq_count.specs.Spending.{Spends};
 ghost use Rattle.mq_held.specs.Groups.{sources_in};
@@ -63,7 +63,8 @@ impl<F: Family> Router<F> {
     }
 
     /// Takes a message that isn't dropped: hears a query, and takes the records of any other. At most 24 comparisons for
-    /// each source that is held, 20 for each group, and 64 for each byte that it has at least (`least_length`).
+    /// each source that is held, 20 for each group or one for each that the tick changed, and 64 for each byte that it has at least
+    /// (`least_length`).
     fn take_message<O: Outlet<F::Address>>(
         &mut self,
         work: &mut Workspace<F>,
@@ -85,7 +86,8 @@ impl<F: Family> Router<F> {
             AreThose (λ address. by_tick address || changed_by_message self.old.at said self.old.groups address) work.new.changed }
         ensures spent { let said = numbered_message F.Address.number message.now in
             let groups = self.old.groups in
-            Spends (least_of self.old.at said groups) (24 * sources_in groups + 20 * map.len groups + 64 * least_length said) self.old.spent self.new.spent }
+            let most = max (20 * map.len groups) (length work.old.changed) in
+            Spends (least_of self.old.at said groups) (24 * sources_in groups + most + 64 * least_length said) self.old.spent self.new.spent }
         ensures moved { let said = numbered_message F.Address.number message.now in
             let groups = self.old.groups in
             HasMoved (24 * sources_in groups + 22 * map.len groups + 256 * least_length said) self.old self.new }
@@ -113,7 +115,7 @@ impl<F: Family> Router<F> {
     }
 
     /// Reads a datagram, counts it, and drops it or takes it. At most 24 comparisons for each source that is held, 20 for
-    /// each group, and 64 for each byte of the datagram.
+    /// each group or one for each that the tick changed, and 64 for each byte of the datagram.
     fn take_in<O: Outlet<F::Address>>(
         &mut self,
         work: &mut Workspace<F>,
@@ -136,7 +138,8 @@ impl<F: Family> Router<F> {
         ensures spent { let around = F.envelope_of envelope.now in
             let read = spec.read_of F.FAMILY (spec.pseudo_of F.FAMILY around body.now) body.now in
             let groups = self.old.groups in
-            Spends (least_after self.old.at around read groups) (24 * sources_in groups + 20 * map.len groups + 64 * length body.now) self.old.spent self.new.spent }
+            let most = max (20 * map.len groups) (length work.old.changed) in
+            Spends (least_after self.old.at around read groups) (24 * sources_in groups + most + 64 * length body.now) self.old.spent self.new.spent }
         ensures moved { let groups = self.old.groups in
             HasMoved (24 * sources_in groups + 22 * map.len groups + 256 * length body.now) self.old self.new }
     {

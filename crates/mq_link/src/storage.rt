@@ -46,6 +46,7 @@ impl<K: Key> Scratch<K> {
         ensures room { IfOk result (HasRoom groups sources) }
         ensures none_met { IfOk result (λ w. AreNone w.met) }
         ensures none_changed { IfOk result (λ w. AreNone w.changed) }
+        ensures marks { IfOk result (λ w. length w.changed ≡ groups) }
     {
         let Some(both) = sources.checked_mul(2) else {
             return Err(Memory);

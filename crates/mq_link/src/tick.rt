@@ -39,8 +39,8 @@ use mq_sched::{Schedule, Sink};
 use mq_table::Group;
 use mq_wire::WireKey;
 
-/// Ends the timers of a group that have run out, and sends what is due for it then. Answers whether another filter is forwarded of
-/// it then. At most three comparisons for each of its sources, and six more.
+/// Ends the timers of a group that have run out, and sends what is due for it then. Answers whether another filter is
+/// forwarded of it then. At most three comparisons for each of its sources, and six more.
 fn serve<K: WireKey, S: Sink<K>>(
     address: K,
     group: &mut Group<K>,
@@ -67,7 +67,8 @@ fn serve<K: WireKey, S: Sink<K>>(
 
 impl<K: WireKey> Storage<K> {
     /// Serves the group of a number, and puts it back; one that is INCLUDE without sources then stays until it is taken out.
-    /// Answers its address, where another filter is forwarded of it then. At most four comparisons for each of its sources, ten more, and one for each binary digit of how many groups there are.
+    /// Answers its address, where another filter is forwarded of it then. At most four comparisons for each of its sources,
+    /// ten more, and one for each binary digit of how many groups there are.
     fn tick_group<S: Sink<K>>(
         &mut self,
         number: u16,
@@ -107,9 +108,9 @@ impl<K: WireKey> Storage<K> {
     }
 
     /// Ends what has run out of the groups, and sends what is due for them, by ascending group. Those that have no moment
-    /// at or before it are left alone. Lists the addresses of those of which another filter is forwarded then. At least one comparison for each group that has such a moment, and one more, where
-    /// there is another group; at most four for each source, 44 for each group and one more; where no group has such a
-    /// moment, one at most.
+    /// at or before it are left alone. Lists the addresses of those of which another filter is forwarded then. At least one
+    /// comparison for each group that has such a moment, and one more, where there is another group; at most four for each
+    /// source, 44 for each group and one more; where no group has such a moment, one at most.
     fn tick_groups<S: Sink<K>>(
         &mut self,
         lists: &mut Lists<K>,
@@ -181,9 +182,10 @@ fn send_general<F: Family, O: Outlet<F::Address>>(is_due: bool, sender: &mut Sen
 }
 
 /// Does what is due at or before `now`, in this order: the end of the other querier's deadline; the general query; the
-/// end of timers, and what is due for the groups. The sender begins anew, on the terms that are in force then. At least one
-/// comparison for each group that has such a moment, and one more; at most four for each source, 44 for each group and two
-/// more; where no group has such a moment, two at most.
+/// end of timers, and what is due for the groups. The sender begins anew, on the terms that are in force then. Lists the
+/// addresses of the groups of which another filter is forwarded then. At least one comparison for each group that has such
+/// a moment, and one more; at most four for each source, 44 for each group and two more; where no group has such a moment,
+/// two at most.
 fn do_due<F: Family, O: Outlet<F::Address>>(
     status: &mut Status<F>,
     storage: &mut Storage<F::Address>,
@@ -228,9 +230,9 @@ fn do_due<F: Family, O: Outlet<F::Address>>(
 }
 
 impl<F: Family> Router<F> {
-    /// Does what is due at or before `now`; a moment before the last one counts as the last one. At least one comparison for
-    /// each group that has something to do, and two more; at most four for each source, 44 for each group and three more;
-    /// before the next moment, three at most.
+    /// Does what is due at or before `now`; a moment before the last one counts as the last one. The workspace lists the
+    /// groups that it changes, and no others. At least one comparison for each group that has something to do, and two more;
+    /// at most four for each source, 44 for each group and three more; before the next moment, three at most.
     pub(crate) fn come_to<O: Outlet<F::Address>>(
         &mut self,
         work: &mut Workspace<F>,

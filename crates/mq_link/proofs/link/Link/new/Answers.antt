@@ -1,4 +1,4 @@
-use Rattle.std.proofs.Common.{ap, ◌∙◌}
+use Rattle.std.proofs.Common.{[], ap, ◌∙◌}
 use Rattle.mq_link.specs.Link.{LinkValue}
 use Rattle.mq_link.specs.Workspace.{suffices}
 use Rattle.mq_link.proofs.Rooms.{suffices_own}
@@ -8,4 +8,4 @@ pub invariant_of-result : goal.invariant_of-result
 invariant_of-result g c =
     let limits = c.limits.ensures in
     let config = ap (λ (l : LinkValue). l.config.limits) c.in_ok-new.ensures in
-    (λ i. suffices (config i) (c.in_ok-workspace.ensures i)) ∙ (λ i. suffices c.args.config.limits (record { groups = (limits i).groups; group_sources = (limits i).group_sources })) ∙ suffices_own c.args.config.limits
+    (λ i. suffices (config i) (c.in_ok-workspace.ensures i)) ∙ (λ i. suffices c.args.config.limits (record { groups = (limits i).groups; group_sources = (limits i).group_sources; changed = [] })) ∙ suffices_own c.args.config.limits []

@@ -8,17 +8,18 @@ use Rattle.mq_link.specs.Moved.{IsPaid}
 use Rattle.mq_link.specs.Record.{Setting}
 use Rattle.mq_link.specs.Router.{Leaves, RouterValue, router_of, state_of}
 use Rattle.mq_link.specs.State.{sources_in}
-use Rattle.mq_link.specs.Storage.{put_by_rows}
+use Rattle.mq_link.specs.declared.storage.Lists.{Lists}
+use Rattle.mq_link.specs.Storage.{KeepsSpace, put_by_rows}
 use Rattle.mq_link.proofs.Faultless.{few_sources, timing_in_range}
 use Rattle.mq_link.proofs.LinkStored.{ready_in, stored_next}
-use Rattle.mq_link.proofs.Rooms.{enough_room, enough_space, workspace_next}
+use Rattle.mq_link.proofs.Rooms.{enough_room, enough_space, still_space, workspace_next}
 use Rattle.mq_link.proofs.RouterSteps.{enough_inside, sound_heard}
 use Rattle.mq_link.proofs.router.Router.hear.Goals as goal
 
 pub hear_query-requires-clause-ready : goal.hear_query-requires-clause-ready
 hear_query-requires-clause-ready g c =
     let enough = enough_inside c.self.view_is c.work.view_is c.requires.enough in
-    let room = enough_room c.self.inside.status.config.limits _ enough c.work.invariant in
+    let room = enough_room c.self.inside.status.config.limits _ _ enough _ c.work.invariant in
     ready_in c.self.inside.status c.self.inside.storage c.lemma_is_sound.ensures.faultless c.self.invariant.sound _ room.group
 
 pub hear_query-requires-clause-small : goal.hear_query-requires-clause-small
@@ -38,7 +39,10 @@ invariant_of-self g c =
 pub invariant_of-work : goal.invariant_of-work
 invariant_of-work g c =
     let heard = c.hear_query.ensures in
-    workspace_next _ _ c.work.invariant (record { group = heard.room; named = refl; asked = omega arith; met = refl }) (record { due = heard.capacity; spare = refl }) c.work.invariant.none_met
+    let was = c.work.invariant in
+    let lists : Lists _ = record c.work.inside.lists { due = c.hear_query.new.numbers } in
+    let kept : KeepsSpace c.work.inside.lists lists = record { due = heard.capacity; spare = refl; changed = omega arith; by_tick = refl; by_records = refl } in
+    workspace_next _ _ _ was (record { group = heard.room; named = refl; asked = omega arith; met = refl; changed = refl }) (still_space _ was.list_room kept) was.none_met was.none_changed was.ascending
 
 pub returns-clause-leaves : goal.returns-clause-leaves
 returns-clause-leaves g c =
@@ -58,7 +62,7 @@ returns-clause-spent g c =
 pub hear_query-requires-clause-space : goal.hear_query-requires-clause-space
 hear_query-requires-clause-space g c =
     let enough = enough_inside c.self.view_is c.work.view_is c.requires.enough in
-    let space = enough_space c.self.inside.status.config.limits _ enough c.work.invariant in
+    let space = enough_space c.self.inside.status.config.limits _ _ enough _ c.work.invariant in
     omega (arith, c.self.invariant.sound.within.group_count, space.due)
 
 pub returns-clause-moved : goal.returns-clause-moved

@@ -1,4 +1,4 @@
-use Rattle.std.proofs.Common.{◌≡◌, ◌+◌, ◌*◌, ℕ, List, length, None, Some, Result, Ok, sym, ap, ◌∙◌, subst, arith}
+use Rattle.std.proofs.Common.{◌≡◌, ◌+◌, ◌*◌, ◌||◌, ℕ, max, List, length, None, Some, Result, Ok, sym, ap, ◌∙◌, subst, arith}
 use Rattle.std.specs.FinMap as map
 use Rattle.mq_count.specs.Spending.{Spends}
 use Rattle.mq_count.proofs.Spent.{Spends-within, Spends-none}
@@ -7,6 +7,7 @@ use Rattle.mq_wire.specs.declared.message.WireFault.{WireFault}
 use Rattle.mq_wire.specs.Numbered.{numbered_message}
 use Rattle.mq_link.specs.declared.answers.Received.TheVariants.{Dropped}
 use Rattle.mq_link.specs.Cost.{least_length}
+use Rattle.mq_link.specs.Forwarding.{AreThose, changed_by_message, changed_by_read}
 use Rattle.mq_link.specs.LeastCost.{least_of, least_unless, least_after}
 use Rattle.mq_link.specs.Moved.{HasMoved}
 use Rattle.mq_link.specs.Reading.{numbered_read}
@@ -16,6 +17,7 @@ use Rattle.mq_link.specs.Sender.{TakesQuery}
 use Rattle.mq_link.specs.State.{sources_in}
 use Rattle.mq_link.proofs.LeastLengths.{long_where_read}
 use Rattle.mq_link.proofs.LinkReceived.{is_dropped, is_taken}
+use Rattle.mq_link.proofs.ListedGroups.{those_alone}
 use Rattle.mq_link.proofs.Moved.{paid_none, paid_within}
 use Rattle.mq_link.proofs.Receipts.{IsCarriedWhere, carried_where_read}
 use Rattle.mq_link.proofs.RecordsRead.{few_where_read}
@@ -109,7 +111,7 @@ returns-clause-spent g c =
     let least : least_of before.at said before.groups ≡ least_after before.at around (bytes_read g around c.args.body.now) before.groups =
     ap (λ x. least_unless before.at (Ok said) x before.groups) (sym (taken g c).1) ∙ ap (λ x. least_after before.at around x before.groups) (sym (taken g c).0)
     in
-    let spent = subst (λ (r : RouterValue). Spends (least_of r.at said r.groups) (24 * sources_in r.groups + 20 * map.len r.groups + 64 * least_length said) r.spent c.take_message.new.self.spent) c.count_read.ensures c.take_message.ensures.spent in
+    let spent = subst (λ (r : RouterValue). Spends (least_of r.at said r.groups) (24 * sources_in r.groups + max (20 * map.len r.groups) (length c.args.work.now.changed) + 64 * least_length said) r.spent c.take_message.new.self.spent) c.count_read.ensures c.take_message.ensures.spent in
     Spends-within _ _ spent (omega (arith, least)) (omega (arith, long))
 
 pub returns-in-Some-clause-moved : goal.returns-in-Some-clause-moved
@@ -125,3 +127,22 @@ returns-clause-moved g c =
     let long = long_where_read g.F.Family.FAMILY (pseudo_of g.F.Family.FAMILY around c.args.body.now) c.args.body.now said (taken g c).0 in
     let moved = subst (λ (r : RouterValue). HasMoved (24 * sources_in r.groups + 22 * map.len r.groups + 256 * least_length said) r c.take_message.new.self) c.count_read.ensures c.take_message.ensures.moved in
     paid_within _ moved (omega (arith, long))
+
+-- a datagram that is dropped changes nothing more
+pub returns-in-Some-clause-changed : goal.returns-in-Some-clause-changed
+returns-in-Some-clause-changed g c by_tick those =
+    let around = g.F.Family.envelope_of c.args.envelope.now in
+    let before = c.args.self.now in
+    let read = numbered_read g.F.Address.Key.number c.read-read.result in
+    subst (λ x. AreThose (λ address. by_tick address || changed_by_read before.at x (drop_reason before.at.config around x) before.groups address) c.args.work.now.changed) c.read-read.ensures
+    (subst (λ x. AreThose (λ address. by_tick address || changed_by_read before.at read x before.groups address) c.args.work.now.changed) (sym (dropped g c).0) (those_alone those))
+
+pub returns-clause-changed : goal.returns-clause-changed
+returns-clause-changed g c by_tick those =
+    let around = g.F.Family.envelope_of c.args.envelope.now in
+    let before = c.args.self.now in
+    let said = numbered_message g.F.Address.Key.number c.in-Ok.message in
+    let left = c.take_message.new.work.changed in
+    let there = subst (λ (r : RouterValue). AreThose (λ address. by_tick address || changed_by_message r.at said r.groups address) left) c.count_read.ensures (c.take_message.ensures.changed by_tick those) in
+    subst (λ x. AreThose (λ address. by_tick address || changed_by_read before.at x (drop_reason before.at.config around x) before.groups address) left) (sym (taken g c).0)
+    (subst (λ x. AreThose (λ address. by_tick address || changed_by_read before.at (Ok said) x before.groups address) left) (sym (taken g c).1) there)

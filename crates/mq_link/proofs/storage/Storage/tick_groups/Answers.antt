@@ -1,8 +1,9 @@
-use Rattle.std.proofs.Common.{◌≡◌, ◌+◌, ◌*◌, ◌≤◌, ◌<◌, get_or, length, refl, sym, ap, ◌∙◌, subst, arith}
+use Rattle.std.proofs.Common.{◌≡◌, cond, ◌+◌, ◌*◌, ◌≤◌, ◌<◌, [], ◌∷◌, ◌++◌, get_or, length, refl, sym, ap, ◌∙◌, subst, arith, vec_capacity}
 use Rattle.std.specs.FinMap as map
+use Rattle.std.specs.Result.{is_ok}
 use Rattle.std.specs.Prelude.{map as list_map}
 use Rattle.std.specs.List.{All, flat_map}
-use Rattle.std.proofs.lemmas.List.{take_all}
+use Rattle.std.proofs.lemmas.List.{take_all, length-map}
 use Rattle.mq_count.proofs.Spent.{Spends-join, Spends-join_within}
 use Rattle.mq_sets.specs.Ascending.{IsAscending}
 use Rattle.mq_sets.specs.NumberedKeys.{key_in}
@@ -19,12 +20,15 @@ use Rattle.mq_link.proofs.PaidEdits.{few_digits, none_of_all, some_of, taken_out
 use Rattle.mq_link.proofs.ReplacedGroups.{address_of, as_many, entry_at, next_group}
 use Rattle.mq_link.proofs.Rooms.{rooms_on}
 use Rattle.mq_link.proofs.TickedEntries.{queries_at, queries_of_entries}
+use Rattle.mq_link.proofs.TickedFilters.{few_turned, one_turned, those_turned, with_answer}
 use Rattle.mq_link.proofs.TickedNumbers.{served_as, none_ticked, one_ticked, ticked_left, vacant_named}
+use Rattle.mq_link.proofs.storage.Storage.tick_groups.Given.{Over}
 use Rattle.mq_link.proofs.storage.Storage.tick_groups.Goals as goal
+use Rattle.mq_link.proofs.storage.Storage.tick_groups.Goals.{in-Some, in_default}
 
 pub loop-number-init : goal.loop-number-init
 loop-number-init g c =
-    ((0, none_ticked g.K.WireKey.PER_QUERY c.args.at.now.timing c.args.at.now.moment c.args.self.now.held.groups g.S.Sink.takes c.args.sink.now c.due.new.m, paid_none _ _), (λ _. refl), refl, record { groups = refl; sources = refl }, omega arith)
+    ((0, none_ticked g.K.WireKey.PER_QUERY c.args.at.now.timing c.args.at.now.moment c.args.self.now.held.groups g.S.Sink.takes c.args.sink.now c.due.new.m, paid_none _ _), (λ _. refl), refl, record { groups = refl; sources = refl }, omega arith, ap (list_map g.K.Key.number) c.requires.empty, omega arith)
 
 pub tick_group-requires-clause-number : goal.tick_group-requires-clause-number
 tick_group-requires-clause-number g c =
@@ -44,6 +48,25 @@ tick_group-requires-clause-room g c address other =
     let fits = (c.requires.ready.served _ _ ((are_due now old.groups).held i within)).room_for in
     omega (arith, ap sources_of group, fits, c.loop-number.invariant.4)
 
+-- an address that is answered is listed, and nothing else
+named_more : (g : Over) (c : goal.Joined-tick_group g) → c.match-tick_group.lists.1.1.1.0.items ≡ with_answer c.loop-number.lists.1.1.1.0.items c.tick_group.result
+named_more g c =
+    let named = c.loop-number.lists.1.1.1.0.items in
+    elim c.match-tick_group.branch [
+      | in-Some w ↦
+          (λ i. (w.lists-is i).1.1.1.0.items)
+          ∙ w.push.ensures.items
+          ∙ ap (λ r. cond (is_ok r) (named ++ w.in-Some.address ∷ []) named) w.unwrap.ensures
+          ∙ sym (ap (with_answer named) w.in-Some.is)
+      | in_default w ↦ (λ i. (w.lists-is i).1.1.1.0.items) ∙ sym (ap (with_answer named) w.in_default.is)
+    ]
+
+room_stays : (g : Over) (c : goal.Joined-tick_group g) → vec_capacity c.loop-number.lists.1.1.1.0 ≤ vec_capacity c.match-tick_group.lists.1.1.1.0
+room_stays g c = elim c.match-tick_group.branch [
+  | in-Some w ↦ let left : vec_capacity c.match-tick_group.lists.1.1.1.0 ≡ vec_capacity w.push.new.self = λ i. vec_capacity (w.lists-is i).1.1.1.0 in omega (arith, w.push.ensures.capacity, left)
+  | in_default w ↦ let left : vec_capacity c.match-tick_group.lists.1.1.1.0 ≡ vec_capacity c.loop-number.lists.1.1.1.0 = λ i. vec_capacity (w.lists-is i).1.1.1.0 in omega (arith, left)
+]
+
 pub loop-number-preserved : goal.loop-number-preserved
 loop-number-preserved g c =
     let now = c.args.at.now.moment in
@@ -62,8 +85,15 @@ loop-number-preserved g c =
     let size = ap sources_of (next_group (served_as timing now) old.groups es (are_due now old.groups) i current.groups so_far.done within) in
     let digits = few_digits (map.len current.groups) (omega (arith, so_far.done.len_is, c.requires.ready.few)) in
     let more = one_ticked g.K.WireKey.PER_QUERY timing now old.groups g.S.Sink.takes c.args.sink.now c.due.new.m i current.groups c.loop-number.sink c.loop-number.self.meter c.loop-number.invariant.0.0 so_far within c.tick_group.new.self.held.groups c.tick_group.new.sink c.tick_group.new.self.meter _ (c.tick_group.ensures.groups _ has) (c.tick_group.ensures.sent _ has) (c.tick_group.ensures.spent _ has) digits in
-    let paid = paid_join (5 * (c.loop-number.invariant.0.0 + sources_of (entry_at es i).1) + 21 * (i + 1)) c.loop-number.invariant.0.2 (c.tick_group.ensures.moved _ has) (omega (arith, size, digits)) in
-    ((c.loop-number.invariant.0.0 + sources_of (entry_at es i).1, more, paid), (λ first. absurd (omega arith)), c.tick_group.ensures.order ∙ c.loop-number.invariant.2, rooms_on c.loop-number.invariant.3 c.tick_group.ensures.rooms, omega (arith, c.loop-number.invariant.4, c.tick_group.ensures.room))
+    let paid = paid_join (5 * (c.loop-number.invariant.0.0 + sources_of (entry_at es i).1) + 21 * (i + 1)) c.loop-number.invariant.0.2 (c.tick_group.ensures.moved _ has) (omega (arith, size, digits)) in (
+      (c.loop-number.invariant.0.0 + sources_of (entry_at es i).1, more, paid),
+      (λ first. absurd (omega arith)),
+      c.tick_group.ensures.order ∙ c.loop-number.invariant.2,
+      rooms_on c.loop-number.invariant.3 c.tick_group.ensures.rooms,
+      omega (arith, c.loop-number.invariant.4, c.tick_group.ensures.room),
+      one_turned timing now old.groups i within current.groups c.tick_group.new.self.held.groups so_far.done (c.tick_group.ensures.groups _ has) g.K.Key.number c.tick_group.result c.loop-number.lists.1.1.1.0.items c.match-tick_group.lists.1.1.1.0.items (c.tick_group.ensures.changed _ has) c.loop-number.invariant.5 (named_more g c),
+      omega (arith, c.loop-number.invariant.6, room_stays g c),
+    )
 
 pub take_out_vacant-requires-clause-there : goal.take_out_vacant-requires-clause-there
 take_out_vacant-requires-clause-there g c k d within =
@@ -168,3 +198,38 @@ returns-clause-still g c quiet =
     let looked = spends_none c.due.ensures.moved (none_of_all (due_in now old.groups) (64 * map.len old.groups) none) in
     let gone = spends_none c.take_out_vacant.ensures.moved (none_of_all (length c.due.new.numbers.items) (50 * map.len c.loop-number.self.held.groups) (count ∙ none)) in
     gone ∙ c.loop-number.invariant.1 first ∙ looked
+
+pub unwrap-requires : goal.unwrap-requires
+unwrap-requires g c =
+    let now = c.args.at.now.moment in
+    let old = c.args.self.now.held in
+    let i = c.loop-number.number-index in
+    let named = c.loop-number.lists.1.1.1.0 in
+    let same = ap (list_map (key_in old.order.items)) c.as_slice-number-items.ensures.value ∙ c.due.ensures.due in
+    let within : i < length (due_entries now old.groups) = omega (arith, as_many (key_in old.order.items) _ (due_entries now old.groups) same, c.loop-number-test.true) in
+    let few = few_turned c.args.at.now.timing now old.groups i (omega (arith, within)) in
+    let listed = ap length c.loop-number.invariant.5 in
+    let size = length-map named.items g.K.Key.number in
+    let room = c.requires.space.changed in
+    c.push.ensures.succeeds (omega (arith, within, few, listed, size, (are_due now old.groups).few, room, c.loop-number.invariant.6, named.ok.0))
+
+pub returns-clause-changed : goal.returns-clause-changed
+returns-clause-changed g c =
+    let now = c.args.at.now.moment in
+    let old = c.args.self.now.held in
+    let same = ap (list_map (key_in old.order.items)) c.as_slice-number-items.ensures.value ∙ c.due.ensures.due in
+    let all : length (due_entries now old.groups) ≤ c.loop-number.number-index = omega (arith, as_many (key_in old.order.items) _ (due_entries now old.groups) same, c.loop-number-test.false) in
+    those_turned c.args.at.now.timing now old.groups c.args.group.now.room c.requires.ready.served c.loop-number.self.held.groups c.loop-number.number-index c.loop-number.invariant.0.1.done all
+    c.take_out_vacant.new.self.groups _ c.take_out_vacant.ensures.groups c.loop-number.invariant.5
+
+pub returns-clause-few : goal.returns-clause-few
+returns-clause-few g c =
+    let now = c.args.at.now.moment in
+    let old = c.args.self.now.held in
+    let same = ap (list_map (key_in old.order.items)) c.as_slice-number-items.ensures.value ∙ c.due.ensures.due in
+    let many = as_many (key_in old.order.items) _ (due_entries now old.groups) same in
+    let i = c.loop-number.number-index in
+    let few = few_turned c.args.at.now.timing now old.groups i (omega (arith, many, c.loop-number.auto.number-index-end)) in
+    let named = ap length c.loop-number.invariant.5 in
+    let size = length-map c.loop-number.lists.1.1.1.0.items g.K.Key.number in
+    omega (arith, few, named, size, many, (are_due now old.groups).few, c.loop-number.auto.number-index-end)

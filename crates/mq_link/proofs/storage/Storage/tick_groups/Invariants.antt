@@ -1,10 +1,13 @@
-use Rattle.std.proofs.Common.{◌≡◌, ℕ, ◌+◌, ◌*◌, ◌≤◌}
+use Rattle.std.proofs.Common.{◌≡◌, ℕ, ◌+◌, ◌*◌, ◌≤◌, vec_capacity}
+use Rattle.std.specs.Prelude.{map as list_map}
 use Rattle.mq_link.specs.Moved.{IsPaid}
 use Rattle.mq_link.specs.Storage.{KeepsRooms, put_by_rows}
+use Rattle.mq_link.proofs.TickedFilters.{turned_to}
 use Rattle.mq_link.proofs.TickedNumbers.{AreTickedTo}
 use Rattle.mq_link.proofs.storage.Storage.tick_groups.Given as goal
 
--- the groups of the numbers so far are served, what was sent for them are the queries, and what was moved for them is paid
+-- the groups of the numbers so far are served, what was sent for them are the queries, what was moved for them is paid, and those
+-- that have another filter are listed
 abbrev pub invariant-loop-number : goal.invariant-loop-number
 invariant-loop-number g l =
     ((weight : ℕ)
@@ -14,3 +17,5 @@ invariant-loop-number g l =
     × (l.self.held.order ≡ l.fn.self.held.order)
     × KeepsRooms l.fn.self l.self
     × (l.fn.group.room ≤ l.group.room)
+    × (list_map g.K.Key.number l.lists.1.1.1.0.items ≡ turned_to l.fn.at.timing l.fn.at.moment l.fn.self.held.groups l.number-index)
+    × (vec_capacity l.fn.lists.changed ≤ vec_capacity l.lists.1.1.1.0)

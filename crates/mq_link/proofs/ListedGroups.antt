@@ -1,0 +1,61 @@
+-- What lists of the addresses of groups that a call changed are lent, and leave.
+use Rattle.std.proofs.Common.{◌≡◌, ℕ, zero, suc, ◌+◌, ◌*◌, ◌/◌, ◌≤◌, min, Bool, false, ◌||◌, true, List, length, refl, sym, ap, ◌∙◌, subst, arith, ltb}
+use Rattle.std.specs.Prelude.{map as list_map, slice_index}
+use Rattle.std.proofs.lemmas.List.{length-map}
+use Rattle.std.specs.Option.{unwrap_or}
+use Rattle.std.specs.Ordering.{nat_cmp}
+use Rattle.std.specs.FinMap as map
+use Rattle.mq_held.specs.Held.{HeldState, IsNumber}
+use Rattle.mq_link.specs.declared.configuration.Limits.{Limits}
+use Rattle.mq_link.specs.declared.storage.Lists.{Lists}
+use Rattle.mq_link.specs.declared.storage.Scratch.{Scratch}
+use Rattle.mq_link.specs.Forwarding.{AreThose}
+use Rattle.mq_link.specs.Moved.{IsPaid}
+use Rattle.mq_link.specs.Seen.{AreMarked, AreNone}
+use Rattle.mq_link.specs.Storage.{HasRoom, HasSpace}
+use Rattle.mq_link.specs.Workspace.{WorkspaceState, IsWorkspace, suffices}
+use Rattle.mq_link.proofs.KeptGroups.{is_number}
+use Rattle.mq_link.proofs.MetNumbers.{none_met}
+use Rattle.mq_link.proofs.PaidEdits.{some_of}
+use Rattle.mq_link.proofs.Rooms.{enough_groups}
+
+-- the numbers of marked groups are those of groups
+pub numbers_marked : (s : HeldState) (counts : List ℕ) (test : ℕ → Bool) → AreMarked s counts test → (number : ℕ) → 1 ≤ slice_index counts number → IsNumber s number
+numbers_marked s counts test marked number some = let used = marked.are_met.unused number some in is_number s used.0 number used.1
+
+-- a test that says the same
+pub those_so : {test other : ℕ → Bool} {addresses : List ℕ} → ((address : ℕ) → test address ≡ other address) → AreThose test addresses → AreThose other addresses
+those_so same are = record { ascending = are.ascending; each = λ address. are.each address ∙ same address }
+
+-- where no group is counted, none is marked
+pub unmarked : (s : HeldState) (counts : List ℕ) → AreNone counts → AreMarked s counts (λ address. false)
+unmarked s counts none = record {
+  seen = map.empty;
+  are_met = none_met s counts none;
+  each = λ address. ap (λ x. ltb 0 (unwrap_or x 0)) (map.get-empty {X = ℕ} nat_cmp address);
+}
+
+or_false : (b : Bool) → b ≡ (b || false)
+or_false true = refl
+or_false false = refl
+
+-- with none, they are the same
+pub those_alone : {test : ℕ → Bool} {addresses : List ℕ} → AreThose test addresses → AreThose (λ address. test address || false) addresses
+those_alone {test} are = those_so (λ address. or_false (test address)) are
+
+-- how many there are in a workspace, by what is inside of it
+pub few_inside : {K : Type 0} (number : K → ℕ) (lists : Lists K) (w lent : WorkspaceState) (most : ℕ) → w ≡ lent → w.changed ≡ list_map number lists.changed.items → length lent.changed ≤ most → length lists.changed.items ≤ most
+few_inside number lists w lent most is inside few =
+    let same = ap (λ (w : WorkspaceState). length w.changed) is in
+    let long = ap length inside ∙ length-map lists.changed.items number in
+    omega (arith, same, long, few)
+
+-- few records mark few groups, and what is moved to list them is within what they may move
+pub listed_within : (count records groups before : ℕ) → count ≤ records → groups ≤ before + records → 64 * count + min 1 (count / 64) * groups ≤ before + 65 * records
+listed_within count records groups before few grown = let walked = some_of (count / 64) groups in omega (arith, walked, few, grown)
+
+-- one record marks one group, and little is moved for it
+pub one_listed : (count groups : ℕ) → count ≤ 1 → 64 * count + min 1 (count / 64) * groups ≤ 64
+one_listed zero groups few = omega arith
+one_listed (suc zero) groups few = omega arith
+one_listed (suc (suc n)) groups few = absurd (omega (arith, few))
