@@ -1,5 +1,5 @@
 -- The workspace that a call works in.
-use Rattle.std.specs.Prelude.{Bool, true, false, Option, None, Some}
+use Rattle.std.specs.Prelude.{Bool, true, false, [], Option, None, Some}
 use Rattle.mq_link.specs.declared.configuration.Limits.{Limits}
 use Rattle.mq_link.specs.Configuration.{Configuration}
 use Rattle.mq_link.specs.Workspace.{WorkspaceState, suffices}
@@ -7,7 +7,7 @@ use Rattle.mq_c.specs.declared.c_link.CLink.{CLink}
 
 -- the workspace that is made for links so configured
 abbrev pub workspace_for : Configuration → WorkspaceState
-workspace_for config = record { groups = config.limits.groups; group_sources = config.limits.group_sources }
+workspace_for config = record { groups = config.limits.groups; group_sources = config.limits.group_sources; changed = [] }
 
 -- a link's own workspace, where it is to have one
 abbrev pub own_workspace : Configuration → Bool → Option WorkspaceState

@@ -42,7 +42,7 @@ IsConfigOrStatus asked (Err status) = (fault : ConfigFault) × (configuration_fa
 
 -- a link so configured at its start
 abbrev pub fresh_link : Configuration → ℕ → LinkValue
-fresh_link config start = record { config = config; state = link_at config start; spent = 0; moved = 0 }
+fresh_link config start = record { config = config; state = link_at config start; spent = 0; moved = 0; changed = [] }
 
 -- the moment is out of range, or memory ran out
 abbrev pub IsLateOrMemory : (start status : ℕ) → Type 0
