@@ -1,6 +1,6 @@
 -- A table of filters that is kept beside a link: it takes over the filter of each group that a call names.
 use Rattle.std.specs.Prelude.{◌≡◌, ℕ, Bool, if◌then◌else◌, List, [], ◌∷◌}
-use Rattle.mq_table.specs.Filter.{Filter, filter_of, forwards_by}
+use Rattle.mq_table.specs.Filter.{Filter, filter_of, nothing, forwards_by}
 use Rattle.mq_link.specs.Configuration.{Configuration}
 use Rattle.mq_link.specs.Forwarding.{changed_by_event}
 use Rattle.mq_link.specs.Run.{Happening}
@@ -13,6 +13,10 @@ filter_at state group = filter_of (group_at state.groups group).group
 -- a filter for each group
 abbrev pub FilterTable : Type 0
 FilterTable = (group : ℕ) → Filter
+
+-- the one that it begins with
+abbrev pub nothing_of_any : FilterTable
+nothing_of_any group = nothing
 
 -- a table takes over the filters of the groups that are named, as a state has them, and keeps its own of all others
 abbrev pub taken_over : (named : ℕ → Bool) → (after : LinkState) → FilterTable → FilterTable
