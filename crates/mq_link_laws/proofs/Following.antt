@@ -1,6 +1,6 @@
 -- A group that an event doesn't name has the filter that it had; so a table that takes over the filters of those that are
 -- named is that of the state.
-use Rattle.std.proofs.Common.{◌≡◌, ℕ, Bool, true, false, cond, not, ◌||◌, List, [], ◌∷◌, Option, None, Some, Result, Ok, Err, refl, sym, ap, ◌∙◌}
+use Rattle.std.proofs.Common.{◌≡◌, ℕ, Bool, true, false, cond, not, List, [], ◌∷◌, Option, None, Some, Result, Ok, Err, refl, sym, ap, ◌∙◌}
 use Rattle.std.proofs.lemmas.Bool.{true≢false, or_parts}
 use Rattle.std.specs.Option.{unwrap_or}
 use Rattle.std.specs.Ordering.{nat_cmp}
@@ -102,8 +102,7 @@ pub all_followed : (config : Configuration) (before : LinkState) (table : Filter
 all_followed config before table [] each run = table_of before table each
 all_followed config before table (h ∷ hs) each run =
     let named = changed_by_event config h.event before in
-    let next = taken_over named h.after table in
-    (
+    let next = taken_over named h.after table in (
       table_of before table each,
       all_followed config h.after next hs (one_taken_over config h.event before h.after h.answers table run.0.hands_out.leaves each) run.1,
     )
