@@ -331,7 +331,7 @@ pub fn what_is_forwarded()
 {}
 
 /// Which groups are named: one that a host joins, and not one whose timers are set anew. A source of INCLUDE that is blocked
-/// is asked for, and its group is named at the tick that ends it; so is one of EXCLUDE that is blocked.
+/// is asked for, and its group is named at the tick that ends it; so is that of a source of EXCLUDE.
 pub fn what_is_named()
     ensures joined { Names igmp (Datagram (from 1) (octets 20 0x2200e5f90000000105000001e80101010a000001) 1000)
         (early 0 []) the_group true }
