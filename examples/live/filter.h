@@ -2,7 +2,6 @@
 #ifndef FILTER_H
 #define FILTER_H
 
-#include <stdbool.h>
 #include <stddef.h>
 #include <stdint.h>
 
@@ -20,7 +19,5 @@ struct filter {
     size_t count;
     uint8_t (*sources)[LONG_ADDRESS];
 };
-
-bool filter_is_same(const struct filter *one, const struct filter *other);
 
 #endif

@@ -5,8 +5,6 @@
 #include <stdlib.h>
 #include <string.h>
 
-enum { PAGE = 64 };
-
 static void *memory(size_t count, size_t size) {
     void *got = calloc(count, size);
     if (got == NULL)
@@ -45,41 +43,6 @@ static size_t place_of(const struct filters *filters, const uint8_t *group) {
 
 static bool is_at(const struct filters *filters, size_t place, const uint8_t *group) {
     return place < filters->count && order(filters->rows[place].group, group) == 0;
-}
-
-/* What finds the changed groups goes through the table and all groups of the link, both ascending. */
-struct search {
-    struct filters *filters;
-    size_t place, found;
-};
-
-static void add_changed(struct search *search, const uint8_t *group) {
-    memcpy(search->filters->changed[search->found++], group, LONG_ADDRESS);
-}
-
-/* The groups of the table up to one that the link holds, which are no more; and that one, where its filter is another. */
-static void compare(struct search *search, const uint8_t *group, const struct filter *filter) {
-    const struct filters *filters = search->filters;
-    while (search->place < filters->count && order(filters->rows[search->place].group, group) < 0)
-        add_changed(search, filters->rows[search->place++].group);
-    bool is_known = is_at(filters, search->place, group);
-    if (!is_known || !filter_is_same(&filters->rows[search->place].filter, filter))
-        add_changed(search, group);
-    search->place += is_known;
-}
-
-size_t changed_groups(struct filters *filters, const struct link *link) {
-    static uint8_t groups[PAGE][LONG_ADDRESS];
-    struct search search = {.filters = filters};
-    size_t held = 0;
-    for (size_t count; (count = held_groups(link, held, groups, PAGE)) > 0; held += count)
-        for (size_t at = 0; at < count; at++) {
-            struct filter filter = filter_of(link, groups[at]);
-            compare(&search, groups[at], &filter);
-        }
-    while (search.place < filters->count)
-        add_changed(&search, filters->rows[search.place++].group);
-    return search.found;
 }
 
 struct row *filters_put(struct filters *filters, const uint8_t *group, const struct filter *filter) {

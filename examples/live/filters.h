@@ -3,7 +3,6 @@
 #define FILTERS_H
 
 #include "filter.h"
-#include "forwarding.h"
 
 #include <stdbool.h>
 #include <stddef.h>
@@ -18,15 +17,12 @@ struct row {
 struct filters {
     struct row *rows;
     size_t count;
-    uint8_t (*changed)[LONG_ADDRESS]; /* what `changed_groups` found */
+    uint8_t (*changed)[LONG_ADDRESS]; /* room for what `changed_groups` writes */
 };
 
 /* A table without groups, for a link that may hold so many. Where memory is refused, here or below, the program ends. */
 struct filters filters_new(size_t groups);
 void filters_free(struct filters *filters);
-
-/* Writes the groups, ascending, whose filter isn't the one in the table to `filters->changed`; answers how many. */
-size_t changed_groups(struct filters *filters, const struct link *link);
 
 /* Puts what is forwarded of a group into the table. Answers its row, which stands there until the next call, also where that is
    nothing. */

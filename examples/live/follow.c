@@ -60,7 +60,7 @@ static void keep(struct mdb *mdb, struct row *row) {
 void follow(struct follower *follower, const struct link *link, uint64_t now) {
     if (!follower->prints && !follower->keeps)
         return;
-    size_t count = changed_groups(&follower->filters, link);
+    size_t count = changed_groups(link, follower->filters.changed);
     for (size_t at = 0; at < count; at++) {
         const uint8_t *group = follower->filters.changed[at];
         struct filter filter = filter_of(link, group);

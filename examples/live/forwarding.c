@@ -12,27 +12,33 @@ static void put_long(uint8_t *to, const uint8_t *address, size_t length) {
     memcpy(to, address, length);
 }
 
-static size_t held_igmp_groups(const mq_igmp *link, uint32_t first, uint8_t (*groups)[LONG_ADDRESS], size_t room) {
-    static mq_igmp_group page[PAGE_GROUPS];
-    static mq_igmp_source sources[PAGE_SOURCES];
-    mq_page got = mq_igmp_groups(link, first, page, room < PAGE_GROUPS ? room : PAGE_GROUPS, sources, PAGE_SOURCES);
-    for (size_t at = 0; at < got.groups; at++)
-        put_long(groups[at], page[at].address, IPV4);
-    return got.groups;
+/* How many of the changed groups from the `first`th on a page has. */
+static size_t paged(uint32_t all, size_t first) {
+    return all - first < PAGE_GROUPS ? all - first : PAGE_GROUPS;
 }
 
-static size_t held_mld_groups(const mq_mld *link, uint32_t first, uint8_t (*groups)[LONG_ADDRESS], size_t room) {
-    static mq_mld_group page[PAGE_GROUPS];
-    static mq_mld_source sources[PAGE_SOURCES];
-    mq_page got = mq_mld_groups(link, first, page, room < PAGE_GROUPS ? room : PAGE_GROUPS, sources, PAGE_SOURCES);
-    for (size_t at = 0; at < got.groups; at++)
-        put_long(groups[at], page[at].address, IPV6);
-    return got.groups;
+static size_t changed_igmp_groups(const mq_igmp *link, size_t first, uint8_t (*groups)[LONG_ADDRESS]) {
+    static uint8_t page[PAGE_GROUPS][IPV4];
+    size_t count = paged(mq_igmp_changed(link, (uint32_t)first, page, PAGE_GROUPS), first);
+    for (size_t at = 0; at < count; at++)
+        put_long(groups[at], page[at], IPV4);
+    return count;
 }
 
-size_t held_groups(const struct link *link, size_t first, uint8_t (*groups)[LONG_ADDRESS], size_t room) {
-    return link->is_mld ? held_mld_groups(&link->mld, (uint32_t)first, groups, room)
-                        : held_igmp_groups(&link->igmp, (uint32_t)first, groups, room);
+static size_t changed_mld_groups(const mq_mld *link, size_t first, uint8_t (*groups)[LONG_ADDRESS]) {
+    static uint8_t page[PAGE_GROUPS][IPV6];
+    size_t count = paged(mq_mld_changed(link, (uint32_t)first, page, PAGE_GROUPS), first);
+    for (size_t at = 0; at < count; at++)
+        put_long(groups[at], page[at], IPV6);
+    return count;
+}
+
+size_t changed_groups(const struct link *link, uint8_t (*groups)[LONG_ADDRESS]) {
+    size_t first = 0;
+    for (size_t count = 1; count > 0; first += count)
+        count = link->is_mld ? changed_mld_groups(&link->mld, first, groups + first)
+                             : changed_igmp_groups(&link->igmp, first, groups + first);
+    return first;
 }
 
 /* A filter without sources: a group whose timer runs is in EXCLUDE. */

@@ -8,8 +8,9 @@
 #include <stddef.h>
 #include <stdint.h>
 
-/* Writes the groups that are held, ascending, from place `first` on; answers how many fit. */
-size_t held_groups(const struct link *link, size_t first, uint8_t (*groups)[LONG_ADDRESS], size_t room);
+/* Writes the groups, ascending, that the last call of the link changed, of which there are at most twice as many as it may hold;
+   answers how many. */
+size_t changed_groups(const struct link *link, uint8_t (*groups)[LONG_ADDRESS]);
 /* What is forwarded of a group, as of the last moment handed in. Its sources stand until the next call. */
 struct filter filter_of(const struct link *link, const uint8_t *group);
 

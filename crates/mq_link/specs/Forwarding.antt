@@ -12,6 +12,7 @@ use Rattle.mq_link.specs.declared.answers.DropReason.{DropReason}
 use Rattle.mq_link.specs.Configuration.{Configuration}
 use Rattle.mq_link.specs.Receive.{Envelope, drop_reason, pseudo_of, read_of, setting_of}
 use Rattle.mq_link.specs.Record.{Seen, Setting, OlderJoin, OlderLeave, judged, seen_after, stated}
+use Rattle.mq_link.specs.Run.{Event, Tick, Datagram}
 use Rattle.mq_link.specs.State.{Groups, LinkState, group_at}
 use Rattle.mq_link.specs.Tick.{tick_of}
 
@@ -50,6 +51,11 @@ changed_by_datagram config envelope bytes now state address =
     let read = read_of config.family (pseudo_of config.family envelope bytes) bytes in
     changed_by_tick config now state address
     || changed_by_read (setting_of config left) read (drop_reason config envelope read) left.groups address
+
+-- by what a link is handed
+abbrev pub changed_by_event : Configuration → Event → LinkState → (address : ℕ) → Bool
+changed_by_event config (Tick now) state address = changed_by_tick config now state address
+changed_by_event config (Datagram envelope bytes now) state address = changed_by_datagram config envelope bytes now state address
 
 -- These addresses ascend, and are those that pass a test.
 pub record AreThose (test : ℕ → Bool) (addresses : List ℕ) : Type 0 where

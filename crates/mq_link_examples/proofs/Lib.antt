@@ -9,3 +9,4 @@ pub mod Alike
 pub mod AlikeGroups
 pub mod AlikeLinks
 pub mod SeveralMessages
+pub mod KnownChanges

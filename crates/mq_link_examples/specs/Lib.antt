@@ -1,2 +1,3 @@
 pub mod Examples
 pub mod ManySources
+pub mod Named

@@ -16,6 +16,8 @@ ghost use Rattle.mq_sched.specs.Sending.{GeneralQuery, GroupQuery, SourcesQuery}
 ghost use Rattle.mq_link.specs.Counters.{no_counts, count_answers};
 ghost use Rattle.mq_link.specs.State.{link_at};
 ghost use Rattle.mq_link_examples.specs.Examples.{igmp, limited, source_specific_igmp, host, ipv4, from, octets, listed, listed_due, listed_v2, listed_v1, early, late, after, as_link, querier, other, with_full_counters, TicksTo, Comes, CountsTo, NextIs, Forwards};
+ghost use Rattle.mq_link.specs.Run.{Datagram, Tick};
+ghost use Rattle.mq_link_examples.specs.Named.{Names};
 
 use mq_link::{DropReason, MessageKind, Received, Refusal};
 
@@ -326,4 +328,19 @@ pub fn what_is_forwarded()
     ensures stopped { Forwards (early 0 ((the_group, listed (Exclude 40000) ((1, until 20000) ∷ (2, Stopped) ∷ [])) ∷ [])) the_group 2 false }
     ensures unexcluded { Forwards (early 0 ((the_group, listed (Exclude 40000) ((1, until 20000) ∷ (2, Stopped) ∷ [])) ∷ [])) the_group 3 true }
     ensures unheld { Forwards (early 0 ((the_group, listed (Exclude 40000) []) ∷ [])) (the_group + 1) 1 false }
+{}
+
+/// Which groups are named: one that a host joins, and not one whose timers are set anew. A source of INCLUDE that is blocked
+/// is asked for, and its group is named at the tick that ends it; so is that of a source of EXCLUDE.
+pub fn what_is_named()
+    ensures joined { Names igmp (Datagram (from 1) (octets 20 0x2200e5f90000000105000001e80101010a000001) 1000)
+        (early 0 []) the_group true }
+    ensures joined_again { Names igmp (Datagram (from 1) (octets 20 0x2200e5f90000000105000001e80101010a000001) 1500)
+        (early 1000 ((the_group, listed Include ((host 1, until 261000) ∷ [])) ∷ [])) the_group false }
+    ensures blocked { Names igmp (Datagram (from 1) (octets 20 0x2200e4f90000000106000001e80101010a000001) 2000)
+        (early 1000 ((the_group, listed Include ((host 1, until 261000) ∷ [])) ∷ [])) the_group false }
+    ensures gone { Names igmp (Tick 4000)
+        (early 3000 ((the_group, listed Include ((host 1, until 4000) ∷ [])) ∷ [])) the_group true }
+    ensures excluded { Names igmp (Tick 4000)
+        (early 3000 ((the_group, listed (Exclude 261000) ((host 1, until 4000) ∷ [])) ∷ [])) the_group true }
 {}

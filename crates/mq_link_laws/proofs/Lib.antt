@@ -5,3 +5,6 @@ pub mod Named
 pub mod Filters
 pub mod AheadChanges
 pub mod DatagramsAhead
+pub mod HeardFilters
+pub mod Following
+pub mod TurnedSources

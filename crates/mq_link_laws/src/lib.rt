@@ -13,6 +13,9 @@ ghost use Rattle.mq_wire.specs.Spelling.{Spells, fault_of};
 ghost use Rattle.mq_wire.specs.declared.query.Query.{Query};
 ghost use Rattle.mq_wire.specs.declared.records.RecordView.{RecordView};
 ghost use Rattle.mq_table.specs.declared.kind.Kind.{Kind};
+ghost use Rattle.mq_sets.specs.Ascending.{set_of};
+ghost use Rattle.mq_table.specs.Filter.{changes_filter, filter_of};
+ghost use Rattle.mq_table.specs.Group.{GroupState, forwards_in};
 ghost use Rattle.mq_table.specs.Table.{GroupChange};
 ghost use Rattle.mq_sched.specs.Schedule.{ScheduledGroup};
 ghost use Rattle.mq_sched.specs.Election.{Other, is_querier, loses_role};
@@ -24,6 +27,7 @@ ghost use Rattle.mq_link.specs.Family.{is_admitted};
 ghost use Rattle.mq_link.specs.Configuration.{Configuration, IsFaultless};
 ghost use Rattle.mq_link.specs.Counters.{Ignored, Refused, is_applied, counted_at, kind_number};
 ghost use Rattle.mq_link.specs.State.{Groups, LinkState, IsWellFormed, forwards, link_at, sources_of, sources_in, schedules_in};
+ghost use Rattle.mq_link.specs.Forwarding.{AreThose, changed_by_datagram, changed_by_event, changed_by_tick};
 ghost use Rattle.mq_link.specs.Tick.{Step, moment_of, tick_of, next_of, waited};
 ghost use Rattle.mq_link.specs.Record.{Setting, Statement, Seen, met, kind_named, limit_passed, change_in, stated, judged};
 ghost use Rattle.mq_link.specs.Heard.{groups_cleared, query_heard};
@@ -31,6 +35,7 @@ ghost use Rattle.mq_link.specs.Receive.{Envelope, read_of, pseudo_of, kind_of, r
 ghost use Rattle.mq_link.specs.Run.{Event, Happening, answered, step_of, answer_to, HandsOut, Run, events_of, events_alone};
 ghost use Rattle.mq_link.specs.Sent.{Outgoing};
 ghost use Rattle.mq_link_laws.specs.Laws.{AllAfter, ChangesNothing, IsOnlyCounted, DifferAt, IsGivenWhere, CountsAnswer, records_in, CountsRecords, unanswered, HappenAlike, would_be, would_leave};
+ghost use Rattle.mq_link_laws.specs.Following.{AllFollowed, FilterTable, filter_at, nothing_of_any, taken_over};
 
 /// A link is well-formed at its start and stays so, whatever it is handed: its groups are as they may be held and
 /// within the limits, and a router that isn't querier has nothing to send.
@@ -228,4 +233,42 @@ pub fn outlets_decide_nothing_else()
         → (step_of config event a).timing ≡ (step_of config event b).timing }
     ensures answer { (config : Configuration) (event : Event) (a b : LinkState) → unanswered a ≡ unanswered b
         → answer_to config event a ≡ answer_to config event b }
+{}
+
+/// A group that an event doesn't name is as before: its filter is the one that it had, and so what is forwarded of each
+/// source. Of a datagram that holds over its tick and all that it says: records one after the other, older messages, a query
+/// that is heard, and what is dropped.
+pub fn who_is_not_named_is_as_before()
+    ensures tick { (config : Configuration) (now : ℕ) (state : LinkState) (group source : ℕ)
+        → changed_by_tick config now state group ≡ false
+        → forwards (tick_of config now state).state group source ≡ forwards state group source }
+    ensures datagram { (config : Configuration) (envelope : Envelope) (bytes : List ℕ) (now : ℕ) (state : LinkState)
+        (group source : ℕ) → changed_by_datagram config envelope bytes now state group ≡ false
+        → forwards (receipt_of config envelope bytes now state).step.state group source ≡ forwards state group source }
+    ensures filter { (config : Configuration) (event : Event) (state : LinkState) (group : ℕ)
+        → changed_by_event config event state group ≡ false
+        → filter_at (step_of config event state).state group ≡ filter_at state group }
+{}
+
+/// A step changes the filter of a group exactly where it turns some source: one that is forwarded before it or after it, and
+/// not both. So a tick names those groups of which it turns a source, and no others.
+pub fn who_is_named_was_changed()
+    ensures filter { (before after : GroupState)
+        → (changes_filter before after ≡ true) ↔ (filter_of after ≡ filter_of before → ⊥) }
+    ensures sources { (before after : GroupState) → (changes_filter before after ≡ true)
+        ↔ ((source : ℕ) × (forwards_in after source ≡ not (forwards_in before source))) }
+    ensures tick { (config : Configuration) (now : ℕ) (state : LinkState) (group : ℕ)
+        → (changed_by_tick config now state group ≡ true)
+        ↔ ((source : ℕ) × (forwards (tick_of config now state).state group source ≡ not (forwards state group source))) }
+{}
+
+/// A table that begins with nothing, and after each event of a run takes over the filters of the groups that the event
+/// names, forwards at each moment of the run what the link does. The addresses that a call answers name just those groups.
+pub fn a_table_follows()
+    ensures run { (config : Configuration) (start : ℕ) (happenings : List Happening) → Run config start happenings
+        → AllFollowed config (link_at config start) nothing_of_any happenings }
+    ensures answered { (config : Configuration) (event : Event) (before after : LinkState) (addresses : List ℕ)
+        (table : FilterTable) (group : ℕ) → AreThose (changed_by_event config event before) addresses
+        → taken_over (set_of (λ a. a) addresses) after table group
+        ≡ taken_over (changed_by_event config event before) after table group }
 {}

@@ -1,0 +1,35 @@
+-- A table of filters that is kept beside a link: it takes over the filter of each group that a call names.
+use Rattle.std.specs.Prelude.{◌≡◌, ℕ, Bool, if◌then◌else◌, List, [], ◌∷◌}
+use Rattle.mq_table.specs.Filter.{Filter, filter_of, nothing, forwards_by}
+use Rattle.mq_link.specs.Configuration.{Configuration}
+use Rattle.mq_link.specs.Forwarding.{changed_by_event}
+use Rattle.mq_link.specs.Run.{Happening}
+use Rattle.mq_link.specs.State.{LinkState, group_at, forwards}
+
+-- what a state forwards of a group
+abbrev pub filter_at : LinkState → (group : ℕ) → Filter
+filter_at state group = filter_of (group_at state.groups group).group
+
+-- a filter for each group
+abbrev pub FilterTable : Type 0
+FilterTable = (group : ℕ) → Filter
+
+-- the one that it begins with
+abbrev pub nothing_of_any : FilterTable
+nothing_of_any group = nothing
+
+-- a table takes over the filters of the groups that are named, as a state has them, and keeps its own of all others
+abbrev pub taken_over : (named : ℕ → Bool) → (after : LinkState) → FilterTable → FilterTable
+taken_over named after table group = if named group then filter_at after group else table group
+
+-- A table of a state has the filter of each group, and forwards what the state forwards.
+pub record IsTableOf (state : LinkState) (table : FilterTable) : Type 0 where
+  pub filters : (group : ℕ) → table group ≡ filter_at state group
+  pub forwarded : (group source : ℕ) → forwards_by (table group) source ≡ forwards state group source
+
+-- A table that takes over what each event names is that of the state before the events, and of the state after each.
+abbrev pub AllFollowed : Configuration → (before : LinkState) → FilterTable → List Happening → Type 0
+AllFollowed config before table [] = IsTableOf before table
+AllFollowed config before table (h ∷ hs) =
+    IsTableOf before table
+    × AllFollowed config h.after (taken_over (changed_by_event config h.event before) h.after table) hs
