@@ -40,3 +40,25 @@ def mld_frame(source, destination, message, hop_limit=1, alert=True):
     header = struct.pack(">IHBB", 6 << 28, len(options + message), 0 if options else 58, hop_limit) + source + destination
     mac = b"\x33\x33" + destination[12:]
     return padded(mac + bytes.fromhex("020000000007 86dd") + header + options + message)
+
+
+def report_frame(family, kind, group, sources):
+    """A Report of one record, of IGMPv3 (RFC 3376 section 4.2) or MLDv2 (RFC 3810 section 5.2)."""
+    record = struct.pack(">BBH", kind, 0, len(sources)) + ipaddress.ip_address(group).packed
+    body = struct.pack(">HHHH", 0, 0, 0, 1) + record + b"".join(ipaddress.ip_address(it).packed for it in sources)
+    if family == "igmp":
+        return igmp_frame("10.0.0.7", "224.0.0.22", summed(b"\x22" + body[1:]))
+    return mld_frame("fe80::7", "ff02::16", b"\x8f" + body[1:])
+
+
+def data_frame(source, group):
+    """A datagram of UDP without data, from port 9 to port 9."""
+    source, group = ipaddress.ip_address(source), ipaddress.ip_address(group)
+    if group.version == 4:
+        header = struct.pack(">BBHHHBBH", 0x45, 0, 28, 0, 0, 4, 17, 0) + source.packed + group.packed
+        header = header[:10] + struct.pack(">H", checksum(header)) + header[12:]
+        mac = b"\x01\x00\x5e" + bytes([group.packed[1] & 0x7F]) + group.packed[2:] + bytes.fromhex("020000000007 0800")
+    else:
+        header = struct.pack(">IHBB", 6 << 28, 8, 17, 4) + source.packed + group.packed
+        mac = b"\x33\x33" + group.packed[12:] + bytes.fromhex("020000000007 86dd")
+    return mac + header + bytes.fromhex("0009000900080000")

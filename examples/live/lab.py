@@ -13,16 +13,25 @@ ADDRESSES = {"igmp": "10.0.0.{}", "mld": "fe80::{:x}"}
 # Milliseconds: the Last Member Query Time and the Group Membership Interval that come of SHORT.
 SHORT = ["--qi", "2", "--qri", "1000", "--lmqi", "500"]
 LAST_MEMBER, MEMBERSHIP = 1000, 5000
+GROUPS = {"igmp": "239.1.1.1", "mld": "ff0e::1:1"}
+MANY = {"igmp": ("239.8.0.0", "239.8."), "mld": ("ff0e::8:0", "ff0e::8:")}
+SOURCES = {"igmp": ["10.9.9.1", "10.9.9.2"], "mld": ["2001:db8::1", "2001:db8::2"]}
 
 
 class Wrong(Exception):
     """What a case found to be wrong."""
 
 
+def is_true(test, what):
+    if not test:
+        raise Wrong(what)
+
+
 def ip(*words):
     ran = subprocess.run(["ip", *words], capture_output=True, text=True, check=False)
     if ran.returncode:
         raise Wrong(f"ip {' '.join(words)}: {ran.stderr.strip()}")
+    return ran.stdout
 
 
 class State:
@@ -46,18 +55,21 @@ class State:
 class Querier:
     """A running mquerier-live."""
 
-    def __init__(self, space, family, own, *options):
-        words = ["ip", "netns", "exec", space, PROGRAM, "eth0", family, "--own", own, *SHORT, *options]
+    def __init__(self, space, interface, family, own, *options):
+        words = ["ip", "netns", "exec", space, PROGRAM, interface, family, "--own", own, *SHORT, *options]
         # pylint: disable-next=consider-using-with
         self.process = subprocess.Popen(words, stdout=subprocess.PIPE, stderr=subprocess.PIPE, text=True)
-        self.lines, self.news = [], threading.Condition()
-        threading.Thread(target=self.listen, daemon=True).start()
+        self.lines, self.errors, self.news = [], [], threading.Condition()
+        streams = ((self.process.stdout, self.lines), (self.process.stderr, self.errors))
+        self.listening = [threading.Thread(target=self.listen, args=it, daemon=True) for it in streams]
+        for thread in self.listening:
+            thread.start()
         self.line(lambda line: " send " in line, "its first query")
 
-    def listen(self):
-        for line in self.process.stdout:
+    def listen(self, stream, lines):
+        for line in stream:
             with self.news:
-                self.lines.append(line.rstrip("\n"))
+                lines.append(line.rstrip("\n"))
                 self.news.notify_all()
 
     def line(self, test, what, begin=0, seconds=10):
@@ -67,9 +79,14 @@ class Querier:
 
         with self.news:
             if not self.news.wait_for(lambda: found() is not None, seconds):
-                error = self.process.stderr.read() if self.process.poll() is not None else ""
-                raise Wrong(f"no line with {what}; {error}{self.lines[-5:]}")
+                raise Wrong(f"no line with {what}; {self.errors}{self.lines[-5:]}")
             return found()
+
+    def error(self, text, seconds=4):
+        """Waits for a line on standard error with a text."""
+        with self.news:
+            if not self.news.wait_for(lambda: any(text in line for line in self.errors), seconds):
+                raise Wrong(f"no error with {text}: {self.errors}")
 
     def state(self):
         begin = len(self.lines)
@@ -96,8 +113,12 @@ class Querier:
         return [int(words[0]) for words in sent if words[2] == to]
 
     def end(self):
+        """Ends it, and answers its status, once all is read that it said."""
         self.process.send_signal(signal.SIGTERM)
-        return self.process.wait(10)
+        status = self.process.wait(10)
+        for thread in self.listening:
+            thread.join(10)
+        return status
 
 
 class Host:
@@ -163,7 +184,11 @@ class Lab:
 
     def querier(self, number, *options):
         space, _ = self.station(number)
-        querier = Querier(space, self.family, ADDRESSES[self.family].format(number), *options)
+        return self.querier_at(space, "eth0", number, *options)
+
+    def querier_at(self, space, interface, number, *options, family=None):
+        family = family or self.family
+        querier = Querier(space, interface, family, ADDRESSES[family].format(number), *options)
         self.running.append(querier)
         return querier
 

@@ -1,15 +1,16 @@
 /* A querier on a network interface of Linux, over the library `mquerier`: an example of its use, outside of the proofs.
    What is proved is what the library decides; the socket, the clock, the headers and this loop are plain C. */
 #define _GNU_SOURCE
+#include "command.h"
+#include "fail.h"
+#include "follow.h"
 #include "link.h"
 #include "ring.h"
 #include "text.h"
 
 #include <arpa/inet.h>
 #include <errno.h>
-#include <getopt.h>
 #include <grp.h>
-#include <inttypes.h>
 #include <linux/capability.h>
 #include <linux/filter.h>
 #include <linux/if_ether.h>
@@ -27,44 +28,13 @@
 #include <time.h>
 #include <unistd.h>
 
-enum { STATUS_FAILED = 1, STATUS_USAGE = 2, NOBODY = 65534 };
+enum { NOBODY = 65534 };
 /* So many frames are handed in before signals are looked at again, and so much is printed at once. */
 enum { FRAMES = 1024, PRINTED = 1 << 16 };
 
-static const char HELP[] =
-    "Usage: mquerier-live INTERFACE igmp|mld --own ADDR [OPTION]..\n"
-    "\n"
-    "Is the multicast querier of the link at INTERFACE, an Ethernet interface of Linux: hears the IGMP or MLD messages\n"
-    "there, sends queries, and prints what it does. It has to be root, or have the capability CAP_NET_RAW; once its one\n"
-    "socket is open it lays all privileges down. This program is an example of how the library is used, and is not\n"
-    "proved; the library's decisions are.\n"
-    "\n"
-    "  --own ADDR           the source of its queries: an address of INTERFACE, for mld a link-local one\n"
-    "  --rv N               Robustness Variable, 1 to 7 (2)\n"
-    "  --qi S               Query Interval, 1 to 31744 seconds (125)\n"
-    "  --qri MS             Query Response Interval in milliseconds, below the Query Interval (10000)\n"
-    "  --lmqi MS            Last Member (Last Listener) Query Interval in milliseconds (1000)\n"
-    "  --groups N           how many groups it may hold, up to 65535 (1024)\n"
-    "  --group-sources N    how many sources a group may have, up to 1024 (igmp 366, mld 89)\n"
-    "  --sources N          how many sources all groups may have together, up to 65535 (16384)\n"
-    "  --scheduled N        how many schedules of specific queries there may be, two at most of a group, up to 65535 (256)\n"
-    "  --ssm                keep 232.0.0.0/8, or ff3x::/32, for source-specific multicast\n"
-    "\n"
-    "Lines on standard output, T in milliseconds from the start, ADDR an address:\n"
-    "  T send ADDR HEX               a query that it sends to ADDR, without its IP header\n"
-    "  T receive N ADDR taken A I R  the N-th datagram, from ADDR: how many records were applied, ignored, refused\n"
-    "  T receive N ADDR dropped K    the same, dropped for reason K\n"
-    "On SIGUSR1 it prints what it holds, as `mquerier replay` ends with it: `end T querier` or `end T other`, a line for\n"
-    "each group, and `counts ..`. `mquerier replay --help` explains these lines and the reasons.\n"
-    "\n"
-    "Not heard are fragments, damaged IPv4 headers, and frames with a VLAN tag (give the VLAN's own interface). Send it\n"
-    "SIGTERM to end it.\n"
-    "\n"
-    "Status: 0 where a signal ended it, 1 where the interface, memory or the output failed, 2 where the command line or\n"
-    "the configuration is faulty or help is asked for.\n";
-
 struct live {
     struct link link;
+    struct follower follower;
     const char *interface;
     int packets; /* the socket */
     struct ring ring;
@@ -80,11 +50,6 @@ static void on_signal(int number) {
         is_asked = 1;
     else
         is_over = 1;
-}
-
-static void fail(int status, const char *what, const char *why) {
-    fprintf(stderr, "mquerier-live: %s: %s\n", what, why);
-    exit(status);
 }
 
 /* These signals act only while the loop waits. Answers what is blocked then. */
@@ -104,33 +69,41 @@ static sigset_t handle_signals(void) {
     return before;
 }
 
-/* Only IPv4 packets of protocol 2, or IPv6 packets with a hop-by-hop header or of ICMPv6, come up from the kernel. */
+/* Only IPv4 packets of protocol 2, or IPv6 packets with a hop-by-hop header or of ICMPv6, come up from the kernel, and none
+   with a VLAN's number. */
 static int filter_packets(int packets, bool is_mld) {
     struct sock_filter igmp[] = {
+        BPF_STMT(BPF_LD | BPF_W | BPF_ABS, SKF_AD_OFF + SKF_AD_VLAN_TAG),
+        BPF_STMT(BPF_ALU | BPF_AND | BPF_K, 0x0fff),
+        BPF_JUMP(BPF_JMP | BPF_JEQ | BPF_K, 0, 0, 4),
+        BPF_STMT(BPF_LD | BPF_H | BPF_ABS, 12),
+        BPF_JUMP(BPF_JMP | BPF_JEQ | BPF_K, ETH_P_IP, 0, 2),
         BPF_STMT(BPF_LD | BPF_B | BPF_ABS, 14 + 9),
         BPF_JUMP(BPF_JMP | BPF_JEQ | BPF_K, 2, 1, 0),
         BPF_STMT(BPF_RET | BPF_K, 0),
         BPF_STMT(BPF_RET | BPF_K, GREATEST_FRAME),
     };
     struct sock_filter mld[] = {
+        BPF_STMT(BPF_LD | BPF_W | BPF_ABS, SKF_AD_OFF + SKF_AD_VLAN_TAG),
+        BPF_STMT(BPF_ALU | BPF_AND | BPF_K, 0x0fff),
+        BPF_JUMP(BPF_JMP | BPF_JEQ | BPF_K, 0, 0, 5),
+        BPF_STMT(BPF_LD | BPF_H | BPF_ABS, 12),
+        BPF_JUMP(BPF_JMP | BPF_JEQ | BPF_K, ETH_P_IPV6, 0, 3),
         BPF_STMT(BPF_LD | BPF_B | BPF_ABS, 14 + 6),
         BPF_JUMP(BPF_JMP | BPF_JEQ | BPF_K, 0, 2, 0),
         BPF_JUMP(BPF_JMP | BPF_JEQ | BPF_K, 58, 1, 0),
         BPF_STMT(BPF_RET | BPF_K, 0),
         BPF_STMT(BPF_RET | BPF_K, GREATEST_FRAME),
     };
-    struct sock_fprog program = {.len = 4, .filter = igmp};
+    struct sock_fprog program = {.len = sizeof igmp / sizeof *igmp, .filter = igmp};
     if (is_mld)
-        program = (struct sock_fprog){.len = 5, .filter = mld};
+        program = (struct sock_fprog){.len = sizeof mld / sizeof *mld, .filter = mld};
     return setsockopt(packets, SOL_SOCKET, SO_ATTACH_FILTER, &program, sizeof program);
 }
 
-/* A socket for the frames of the family at the interface, all multicast ones among them. */
-static void open_socket(struct live *live, bool is_mld) {
+/* Asks for the index of the interface, and for its MAC address, which is that of Ethernet. */
+static int find_interface(struct live *live, int packets) {
     const char *interface = live->interface;
-    int packets = socket(AF_PACKET, SOCK_RAW | SOCK_CLOEXEC, 0); /* it hears nothing before it is bound */
-    if (packets < 0)
-        fail(STATUS_FAILED, "socket", strerror(errno));
     struct ifreq request = {0};
     if (strlen(interface) >= sizeof request.ifr_name)
         fail(STATUS_FAILED, interface, "no such interface");
@@ -142,25 +115,41 @@ static void open_socket(struct live *live, bool is_mld) {
     memcpy(live->mac, request.ifr_hwaddr.sa_data, MAC);
     if (ioctl(packets, SIOCGIFINDEX, &request) < 0)
         fail(STATUS_FAILED, interface, strerror(errno));
-    struct packet_mreq every = {.mr_ifindex = request.ifr_ifindex, .mr_type = PACKET_MR_ALLMULTI};
+    return request.ifr_ifindex;
+}
+
+/* A socket for the frames of the family at the interface, all multicast ones among them. A port of a bridge hands its frames to
+   the bridge; only sockets for frames of all kinds hear them before. */
+static void open_socket(struct live *live, bool is_mld, bool is_port) {
+    const int is_on = 1;
+    int packets = socket(AF_PACKET, SOCK_RAW | SOCK_CLOEXEC, 0); /* it hears nothing before it is bound */
+    if (packets < 0)
+        fail(STATUS_FAILED, "socket", strerror(errno));
+    int index = find_interface(live, packets);
+    struct packet_mreq every = {.mr_ifindex = index, .mr_type = PACKET_MR_ALLMULTI};
     struct sockaddr_ll at = {
         .sll_family = AF_PACKET,
-        .sll_protocol = htons(is_mld ? ETH_P_IPV6 : ETH_P_IP),
-        .sll_ifindex = request.ifr_ifindex,
+        .sll_protocol = htons(is_port ? ETH_P_ALL : is_mld ? ETH_P_IPV6 : ETH_P_IP),
+        .sll_ifindex = index,
     };
     if (ring_open(&live->ring, packets) < 0 || filter_packets(packets, is_mld) < 0
+        || setsockopt(packets, SOL_PACKET, PACKET_IGNORE_OUTGOING, &is_on, sizeof is_on) < 0
         || setsockopt(packets, SOL_PACKET, PACKET_ADD_MEMBERSHIP, &every, sizeof every) < 0
         || bind(packets, (struct sockaddr *)&at, sizeof at) < 0)
-        fail(STATUS_FAILED, interface, strerror(errno));
+        fail(STATUS_FAILED, live->interface, strerror(errno));
     live->packets = packets;
 }
 
-/* From here on the process is nobody, without capabilities, and gains none by what it might execute. */
-static void drop_privileges(void) {
+/* From here on the process is nobody, without capabilities but what a bridge's database wants, and gains none by what it might
+   execute. */
+static void drop_privileges(bool keeps_database) {
     struct __user_cap_header_struct header = {.version = _LINUX_CAPABILITY_VERSION_3};
-    struct __user_cap_data_struct none[_LINUX_CAPABILITY_U32S_3] = {{0}};
+    struct __user_cap_data_struct left[_LINUX_CAPABILITY_U32S_3] = {{0}};
+    if (keeps_database)
+        left[0].effective = left[0].permitted = 1u << CAP_NET_ADMIN;
+    bool is_kept = !keeps_database || prctl(PR_SET_KEEPCAPS, 1, 0, 0, 0) == 0;
     bool is_done = geteuid() != 0 || (setgroups(0, NULL) == 0 && setgid(NOBODY) == 0 && setuid(NOBODY) == 0);
-    if (!is_done || syscall(SYS_capset, &header, none) < 0 || prctl(PR_SET_NO_NEW_PRIVS, 1, 0, 0, 0) < 0)
+    if (!is_kept || !is_done || syscall(SYS_capset, &header, left) < 0 || prctl(PR_SET_NO_NEW_PRIVS, 1, 0, 0, 0) < 0)
         fail(STATUS_FAILED, "privileges can't be dropped", strerror(errno));
 }
 
@@ -179,7 +168,7 @@ static void tell_failure(const struct live *live, const char *what) {
     strcpy(request.ifr_name, live->interface);
     if (ioctl(live->packets, SIOCGIFFLAGS, &request) < 0)
         fail(STATUS_FAILED, live->interface, strerror(errno));
-    fprintf(stderr, "mquerier-live: %s: %s\n", what, strerror(error));
+    tell(what, strerror(error));
 }
 
 /* The front of a line: its moment, and what it is. */
@@ -238,6 +227,7 @@ static void hear(struct live *live, const struct frame *frame, uint64_t now) {
     send_queries(live, answer, now);
     live->heard++;
     print_answer(live, &datagram, answer, now);
+    follow(&live->follower, &live->link, now);
 }
 
 /* Hands in what the frames carry that are there. */
@@ -269,8 +259,10 @@ static void run(struct live *live, const sigset_t *waiting) {
         uint64_t now = moment(live);
         if (are_frames)
             receive(live, now); /* which does what a tick does, too */
-        if (is_asked || link_next_deadline(&live->link) <= now)
+        if (is_asked || link_next_deadline(&live->link) <= now) {
             send_queries(live, link_tick(&live->link, now), now);
+            follow(&live->follower, &live->link, now);
+        }
         if (is_asked) {
             is_asked = 0;
             link_print_state(&live->link, now, stdout);
@@ -280,102 +272,24 @@ static void run(struct live *live, const sigset_t *waiting) {
     }
 }
 
-#define PLACE(field) offsetof(mq_igmp_config, field), offsetof(mq_mld_config, field)
-static const struct {
-    const char *name;
-    size_t igmp, mld; /* where the number stands in the configuration */
-} NUMBERS[] = {
-    {"rv", PLACE(robustness)},
-    {"qi", PLACE(query_interval)},
-    {"qri", PLACE(response_interval)},
-    {"lmqi", PLACE(last_member_interval)},
-    {"groups", PLACE(groups)},
-    {"group-sources", PLACE(group_sources)},
-    {"sources", PLACE(sources)},
-    {"scheduled", PLACE(scheduled)},
-};
-enum { COUNT = sizeof NUMBERS / sizeof *NUMBERS, OWN = COUNT, SSM, ASKED_HELP };
-
-static uint32_t number_in(const char *text, const char *name) {
-    char *end;
-    errno = 0;
-    unsigned long long number = strtoull(text, &end, 10);
-    if (*text < '0' || *text > '9' || *end != '\0' || errno != 0 || number > UINT32_MAX) {
-        fprintf(stderr, "mquerier-live: --%s %s: not a number below 2^32\n", name, text);
-        exit(STATUS_USAGE);
-    }
-    return (uint32_t)number;
-}
-
-static void refuse(const char *what) {
-    fprintf(stderr, "mquerier-live: %s (--help says more)\n", what);
-    exit(STATUS_USAGE);
-}
-
-/* The texts of the options, by their places; what isn't given stays NULL. */
-static void read_options(int count, char **words, const char **texts) {
-    struct option options[ASKED_HELP + 2] = {
-        [OWN] = {"own", required_argument, NULL, OWN},
-        [SSM] = {"ssm", no_argument, NULL, SSM},
-        [ASKED_HELP] = {"help", no_argument, NULL, ASKED_HELP},
-    };
-    for (int at = 0; at < COUNT; at++)
-        options[at] = (struct option){NUMBERS[at].name, required_argument, NULL, at};
-    for (int found; (found = getopt_long(count, words, "", options, NULL)) != -1;) {
-        if (found == '?')
-            refuse("the command line is faulty");
-        if (found == ASKED_HELP) {
-            fputs(HELP, stderr);
-            exit(STATUS_USAGE);
-        }
-        texts[found] = optarg != NULL ? optarg : "";
-    }
-}
-
-/* Reads the command line: the interface and the family, the own address and the configuration. */
-static const char *read_command(int count, char **words, bool *is_mld, uint8_t own[16], union configuration *configuration) {
-    const char *texts[ASKED_HELP + 1] = {NULL};
-    read_options(count, words, texts);
-    if (count - optind != 2)
-        refuse("an interface and a family are needed, and nothing else");
-    *is_mld = strcmp(words[optind + 1], "mld") == 0;
-    if (!*is_mld && strcmp(words[optind + 1], "igmp") != 0)
-        refuse("the family is igmp or mld");
-    if (texts[OWN] == NULL)
-        refuse("--own is needed");
-    if (inet_pton(*is_mld ? AF_INET6 : AF_INET, texts[OWN], own) != 1)
-        fail(STATUS_USAGE, texts[OWN], "not an address of the family");
-    *configuration = link_defaults(*is_mld, own);
-    for (int at = 0; at < COUNT; at++) {
-        size_t place = *is_mld ? NUMBERS[at].mld : NUMBERS[at].igmp;
-        if (texts[at] != NULL) {
-            uint32_t number = number_in(texts[at], NUMBERS[at].name);
-            memcpy((uint8_t *)configuration + place, &number, sizeof number);
-        }
-    }
-    if (*is_mld)
-        configuration->mld.source_specific = texts[SSM] != NULL;
-    else
-        configuration->igmp.source_specific = texts[SSM] != NULL;
-    return words[optind];
-}
-
 int main(int count, char **words) {
     static struct live live;
-    union configuration configuration;
-    bool is_mld;
-    live.interface = read_command(count, words, &is_mld, live.own, &configuration);
+    struct command command = read_command(count, words);
+    live.interface = command.interface;
+    memcpy(live.own, command.own, sizeof live.own);
     sigset_t waiting = handle_signals();
-    uint32_t status = link_new(&live.link, is_mld, configuration);
+    uint32_t status = link_new(&live.link, command.is_mld, command.configuration);
     if (status != 0)
         fail(status == MQ_MEMORY ? STATUS_FAILED : STATUS_USAGE, "configuration", mq_status_text(status));
-    open_socket(&live, is_mld);
-    drop_privileges();
+    open_socket(&live, command.is_mld, command.port != NULL && strcmp(command.port, command.interface) == 0);
+    follow_begin(&live.follower, &command);
+    drop_privileges(command.bridge != NULL);
     clock_gettime(CLOCK_MONOTONIC, &live.start);
     static char printed[PRINTED];
     setvbuf(stdout, printed, _IOFBF, sizeof printed); /* what is ready is written at once, by `run` */
     run(&live, &waiting);
     close(live.packets);
+    follow_end(&live.follower);
     link_free(&live.link);
     return 0;
 }

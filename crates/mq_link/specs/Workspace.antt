@@ -1,5 +1,5 @@
 -- What a contract sees of a workspace, and what it suffices for.
-use Rattle.std.specs.Prelude.{◌≡◌, ℕ, nat_le, Bool, ◌&&◌, List, map, length, refl}
+use Rattle.std.specs.Prelude.{◌≡◌, ℕ, nat_le, Bool, ◌&&◌, List, length, refl}
 use Rattle.std.specs.Coded.{Coded, code_by, coded×, coded_ℕ, coded_list}
 use Rattle.mq_link.specs.declared.configuration.Limits.{Limits}
 use Rattle.mq_link.specs.declared.storage.Lists.{Lists}
