@@ -1,5 +1,5 @@
 -- What keeps room for groups and their sources.
-use Rattle.std.proofs.Common.{◌≡◌, ℕ, ◌*◌, ◌≤◌, Bool, ◌&&◌, leb, true, false, refl, ◌∙◌, sym, subst, arith}
+use Rattle.std.proofs.Common.{◌≡◌, ℕ, ◌*◌, ◌≤◌, List, Bool, ◌&&◌, leb, true, false, refl, ◌∙◌, sym, subst, arith}
 use Rattle.std.proofs.lemmas.Bool.{le-leb, leb-true}
 use Rattle.mq_link.specs.declared.configuration.Limits.{Limits}
 use Rattle.mq_link.specs.declared.storage.Lists.{Lists}
