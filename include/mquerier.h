@@ -10,7 +10,8 @@
    What the caller must keep to, since nothing checks it:
    - A pointer points to as many elements as its prototype or its length says, and is not null. A null pointer with
      length 0 stands for no bytes.
-   - `queries`, `address`, `group`, `groups`, `sources` and `line` overlap neither each other nor the body nor the object.
+   - `queries`, `address`, `addresses`, `group`, `groups`, `sources` and `line` overlap neither each other nor the body nor the
+     object.
    - An object comes from a `new`, a `new_bare` or a `workspace_new` of its kind that answered 0, is freed once, and is not
      used beside a copy of it. After one that answered anything else there is nothing to free.
    - One thread at a time uses an object, and no signal handler calls. So a workspace and all links that use it belong to one
@@ -315,6 +316,20 @@ mq_page mq_igmp_group_at(const mq_igmp *link, const uint8_t address[4], mq_igmp_
                          size_t source_room);
 mq_page mq_mld_group_at(const mq_mld *link, const uint8_t address[16], mq_mld_group *group, mq_mld_source *sources,
                         size_t source_room);
+
+/* Writes the addresses of the groups that the last call of `tick` or `receive` changed, ascending, from the `first`th on (0 is
+   the lowest), as many as fit in `room` addresses. Answers how many it changed in all; the memory behind those that were written
+   stays as it was. A group is changed where another filter is forwarded of it after the call's tick, or after one of the
+   datagram's records, than before: one that begins or ends is, one whose timers are refreshed isn't. What is so now `group_at`
+   shows; one that isn't held forwards nothing. A call that did nothing, for the reason that its status says, leaves what the
+   one before it changed.
+
+   A workspace tells of the last call that it was lent to, of whichever link: so ask between two calls. `mq_igmp_changed` tells
+   of the link's own workspace, which knows of no call that was lent another one; of a link without its own it answers 0. */
+uint32_t mq_igmp_changed(const mq_igmp *link, uint32_t first, uint8_t (*addresses)[4], size_t room);
+uint32_t mq_mld_changed(const mq_mld *link, uint32_t first, uint8_t (*addresses)[16], size_t room);
+uint32_t mq_igmp_workspace_changed(const mq_igmp_workspace *workspace, uint32_t first, uint8_t (*addresses)[4], size_t room);
+uint32_t mq_mld_workspace_changed(const mq_mld_workspace *workspace, uint32_t first, uint8_t (*addresses)[16], size_t room);
 
 /* The line of a message for logs, as `mquerier message` prints it, or of its fault, cut where the memory ends. Answers how
    many bytes of the line stand there, without its end: where that is `room`, the line may be cut. Its end, a line feed,

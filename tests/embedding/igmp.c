@@ -241,9 +241,51 @@ static void lent(void) {
   mq_igmp_free(whole);
 }
 
+/* Two groups that begin, one that ends, and what changes none; in the link's own workspace, and in one that is lent. */
+static void changed(void) {
+  static const uint8_t two[] = {0x22, 0, 0xf3, 0xf2, 0, 0, 0, 2, 4, 0, 0, 0, 239, 1, 2, 4, 4, 0, 0, 0, 239, 1, 2, 3};
+  uint8_t addresses[3][4], *bytes = addresses[0];
+  mq_igmp_config c = mq_igmp_defaults(own);
+  mq_igmp link, bare;
+  mq_igmp_workspace workspace;
+  mq_igmp_group held;
+  CHECK(mq_igmp_new(c, 0, &link) == MQ_DONE && mq_igmp_new_bare(c, 0, &bare) == MQ_DONE);
+  CHECK(mq_igmp_workspace_new(c, &workspace) == MQ_DONE);
+  memset(addresses, 0x55, sizeof addresses);
+  CHECK(mq_igmp_changed(&link, 0, addresses, 3) == 0 && mq_igmp_workspace_changed(&workspace, 0, addresses, 3) == 0);
+  CHECK(are_bytes(bytes, 12, "555555555555555555555555"));
+  CHECK(mq_igmp_receive(&link, host, two, sizeof two, 10, NULL, 0).applied == 2);
+  CHECK(mq_igmp_changed(&link, 0, addresses, 1) == 2 && are_bytes(bytes, 12, "ef0102035555555555555555"));
+  CHECK(mq_igmp_changed(&link, 1, addresses, 3) == 2 && are_bytes(bytes, 12, "ef0102045555555555555555"));
+  CHECK(mq_igmp_changed(&link, 0, addresses, 3) == 2 && are_bytes(bytes, 12, "ef010203ef01020455555555"));
+  memset(addresses, 0x55, sizeof addresses);
+  CHECK(mq_igmp_changed(&link, 2, addresses, 3) == 2 && mq_igmp_changed(&link, UINT32_MAX, addresses, 3) == 2);
+  CHECK(mq_igmp_changed(&link, 0, NULL, 0) == 2 && are_bytes(bytes, 12, "555555555555555555555555"));
+  CHECK(mq_igmp_receive(&link, host, join, sizeof join, 1000, NULL, 0).applied == 1);
+  CHECK(mq_igmp_changed(&link, 0, addresses, 3) == 0);
+  CHECK(mq_igmp_tick(&link, 260009, NULL, 0).status == MQ_DONE && mq_igmp_changed(&link, 0, addresses, 3) == 0);
+  CHECK(are_bytes(bytes, 12, "555555555555555555555555"));
+  CHECK(mq_igmp_tick(&link, 260010, NULL, 0).status == MQ_DONE);
+  CHECK(mq_igmp_changed(&link, 0, addresses, 3) == 1 && are_bytes(bytes, 12, "ef0102045555555555555555"));
+  CHECK(mq_igmp_group_at(&link, addresses[0], &held, NULL, 0).groups == 0);
+  CHECK(mq_igmp_tick(&link, MQ_LATEST + 1, NULL, 0).status == MQ_MOMENT && mq_igmp_changed(&link, 0, addresses, 3) == 1);
+  CHECK(mq_igmp_receive_in(&bare, &workspace, host, two, sizeof two, 10, NULL, 0).applied == 2);
+  CHECK(mq_igmp_workspace_changed(&workspace, 0, addresses, 3) == 2 && are_bytes(bytes, 12, "ef010203ef01020455555555"));
+  CHECK(mq_igmp_changed(&bare, 0, addresses, 3) == 0 && are_bytes(bytes, 12, "ef010203ef01020455555555"));
+  CHECK(mq_igmp_tick(&bare, 20, NULL, 0).status == MQ_WORKSPACE && mq_igmp_workspace_changed(&workspace, 0, NULL, 0) == 2);
+  CHECK(mq_igmp_tick_in(&link, &workspace, 261000, NULL, 0).status == MQ_DONE && mq_igmp_len(&link) == 0);
+  CHECK(mq_igmp_workspace_changed(&workspace, 0, addresses, 1) == 1 && are_bytes(bytes, 4, "ef010203"));
+  CHECK(mq_igmp_changed(&link, 0, addresses, 3) == 1 && are_bytes(bytes, 4, "ef010204"));
+  CHECK(mq_igmp_tick_in(&bare, &workspace, 20, NULL, 0).status == MQ_DONE && mq_igmp_workspace_changed(&workspace, 0, NULL, 0) == 0);
+  mq_igmp_free(link);
+  mq_igmp_free(bare);
+  mq_igmp_workspace_free(workspace);
+}
+
 int main(void) {
   most_queries();
   lent();
+  changed();
   configurations();
   queries();
   asking();

@@ -48,6 +48,46 @@ static void lent(void) {
   for (int i = 0; i < 2; i++) mq_mld_free(links[i]);
 }
 
+/* Two groups that begin, one that ends, and what changes none; in the link's own workspace, and in one that is lent. */
+static void changed(void) {
+  static const uint8_t two[] = {0x8f, 0, 0x48, 0x70, 0, 0, 0, 2, 4, 0, 0, 0, 0xff, 0x0e, 0, 0, 0, 0, 0, 0, 0, 0, 0, 0, 0, 0, 0x12, 0x35,
+                                4, 0, 0, 0, 0xff, 0x0e, 0, 0, 0, 0, 0, 0, 0, 0, 0, 0, 0, 0, 0x12, 0x34};
+  uint8_t addresses[3][16], empty[3][16];
+  mq_mld_config c = mq_mld_defaults(own);
+  mq_mld link, bare;
+  mq_mld_workspace workspace;
+  mq_mld_group held;
+  mq_answer a;
+  CHECK(mq_mld_new(c, 0, &link) == MQ_DONE && mq_mld_new_bare(c, 0, &bare) == MQ_DONE);
+  CHECK(mq_mld_workspace_new(c, &workspace) == MQ_DONE);
+  memset(empty, 0x55, sizeof empty);
+  memset(addresses, 0x55, sizeof addresses);
+  a = mq_mld_receive(&link, host, routers, 1, true, two, sizeof two, 10, NULL, 0);
+  CHECK(!a.dropped && a.applied == 2 && mq_mld_changed(&link, 0, addresses, 1) == 2);
+  CHECK(!memcmp(addresses[0], group, 16) && !memcmp(addresses[1], empty, 32));
+  CHECK(mq_mld_changed(&link, 1, addresses, 3) == 2 && addresses[0][15] == 0x35 && !memcmp(addresses[1], empty, 32));
+  CHECK(mq_mld_changed(&link, 0, addresses, 3) == 2 && !memcmp(addresses[0], group, 16));
+  CHECK(addresses[1][0] == 0xff && addresses[1][15] == 0x35 && !memcmp(addresses[2], empty, 16));
+  memset(addresses, 0x55, sizeof addresses);
+  CHECK(mq_mld_changed(&link, 2, addresses, 3) == 2 && mq_mld_changed(&link, 0, NULL, 0) == 2);
+  a = mq_mld_receive(&link, host, routers, 1, true, report, sizeof report, 1000, NULL, 0);
+  CHECK(a.applied == 1 && mq_mld_changed(&link, 0, addresses, 3) == 0);
+  CHECK(mq_mld_tick(&link, 260009, NULL, 0).status == MQ_DONE && mq_mld_changed(&link, 0, addresses, 3) == 0);
+  CHECK(!memcmp(addresses, empty, sizeof empty));
+  CHECK(mq_mld_tick(&link, 260010, NULL, 0).status == MQ_DONE && mq_mld_changed(&link, 0, addresses, 3) == 1);
+  CHECK(addresses[0][15] == 0x35 && !memcmp(addresses[1], empty, 32));
+  CHECK(mq_mld_group_at(&link, addresses[0], &held, NULL, 0).groups == 0);
+  a = mq_mld_receive_in(&bare, &workspace, host, routers, 1, true, two, sizeof two, 10, NULL, 0);
+  CHECK(a.applied == 2 && mq_mld_workspace_changed(&workspace, 1, addresses, 3) == 2 && addresses[0][15] == 0x35);
+  CHECK(mq_mld_changed(&bare, 0, addresses, 3) == 0);
+  CHECK(mq_mld_tick_in(&link, &workspace, 261000, NULL, 0).status == MQ_DONE && mq_mld_len(&link) == 0);
+  CHECK(mq_mld_workspace_changed(&workspace, 0, addresses, 3) == 1 && !memcmp(addresses[0], group, 16));
+  CHECK(mq_mld_changed(&link, 0, addresses, 3) == 1 && addresses[0][15] == 0x35);
+  mq_mld_free(link);
+  mq_mld_free(bare);
+  mq_mld_workspace_free(workspace);
+}
+
 int main(void) {
   uint8_t room[200], address[16] = {0};
   const uint8_t *at = room;
@@ -101,5 +141,6 @@ int main(void) {
   CHECK(mq_mld_outlet_bytes(c) > 46);
   mq_mld_free(link);
   lent();
+  changed();
   return told();
 }

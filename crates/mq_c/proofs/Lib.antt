@@ -17,4 +17,6 @@ mod RoomForTicks
 mod RoomSuffices
 mod RoomTaken
 mod ShownGroups
+mod ToldAddresses
 mod UnheldGroups
+mod WorkedIn

@@ -1,5 +1,5 @@
 -- One group in memory that is lent.
-use Rattle.std.proofs.Common.{◌≡◌, ℕ, ◌<◌, ◌≤◌, Bool, true, false, cond, nat_le, List, [], ◌++◌, length, take, drop, refl, sym, ap, ◌∙◌, arith}
+use Rattle.std.proofs.Common.{◌≡◌, ℕ, ◌<◌, ◌≤◌, Bool, true, false, cond, nat_le, List, ◌++◌, length, take, drop, refl, sym, ap, ◌∙◌, arith}
 use Rattle.std.specs.Prelude.{map as list_map}
 use Rattle.std.proofs.lemmas.Bool.Decides.{nat_tests}
 use Rattle.std.proofs.lemmas.List.{take_all}
@@ -7,8 +7,7 @@ use Rattle.std.specs.FinMap as map
 use Rattle.mq_sets.specs.Ascending.{IsAscending}
 use Rattle.mq_table.specs.Stored.{number_in, timers_in}
 use Rattle.mq_table.specs.declared.sources.Source.{Source}
-use Rattle.mq_sched.specs.Schedule.{ScheduledGroup}
-use Rattle.mq_held.specs.Groups.{Groups, group_at, unheld, sources_of}
+use Rattle.mq_held.specs.Groups.{Groups, group_at, sources_of}
 use Rattle.mq_c.specs.declared.forms.Page.{Page}
 use Rattle.mq_c.specs.Pages.{Entry, SourceEntry, ShowsGroup}
 use Rattle.mq_c.proofs.ShownGroups.{row_forms}

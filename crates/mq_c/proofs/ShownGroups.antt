@@ -31,7 +31,7 @@ set_behind front old n y is within =
     ∙ rw (← add-one) (sym (append_assoc front (y ∷ []) (drop (n + 1) old)))
 
 -- one item of a list more at the front of the memory
-pub one_more : {X Y : Type 0} (f : X → Y) (from : List X) (old out : List Y) (i : ℕ) (d : X) → i < length from → length from ≤ length old
+pub one_more : {X Y : Type 0} (f : X → Y) (from : List X) (old out : List Y) (i : ℕ) (d : X) → i < length from → i < length old
     → out ≡ list_map f (take i from) ++ drop i old → set out i (f (get_or from i d)) ≡ list_map f (take (i + 1) from) ++ drop (i + 1) old
 one_more f from old out i d within room is =
     ap (λ (l : List _). set l i (f (get_or from i d))) is

@@ -17,6 +17,10 @@ asked c = asked_of Igmp c.settings (from_be_bytes w32 c.own) c.source_specific
 abbrev pub envelope : (source : List ℕ) → Envelope
 envelope source = record { source = from_be_bytes w32 source; destination = 0; hop_limit = 0; alert = false }
 
+-- an address
+abbrev pub octets_with : (address : ℕ) → List ℕ
+octets_with address = to_be_bytes w32 address
+
 -- a group that is held, and a source of it
 abbrev pub group_with : (address sources deadline v1 v2 : ℕ) → IgmpGroup
 group_with address sources deadline v1 v2 =

@@ -1,4 +1,5 @@
 pub mod Calls
+pub mod Changed
 pub mod Counted
 pub mod Freeing
 pub mod Igmp

@@ -22,6 +22,10 @@ envelope source destination hop_limit alert = record {
   alert = alert;
 }
 
+-- an address
+abbrev pub octets_with : (address : ℕ) → List ℕ
+octets_with address = to_be_bytes w128 address
+
 -- a group that is held, and a source of it; MLD has no version 2 besides
 abbrev pub group_with : (address sources deadline v1 v2 : ℕ) → MldGroup
 group_with address sources deadline v1 v2 =

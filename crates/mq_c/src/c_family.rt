@@ -7,9 +7,12 @@ use crate::forms::{IgmpGroup, IgmpSource, MldGroup, MldSource};
 use mq_count::{Addr4, Addr6};
 use mq_link::{Family, Igmp, Mld};
 
-/// A family whose groups and sources cross to C.
+/// A family whose addresses, groups and sources cross to C.
 pub(crate) trait CFamily: Family {
     ghost use Rattle.std.specs.Prelude.{◌≡◌, ℕ};
+
+    /// An address.
+    type Octets: Copy;
 
     /// A group that is held.
     type Group: Copy;
@@ -17,9 +20,15 @@ pub(crate) trait CFamily: Family {
     /// A source of it.
     type Source: Copy;
 
+    ghost octets_with: { (address : ℕ) → Self.Octets };
+
     ghost group_with: { (address sources deadline v1 v2 : ℕ) → Self.Group };
 
     ghost source_with: { (address deadline : ℕ) → Self.Source };
+
+    /// An address, most significant octet first.
+    fn octets_in_c(address: Self::Address) -> Self::Octets
+        ensures { result ≡ octets_with (Self.Address.number address) };
 
     /// A group with so many sources and these deadlines.
     fn group_in_c(
@@ -37,13 +46,21 @@ pub(crate) trait CFamily: Family {
 }
 
 impl CFamily for Igmp {
+    type Octets = [u8; 4];
+
     type Group = IgmpGroup;
 
     type Source = IgmpSource;
 
+    ghost octets_with = { igmp.octets_with };
+
     ghost group_with = { igmp.group_with };
 
     ghost source_with = { igmp.source_with };
+
+    fn octets_in_c(address: Addr4) -> [u8; 4] {
+        address.octets()
+    }
 
     fn group_in_c(address: Addr4, sources: u32, deadline: u64, v1: u64, v2: u64) -> IgmpGroup {
         IgmpGroup {
@@ -64,13 +81,21 @@ impl CFamily for Igmp {
 }
 
 impl CFamily for Mld {
+    type Octets = [u8; 16];
+
     type Group = MldGroup;
 
     type Source = MldSource;
 
+    ghost octets_with = { mld.octets_with };
+
     ghost group_with = { mld.group_with };
 
     ghost source_with = { mld.source_with };
+
+    fn octets_in_c(address: Addr6) -> [u8; 16] {
+        address.octets()
+    }
 
     fn group_in_c(address: Addr6, sources: u32, deadline: u64, v1: u64, _v2: u64) -> MldGroup {
         MldGroup {

@@ -4,10 +4,12 @@ ghost use Rattle.std.specs.Prelude.{◌≡◌, ◌+◌, ◌*◌, ◌<◌, ◌≤
 ghost use Rattle.std.specs.FinMap as map;
 ghost use Rattle.mq_count.specs.Spending.{Spends};
 ghost use Rattle.mq_link.specs.Cost.{cost_of};
+ghost use Rattle.mq_link.specs.Forwarding.{changed_by_datagram, changed_by_tick};
 ghost use Rattle.mq_link.specs.Moved.{most_moved};
 ghost use Rattle.mq_link.specs.State.{IsWellFormed, held_of, sources_in};
 ghost use Rattle.mq_link.specs.Tick.{moment_of, next_of};
 ghost use Rattle.mq_c.specs.Calls.{CallsAt, ReceivesInto, TicksInto};
+ghost use Rattle.mq_c.specs.Changed.{WorksInOwn};
 ghost use Rattle.mq_c.specs.Lent as spec;
 ghost use Rattle.mq_c.specs.Making.{fresh_link};
 ghost use Rattle.mq_c.specs.Rooms.{longest_body, receive_room, tick_room};
@@ -62,7 +64,7 @@ impl<F: Family> CLink<F> {
 
     /// Does what is due, in its own workspace; without one, nothing.
     pub(crate) fn tick(&mut self, now: u64, out: &mut [u8]) -> Answer
-        ensures workspace { self.new.workspace ≡ self.old.workspace }
+        ensures workspace { WorksInOwn self.old.link.config.limits now (changed_by_tick self.old.link.config now self.old.link.state) self.old.workspace self.new.workspace }
         ensures ticks { CallsAt (spec.has_own self.old) now (TicksInto F.Address.WIDTH now self.old.link self.new.link out.old out.new result)
             self.old.link self.new.link out.old out.new result }
         ensures formed { IsWellFormed self.new.link.config self.new.link.state }
@@ -88,7 +90,8 @@ impl<F: Family> CLink<F> {
         now: u64,
         out: &mut [u8],
     ) -> Answer
-        ensures workspace { self.new.workspace ≡ self.old.workspace }
+        ensures workspace { WorksInOwn self.old.link.config.limits now
+            (changed_by_datagram self.old.link.config (F.envelope_of envelope) body.now now self.old.link.state) self.old.workspace self.new.workspace }
         ensures receives { CallsAt (spec.has_own self.old) now (ReceivesInto F.Address.WIDTH (F.envelope_of envelope) body.now now self.old.link self.new.link
             out.old out.new result) self.old.link self.new.link out.old out.new result }
         ensures formed { IsWellFormed self.new.link.config self.new.link.state }

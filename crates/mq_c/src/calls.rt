@@ -4,12 +4,14 @@ ghost use Rattle.std.specs.Prelude.{◌≡◌, ◌+◌, ◌*◌, ◌<◌, ◌≤
 ghost use Rattle.std.specs.FinMap as map;
 ghost use Rattle.mq_count.specs.Spending.{Spends};
 ghost use Rattle.mq_link.specs.Cost.{cost_of};
+ghost use Rattle.mq_link.specs.Forwarding.{changed_by_datagram, changed_by_tick};
 ghost use Rattle.mq_link.specs.Moved.{most_moved};
 ghost use Rattle.mq_link.specs.State.{IsWellFormed, held_of, sources_in};
 ghost use Rattle.mq_link.specs.Tick.{moment_of, next_of};
 ghost use Rattle.mq_link.specs.Workspace.{suffices};
 ghost use Rattle.mq_c.specs.Calls as spec;
 ghost use Rattle.mq_c.specs.Calls.{CallsAt, IsRefusedAs, TicksInto, ReceivesInto};
+ghost use Rattle.mq_c.specs.Changed.{WorksIn};
 ghost use Rattle.mq_c.specs.Queries.{outbox_of};
 ghost use Rattle.mq_c.specs.Rooms.{longest_body, receive_room, tick_room};
 
@@ -93,7 +95,7 @@ fn tick_at<F: Family>(
     out: &mut [u8],
 ) -> Answer
     requires in_range { now ≤ 2 ^ 53 }
-    ensures workspace { workspace.new ≡ workspace.old }
+    ensures workspace { WorksIn (suffices link.old.config.limits workspace.old) now (changed_by_tick link.old.config now link.old.state) workspace.old workspace.new }
     ensures config { link.new.config ≡ link.old.config }
     ensures formed { IsWellFormed link.new.config link.new.state }
     ensures later { suffices link.old.config.limits workspace.old ≡ true → now < next_of link.new.state }
@@ -124,7 +126,8 @@ fn receive_at<F: Family>(
     out: &mut [u8],
 ) -> Answer
     requires in_range { now ≤ 2 ^ 53 }
-    ensures workspace { workspace.new ≡ workspace.old }
+    ensures workspace { WorksIn (suffices link.old.config.limits workspace.old) now (changed_by_datagram link.old.config (F.envelope_of envelope.now) body.now now link.old.state)
+        workspace.old workspace.new }
     ensures config { link.new.config ≡ link.old.config }
     ensures formed { IsWellFormed link.new.config link.new.state }
     ensures receives { suffices link.old.config.limits workspace.old ≡ true → ReceivesInto F.Address.WIDTH (F.envelope_of envelope.now) body.now now link.old link.new
@@ -150,7 +153,7 @@ pub(crate) fn tick<F: Family>(
     now: u64,
     out: &mut [u8],
 ) -> Answer
-    ensures workspace { workspace.new ≡ workspace.old }
+    ensures workspace { WorksIn (suffices link.old.config.limits workspace.old) now (changed_by_tick link.old.config now link.old.state) workspace.old workspace.new }
     ensures ticks { CallsAt (suffices link.old.config.limits workspace.old) now (TicksInto F.Address.WIDTH now link.old link.new out.old out.new result) link.old link.new
         out.old out.new result }
     ensures formed { IsWellFormed link.new.config link.new.state }
@@ -177,7 +180,8 @@ pub(crate) fn receive<F: Family>(
     now: u64,
     out: &mut [u8],
 ) -> Answer
-    ensures workspace { workspace.new ≡ workspace.old }
+    ensures workspace { WorksIn (suffices link.old.config.limits workspace.old) now (changed_by_datagram link.old.config (F.envelope_of envelope) body.now now link.old.state)
+        workspace.old workspace.new }
     ensures receives { CallsAt (suffices link.old.config.limits workspace.old) now (ReceivesInto F.Address.WIDTH (F.envelope_of envelope) body.now now link.old link.new
         out.old out.new result) link.old link.new out.old out.new result }
     ensures formed { IsWellFormed link.new.config link.new.state }

@@ -12,14 +12,16 @@ ghost use Rattle.mq_link.specs.Cost.{cost_of};
 ghost use Rattle.mq_link.specs.Defaults.{configured_by_default};
 ghost use Rattle.mq_c.specs.Milliseconds.{no_deadline};
 ghost use Rattle.mq_sched.specs.Election.{is_querier, Other};
+ghost use Rattle.mq_link.specs.Forwarding.{changed_by_datagram, changed_by_tick};
 ghost use Rattle.mq_link.specs.Moved.{most_moved};
 ghost use Rattle.mq_link.specs.State as state;
 ghost use Rattle.mq_link.specs.State.{held_of, sources_in};
 ghost use Rattle.mq_link.specs.Tick.{moment_of, next_of};
 ghost use Rattle.std.specs.FinMap as map;
 ghost use Rattle.mq_c.specs.Calls.{CallsAt, ReceivesInto, TicksInto};
+ghost use Rattle.mq_c.specs.Changed.{TellsChanged, WorksInOwn, own_changed};
 ghost use Rattle.mq_c.specs.Counted.{counted};
-ghost use Rattle.mq_c.specs.Igmp.{asked, envelope, group_with, source_with};
+ghost use Rattle.mq_c.specs.Igmp.{asked, envelope, group_with, octets_with, source_with};
 ghost use Rattle.mq_c.specs.Lent.{has_own, workspace_for};
 ghost use Rattle.mq_c.specs.LineRoom.{LineStands};
 ghost use Rattle.mq_c.specs.Making.{IsMade, IsRefused};
@@ -28,6 +30,7 @@ ghost use Rattle.mq_c.specs.Pages.{IsPage, ShowsGroup, group_form, source_form};
 ghost use Rattle.mq_c.specs.Rooms.{longest_body, receive_room, tick_room};
 
 use crate::c_link::CLink;
+use crate::changed::put_own_changed;
 use crate::forms::{Answer, Counted, IgmpConfig, IgmpGroup, IgmpSource, Page};
 use crate::igmp_object::{IgmpObject, IgmpPlace};
 use crate::lines::put_igmp_line;
@@ -109,7 +112,8 @@ pub extern "C" fn mq_igmp_receive(
     queries: &mut [u8],
 ) -> Answer
     ensures at { link.new.at ≡ link.old.at }
-    ensures workspace { link.new.kept.workspace ≡ link.old.kept.workspace }
+    ensures workspace { WorksInOwn link.old.kept.link.config.limits now (changed_by_datagram link.old.kept.link.config (envelope source.now) body.now now link.old.kept.link.state)
+        link.old.kept.workspace link.new.kept.workspace }
     ensures receives { CallsAt (has_own link.old.kept) now (ReceivesInto 4 (envelope source.now) body.now now link.old.kept.link link.new.kept.link queries.old queries.new result)
         link.old.kept.link link.new.kept.link queries.old queries.new result }
     ensures formed { state.IsWellFormed link.new.kept.link.config link.new.kept.link.state }
@@ -127,7 +131,8 @@ pub extern "C" fn mq_igmp_receive(
 #[unsafe(no_mangle)]
 pub extern "C" fn mq_igmp_tick(link: &mut IgmpObject, now: u64, queries: &mut [u8]) -> Answer
     ensures at { link.new.at ≡ link.old.at }
-    ensures workspace { link.new.kept.workspace ≡ link.old.kept.workspace }
+    ensures workspace { WorksInOwn link.old.kept.link.config.limits now (changed_by_tick link.old.kept.link.config now link.old.kept.link.state)
+        link.old.kept.workspace link.new.kept.workspace }
     ensures ticks { CallsAt (has_own link.old.kept) now (TicksInto 4 now link.old.kept.link link.new.kept.link queries.old queries.new result)
         link.old.kept.link link.new.kept.link queries.old queries.new result }
     ensures formed { state.IsWellFormed link.new.kept.link.config link.new.kept.link.state }
@@ -272,6 +277,19 @@ pub extern "C" fn mq_igmp_group_at(
         group,
         sources,
     )
+}
+
+/// The groups that the last call in the link's own workspace changed.
+#[unsafe(no_mangle)]
+pub extern "C" fn mq_igmp_changed(
+    link: &mut IgmpObject,
+    first: u32,
+    addresses: &mut [[u8; 4]],
+) -> u32
+    ensures changed { TellsChanged octets_with (own_changed link.old.kept.workspace) first addresses.old addresses.new result }
+    ensures same { link.new ≡ link.old }
+{
+    put_own_changed::<Igmp>(link.lend(), first, addresses)
 }
 
 /// The line of a message, or of its fault.

@@ -6,19 +6,22 @@ ghost use denote.Follow.{follows};
 ghost use Rattle.std.specs.FinMap as map;
 ghost use Rattle.mq_count.specs.Spending.{Spends};
 ghost use Rattle.mq_link.specs.Cost.{cost_of};
+ghost use Rattle.mq_link.specs.Forwarding.{changed_by_datagram, changed_by_tick};
 ghost use Rattle.mq_link.specs.Moved.{most_moved};
 ghost use Rattle.mq_link.specs.State as state;
 ghost use Rattle.mq_link.specs.State.{held_of, sources_in};
 ghost use Rattle.mq_link.specs.Tick.{moment_of, next_of};
 ghost use Rattle.mq_link.specs.Workspace.{suffices};
 ghost use Rattle.mq_c.specs.Calls.{CallsAt, ReceivesInto, TicksInto};
-ghost use Rattle.mq_c.specs.Igmp.{asked, envelope};
+ghost use Rattle.mq_c.specs.Changed.{TellsChanged, WorksIn};
+ghost use Rattle.mq_c.specs.Igmp.{asked, envelope, octets_with};
 ghost use Rattle.mq_c.specs.Making.{IsMade, IsRefused, IsWorkspaceMade, IsWorkspaceRefused};
 ghost use Rattle.mq_c.specs.Rooms.{longest_body, receive_room, tick_room};
 ghost use Rattle.mq_c.specs.Rows.{igmp_workspace_row};
 ghost use Rattle.mq_c.specs.contracts.igmp_workspace.IgmpWorkspace as object;
 
 use crate::calls;
+use crate::changed::put_changed;
 use crate::forms::{Answer, IgmpConfig};
 use crate::igmp_object::{IgmpObject, IgmpPlace};
 use crate::igmp_workspace::{IgmpWorkspace, IgmpWorkspacePlace};
@@ -110,7 +113,10 @@ pub extern "C" fn mq_igmp_receive_in(
 ) -> Answer
     ensures at { link.new.at ≡ link.old.at }
     ensures own { link.new.kept.workspace ≡ link.old.kept.workspace }
-    ensures workspace { workspace.new ≡ workspace.old }
+    ensures workspace_at { workspace.new.at ≡ workspace.old.at }
+    ensures workspace { let before = link.old.kept.link in
+        WorksIn (suffices before.config.limits workspace.old.kept) now (changed_by_datagram before.config (envelope source.now) body.now now before.state)
+        workspace.old.kept workspace.new.kept }
     ensures receives { let before = link.old.kept.link in
         CallsAt (suffices before.config.limits workspace.old.kept) now (ReceivesInto 4 (envelope source.now) body.now now before link.new.kept.link queries.old queries.new result)
         before link.new.kept.link queries.old queries.new result }
@@ -136,7 +142,9 @@ pub extern "C" fn mq_igmp_tick_in(
 ) -> Answer
     ensures at { link.new.at ≡ link.old.at }
     ensures own { link.new.kept.workspace ≡ link.old.kept.workspace }
-    ensures workspace { workspace.new ≡ workspace.old }
+    ensures workspace_at { workspace.new.at ≡ workspace.old.at }
+    ensures workspace { let before = link.old.kept.link in
+        WorksIn (suffices before.config.limits workspace.old.kept) now (changed_by_tick before.config now before.state) workspace.old.kept workspace.new.kept }
     ensures ticks { let before = link.old.kept.link in
         CallsAt (suffices before.config.limits workspace.old.kept) now (TicksInto 4 now before link.new.kept.link queries.old queries.new result)
         before link.new.kept.link queries.old queries.new result }
@@ -150,4 +158,17 @@ pub extern "C" fn mq_igmp_tick_in(
 {
     let lent = workspace.lend();
     calls::tick(&mut link.lend().link, lent, now, queries)
+}
+
+/// The groups that the last call changed that the workspace was lent to.
+#[unsafe(no_mangle)]
+pub extern "C" fn mq_igmp_workspace_changed(
+    workspace: &mut IgmpWorkspace,
+    first: u32,
+    addresses: &mut [[u8; 4]],
+) -> u32
+    ensures changed { TellsChanged octets_with workspace.old.kept.changed first addresses.old addresses.new result }
+    ensures same { workspace.new ≡ workspace.old }
+{
+    put_changed::<Igmp>(workspace.lend(), first, addresses)
 }

@@ -3,7 +3,7 @@
 //! - the objects that C holds, and the places that it lends for new ones: `igmp_object` and `mld_object` of links,
 //!   `igmp_workspace` and `mld_workspace` of workspaces, over `loose`; and what a link of C is: `c_link`;
 //! - what crosses besides: `forms`, `statuses`, `milliseconds`, `counting`, and what the families differ in there: `c_family`;
-//! - what is written to memory that C lends: `queries`, `pages`, `other_querier`, `line_room` and `lines`;
+//! - what is written to memory that C lends: `queries`, `pages`, `changed`, `other_querier`, `line_room` and `lines`;
 //! - the calls, for both families: `making`, `calls`, `bounds`; and the archive's `version`;
 //! - and as C calls them: `igmp` and `mld`, and with a workspace that is lent `igmp_lent` and `mld_lent`.
 #![tactic(auto)]
@@ -12,6 +12,7 @@ mod bounds;
 mod c_family;
 mod c_link;
 mod calls;
+mod changed;
 mod counting;
 mod forms;
 mod igmp;

@@ -13,14 +13,16 @@ ghost use Rattle.mq_link.specs.Cost.{cost_of};
 ghost use Rattle.mq_link.specs.Defaults.{configured_by_default};
 ghost use Rattle.mq_c.specs.Milliseconds.{no_deadline};
 ghost use Rattle.mq_sched.specs.Election.{is_querier, Other};
+ghost use Rattle.mq_link.specs.Forwarding.{changed_by_datagram, changed_by_tick};
 ghost use Rattle.mq_link.specs.Moved.{most_moved};
 ghost use Rattle.mq_link.specs.State as state;
 ghost use Rattle.mq_link.specs.State.{held_of, sources_in};
 ghost use Rattle.mq_link.specs.Tick.{moment_of, next_of};
 ghost use Rattle.std.specs.FinMap as map;
 ghost use Rattle.mq_c.specs.Calls.{CallsAt, ReceivesInto, TicksInto};
+ghost use Rattle.mq_c.specs.Changed.{TellsChanged, WorksInOwn, own_changed};
 ghost use Rattle.mq_c.specs.Counted.{counted};
-ghost use Rattle.mq_c.specs.Mld.{asked, envelope, group_with, source_with};
+ghost use Rattle.mq_c.specs.Mld.{asked, envelope, group_with, octets_with, source_with};
 ghost use Rattle.mq_c.specs.Lent.{has_own, workspace_for};
 ghost use Rattle.mq_c.specs.LineRoom.{LineStands};
 ghost use Rattle.mq_c.specs.Making.{IsMade, IsRefused};
@@ -29,6 +31,7 @@ ghost use Rattle.mq_c.specs.Pages.{IsPage, ShowsGroup, group_form, source_form};
 ghost use Rattle.mq_c.specs.Rooms.{longest_body, receive_room, tick_room};
 
 use crate::c_link::CLink;
+use crate::changed::put_own_changed;
 use crate::forms::{Answer, Counted, MldConfig, MldGroup, MldSource, Page};
 use crate::lines::put_mld_line;
 use crate::making::{default_settings, made};
@@ -113,7 +116,8 @@ pub extern "C" fn mq_mld_receive(
     queries: &mut [u8],
 ) -> Answer
     ensures at { link.new.at ≡ link.old.at }
-    ensures workspace { link.new.kept.workspace ≡ link.old.kept.workspace }
+    ensures workspace { WorksInOwn link.old.kept.link.config.limits now (changed_by_datagram link.old.kept.link.config (envelope source.now destination.now hop_limit alert) body.now now link.old.kept.link.state)
+        link.old.kept.workspace link.new.kept.workspace }
     ensures receives { CallsAt (has_own link.old.kept) now (ReceivesInto 16 (envelope source.now destination.now hop_limit alert) body.now now link.old.kept.link link.new.kept.link queries.old queries.new result)
         link.old.kept.link link.new.kept.link queries.old queries.new result }
     ensures formed { state.IsWellFormed link.new.kept.link.config link.new.kept.link.state }
@@ -134,7 +138,8 @@ pub extern "C" fn mq_mld_receive(
 #[unsafe(no_mangle)]
 pub extern "C" fn mq_mld_tick(link: &mut MldObject, now: u64, queries: &mut [u8]) -> Answer
     ensures at { link.new.at ≡ link.old.at }
-    ensures workspace { link.new.kept.workspace ≡ link.old.kept.workspace }
+    ensures workspace { WorksInOwn link.old.kept.link.config.limits now (changed_by_tick link.old.kept.link.config now link.old.kept.link.state)
+        link.old.kept.workspace link.new.kept.workspace }
     ensures ticks { CallsAt (has_own link.old.kept) now (TicksInto 16 now link.old.kept.link link.new.kept.link queries.old queries.new result)
         link.old.kept.link link.new.kept.link queries.old queries.new result }
     ensures formed { state.IsWellFormed link.new.kept.link.config link.new.kept.link.state }
@@ -279,6 +284,19 @@ pub extern "C" fn mq_mld_group_at(
         group,
         sources,
     )
+}
+
+/// The groups that the last call in the link's own workspace changed.
+#[unsafe(no_mangle)]
+pub extern "C" fn mq_mld_changed(
+    link: &mut MldObject,
+    first: u32,
+    addresses: &mut [[u8; 16]],
+) -> u32
+    ensures changed { TellsChanged octets_with (own_changed link.old.kept.workspace) first addresses.old addresses.new result }
+    ensures same { link.new ≡ link.old }
+{
+    put_own_changed::<Mld>(link.lend(), first, addresses)
 }
 
 /// The line of a message, or of its fault.

@@ -3,6 +3,7 @@ use Rattle.mq_link.specs.Configuration.{IsFaultless}
 use Rattle.mq_c.specs.Queries.{outbox_of, Puts}
 use Rattle.mq_c.proofs.HandedInto.{handed}
 use Rattle.mq_c.proofs.RoomForReceives.{receive_leaves_none}
+use Rattle.mq_c.proofs.WorkedIn.{worked_in}
 use Rattle.mq_c.proofs.calls.receive_at.Goals as goal
 
 pub returns-in-Ok-clause-receives : goal.returns-in-Ok-clause-receives
@@ -29,3 +30,13 @@ returns-in-Ok-clause-none_left_out g c room short =
     let enough = sym c.receive.ensures.answer ∙ ap is_ok c.in-Ok.is in
     receive_leaves_none g.F.Address.WireKey.WIDTH (g.F.Family.envelope_of c.args.envelope.now) c.args.body.now c.args.now _ _ _ _ _
     (subst IsFaultless c.config.ensures c.is_faultless.ensures.faultless) c.is_well_formed.ensures.formed (returns-in-Ok-clause-receives g c enough) room short
+
+pub returns-in-Ok-clause-workspace : goal.returns-in-Ok-clause-workspace
+returns-in-Ok-clause-workspace g c =
+    worked_in _ c.args.now _ c.args.workspace.now c.receive.new.workspace (is_ok c.receive.result) c.receive.ensures.answer c.requires.in_range
+    c.receive.ensures.workspace c.receive.ensures.changed c.receive.ensures.unchanged
+
+pub returns-in-Err-clause-workspace : goal.returns-in-Err-clause-workspace
+returns-in-Err-clause-workspace g c =
+    worked_in _ c.args.now _ c.args.workspace.now c.receive.new.workspace (is_ok c.receive.result) c.receive.ensures.answer c.requires.in_range
+    c.receive.ensures.workspace c.receive.ensures.changed c.receive.ensures.unchanged

@@ -2,6 +2,7 @@ use Rattle.std.proofs.Common.{is_ok, refl, sym, ap, ◌∙◌, subst}
 use Rattle.mq_c.specs.Queries.{outbox_of, Puts}
 use Rattle.mq_c.proofs.HandedInto.{handed}
 use Rattle.mq_c.proofs.RoomForTicks.{tick_leaves_none}
+use Rattle.mq_c.proofs.WorkedIn.{worked_in}
 use Rattle.mq_c.proofs.calls.tick_at.Goals as goal
 
 pub returns-in-Ok-clause-ticks : goal.returns-in-Ok-clause-ticks
@@ -27,3 +28,13 @@ returns-in-Ok-clause-none_left_out g c room =
     let enough = sym c.tick.ensures.answer ∙ ap is_ok c.in-Ok.is in
     tick_leaves_none g.F.Address.WireKey.WIDTH c.args.now _ _ _ _ _
     c.is_well_formed.ensures.formed (returns-in-Ok-clause-ticks g c enough) room
+
+pub returns-in-Ok-clause-workspace : goal.returns-in-Ok-clause-workspace
+returns-in-Ok-clause-workspace g c =
+    worked_in _ c.args.now _ c.args.workspace.now c.tick.new.workspace (is_ok c.tick.result) c.tick.ensures.answer c.requires.in_range
+    c.tick.ensures.workspace c.tick.ensures.changed c.tick.ensures.unchanged
+
+pub returns-in-Err-clause-workspace : goal.returns-in-Err-clause-workspace
+returns-in-Err-clause-workspace g c =
+    worked_in _ c.args.now _ c.args.workspace.now c.tick.new.workspace (is_ok c.tick.result) c.tick.ensures.answer c.requires.in_range
+    c.tick.ensures.workspace c.tick.ensures.changed c.tick.ensures.unchanged
