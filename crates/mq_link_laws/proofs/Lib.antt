@@ -8,3 +8,4 @@ pub mod DatagramsAhead
 pub mod HeardFilters
 pub mod Following
 pub mod TurnedSources
+pub mod SpokenGroups

@@ -1,10 +1,20 @@
--- A table of filters that is kept beside a link: it takes over the filter of each group that a call names.
-use Rattle.std.specs.Prelude.{◌≡◌, ℕ, Bool, if◌then◌else◌, List, [], ◌∷◌}
+-- Which groups a message speaks of, and a table of filters that is kept beside a link: it takes over the filter of each group
+-- that a call names.
+use Rattle.std.specs.Prelude.{◌≡◌, ℕ, Bool, if◌then◌else◌, List, [], ◌∷◌, map as list_map}
+use Rattle.mq_wire.specs.declared.message.Message.{Message}
+use Rattle.mq_wire.specs.declared.message.Message.TheVariants.{Query as QueryMessage, OldReport, Leave as LeaveMessage, Report as ReportMessage}
 use Rattle.mq_table.specs.Filter.{Filter, filter_of, nothing, forwards_by}
 use Rattle.mq_link.specs.Configuration.{Configuration}
 use Rattle.mq_link.specs.Forwarding.{changed_by_event}
 use Rattle.mq_link.specs.Run.{Happening}
 use Rattle.mq_link.specs.State.{LinkState, group_at, forwards}
+
+-- the groups that a message speaks of; a query's group is only lowered
+abbrev pub groups_in : Message ℕ → List ℕ
+groups_in (QueryMessage query) = []
+groups_in (OldReport version group) = group ∷ []
+groups_in (LeaveMessage group) = group ∷ []
+groups_in (ReportMessage records) = list_map (λ r. r.group) records
 
 -- what a state forwards of a group
 abbrev pub filter_at : LinkState → (group : ℕ) → Filter

@@ -35,7 +35,7 @@ ghost use Rattle.mq_link.specs.Receive.{Envelope, read_of, pseudo_of, kind_of, r
 ghost use Rattle.mq_link.specs.Run.{Event, Happening, answered, step_of, answer_to, HandsOut, Run, events_of, events_alone};
 ghost use Rattle.mq_link.specs.Sent.{Outgoing};
 ghost use Rattle.mq_link_laws.specs.Laws.{AllAfter, ChangesNothing, IsOnlyCounted, DifferAt, IsGivenWhere, CountsAnswer, records_in, CountsRecords, unanswered, HappenAlike, would_be, would_leave};
-ghost use Rattle.mq_link_laws.specs.Following.{AllFollowed, FilterTable, filter_at, nothing_of_any, taken_over};
+ghost use Rattle.mq_link_laws.specs.Following.{AllFollowed, FilterTable, filter_at, groups_in, nothing_of_any, taken_over};
 
 /// A link is well-formed at its start and stays so, whatever it is handed: its groups are as they may be held and
 /// within the limits, and a router that isn't querier has nothing to send.
@@ -251,7 +251,9 @@ pub fn who_is_not_named_is_as_before()
 {}
 
 /// A step changes the filter of a group exactly where it turns some source: one that is forwarded before it or after it, and
-/// not both. So a tick names those groups of which it turns a source, and no others.
+/// not both. So a tick names those groups of which it turns a source, and no others. Of a group that its message doesn't speak
+/// of a datagram names what the tick at its moment does, and one that spells no message of every group. The addresses that a
+/// call answers are the only ones that it could.
 pub fn who_is_named_was_changed()
     ensures filter { (before after : GroupState)
         → (changes_filter before after ≡ true) ↔ (filter_of after ≡ filter_of before → ⊥) }
@@ -260,6 +262,16 @@ pub fn who_is_named_was_changed()
     ensures tick { (config : Configuration) (now : ℕ) (state : LinkState) (group : ℕ)
         → (changed_by_tick config now state group ≡ true)
         ↔ ((source : ℕ) × (forwards (tick_of config now state).state group source ≡ not (forwards state group source))) }
+    ensures spoken_of { (config : Configuration) (envelope : Envelope) (bytes : List ℕ) (now : ℕ) (state : LinkState)
+        (group : ℕ) (message : Message ℕ)
+        → read_of config.family (pseudo_of config.family envelope bytes) bytes ≡ Ok message
+        → set_of (λ a. a) (groups_in message) group ≡ false
+        → changed_by_datagram config envelope bytes now state group ≡ changed_by_tick config now state group }
+    ensures unread { (config : Configuration) (envelope : Envelope) (bytes : List ℕ) (now : ℕ) (state : LinkState)
+        (group : ℕ) (fault : WireFault)
+        → read_of config.family (pseudo_of config.family envelope bytes) bytes ≡ Err fault
+        → changed_by_datagram config envelope bytes now state group ≡ changed_by_tick config now state group }
+    ensures one_answer { (test : ℕ → Bool) (a b : List ℕ) → AreThose test a → AreThose test b → a ≡ b }
 {}
 
 /// A table that begins with nothing, and after each event of a run takes over the filters of the groups that the event
