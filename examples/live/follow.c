@@ -1,5 +1,6 @@
 #include "follow.h"
 
+#include "forwarding.h"
 #include "text.h"
 
 #include <inttypes.h>
