@@ -317,12 +317,12 @@ mq_page mq_igmp_group_at(const mq_igmp *link, const uint8_t address[4], mq_igmp_
 mq_page mq_mld_group_at(const mq_mld *link, const uint8_t address[16], mq_mld_group *group, mq_mld_source *sources,
                         size_t source_room);
 
-/* Writes the addresses of the groups that the last call of `tick` or `receive` changed, ascending, from the `first`th on (0 is
-   the lowest), as many as fit in `room` addresses. Answers how many it changed in all; the memory behind those that were written
-   stays as it was. A group is changed where another filter is forwarded of it after the call's tick, or after one of the
-   datagram's records, than before: one that begins or ends is, one whose timers are refreshed isn't. What is so now `group_at`
-   shows; one that isn't held forwards nothing. A call that did nothing, for the reason that its status says, leaves what the
-   one before it changed.
+/* Writes the addresses of the groups that the last call of `tick` or `receive` changed, ascending, from place `first` on (0 is
+   the lowest), as many as fit in `room` addresses. Answers how many it changed in all; the memory behind those that were
+   written stays as it was. A group is changed where another filter is forwarded of it after the call's tick, or after one of
+   the datagram's records, than before: one that begins or ends is, one whose timers are refreshed isn't. How it is now
+   `group_at` shows; one that isn't held any more forwards nothing. A call that did nothing, for the reason that its status
+   says, leaves what the one before it changed.
 
    A workspace tells of the last call that it was lent to, of whichever link: so ask between two calls. `mq_igmp_changed` tells
    of the link's own workspace, which knows of no call that was lent another one; of a link without its own it answers 0. */

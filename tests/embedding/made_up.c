@@ -253,6 +253,25 @@ static void add_page(void) {
     add_page4(page, groups4, sources4);
 }
 
+/* How many groups the calls have changed. */
+static uint64_t changed;
+
+static uint32_t changed_page(uint32_t first, uint8_t (*page4)[4], uint8_t (*page6)[16], size_t room) {
+  if (is_lent)
+    return is_mld ? mq_mld_workspace_changed(&workspace6, first, page6, room)
+                  : mq_igmp_workspace_changed(&workspace4, first, page4, room);
+  return is_mld ? mq_mld_changed(&mld, first, page6, room) : mq_igmp_changed(&igmp, first, page4, room);
+}
+
+/* A page of the groups that the last call changed. */
+static void add_changed(void) {
+  static uint8_t page4[GROUPS][4], page6[GROUPS][16];
+  uint32_t count = changed_page((uint32_t)below(3), page4, page6, below(GROUPS + 1));
+  changed += count;
+  add(count);
+  add_bytes(is_mld ? page6[0] : page4[0], GROUPS * width);
+}
+
 static void make(void) {
   mq_igmp_config config4 = mq_igmp_defaults(own4);
   mq_mld_config config6 = mq_mld_defaults(own6);
@@ -286,6 +305,7 @@ static void play(uint64_t events) {
       add_answer(heard(now, room));
       add_line();
     }
+    add_changed();
     add_state();
     if (one_in(8)) add_page();
   }
@@ -306,13 +326,14 @@ static bool told(const char *name, const uint64_t *counters, int count, unsigned
 /* Prints all counters and the sum. Answers whether all has happened that can happen in this family. */
 static bool tell(void) {
   mq_counts it = is_mld ? mq_mld_counts(&mld) : mq_igmp_counts(&igmp);
-  const uint64_t records[] = {it.applied, it.ignored}, sendings[] = {it.sent, it.unsent};
+  const uint64_t records[] = {it.applied, it.ignored}, sendings[] = {it.sent, it.unsent}, all[] = {changed};
   unsigned not_dropped = is_mld ? 1u << (MQ_DROPPED_IGMPV1_QUERY - 1) : 7u << (MQ_DROPPED_SOURCE - 1);
   bool is_all = told("dropped", it.dropped_by, 10, not_dropped);
   is_all &= told("read", it.spelled, 5, 0);
   is_all &= told("applied and ignored", records, 2, 0);
   is_all &= told("refused", it.refused_by, 7, 1u << MQ_REFUSED_MEMORY);
   is_all &= told("sent and unsent", sendings, 2, 0);
+  is_all &= told("groups that calls changed", all, 1, 0);
   printf("%" PRIu64 " received; the sum is %016" PRIx64 "\n", it.received, sum);
   return is_all;
 }
