@@ -5,7 +5,26 @@ SOURCES := crates.txt $(shell find crates/*/src crates/*/specs crates/*/proofs -
 FIRST_PATH := message igmp 1600f8faef010203
 VERSION := $(shell sed -n 's/^\#define MQ_VERSION_TEXT "\(.*\)"$$/\1/p' include/mquerier.h)
 
-.PHONY: all run lib quick test live live-test mutants bench install dist clean
+# The processor that `make lib` is for, and where each archive stands. The one for aarch64 wants a cross compiler of C.
+TARGET := x86_64-unknown-linux-gnu
+CROSS_COMPILE ?= aarch64-linux-gnu-
+AARCH64 := lib/aarch64-unknown-linux-gnu
+archive_for_x86_64-unknown-linux-gnu := lib/libmquerier.a
+archive_for_aarch64-unknown-linux-gnu := $(AARCH64)/libmquerier.a
+ARCHIVE := $(archive_for_$(TARGET))
+ifeq ($(ARCHIVE),)
+$(error TARGET=$(TARGET): the library is made for x86_64-unknown-linux-gnu and for aarch64-unknown-linux-gnu)
+endif
+ifneq ($(ARCHIVE),lib/libmquerier.a)
+ifneq ($(MAKECMDGOALS),lib)
+$(error TARGET=$(TARGET): only `make lib` takes another processor than that of this machine)
+endif
+endif
+
+.PHONY: all run lib quick test live live-test arm-test mutants bench install dist clean
+
+# Both archives are of what is built in one folder, so one is made after the other. tools/build works side by side by itself.
+.NOTPARALLEL:
 
 all: bin/mquerier
 
@@ -17,8 +36,9 @@ bin/mquerier: $(SOURCES)
 run: bin/mquerier
 	@bin/mquerier replay igmp --own 10.9.0.1 --qri 2000 --lmqi 500 < samples/igmp.pcap
 
-# The links as a library for C: lib/libmquerier.a, whose header is include/mquerier.h.
-lib: lib/libmquerier.a
+# The links as a library for C: lib/libmquerier.a, whose header is include/mquerier.h. `make lib TARGET=aarch64-unknown-linux-gnu`
+# makes it for that processor, of the same proofs, as lib/aarch64-unknown-linux-gnu/libmquerier.a.
+lib: $(ARCHIVE)
 
 # The archive of the crate mq_c, with what it needs of the kit inside: the kit lies where the page does that `rt doc` names.
 lib/libmquerier.a: $(SOURCES)
@@ -26,6 +46,20 @@ lib/libmquerier.a: $(SOURCES)
 	@printf 'create $@.new\naddlib crates/mq_c/out/libmq_c.a\naddlib %s/c/liblibc_c.a\nsave\nend\n' "$$(dirname "$$(rt doc)")" | ar -M
 	@mv $@.new $@
 	@echo "$@ is built"
+
+# The kit has no heap for aarch64, so that archive has the one of this repository.
+$(AARCH64)/libmquerier.a: $(AARCH64)/heap.o $(SOURCES)
+	@tools/build --library aarch64-unknown-linux-gnu
+	@printf 'create $@.new\naddlib crates/mq_c/out/libmq_c.a\naddmod $<\nsave\nend\n' | $(CROSS_COMPILE)ar -M
+	@mv $@.new $@
+	@echo "$@ is built"
+
+$(AARCH64)/heap.o: trusted/heap.c
+	@printf '#include <stdlib.h>\n#ifndef __aarch64__\n#error\n#endif\n' | $(CROSS_COMPILE)gcc -fsyntax-only -x c - 2> /dev/null || \
+	    { echo '$(CROSS_COMPILE)gcc compiles no C for aarch64 here: on Debian install gcc-aarch64-linux-gnu and' \
+	    'libc6-dev-arm64-cross, or name another cross compiler, as CROSS_COMPILE=aarch64-none-linux-gnu-' >&2; exit 1; }
+	@mkdir -p $(@D)
+	@$(CROSS_COMPILE)gcc -std=c99 -O2 -fPIC -Wall -Wextra -Werror -c $< -o $@
 
 # Shows that it holds here: proofs, tests, and runs of the program with refused calls. The last line counts what passed.
 test:
@@ -55,6 +89,10 @@ live-test: live
 	@examples/check
 	@examples/live/test
 	@examples/live/vectors --seconds $(SECONDS)
+
+# Programs of C over the library for aarch64, run by qemu, print what they print here.
+arm-test: lib/libmquerier.a $(AARCH64)/libmquerier.a
+	@CROSS_COMPILE=$(CROSS_COMPILE) tools/aarch64
 
 # How fast captures are listed and replayed, what hostile hosts cost, and how near datagrams come to the sum bound
 # (bench/README.md). It proves nothing. `make bench WRITE=--write` puts the tables into that page.

@@ -30,10 +30,14 @@ use Rattle.mq_link.proofs.Recorded.{get-with_group}
 use Rattle.mq_link.proofs.TakenRecords.{again, met_once, met_other}
 
 -- host timers are no part of a filter
-pub changes-older_host : (version : OlderVersion) (timing : Timing) (now : ℕ) (before after : GroupState) → changes_filter before (older_host version timing now after) ≡ changes_filter before after
+changes-older_host : (version : OlderVersion) (timing : Timing) (now : ℕ) (before after : GroupState) → changes_filter before (older_host version timing now after) ≡ changes_filter before after
 unfolding changes_filter
 changes-older_host V1 timing now before after = refl
 changes-older_host V2 timing now before after = refl
+
+pub changed_by_older : (version : OlderVersion) (timing : Timing) (now : ℕ) (before after left : GroupState) (changed : Bool) → changed ≡ changes_filter before after → left ≡ older_host version timing now after → changed ≡ changes_filter before left
+changed_by_older version timing now before after left changed is left_is =
+    is ∙ sym (changes-older_host version timing now before after) ∙ ap (changes_filter before) (sym left_is)
 
 -- where the groups are as they were none has another filter
 pub none_changes : (groups left : Groups) → left ≡ groups → (address : ℕ) → changes groups left address ≡ false

@@ -107,10 +107,10 @@ fn acted_as(
 }
 
 impl<K: Key> Scratch<K> {
-    /// What a statement changes of a group, which is read where it stands: the new group is written down,
-    /// and with it the sources to ask for, ascending, each of which the new group has. There is room for the sources of
-    /// the group and of the statement together. Answers whether the group is to be asked for, and whether another filter is
-    /// forwarded of it then; or None, where the statement is ignored. The set that is named loses its sources where they don't count.
+    /// What a statement changes of a group, which is read where it stands: the new group is written down, and with it the
+    /// sources to ask for, ascending, each of which the new group has. There is room for the sources of the group and of the
+    /// statement together. Answers whether the group is to be asked for, and whether another filter is forwarded of it then;
+    /// or None, where the statement is ignored. The set that is named loses its sources where they don't count.
     fn change(
         &mut self,
         stored: &HeldGroup<'_, K>,
@@ -222,12 +222,11 @@ impl<F: Family> Status<F> {
     }
 
     /// What a statement does for a group that is admitted and was looked for: it is ignored where older hosts or the
-    /// source-specific range mute it; refused where what it would leave passes a limit, and then nothing is changed or
-    /// sent; else applied, and what it asks for is sent at once. The sources that it names stand in `work`, where it is counted for
-    /// a group of which another filter is forwarded then. At most
-    /// six comparisons for each source of the group and each that it names, twelve more, and one for each binary digit of
-    /// how many groups there are; at least one for each of those that are fewer, the sources of the group or those that
-    /// count.
+    /// source-specific range mute it; refused where what it would leave passes a limit, and then nothing is changed or sent;
+    /// else applied, and what it asks for is sent at once. The sources that it names stand in `work`, where it is counted for
+    /// a group of which another filter is forwarded then. At most six comparisons for each source of the group and each that
+    /// it names, twelve more, and one for each binary digit of how many groups there are; at least one for each of those that
+    /// are fewer, the sources of the group or those that count.
     pub(crate) fn apply<S: Sink<F::Address>>(
         &self,
         storage: &mut Storage<F::Address>,

@@ -189,9 +189,9 @@ impl<K: Key> Storage<K> {
             .put(number, group, schedule, &mut self.meter, &mut self.moves);
     }
 
-    /// Keeps a group that was worked on, which was looked for: it is put back, made, or, where it isn't held before or
-    /// after, left alone. One that is held stays held. Answers its number, where it is held. At most one comparison for each of its sources, four more, and one for
-    /// each binary digit of how many groups there are.
+    /// Keeps a group that was worked on, which was looked for: it is put back, made, or, where it isn't held before or after,
+    /// left alone. One that is held stays held. Answers its number, where it is held. At most one comparison for each of its
+    /// sources, four more, and one for each binary digit of how many groups there are.
     pub(crate) fn keep(
         &mut self,
         sought: Sought<K>,

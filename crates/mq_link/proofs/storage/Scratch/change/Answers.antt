@@ -1,7 +1,6 @@
-use Rattle.std.proofs.Common.{◌≡◌, ◌+◌, ◌≤◌, ◌∙◌, false, min, length, sym, ap, subst, arith}
+use Rattle.std.proofs.Common.{◌≡◌, ◌+◌, ◌≤◌, false, min, length, sym, ap, subst, arith}
 use Rattle.mq_count.specs.Spending.{Spends}
 use Rattle.mq_sets.specs.SourceSets.{SetState}
-use Rattle.mq_table.specs.Filter.{changes_filter}
 use Rattle.mq_table.specs.OlderHosts.{hosts_of}
 use Rattle.mq_table.specs.Stored.{named_in, size_of}
 use Rattle.mq_table.proofs.SourceLists.{len-timers_in}
@@ -9,7 +8,7 @@ use Rattle.mq_link.specs.Changing.{statement_of, acts_as}
 use Rattle.mq_link.specs.declared.storage.Scratch.{Scratch}
 use Rattle.mq_link.specs.Storage.{group_stored}
 use Rattle.mq_link.specs.LeastCost.{least_merge}
-use Rattle.mq_link.proofs.ChangedRecords.{changes-older_host}
+use Rattle.mq_link.proofs.ChangedRecords.{changed_by_older}
 use Rattle.mq_link.proofs.LeastCosts.{merge_spends}
 use Rattle.mq_link.proofs.storage.Scratch.change.Given.{Over}
 use Rattle.mq_link.proofs.storage.Scratch.change.Goals as goal
@@ -42,7 +41,4 @@ returns-in_default-clause-spent g c = merged g c.before
 -- older hosts have no part in what is forwarded
 pub returns-in-OlderJoin-clause-changes_filter : goal.returns-in-OlderJoin-clause-changes_filter
 returns-in-OlderJoin-clause-changes_filter g c =
-    let before = group_stored g.K.Key.number c.args.stored.now in
-    c.load_changed-loaded.ensures.changes_filter
-    ∙ sym (changes-older_host c.in-OlderJoin.version c.args.at.now.timing c.args.at.now.moment before c.load_changed-loaded.new.self.state)
-    ∙ (λ i. changes_filter before (sym c.older.ensures.state i))
+    changed_by_older c.in-OlderJoin.version c.args.at.now.timing c.args.at.now.moment (group_stored g.K.Key.number c.args.stored.now) c.load_changed-loaded.new.self.state c.older.new.self.state _ c.load_changed-loaded.ensures.changes_filter c.older.ensures.state
