@@ -83,3 +83,24 @@ pub one_within : (most : ℕ) (config : Configuration) (limit : ℕ) (r : Replay
 unfolding ticked_within
 one_within most config limit r due =
     ap (λ b. elim b [ true ↦ ticked_within most config limit (ticked_at config (next_of r.link) r) | false ↦ r ]) (lt-ltb (next_of r.link) limit due)
+
+-- whether the lines of changes are asked for stays as it is
+within_changes : (most : ℕ) (config : Configuration) (limit : ℕ) (r : Replayed) → (ticked_within most config limit r).changes ≡ r.changes
+unfolding ticked_within ticked_at
+within_changes zero config limit r = refl
+within_changes (suc most) config limit r =
+    elim (nat_lt (next_of r.link) limit) as (λ b.
+    (elim b [ true ↦ ticked_within most config limit (ticked_at config (next_of r.link) r) | false ↦ r ]).changes ≡ r.changes) [
+      | true ↦ within_changes most config limit (ticked_at config (next_of r.link) r)
+      | false ↦ refl
+    ]
+
+taken_changes : (config : Configuration) (moment number : ℕ) (carried : Carried) (datagram : Option Datagram) (r : Replayed) → (taken_or_skipped config moment number carried datagram r).changes ≡ r.changes
+unfolding received_at
+taken_changes config moment number carried (Some datagram) r = refl
+taken_changes config moment number carried None r = refl
+
+pub packet_changes : (config : Configuration) (moment number : ℕ) (carried : Carried) (r : Replayed) → (with_packet config moment number carried r).changes ≡ r.changes
+unfolding with_packet
+packet_changes config moment number carried r =
+    taken_changes config moment number carried (datagram_of config.family carried) (ticked_before config moment r) ∙ within_changes moment config moment r

@@ -1,4 +1,6 @@
 pub mod Answered
+pub mod ChangeTexts
+pub mod ChangedGroups
 pub mod EndLines
 pub mod Growing
 pub mod Headers

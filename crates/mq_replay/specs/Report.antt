@@ -3,7 +3,6 @@
 use Rattle.std.specs.Prelude.{ℕ, zero, suc, ◌+◌, max, nat_lt, Bool, true, false, List, [], ◌∷◌, ◌++◌, length, filter, map as list_map, Option, None, Some, Result, Ok, Err, unwrap_or}
 use Rattle.std.specs.Ordering.{nat_cmp}
 use Rattle.std.specs.FinMap as map
-use Rattle.std.specs.FinSet as set
 use Rattle.mq_pcap.specs.declared.fault.PcapFault.{PcapFault}
 use Rattle.mq_pcap.specs.declared.form.Form.{Form}
 use Rattle.mq_pcap.specs.declared.link_type.LinkType.{LinkType}
@@ -50,9 +49,13 @@ after_step config moment step r =
     let messages = outgoing_of config step in
     record r { link = answered (all_sent messages) step; text = r.text ++ query_lines config.family moment messages }
 
--- those of some addresses that pass a test, ascending
+-- some addresses, ascending, each once
+abbrev pub in_order : List ℕ → List ℕ
+in_order addresses = map.keys (map.from_entries {R = nat_cmp} (list_map (λ address. (address, address)) addresses))
+
+-- those of them that pass a test
 abbrev pub those_among : (test : ℕ → Bool) → (addresses : List ℕ) → List ℕ
-those_among test addresses = filter test (set.items (set.from_list {R = nat_cmp} addresses))
+those_among test addresses = filter test (in_order addresses)
 
 -- the lines of the groups that were changed at a moment, behind all other lines of the event that changed them
 abbrev pub with_changes : Family → (moment : ℕ) → (changed : List ℕ) → Replayed → Replayed

@@ -2,14 +2,11 @@
 
 ghost use Rattle.std.specs.Prelude.{◌≡◌, ◌||◌, is_err};
 ghost use Rattle.std.specs.List.{flat_map};
-ghost use Rattle.std.specs.FinSet as set;
 ghost use Rattle.mq_count.specs.Streams.{inner_of, has_failed};
 ghost use Rattle.mq_sets.specs.Ascending.{IsAscending};
-ghost use Rattle.mq_table.specs.Filter.{filter_of};
-ghost use Rattle.mq_table.specs.Group.{is_include};
 ghost use Rattle.mq_table.specs.Stored.{number_in, timers_in};
 ghost use Rattle.mq_held.specs.Groups.{group_at};
-ghost use Rattle.mq_replay.specs.ChangeLines.{change_line, change_lines, lines_asked, named_text};
+ghost use Rattle.mq_replay.specs.ChangeLines.{change_line, change_lines, lines_asked};
 ghost use Rattle.mq_replay.specs.NamedSources.{named_by};
 ghost use Rattle.mq_replay.specs.Printing.{Puts};
 
@@ -79,12 +76,12 @@ where
     ensures text { Puts
         (W.contents (inner_of writer.old)) (W.contents (inner_of writer.new))
         buffer.old.items buffer.new.items
-        (change_line F.Address.family moment (F.Address.number address) (filter_of (group_at link.now.state.groups (F.Address.number address)).group)) result }
+        (change_line F.Address.family moment (F.Address.number address) (group_at link.now.state.groups (F.Address.number address)).group) result }
     ensures failed { has_failed writer.new ≡ has_failed writer.old || is_err result }
 {
     match link.find(address) {
-        Some(group) => put_change(moment, address, group.mode, group.sources, buffer, writer),
-        None => put_change(moment, address, FilterMode::Include, &[], buffer, writer),
+        Some(group) => put_change(moment, address, &group.mode, group.sources, buffer, writer),
+        None => put_change(moment, address, &FilterMode::Include, &[], buffer, writer),
     }
 }
 
@@ -92,7 +89,7 @@ where
 fn put_change<K: LineKey, W: Write>(
     moment: Moment,
     address: K,
-    mode: FilterMode,
+    mode: &FilterMode,
     sources: &[Source<K>],
     buffer: &mut Buffer,
     writer: &mut Watched<W>,
@@ -101,7 +98,7 @@ fn put_change<K: LineKey, W: Write>(
     ensures text { Puts
         (W.contents (inner_of writer.old)) (W.contents (inner_of writer.new))
         buffer.old.items buffer.new.items
-        (change_line K.family moment (K.number address) (filter_of (record { mode = mode; sources = timers_in K.number sources.now; v1 = None; v2 = None }))) result }
+        (change_line K.family moment (K.number address) (record { mode = mode.now; sources = timers_in K.number sources.now; v1 = None; v2 = None })) result }
     ensures failed { has_failed writer.new ≡ has_failed writer.old || is_err result }
 {
     make_room(buffer, writer)?;
@@ -112,7 +109,7 @@ fn put_change<K: LineKey, W: Write>(
 
 /// Puts each source that the filter names.
 fn put_all_named<K: LineKey, W: Write>(
-    mode: FilterMode,
+    mode: &FilterMode,
     sources: &[Source<K>],
     buffer: &mut Buffer,
     writer: &mut Watched<W>,
@@ -120,7 +117,7 @@ fn put_all_named<K: LineKey, W: Write>(
     ensures text { Puts
         (W.contents (inner_of writer.old)) (W.contents (inner_of writer.new))
         buffer.old.items buffer.new.items
-        (flat_map (λ x. named_by K.family mode (K.number x.address) x.timer) sources.now) result }
+        (flat_map (λ x. named_by K.family mode.now (K.number x.address) x.timer) sources.now) result }
     ensures failed { has_failed writer.new ≡ has_failed writer.old || is_err result }
 {
     for source in sources {

@@ -20,12 +20,12 @@ pub(crate) fn put_change_start<K: LineKey>(
     buffer: &mut Buffer,
     moment: Moment,
     address: K,
-    mode: FilterMode,
+    mode: &FilterMode,
     sources: &[Source<K>],
 )
     requires { array_vec_len buffer.old + 80 ≤ 4096 }
     ensures { buffer.new.items ≡ buffer.old.items
-        ++ (change_start K.family moment (K.number address) ++ name_by (is_include mode) (list_any (λ x. is_named mode x.timer) sources.now)) }
+        ++ (change_start K.family moment (K.number address) ++ name_by (is_include mode.now) (list_any (λ x. is_named mode.now x.timer) sources.now)) }
 {
     put_moment(buffer, moment);
     put(buffer, b" change ");
@@ -48,16 +48,16 @@ fn put_name(buffer: &mut Buffer, is_include: bool, some: bool)
 }
 
 /// Whether the filter of a group of this mode, with these sources, names one.
-fn names_one<K: LineKey>(mode: FilterMode, sources: &[Source<K>]) -> bool
-    ensures { result ≡ list_any (λ x. is_named mode x.timer) sources.now }
+fn names_one<K: LineKey>(mode: &FilterMode, sources: &[Source<K>]) -> bool
+    ensures { result ≡ list_any (λ x. is_named mode.now x.timer) sources.now }
 {
     sources.iter().any(|x| mode.names(&Some(x.timer)))
 }
 
 /// Puts a source at the end, if the filter of a group of this mode names it.
-pub(crate) fn put_named<K: LineKey>(buffer: &mut Buffer, mode: FilterMode, source: &Source<K>)
+pub(crate) fn put_named<K: LineKey>(buffer: &mut Buffer, mode: &FilterMode, source: &Source<K>)
     requires { array_vec_len buffer.old + 42 ≤ 4096 }
-    ensures { buffer.new.items ≡ buffer.old.items ++ named_by K.family mode (K.number source.now.address) source.now.timer }
+    ensures { buffer.new.items ≡ buffer.old.items ++ named_by K.family mode.now (K.number source.now.address) source.now.timer }
 {
     if !mode.names(&Some(source.timer)) {
         return;
