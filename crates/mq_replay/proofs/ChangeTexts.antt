@@ -1,5 +1,5 @@
 -- The line of a group that was changed, by the row of its sources.
-use Rattle.std.proofs.Common.{◌≡◌, ℕ, ◌<◌, Bool, true, false, cond, ◌||◌, List, [], ◌∷◌, ◌++◌, Option, None, codes, append_assoc, refl, sym, ap, ◌∙◌}
+use Rattle.std.proofs.Common.{◌≡◌, ℕ, ◌<◌, Bool, true, false, cond, ◌||◌, List, [], ◌∷◌, ◌++◌, Option, None, codes, append_assoc, arith, refl, sym, ap, ◌∙◌}
 use Rattle.std.specs.Prelude.{filter, map as list_map}
 use Rattle.std.specs.List.{flat_map, list_any}
 use Rattle.std.specs.FinMap as map
@@ -9,10 +9,11 @@ use Rattle.mq_table.specs.declared.sources.Source.{Source}
 use Rattle.mq_table.specs.declared.timers.FilterMode.{FilterMode}
 use Rattle.mq_table.specs.declared.timers.FilterMode.TheVariants.{Include}
 use Rattle.mq_table.specs.Filter.{names}
-use Rattle.mq_table.specs.Group.{GroupState, is_include}
+use Rattle.mq_table.specs.Group.{GroupState, is_include, vacant}
 use Rattle.mq_table.specs.Stored.{number_in, timers_in}
 use Rattle.mq_table.proofs.Rows.{filter_in_row}
-use Rattle.mq_held.specs.Groups.{Groups, group_at, unheld}
+use Rattle.mq_sched.specs.Schedule.{ScheduledGroup}
+use Rattle.mq_held.specs.Groups.{Groups, group_at}
 use Rattle.mq_link.proofs.KeptGroups.{absent_unheld}
 use Rattle.mq_replay.specs.ChangeLines.{change_line, change_lines, change_start, filter_name, named_sources, named_text}
 use Rattle.mq_replay.specs.NamedSources.{if_named, is_named, name_by, named_by}
@@ -71,6 +72,8 @@ lines-numbered number family moment groups (x ∷ addresses) =
     ap (λ (rest : List ℕ). change_line family moment (number x) (group_at groups (number x)).group ++ rest) (lines-numbered number family moment groups addresses)
 
 -- the line of a group that isn't held
-pub line-absent : {K : Type 0} (number : K → ℕ) (family : Family) (moment address : ℕ) (groups : Groups) → map.contains_key groups address ≡ false
-    → change_line family moment address (record { mode = Include; sources = timers_in number []; v1 = None; v2 = None }) ≡ change_line family moment address (group_at groups address).group
-line-absent number family moment address groups absent = sym (ap (λ e. change_line family moment address e.group) (absent_unheld groups address absent))
+pub line-vacant : (family : Family) (moment group : ℕ) → (change_start family moment group ++ codes " none") ++ codes "\n" ≡ change_line family moment group vacant
+line-vacant family moment group = line-row {K = ℕ} (λ n. n) family Include [] (λ i j d before in_list. absurd (omega arith)) moment group
+
+pub line-absent : (family : Family) (moment address : ℕ) (groups : Groups) → map.contains_key groups address ≡ false → change_line family moment address vacant ≡ change_line family moment address (group_at groups address).group
+line-absent family moment address groups absent = sym (ap (λ (e : ScheduledGroup). change_line family moment address e.group) (absent_unheld groups address absent))

@@ -1,5 +1,5 @@
 -- What a replay comes to doesn't depend on the text before: that stays in front.
-use Rattle.std.proofs.Common.{◌≡◌, ℕ, zero, suc, ◌<◌, ◌≤◌, true, false, refl, List, [], ◌++◌, Option, None, Some, append_assoc, append-nil, sym, ap, ◌∙◌}
+use Rattle.std.proofs.Common.{◌≡◌, ℕ, zero, suc, ◌<◌, ◌≤◌, Bool, true, false, refl, List, [], ◌++◌, Option, None, Some, append_assoc, append-nil, sym, ap, ◌∙◌}
 use Rattle.std.specs.Prelude.{nat_lt}
 use Rattle.std.specs.FinMap as map
 use Rattle.std.proofs.lemmas.Bool.{lt-ltb, le-ltb}
@@ -85,15 +85,26 @@ one_within most config limit r due =
     ap (λ b. elim b [ true ↦ ticked_within most config limit (ticked_at config (next_of r.link) r) | false ↦ r ]) (lt-ltb (next_of r.link) limit due)
 
 -- whether the lines of changes are asked for stays as it is
+abbrev one_of : Bool → Replayed → Replayed → Replayed
+one_of b x y = elim b [ true ↦ x | false ↦ y ]
+
+either_changes : (b : Bool) (x y r : Replayed) → x.changes ≡ r.changes → y.changes ≡ r.changes → (one_of b x y).changes ≡ r.changes
+either_changes true x y r first second = first
+either_changes false x y r first second = second
+
+ticked_changes : (config : Configuration) (moment : ℕ) (r : Replayed) → (ticked_at config moment r).changes ≡ r.changes
+unfolding ticked_at
+ticked_changes config moment r = refl
+
 within_changes : (most : ℕ) (config : Configuration) (limit : ℕ) (r : Replayed) → (ticked_within most config limit r).changes ≡ r.changes
-unfolding ticked_within ticked_at
+unfolding ticked_within
 within_changes zero config limit r = refl
 within_changes (suc most) config limit r =
-    elim (nat_lt (next_of r.link) limit) as (λ b.
-    (elim b [ true ↦ ticked_within most config limit (ticked_at config (next_of r.link) r) | false ↦ r ]).changes ≡ r.changes) [
-      | true ↦ within_changes most config limit (ticked_at config (next_of r.link) r)
-      | false ↦ refl
-    ]
+    let next = ticked_at config (next_of r.link) r in
+    either_changes (nat_lt (next_of r.link) limit) (ticked_within most config limit next) r r (within_changes most config limit next ∙ ticked_changes config (next_of r.link) r) refl
+
+pub before_changes : (config : Configuration) (limit : ℕ) (r : Replayed) → (ticked_before config limit r).changes ≡ r.changes
+before_changes config limit r = within_changes limit config limit r
 
 taken_changes : (config : Configuration) (moment number : ℕ) (carried : Carried) (datagram : Option Datagram) (r : Replayed) → (taken_or_skipped config moment number carried datagram r).changes ≡ r.changes
 unfolding received_at
@@ -103,4 +114,4 @@ taken_changes config moment number carried None r = refl
 pub packet_changes : (config : Configuration) (moment number : ℕ) (carried : Carried) (r : Replayed) → (with_packet config moment number carried r).changes ≡ r.changes
 unfolding with_packet
 packet_changes config moment number carried r =
-    taken_changes config moment number carried (datagram_of config.family carried) (ticked_before config moment r) ∙ within_changes moment config moment r
+    taken_changes config moment number carried (datagram_of config.family carried) (ticked_before config moment r) ∙ before_changes config moment r

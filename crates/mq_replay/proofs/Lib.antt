@@ -2,6 +2,7 @@ pub mod Answered
 pub mod ChangeTexts
 pub mod ChangedGroups
 pub mod EndLines
+pub mod EventLines
 pub mod Growing
 pub mod Headers
 pub mod OnePacket

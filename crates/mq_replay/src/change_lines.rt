@@ -4,6 +4,7 @@ ghost use Rattle.std.specs.Prelude.{◌≡◌, ◌||◌, is_err};
 ghost use Rattle.std.specs.List.{flat_map};
 ghost use Rattle.mq_count.specs.Streams.{inner_of, has_failed};
 ghost use Rattle.mq_sets.specs.Ascending.{IsAscending};
+ghost use Rattle.mq_table.specs.Group.{vacant};
 ghost use Rattle.mq_table.specs.Stored.{number_in, timers_in};
 ghost use Rattle.mq_held.specs.Groups.{group_at};
 ghost use Rattle.mq_replay.specs.ChangeLines.{change_line, change_lines, lines_asked};
@@ -11,7 +12,7 @@ ghost use Rattle.mq_replay.specs.NamedSources.{named_by};
 ghost use Rattle.mq_replay.specs.Printing.{Puts};
 
 use crate::buffer::{Buffer, make_room};
-use crate::change_pieces::{put_change_start, put_named};
+use crate::change_pieces::{put_change_start, put_named, put_none};
 use crate::line_key::LineKey;
 use crate::lines::put_end;
 use crate::printing::LineFault;
@@ -81,8 +82,26 @@ where
 {
     match link.find(address) {
         Some(group) => put_change(moment, address, &group.mode, group.sources, buffer, writer),
-        None => put_change(moment, address, &FilterMode::Include, &[], buffer, writer),
+        None => put_unheld(moment, address, buffer, writer),
     }
+}
+
+/// Puts the line of a group that isn't held.
+fn put_unheld<K: LineKey, W: Write>(
+    moment: Moment,
+    address: K,
+    buffer: &mut Buffer,
+    writer: &mut Watched<W>,
+) -> Result<(), LineFault>
+    ensures text { Puts
+        (W.contents (inner_of writer.old)) (W.contents (inner_of writer.new))
+        buffer.old.items buffer.new.items
+        (change_line K.family moment (K.number address) vacant) result }
+    ensures failed { has_failed writer.new ≡ has_failed writer.old || is_err result }
+{
+    make_room(buffer, writer)?;
+    put_none(buffer, moment, address);
+    Ok(())
 }
 
 /// Puts the line of a group of this mode, with these sources.

@@ -1,6 +1,6 @@
 //! The pieces of the line of a group that was changed.
 
-ghost use Rattle.std.specs.Prelude.{◌≡◌, ◌≤◌, ◌+◌, ◌++◌, not};
+ghost use Rattle.std.specs.Prelude.{◌≡◌, ◌≤◌, ◌+◌, ◌++◌, codes};
 ghost use Rattle.std.specs.List.{list_any};
 ghost use Rattle.arrayvec.specs.ArrayVec.{array_vec_len};
 ghost use Rattle.mq_table.specs.Filter.{names};
@@ -31,6 +31,18 @@ pub(crate) fn put_change_start<K: LineKey>(
     put(buffer, b" change ");
     put_address(buffer, address);
     put_name(buffer, mode.is_include(), names_one(mode, sources));
+}
+
+/// Puts the line of a group of which nothing is forwarded at the end.
+pub(crate) fn put_none<K: LineKey>(buffer: &mut Buffer, moment: Moment, address: K)
+    requires { array_vec_len buffer.old + 80 ≤ 4096 }
+    ensures { buffer.new.items ≡ buffer.old.items ++ ((change_start K.family moment (K.number address) ++ codes " none") ++ codes "\n") }
+{
+    put_moment(buffer, moment);
+    put(buffer, b" change ");
+    put_address(buffer, address);
+    put(buffer, b" none");
+    put(buffer, b"\n");
 }
 
 /// Puts which of the three kinds of filter it is at the end.
