@@ -1,8 +1,10 @@
 -- The line of a group that was changed, by the row of its sources.
-use Rattle.std.proofs.Common.{◌≡◌, ℕ, ◌<◌, Bool, true, false, cond, ◌||◌, List, [], ◌∷◌, ◌++◌, Option, None, codes, append_assoc, arith, refl, sym, ap, ◌∙◌}
+use Rattle.std.proofs.Common.{◌≡◌, ℕ, ◌<◌, Bool, true, false, cond, ◌||◌, List, [], ◌∷◌, ◌++◌, Option, None, codes, length, take, drop, get_or, append_assoc, append-nil, arith, refl, sym, ap, subst, ◌∙◌, ◌+◌, ◌≤◌}
 use Rattle.std.specs.Prelude.{filter, map as list_map}
 use Rattle.std.specs.List.{flat_map, list_any}
 use Rattle.std.specs.FinMap as map
+use Rattle.std.proofs.lemmas.Grind.{flat_map-append}
+use Rattle.std.proofs.lemmas.List.{take_more, take-append-drop, take_all}
 use Rattle.mq_sets.specs.Ascending.{IsAscending}
 use Rattle.mq_wire.specs.Family.{Family}
 use Rattle.mq_table.specs.declared.sources.Source.{Source}
@@ -17,7 +19,9 @@ use Rattle.mq_held.specs.Groups.{Groups, group_at}
 use Rattle.mq_link.proofs.KeptGroups.{absent_unheld}
 use Rattle.mq_replay.specs.ChangeLines.{change_line, change_lines, change_start, filter_name, named_sources, named_text}
 use Rattle.mq_replay.specs.NamedSources.{if_named, is_named, name_by, named_by}
+use Rattle.mq_replay.specs.Printing.{GrowsByBeginning, Passes}
 use Rattle.mq_replay.specs.Text.{line_of}
+use Rattle.mq_replay.proofs.Passing.{broken_behind, broken_within}
 
 -- those of some items that are named
 module _ {X : Type 0} (number : X → ℕ) (named : X → Bool) where
@@ -77,3 +81,22 @@ line-vacant family moment group = line-row {K = ℕ} (λ n. n) family Include []
 
 pub line-absent : (family : Family) (moment address : ℕ) (groups : Groups) → map.contains_key groups address ≡ false → change_line family moment address vacant ≡ change_line family moment address (group_at groups address).group
 line-absent family moment address groups absent = sym (ap (λ (e : ScheduledGroup). change_line family moment address e.group) (absent_unheld groups address absent))
+
+-- the text of an item was not put whole
+pub item_broken : {X : Type 0} (text_of : X → List ℕ) (a b c : Option (List ℕ)) (held mid : List ℕ) (items : List X) (i : ℕ) (item default : X) (text : List ℕ) → i < length items → item ≡ get_or items i default → flat_map text_of items ≡ text
+    → Passes a b held mid (flat_map text_of (take i items)) → GrowsByBeginning b c (mid ++ text_of item) → GrowsByBeginning a c (held ++ text)
+item_broken text_of a b c held mid items i item default text within is same before begun =
+    let first = flat_map text_of (take i items) in
+    let rest = flat_map text_of (drop (i + 1) items) in
+    let more : flat_map text_of (take (i + 1) items) ≡ first ++ text_of item =
+    ap (flat_map text_of) (take_more items i default within) ∙ flat_map-append text_of (take i items) (get_or items i default ∷ [])
+    ∙ ap (λ (x : _). first ++ flat_map text_of (x ∷ [])) (sym is) ∙ ap (λ (t : List ℕ). first ++ t) (append-nil (text_of item)) in
+    let all : flat_map text_of items ≡ (first ++ text_of item) ++ rest =
+    sym (ap (flat_map text_of) (take-append-drop (i + 1) items)) ∙ flat_map-append text_of (take (i + 1) items) (drop (i + 1) items) ∙ ap (λ (t : List ℕ). t ++ rest) more in
+    subst (λ (t : List ℕ). GrowsByBeginning a c (held ++ t)) (sym all ∙ same) (broken_within a c held (first ++ text_of item) rest (broken_behind a b c held mid first (text_of item) before begun))
+
+-- all were put
+pub all_passed : {X : Type 0} (text_of : X → List ℕ) (a b : Option (List ℕ)) (held left : List ℕ) (items : List X) (i : ℕ) (text : List ℕ) → length items ≤ i → flat_map text_of items ≡ text
+    → Passes a b held left (flat_map text_of (take i items)) → Passes a b held left text
+all_passed text_of a b held left items i text all same passed =
+    subst (λ (t : List ℕ). Passes a b held left t) same (subst (λ (xs : List _). Passes a b held left (flat_map text_of xs)) (take_all i items all) passed)

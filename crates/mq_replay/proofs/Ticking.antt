@@ -109,6 +109,12 @@ next_broken {changes} config limit from mid after moment text old now new held m
     tick_broken {T = Unit} config limit from mid after text old now new held more left e is_config (subst (λ (m : ℕ). m < limit) is_next due) ticked passed
     (put_next changes mid after moment now new more left (Err e) is_next put)
 
+-- the next moment is later then
+pub comes_later : (changes : Bool) (config : Configuration) (before after : LinkState) (now : ℕ) → ((m : ℕ) → m < next_of (tick_of config m before).state)
+    → after ≡ (ticked_at config now (begun_with changes before)).link → now < next_of after
+unfolding ticked_at
+comes_later changes config before after now later same = subst (λ (s : LinkState). now < next_of s) (sym same) (later now)
+
 -- no tick is left
 pub ticks_done : {changes : Bool} {E : Type 0} (before after : LinkValue) (limit : ℕ) (text : List ℕ) (old new : Option (List ℕ)) (held left : List ℕ) → after.config ≡ before.config → limit ≤ next_of after.state
     → IsTickedTo before.config limit (begun_with changes before.state) (record { link = after.state; text = text; changes = changes }) → Passes old new held left text

@@ -3,7 +3,7 @@ use Rattle.std.proofs.lemmas.Bool.Decides.{nat_tests}
 use Rattle.std.proofs.lemmas.Result.{err_from_is_err_and}
 use Rattle.std.proofs.Math.Bool.{or-false}
 use Rattle.mq_replay.proofs.Passing.{nothing_passed}
-use Rattle.mq_replay.proofs.Ticking.{next_broken, next_done, none_ticked, ticks_done}
+use Rattle.mq_replay.proofs.Ticking.{comes_later, next_broken, next_done, none_ticked, ticks_done}
 use Rattle.mq_replay.proofs.ticks.tick_before.Goals as goal
 
 pub loop-limit-init : goal.loop-limit-init
@@ -42,3 +42,10 @@ returns-clause-puts g c =
     let now = c.loop-limit.invariant in
     let reached : c.args.limit ≤ c.loop-limit.next = grind (arith, nat_tests) in
     ticks_done _ _ _ _ _ _ _ _ now.config (subst (λ m. c.args.limit ≤ m) now.next reached) now.ticked.1 now.ticked.2
+
+pub loop-limit-smaller : goal.loop-limit-smaller
+loop-limit-smaller g c =
+    let later = comes_later _ _ _ _ _ c.is_well_formed.ensures.later c.in_ok-tick_at.ensures.puts.link in
+    let next = c.next_deadline-next-in-loop-limit.ensures in
+    let due : c.loop-limit.next < c.args.limit = grind (arith, nat_tests) in
+    omega (arith, later, next, due)
