@@ -239,10 +239,10 @@ ended_well config asked form old mid new before now after held more left first l
     by_answer (Err answer.Memory) p = absurd p
 
 -- the same of what the code names otherwise
-packet_as : {changes : Bool} {T E : Type 0} (link link' : LinkValue) (moment moment' number : ℕ) (frame frame' : Carried) (now after : Option (List ℕ)) (more left : List ℕ) (it : Result T E) → moment ≡ moment' → frame ≡ frame'
+packet_as : {T E : Type 0} (changes : Bool) (link link' : LinkValue) (moment moment' number : ℕ) (frame frame' : Carried) (now after : Option (List ℕ)) (more left : List ℕ) (it : Result T E) → moment ≡ moment' → frame ≡ frame'
     → PutsReplayed link link' (with_packet link.config moment number frame (begun_with changes link.state)) now after more left it
     → PutsReplayed link link' (with_packet link.config moment' number frame' (begun_with changes link.state)) now after more left it
-packet_as {changes} link link' moment moment' number frame frame' now after more left it is_moment is_frame put =
+packet_as changes link link' moment moment' number frame frame' now after more left it is_moment is_frame put =
     subst (λ (m : ℕ). PutsReplayed link link' (with_packet link.config m number frame' (begun_with changes link.state)) now after more left it) is_moment
     (subst (λ (f : Carried). PutsReplayed link link' (with_packet link.config moment number f (begun_with changes link.state)) now after more left it) is_frame put)
 
@@ -263,7 +263,7 @@ next_put_as {changes} {T} {E} config form old mid new before now after held more
     let moments = is_moment ∙ is_stamped in
     let next = next_replayed config changes form old mid new first last number r buffer packet (gap_as earlier last moment at false is_last moments none) to reads in
     let all = next_put {T = T} {E = E} config at (number + 1) link link' carried before now after held more left x r is_config is_link to.asked passed
-    (packet_as link link' moment at (number + 1) frame carried now after more left (Ok x) moments (is_frame ∙ ap (λ (k : LinkType). carried_in k (take packet.length buffer)) is_kind) put) in
+    (packet_as changes link link' moment at (number + 1) frame carried now after more left (Ok x) moments (is_frame ∙ ap (λ (k : LinkType). carried_in k (take packet.length buffer)) is_kind) put) in
     let s = with_packet config at (number + 1) carried r in
     let same : record { first = Some (unwrap_or first packet.stamp_ms); before = at } ≡ stamps = (λ i. record { first = Some (unwrap_or first packet.stamp_ms); before = sym is_stamped i }) ∙ sym are in
     (s, subst (λ (m : Stamps). IsReplayedTo config changes form old new m.first m.before (number + 1) s) same next, all.0, all.1)
@@ -279,7 +279,7 @@ ended_broken_as {T} config asked form old mid new before now after held more lef
     let at = moment_of first last packet.stamp_ms in
     let carried = carried_in form.link (take packet.length buffer) in
     ended_broken {T = T} config asked form old mid new before now after held more left first last number buffer packet link link' e r (gap_as earlier last moment at false is_last moments none) is_config is_link to passed reads
-    (packet_as link link' moment at (number + 1) frame carried now after more left (Err e) moments (is_frame ∙ ap (λ (k : LinkType). carried_in k (take packet.length buffer)) is_kind) put)
+    (packet_as asked.changes link link' moment at (number + 1) frame carried now after more left (Err e) moments (is_frame ∙ ap (λ (k : LinkType). carried_in k (take packet.length buffer)) is_kind) put)
 
 pub ended_by_gap_as : (config : Configuration) (asked : Asked) (form : Form) (old mid new : InputState) (before after : Option (List ℕ)) (held left : List ℕ) (first : Option ℕ) (last number : ℕ) (buffer : List ℕ) (packet : Packet) (r : Replayed) (earlier moment : ℕ)
     → moment ≡ moment_of first last packet.stamp_ms → earlier ≡ last → is_gap earlier moment ≡ true
