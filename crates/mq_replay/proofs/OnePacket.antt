@@ -120,12 +120,12 @@ receipt_cut changes before after moment number datagram old new held left e f pu
 -- and then those of the groups that it changed
 pub receipt_whole : (changes : Bool) (before after : LinkValue) (moment number : ℕ) (datagram : Datagram) (old now new : Option (List ℕ)) (held more left : List ℕ) (r : Result Unit LineFault) (family : Family)
     → family ≡ before.config.family → AreThose (changed_by_datagram before.config datagram.envelope datagram.body moment before.state) after.changed
-    → PutsReplayed {E = LineFault} before after (lined before.config moment number datagram (begun_with changes before.state)) old now held more (Ok tt)
+    → PutsReplayed {T = Unit {0}} {E = LineFault} before after (lined before.config moment number datagram (begun_with changes before.state)) old now held more (Ok tt)
     → Puts now new more left (lines_asked changes (change_lines family moment after.state.groups after.changed)) r
     → PutsReplayed before after (received_at before.config moment number datagram (begun_with changes before.state)) old new held left r
 unfolding received_at
 receipt_whole changes before after moment number datagram old now new held more left r family is_family those put lines =
-    changes_put before.config family moment _ before after (lined before.config moment number datagram (begun_with changes before.state)) old now new held more left (tt {0}) r is_family
+    changes_put before.config family moment _ before after (lined before.config moment number datagram (begun_with changes before.state)) old now new held more left tt r is_family
     (received_those before.config moment datagram before.state after.changed those) put lines
 
 -- a datagram was received, from the state that the ticks left

@@ -167,7 +167,7 @@ pub next_put : {changes : Bool} {T E : Type 0} (config : Configuration) (moment 
     → PutsReplayed {E = E} link link' (with_packet link.config moment number frame (begun_with changes link.state)) now after more left (Ok x)
     → ((with_packet config moment number frame r).link ≡ link'.state) × Passes before after held left (with_packet config moment number frame r).text
 next_put config moment number link link' frame before now after held more left x r is_config is_link is_asked passed put =
-    let next = packet_of config moment number link frame r is_config is_link in (
+    let next = packet_of config moment number link frame r is_config is_link is_asked in (
       ap (λ (p : Replayed). p.link) next ∙ sym put.link,
       subst (λ (p : Replayed). Passes before after held left p.text) (sym next) (both_passed before now after held more left r.text _ passed put.text),
     )
@@ -178,7 +178,7 @@ next_broken : {changes : Bool} {T E : Type 0} (config : Configuration) (moment n
     → PutsReplayed {T = T} link link' (with_packet link.config moment number frame (begun_with changes link.state)) now after more left (Err e)
     → GrowsByBeginning before after (held ++ (with_packet config moment number frame r).text)
 next_broken config moment number link link' frame before now after held more left e r is_config is_link is_asked passed put =
-    subst (λ (p : Replayed). GrowsByBeginning before after (held ++ p.text)) (sym (packet_of config moment number link frame r is_config is_link))
+    subst (λ (p : Replayed). GrowsByBeginning before after (held ++ p.text)) (sym (packet_of config moment number link frame r is_config is_link is_asked))
     (broken_behind before now after held more r.text _ passed put.text)
 
 pub ended_broken : {T E : Type 0} (config : Configuration) (asked : Asked) (form : Form) (old mid new : InputState) (before now after : Option (List ℕ)) (held more left : List ℕ) (first : Option ℕ) (last number : ℕ) (buffer : List ℕ) (packet : Packet)
