@@ -22,7 +22,7 @@ use Rattle.mq_table.specs.Table.{GroupChange}
 use Rattle.mq_table.proofs.Maps.{get-kept}
 use Rattle.mq_sched.specs.Schedule.{ScheduledGroup}
 use Rattle.mq_held.specs.Groups.{Groups, group_at, unheld, with_group}
-use Rattle.mq_held.proofs.Sorted.{ascending-sorted, key_of, tied}
+use Rattle.mq_held.proofs.Sorted.{ascending-sorted, key_of}
 use Rattle.mq_wire.specs.declared.records.RecordView.{RecordView}
 use Rattle.mq_wire.specs.declared.message.Message.{Message}
 use Rattle.mq_wire.specs.declared.message.Message.TheVariants.{Query as AQuery, OldReport, Leave, Report as AReport}
@@ -34,7 +34,7 @@ use Rattle.mq_link.specs.Configuration.{Configuration}
 use Rattle.mq_link.specs.Counters.{Refused}
 use Rattle.mq_link.specs.Forwarding.{AreThose, changed_by_all, changed_by_datagram, changed_by_read, changed_by_tick, changes}
 use Rattle.mq_link.specs.Receive.{Envelope, drop_reason, pseudo_of, read_of, setting_of}
-use Rattle.mq_link.specs.Record.{Entrance, Stops, GoesOn, Outcome, Seen, Setting, Statement, RecordOf, after_sending, change_in, changed_by, changed_or_refused, entrance, is_repeated, judged, judged_from, leaving, limit_passed, seen_after, sent_at_once, stated, unless_passed}
+use Rattle.mq_link.specs.Record.{Entrance, Stops, GoesOn, Seen, Setting, Statement, RecordOf, after_sending, change_in, changed_by, changed_or_refused, entrance, is_repeated, judged, judged_from, leaving, limit_passed, seen_after, sent_at_once, stated, unless_passed}
 use Rattle.mq_link.specs.State.{LinkState}
 use Rattle.mq_link.specs.Tick.{groups_after_round, groups_expired, tick_of}
 use Rattle.mq_link.proofs.ChangedRecords.{other_then}

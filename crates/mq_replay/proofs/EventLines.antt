@@ -1,5 +1,5 @@
 -- The events of a replay: the lines of what a link sends, and then those of the groups that it changed.
-use Rattle.std.proofs.Common.{◌≡◌, ℕ, Bool, true, List, ◌++◌, Option, Result, Ok, Err, IfOk, sym, ap, subst, ◌∙◌}
+use Rattle.std.proofs.Common.{◌≡◌, ℕ, Bool, true, List, Option, Result, Ok, Err, IfOk, sym, ap, subst, ◌∙◌}
 use Rattle.std.specs.Prelude.{map as list_map}
 use Rattle.mq_wire.specs.Family.{Family}
 use Rattle.mq_link.specs.declared.answers.Received.{Received}

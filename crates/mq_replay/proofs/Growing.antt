@@ -1,5 +1,5 @@
 -- What a replay comes to doesn't depend on the text before: that stays in front.
-use Rattle.std.proofs.Common.{◌≡◌, ℕ, zero, suc, ◌<◌, ◌≤◌, Bool, true, false, refl, List, [], ◌++◌, Option, None, Some, append_assoc, append-nil, sym, ap, ◌∙◌}
+use Rattle.std.proofs.Common.{◌≡◌, ℕ, zero, suc, ◌<◌, ◌≤◌, Bool, true, false, refl, List, ◌++◌, Option, None, Some, append_assoc, append-nil, sym, ap, ◌∙◌}
 use Rattle.std.specs.Prelude.{nat_lt}
 use Rattle.std.specs.FinMap as map
 use Rattle.std.proofs.lemmas.Bool.{lt-ltb, le-ltb}

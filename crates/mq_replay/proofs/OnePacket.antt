@@ -1,5 +1,5 @@
 -- What a replay does with one packet.
-use Rattle.std.proofs.Common.{◌≡◌, ℕ, Bool, refl, List, [], ◌++◌, Option, None, Some, Result, Ok, Err, IfOk, sym, ap, subst, ◌∙◌}
+use Rattle.std.proofs.Common.{◌≡◌, ℕ, Bool, refl, List, ◌++◌, Option, None, Some, Result, Ok, Err, IfOk, sym, ap, subst, ◌∙◌}
 use Rattle.mq_pcap.specs.Frame.{Carried}
 use Rattle.mq_wire.specs.Family.{Family}
 use Rattle.mq_link.specs.declared.answers.Received.{Received}

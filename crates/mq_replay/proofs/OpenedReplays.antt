@@ -1,5 +1,5 @@
 -- The header of a capture was read: what the replay comes to with what stands behind it, or where it has a fault.
-use Rattle.std.proofs.Common.{◌≡◌, ◌⊎◌, ℕ, ◌+◌, ◌<◌, ◌||◌, List, [], ◌++◌, length, drop, Option, Some, Result, Ok, Err, refl, ap, sym, subst, ◌∙◌, inl, inr, arith}
+use Rattle.std.proofs.Common.{◌≡◌, ◌⊎◌, ℕ, ◌<◌, ◌||◌, List, [], ◌++◌, length, drop, Option, Some, Result, Ok, Err, refl, ap, sym, subst, ◌∙◌, inl, inr, arith}
 use Rattle.std.proofs.Math.Bool.{or-false, or-true}
 use Rattle.std.proofs.Math.Seq.{drop-append_seam}
 use Rattle.std.specs.Io.KnownBytes.{IsAtEnd}

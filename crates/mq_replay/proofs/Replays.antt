@@ -21,7 +21,7 @@ use Rattle.mq_replay.specs.declared.replay_fault.ReplayFault.{ReplayFault}
 use Rattle.mq_replay.specs.declared.replay_fault.ReplayFault.TheVariants as answer
 use Rattle.mq_replay.specs.Listing.{moment_of}
 use Rattle.mq_replay.specs.Printing.{GrowsByBeginning, Passes}
-use Rattle.mq_replay.specs.PuttingReports.{counted, IsReportPut, IsRestPut, PutsRecords, behind_header, rest_of}
+use Rattle.mq_replay.specs.PuttingReports.{IsReportPut, IsRestPut, PutsRecords, behind_header, rest_of}
 use Rattle.mq_replay.specs.Replaying.{IsEndedBy}
 use Rattle.mq_replay.specs.Report.{Replayed, Course, Report, at_the_start, with_packet, with_packets, with_all_packets, is_gap, ticked_before, ended_at, reported, report_of}
 use Rattle.mq_replay.specs.ReplayLines.{end_lines}

@@ -20,7 +20,7 @@ use Rattle.mq_link.specs.Forwarding.{changed_by_datagram, changed_by_tick}
 use Rattle.mq_link.specs.Receive.{Envelope, pseudo_of, read_of, receipt_of}
 use Rattle.mq_link.specs.Run.{answered}
 use Rattle.mq_link.specs.Sent.{Outgoing, outgoing_of}
-use Rattle.mq_link.specs.State.{Groups, LinkState, link_at}
+use Rattle.mq_link.specs.State.{LinkState, link_at}
 use Rattle.mq_link.specs.Tick.{Step, tick_of, next_of}
 use Rattle.mq_replay.specs.declared.asked.Asked.{Asked}
 use Rattle.mq_replay.specs.declared.replay_fault.ReplayFault.{ReplayFault}

@@ -1,4 +1,4 @@
-use Rattle.std.proofs.Common.{ℕ, List, [], arith, ap, ◌∙◌}
+use Rattle.std.proofs.Common.{ℕ, List, arith, ap, ◌∙◌}
 use Rattle.std.proofs.lemmas.Result.{err_from_is_err_and}
 use Rattle.std.proofs.lemmas.Bool.Decides.{nat_tests}
 use Rattle.mq_held.specs.Groups.{group_at}

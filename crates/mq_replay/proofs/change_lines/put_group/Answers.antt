@@ -1,4 +1,4 @@
-use Rattle.std.proofs.Common.{ap, sym, ◌∙◌}
+use Rattle.std.proofs.Common.{ap, sym}
 use Rattle.mq_sched.specs.Schedule.{ScheduledGroup}
 use Rattle.mq_replay.specs.ChangeLines.{change_line}
 use Rattle.mq_replay.proofs.ChangeTexts.{line-absent}
