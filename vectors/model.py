@@ -27,6 +27,7 @@ class Options:
     scheduled: int = 256
     ssm: bool = False
     until: int | None = None
+    changes: bool = False
 
 
 def options_of(words):
@@ -34,7 +35,7 @@ def options_of(words):
     found, words = {}, iter(words)
     for word in words:
         name = word[2:].replace("-", "_")
-        found[name] = True if word == "--ssm" else address(next(words)) if word == "--own" else int(next(words))
+        found[name] = True if word in ("--ssm", "--changes") else address(next(words)) if word == "--own" else int(next(words))
     return Options(**found)
 
 
@@ -57,6 +58,13 @@ class Group:
 
     def stopped(self):
         return set(self.sources) - self.running()
+
+    def forwarded(self):
+        """What is forwarded of it, as a line has it: what these sources send, or all but that (RFC 3376 section 6.3, RFC 3810
+        section 7.3)."""
+        if self.until is not None:
+            return " ".join(["exclude", *(f"!{text_of(it)}" for it in sorted(self.stopped()))])
+        return " ".join(["include", *(text_of(it) for it in sorted(self.running()))]) if self.running() else "none"
 
     def is_held(self):
         return self.until is not None or bool(self.sources)
@@ -135,6 +143,8 @@ class Querier:
         self.groups, self.now, self.sent = {}, 0, 0
         self.other, self.general, self.startup = None, 0, options.rv
         self.received, self.dropped, self.counts = 0, 0, [0, 0, 0]
+        # What each group was seen to be, after each step of an event.
+        self.seen = []
 
     def asking_time(self):
         return self.it.lmqi * self.rv
@@ -191,7 +201,7 @@ class Querier:
 
     def tick(self, moment):
         """Timers that end, the end of the other querier, the general query, and what is due for the groups."""
-        self.now = max(self.now, moment)
+        self.now, self.seen = max(self.now, moment), [self.forwarded()]
         for group in self.groups.values():
             group.expire(self.now)
         self.groups = {it: group for it, group in self.groups.items() if group.is_held()}
@@ -205,6 +215,19 @@ class Querier:
         for it in sorted(self.groups):
             for s, sources in self.round(self.groups[it]):
                 self.send(it, sources, s, self.it.lmqi)
+        self.seen.append(self.forwarded())
+
+    def forwarded(self):
+        return {it: group.forwarded() for it, group in self.groups.items()}
+
+    def changes(self):
+        """The lines of the groups that the last event changed: of which another filter is forwarded after one of its steps than
+        before it."""
+        if not self.it.changes:
+            return []
+        steps = list(zip(self.seen, self.seen[1:]))
+        groups = {it for before, after in steps for it in {*before, *after} if before.get(it, "none") != after.get(it, "none")}
+        return [f"{self.now} change {text_of(it)} {self.seen[-1].get(it, 'none')}" for it in sorted(groups)]
 
     def receive(self, packet, moment):
         """What is done with a packet: how many of its records are applied, ignored and refused, or why it is dropped."""
@@ -227,6 +250,7 @@ class Querier:
         records = message.records or ([(kinds[message.what], message.group, [])] if kinds[message.what] else [])
         for kind, group, sources in records:
             found[self.record(kind, group, sources, message, met)] += 1
+            self.seen.append(self.forwarded())
         self.counts = [all_ + it for all_, it in zip(self.counts, found)]
         return "taken {} {} {}".format(*found)
 
@@ -343,6 +367,11 @@ def replay(data, family, options):
     """The lines that a replay of a capture writes, and what it says where a fault or a gap ends it."""
     link, last, number = Querier(family, options), 0, 0
     said = link.lines
+
+    def tick():
+        link.tick(link.next())
+        said.extend(link.changes())
+
     try:
         kind, records = opened(data)
         for number, moment, frame in moments(records):
@@ -350,18 +379,19 @@ def replay(data, family, options):
                 return said, f"gap before record {number}"
             last = moment
             while link.next() < moment:
-                link.tick(link.next())
+                tick()
             packet = unwrap(kind, frame)
             if isinstance(packet, str) or packet.family is not family:
                 said.append(f"{moment} skip {number} {packet if isinstance(packet, str) else 'other'}")
             else:
                 answer = link.receive(packet, moment)
                 said.append(f"{moment} receive {number} {text_of(packet.source)} {answer}")
+                said.extend(link.changes())
     except CaptureFault as fault:
         return said, fault.text
     ending = max(last, options.until or 0)
     if ending - last > DAY:
         return said, f"gap before record {number + 1}"
     while link.next() <= ending:
-        link.tick(link.next())
+        tick()
     return said + link.end(ending), None

@@ -266,7 +266,9 @@ static uint32_t changed_page(uint32_t first, uint8_t (*page4)[4], uint8_t (*page
 /* A page of the groups that the last call changed. */
 static void add_changed(void) {
   static uint8_t page4[GROUPS][4], page6[GROUPS][16];
-  uint32_t count = changed_page((uint32_t)below(3), page4, page6, below(GROUPS + 1));
+  uint32_t first = (uint32_t)below(3);
+  size_t room = below(GROUPS + 1);
+  uint32_t count = changed_page(first, page4, page6, room);
   changed += count;
   add(count);
   add_bytes(is_mld ? page6[0] : page4[0], GROUPS * width);

@@ -50,6 +50,8 @@ pub enum Request<'a> {
         settings: Settings,
         /// The moment up to which it runs at least, in milliseconds from the first packet, where it is given.
         until: Option<u64>,
+        /// Whether there are lines for the groups that are changed.
+        changes: bool,
         /// The file that the capture is in.
         file: Option<&'a str>,
     },

@@ -34,6 +34,7 @@ pub(crate) fn request_in<'a>(words: &ArgMatches<'a>) -> Option<Request<'a>> {
         own: words.get_str("own")?,
         settings: settings_in(words),
         until: words.get_one::<u64>("until"),
+        changes: words.get_flag("changes"),
         file: words.get_str("FILE"),
     })
 }
@@ -73,6 +74,12 @@ Lines:
                                 and refused since there is a limit
   T receive N ADDR dropped K    the same, dropped for reason K
   T skip N WHY                  packet N, which has no message of the protocol: other, cut or fragment
+  T change G ..                 with --changes, behind the lines of what changed it: what is forwarded of a
+                                group from then on; for each group whose filter changed, but not for a timer
+                                that is refreshed:
+                                  none            nothing
+                                  include S ..    what these sources send, and nothing else
+                                  exclude !S ..   all but what these sources send
   end T WHO                     the end, and who is querier then: querier, which is this one, or other
   group G include ..            a group at the end, in INCLUDE mode
   group G exclude T ..          or in EXCLUDE mode, with the end of its group timer; then, for both:
@@ -111,7 +118,15 @@ pub(crate) fn command<'a>(alloc: Global) -> Result<Command<'a>, AllocError> {
         .arg(own(alloc))?;
     with_limits(alloc, with_variables(alloc, command)?)?
         .arg(ssm(alloc))?
-        .arg(until(alloc))
+        .arg(until(alloc))?
+        .arg(changes(alloc))
+}
+
+fn changes<'a>(alloc: Global) -> Arg<'a> {
+    Arg::new(alloc, "changes")
+        .long("changes")
+        .action(ArgAction::SetTrue)
+        .help("Print a line for each group that is forwarded differently from then on")
 }
 
 fn own<'a>(alloc: Global) -> Arg<'a> {

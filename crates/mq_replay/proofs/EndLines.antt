@@ -74,21 +74,21 @@ groups_passed family groups place a b held left all passed =
     subst (λ (es : List Entry). Passes a b held left (flat_map (entry_line family) es)) (take_all place (map.entries groups) (omega (arith, all, map.len-entries groups))) passed
 
 -- what is written at the end is written of the link that the ticks left
-pub end_text : (config : Configuration) (family : Family) (moment : ℕ) (before mid : LinkValue) → config ≡ before.config → config.family ≡ family
-    → mid.state ≡ (ticked_before before.config (moment + 1) (begun_with before.state)).link
-    → (ended_at before.config moment (begun_with before.state)).text
-    ≡ (ticked_before before.config (moment + 1) (begun_with before.state)).text
+pub end_text : (changes : Bool) (config : Configuration) (family : Family) (moment : ℕ) (before mid : LinkValue) → config ≡ before.config → config.family ≡ family
+    → mid.state ≡ (ticked_before before.config (moment + 1) (begun_with changes before.state)).link
+    → (ended_at before.config moment (begun_with changes before.state)).text
+    ≡ (ticked_before before.config (moment + 1) (begun_with changes before.state)).text
     ++ (end_line moment (is_querier mid.state.election.role) ++ (group_lines family mid.state.groups ++ counts_line mid.state.counters))
 unfolding ended_at
-end_text config family moment before mid is_config is_family is_link =
-    let ticks = (ticked_before before.config (moment + 1) (begun_with before.state)).text in
+end_text changes config family moment before mid is_config is_family is_link =
+    let ticks = (ticked_before before.config (moment + 1) (begun_with changes before.state)).text in
     let families : before.config.family ≡ family = sym (ap (λ (c : Configuration). c.family) is_config) ∙ is_family in
     λ i. ticks ++ end_lines (families i) moment (is_querier (sym is_link i).election.role) (sym is_link i).groups (sym is_link i).counters
 
-pub end_answer : (moment : ℕ) (before mid : LinkValue) → mid.state ≡ (ticked_before before.config (moment + 1) (begun_with before.state)).link
-    → (ended_at before.config moment (begun_with before.state)).answer ≡ Ok mid.state.counters
+pub end_answer : (changes : Bool) (moment : ℕ) (before mid : LinkValue) → mid.state ≡ (ticked_before before.config (moment + 1) (begun_with changes before.state)).link
+    → (ended_at before.config moment (begun_with changes before.state)).answer ≡ Ok mid.state.counters
 unfolding ended_at
-end_answer moment before mid is_link = ap (λ (s : LinkState). Ok s.counters) (sym is_link)
+end_answer changes moment before mid is_link = ap (λ (s : LinkState). Ok s.counters) (sym is_link)
 
 -- where the lines broke off
 pub role_broken : (a b c : Option (List ℕ)) (held mid ticks role groups counts : List ℕ) → Passes a b held mid ticks → GrowsByBeginning b c (mid ++ role) → GrowsByBeginning a c (held ++ (ticks ++ (role ++ (groups ++ counts))))
@@ -104,53 +104,53 @@ end_put a b c d e held mid more rest left ticks role groups counts r first secon
     then_put a b e held mid left ticks (role ++ (groups ++ counts)) r first (then_put b c e mid more left role (groups ++ counts) r second (then_put c d e more rest left groups counts r third put))
 
 -- the ticks go up to and including the end
-ticked_to : {T E : Type 0} (before mid : LinkValue) (limit moment : ℕ) (a b : Option (List ℕ)) (held left : List ℕ) (r : Result T E) → limit ≡ moment + 1
-    → PutsReplayed before mid (ticked_before before.config limit (begun_with before.state)) a b held left r
-    → PutsReplayed before mid (ticked_before before.config (moment + 1) (begun_with before.state)) a b held left r
-ticked_to before mid limit moment a b held left r is put = subst (λ (m : ℕ). PutsReplayed before mid (ticked_before before.config m (begun_with before.state)) a b held left r) is put
+ticked_to : {T E : Type 0} (changes : Bool) (before mid : LinkValue) (limit moment : ℕ) (a b : Option (List ℕ)) (held left : List ℕ) (r : Result T E) → limit ≡ moment + 1
+    → PutsReplayed before mid (ticked_before before.config limit (begun_with changes before.state)) a b held left r
+    → PutsReplayed before mid (ticked_before before.config (moment + 1) (begun_with changes before.state)) a b held left r
+ticked_to changes before mid limit moment a b held left r is put = subst (λ (m : ℕ). PutsReplayed before mid (ticked_before before.config m (begun_with changes before.state)) a b held left r) is put
 
-pub end_ticks_broken : {T : Type 0} (before mid : LinkValue) (limit moment : ℕ) (a b : Option (List ℕ)) (held left : List ℕ) (e : LineFault) → limit ≡ moment + 1
-    → PutsReplayed {T = T} before mid (ticked_before before.config limit (begun_with before.state)) a b held left (Err e)
-    → GrowsByBeginning a b (held ++ (ended_at before.config moment (begun_with before.state)).text)
+pub end_ticks_broken : {T : Type 0} (changes : Bool) (before mid : LinkValue) (limit moment : ℕ) (a b : Option (List ℕ)) (held left : List ℕ) (e : LineFault) → limit ≡ moment + 1
+    → PutsReplayed {T = T} before mid (ticked_before before.config limit (begun_with changes before.state)) a b held left (Err e)
+    → GrowsByBeginning a b (held ++ (ended_at before.config moment (begun_with changes before.state)).text)
 unfolding ended_at
-end_ticks_broken before mid limit moment a b held left e is put =
-    broken_within a b held (ticked_before before.config (moment + 1) (begun_with before.state)).text _ (ticked_to before mid limit moment a b held left (Err e) is put).text
+end_ticks_broken changes before mid limit moment a b held left e is put =
+    broken_within a b held (ticked_before before.config (moment + 1) (begun_with changes before.state)).text _ (ticked_to changes before mid limit moment a b held left (Err e) is put).text
 
-pub end_role_broken : {T : Type 0} (config : Configuration) (family : Family) (before mid : LinkValue) (limit moment : ℕ) (role : Bool) (a b c : Option (List ℕ)) (held more : List ℕ) (x : T)
+pub end_role_broken : {T : Type 0} (changes : Bool) (config : Configuration) (family : Family) (before mid : LinkValue) (limit moment : ℕ) (role : Bool) (a b c : Option (List ℕ)) (held more : List ℕ) (x : T)
     → limit ≡ moment + 1 → config ≡ before.config → config.family ≡ family → role ≡ is_querier mid.state.election.role
-    → PutsReplayed {E = LineFault} before mid (ticked_before before.config limit (begun_with before.state)) a b held more (Ok x)
+    → PutsReplayed {E = LineFault} before mid (ticked_before before.config limit (begun_with changes before.state)) a b held more (Ok x)
     → GrowsByBeginning b c (more ++ end_line moment role)
-    → GrowsByBeginning a c (held ++ (ended_at before.config moment (begun_with before.state)).text)
-end_role_broken config family before mid limit moment role a b c held more x is is_config is_family is_role put begun =
-    let ticks = ticked_to before mid limit moment a b held more (Ok x) is put in
-    subst (λ (t : List ℕ). GrowsByBeginning a c (held ++ t)) (sym (end_text config family moment before mid is_config is_family ticks.link))
+    → GrowsByBeginning a c (held ++ (ended_at before.config moment (begun_with changes before.state)).text)
+end_role_broken changes config family before mid limit moment role a b c held more x is is_config is_family is_role put begun =
+    let ticks = ticked_to changes before mid limit moment a b held more (Ok x) is put in
+    subst (λ (t : List ℕ). GrowsByBeginning a c (held ++ t)) (sym (end_text changes config family moment before mid is_config is_family ticks.link))
     (role_broken a b c held more _ _ (group_lines family mid.state.groups) (counts_line mid.state.counters) ticks.text (subst (λ (q : Bool). GrowsByBeginning b c (more ++ end_line moment q)) is_role begun))
 
-pub end_groups_broken : {T : Type 0} (config : Configuration) (family : Family) (before mid : LinkValue) (limit moment : ℕ) (role : Bool) (a b c d : Option (List ℕ)) (held more rest : List ℕ) (x : T)
+pub end_groups_broken : {T : Type 0} (changes : Bool) (config : Configuration) (family : Family) (before mid : LinkValue) (limit moment : ℕ) (role : Bool) (a b c d : Option (List ℕ)) (held more rest : List ℕ) (x : T)
     → limit ≡ moment + 1 → config ≡ before.config → config.family ≡ family → role ≡ is_querier mid.state.election.role
-    → PutsReplayed {E = LineFault} before mid (ticked_before before.config limit (begun_with before.state)) a b held more (Ok x)
+    → PutsReplayed {E = LineFault} before mid (ticked_before before.config limit (begun_with changes before.state)) a b held more (Ok x)
     → Passes b c more rest (end_line moment role) → GrowsByBeginning c d (rest ++ group_lines family mid.state.groups)
-    → GrowsByBeginning a d (held ++ (ended_at before.config moment (begun_with before.state)).text)
-end_groups_broken config family before mid limit moment role a b c d held more rest x is is_config is_family is_role put second begun =
-    let ticks = ticked_to before mid limit moment a b held more (Ok x) is put in
-    subst (λ (t : List ℕ). GrowsByBeginning a d (held ++ t)) (sym (end_text config family moment before mid is_config is_family ticks.link))
+    → GrowsByBeginning a d (held ++ (ended_at before.config moment (begun_with changes before.state)).text)
+end_groups_broken changes config family before mid limit moment role a b c d held more rest x is is_config is_family is_role put second begun =
+    let ticks = ticked_to changes before mid limit moment a b held more (Ok x) is put in
+    subst (λ (t : List ℕ). GrowsByBeginning a d (held ++ t)) (sym (end_text changes config family moment before mid is_config is_family ticks.link))
     (groups_broken a b c d held more rest _ _ _ (counts_line mid.state.counters) ticks.text (subst (λ (q : Bool). Passes b c more rest (end_line moment q)) is_role second) begun)
 
-pub all_put : {T : Type 0} (config : Configuration) (family : Family) (before mid : LinkValue) (limit moment : ℕ) (role : Bool) (counters : Counters) (a b c d e : Option (List ℕ)) (held more rest last left : List ℕ) (x : T) (r : Result Unit LineFault)
+pub all_put : {T : Type 0} (changes : Bool) (config : Configuration) (family : Family) (before mid : LinkValue) (limit moment : ℕ) (role : Bool) (counters : Counters) (a b c d e : Option (List ℕ)) (held more rest last left : List ℕ) (x : T) (r : Result Unit LineFault)
     → limit ≡ moment + 1 → config ≡ before.config → config.family ≡ family → role ≡ is_querier mid.state.election.role → counters ≡ mid.state.counters
-    → PutsReplayed {E = LineFault} before mid (ticked_before before.config limit (begun_with before.state)) a b held more (Ok x)
+    → PutsReplayed {E = LineFault} before mid (ticked_before before.config limit (begun_with changes before.state)) a b held more (Ok x)
     → Passes b c more rest (end_line moment role) → Passes c d rest last (group_lines family mid.state.groups) → Puts d e last left (counts_line counters) r
-    → Puts a e held left (ended_at before.config moment (begun_with before.state)).text r
-all_put config family before mid limit moment role counters a b c d e held more rest last left x r is is_config is_family is_role is_counters put second third fourth =
-    let ticks = ticked_to before mid limit moment a b held more (Ok x) is put in
-    subst (λ (t : List ℕ). Puts a e held left t r) (sym (end_text config family moment before mid is_config is_family ticks.link))
+    → Puts a e held left (ended_at before.config moment (begun_with changes before.state)).text r
+all_put changes config family before mid limit moment role counters a b c d e held more rest last left x r is is_config is_family is_role is_counters put second third fourth =
+    let ticks = ticked_to changes before mid limit moment a b held more (Ok x) is put in
+    subst (λ (t : List ℕ). Puts a e held left t r) (sym (end_text changes config family moment before mid is_config is_family ticks.link))
     (end_put a b c d e held more rest last left _ _ _ _ r ticks.text (subst (λ (q : Bool). Passes b c more rest (end_line moment q)) is_role second) third
     (subst (λ (n : Counters). Puts d e last left (counts_line n) r) is_counters fourth))
 
-pub all_answered : {T : Type 0} (before mid : LinkValue) (limit moment : ℕ) (a b : Option (List ℕ)) (held left : List ℕ) (x : T) → limit ≡ moment + 1
-    → PutsReplayed {E = LineFault} before mid (ticked_before before.config limit (begun_with before.state)) a b held left (Ok x)
-    → (ended_at before.config moment (begun_with before.state)).answer ≡ Ok mid.state.counters
-all_answered before mid limit moment a b held left x is put = end_answer moment before mid (ticked_to before mid limit moment a b held left (Ok x) is put).link
+pub all_answered : {T : Type 0} (changes : Bool) (before mid : LinkValue) (limit moment : ℕ) (a b : Option (List ℕ)) (held left : List ℕ) (x : T) → limit ≡ moment + 1
+    → PutsReplayed {E = LineFault} before mid (ticked_before before.config limit (begun_with changes before.state)) a b held left (Ok x)
+    → (ended_at before.config moment (begun_with changes before.state)).answer ≡ Ok mid.state.counters
+all_answered changes before mid limit moment a b held left x is put = end_answer changes moment before mid (ticked_to changes before mid limit moment a b held left (Ok x) is put).link
 
 pub if_ok : {T E : Type 0} (r : Result T E) (P : Type 0) → P → IfOk r (λ _. P)
 if_ok (Ok x) P h = h

@@ -1,5 +1,8 @@
 pub mod Answered
+pub mod ChangeTexts
+pub mod ChangedGroups
 pub mod EndLines
+pub mod EventLines
 pub mod Growing
 pub mod Headers
 pub mod OnePacket

@@ -1,5 +1,5 @@
 -- A capture of which some packets were read and replayed.
-use Rattle.std.proofs.Common.{◌≡◌, ℕ, ◌+◌, true, false, List, [], ◌∷◌, ◌++◌, length, take, Option, None, Some, Ok, unwrap_or, refl, ap, ◌∙◌, append_assoc, length-append}
+use Rattle.std.proofs.Common.{◌≡◌, ℕ, ◌+◌, Bool, true, false, List, [], ◌∷◌, ◌++◌, length, take, Option, None, Some, Ok, unwrap_or, refl, ap, ◌∙◌, append_assoc, length-append}
 use Rattle.mq_pcap.specs.declared.fault.PcapFault.{PcapFault}
 use Rattle.mq_pcap.specs.declared.form.Form.{Form}
 use Rattle.mq_pcap.specs.declared.reader_state.Packet.{Packet}
@@ -11,23 +11,26 @@ use Rattle.mq_pcap.proofs.Filled.{Takes-nil, Takes-trans}
 use Rattle.mq_link.specs.Configuration.{Configuration}
 use Rattle.mq_replay.specs.Listing.{moment_of}
 use Rattle.mq_replay.specs.Report.{Replayed, at_the_start, with_packet, with_packets, is_gap}
+use Rattle.mq_replay.proofs.Growing.{packet_changes}
 
 -- Some bytes behind the file's header were read as packets, which were replayed. Whatever follows, its records are
 -- those behind these packets, and it is replayed behind them.
-pub record IsReplayedTo (config : Configuration) (form : Form) (old now : InputState) (first : Option ℕ) (before number : ℕ) (r : Replayed) : Type 0 where
+pub record IsReplayedTo (config : Configuration) (changes : Bool) (form : Form) (old now : InputState) (first : Option ℕ) (before number : ℕ) (r : Replayed) : Type 0 where
   pub bytes : List ℕ
   pub packets : List Captured
   pub takes : Takes old now bytes
   pub count : length packets ≡ number
+  pub asked : r.changes ≡ changes
   pub records : (rest : List ℕ) (more : List Captured) (end : Option PcapFault) → AreRecords form (number + 1) rest more end → AreRecords form 1 (bytes ++ rest) (packets ++ more) end
-  pub course : (more : List Captured) → with_packets config form.link None 0 1 (packets ++ more) (at_the_start config) ≡ with_packets config form.link first before (number + 1) more r
+  pub course : (more : List Captured) → with_packets config form.link None 0 1 (packets ++ more) (at_the_start config changes) ≡ with_packets config form.link first before (number + 1) more r
 
-pub none_replayed : (config : Configuration) (form : Form) (s : InputState) → IsReplayedTo config form s s None 0 0 (at_the_start config)
-none_replayed config form s = record {
+pub none_replayed : (config : Configuration) (changes : Bool) (form : Form) (s : InputState) → IsReplayedTo config changes form s s None 0 0 (at_the_start config changes)
+none_replayed config changes form s = record {
   bytes = [];
   packets = [];
   takes = Takes-nil s;
   count = refl;
+  asked = refl;
   records = λ rest more end h. h;
   course = λ more. refl;
 }
@@ -64,23 +67,24 @@ unfolding with_packets
 none_left config form first before number r = refl
 
 -- one packet more was read and replayed
-pub next_replayed : (config : Configuration) (form : Form) (old mid new : InputState) (first : Option ℕ) (before number : ℕ) (r : Replayed) (buffer : List ℕ) (packet : Packet)
+pub next_replayed : (config : Configuration) (changes : Bool) (form : Form) (old mid new : InputState) (first : Option ℕ) (before number : ℕ) (r : Replayed) (buffer : List ℕ) (packet : Packet)
     → is_gap before (moment_of first before packet.stamp_ms) ≡ false
-    → IsReplayedTo config form old mid first before number r → Reads form (number + 1) mid new buffer (Ok (Some packet))
-    → IsReplayedTo config form old new (Some (unwrap_or first packet.stamp_ms)) (moment_of first before packet.stamp_ms) (number + 1)
+    → IsReplayedTo config changes form old mid first before number r → Reads form (number + 1) mid new buffer (Ok (Some packet))
+    → IsReplayedTo config changes form old new (Some (unwrap_or first packet.stamp_ms)) (moment_of first before packet.stamp_ms) (number + 1)
     (with_packet config (moment_of first before packet.stamp_ms) (number + 1) (carried_in form.link (take packet.length buffer)) r)
-next_replayed config form old mid new first before number r buffer packet none to reads =
+next_replayed config changes form old mid new first before number r buffer packet none to reads =
     let captured : Captured = record { stamp = packet.stamp_ms; bytes = take packet.length buffer } in
     record {
       bytes = to.bytes ++ reads.bytes;
       packets = to.packets ++ (captured ∷ []);
       takes = Takes-trans old mid new to.bytes reads.bytes to.takes reads.takes;
       count = length-append to.packets (captured ∷ []) ∙ ap (λ (n : ℕ). n + 1) to.count;
+      asked = packet_changes config (moment_of first before packet.stamp_ms) (number + 1) (carried_in form.link (take packet.length buffer)) r ∙ to.asked;
       records = λ rest more end h.
           let all = to.records (reads.bytes ++ rest) (captured ∷ more) end (reads.bytes, rest, refl, reads.answers.1, reads.answers.0, h) in
           rw (append_assoc to.bytes reads.bytes rest, append_assoc to.packets (captured ∷ []) more) all;
       course = λ more.
-          ap (λ (packets : List Captured). with_packets config form.link None 0 1 packets (at_the_start config)) (append_assoc to.packets (captured ∷ []) more)
+          ap (λ (packets : List Captured). with_packets config form.link None 0 1 packets (at_the_start config changes)) (append_assoc to.packets (captured ∷ []) more)
           ∙ to.course (captured ∷ more)
           ∙ one_more config form first before (number + 1) captured more r none;
     }

@@ -1,53 +1,15 @@
 -- Ticks at a link's next moments, one after the other.
-use Rattle.std.proofs.Common.{◌≡◌, ℕ, zero, suc, ◌+◌, ◌<◌, ◌≤◌, Bool, true, refl, List, [], ◌++◌, Option, Result, Ok, Err, IfOk, append_assoc, sym, ap, subst, ◌∙◌, arith}
-use Rattle.std.specs.Prelude.{map as list_map}
-use Rattle.mq_wire.specs.Family.{Family}
-use Rattle.mq_link.specs.declared.answers.Received.{Received}
+use Rattle.std.proofs.Common.{◌≡◌, ℕ, zero, suc, ◌+◌, ◌<◌, ◌≤◌, Bool, refl, List, ◌++◌, Option, Result, Ok, Err, append_assoc, sym, ap, subst, ◌∙◌, arith}
 use Rattle.mq_link.specs.Configuration.{Configuration}
 use Rattle.mq_link.specs.Link.{LinkValue}
-use Rattle.mq_link.specs.Receive.{Envelope, receipt_of}
-use Rattle.mq_link.specs.Run.{answered, HandsOut}
-use Rattle.mq_link.specs.Sent.{Outgoing}
 use Rattle.mq_link.specs.State.{LinkState}
-use Rattle.mq_link.specs.Tick.{Step, tick_of, next_of}
+use Rattle.mq_link.specs.Tick.{tick_of, next_of}
 use Rattle.mq_replay.specs.declared.printing.LineFault.{LineFault}
-use Rattle.mq_replay.specs.Printing.{Passes, Puts, GrowsByBeginning}
-use Rattle.mq_replay.specs.QueryLines.{TicksPrinting, ReceivesPrinting}
-use Rattle.mq_replay.specs.ReplayLines.{query_lines}
-use Rattle.mq_replay.specs.Report.{Replayed, all_sent, after_step, ticked_at, ticked_within, ticked_before}
+use Rattle.mq_replay.specs.Printing.{Passes, GrowsByBeginning}
+use Rattle.mq_replay.specs.Report.{Replayed, ticked_at, ticked_within, ticked_before}
 use Rattle.mq_replay.specs.Steps.{PutsReplayed, begun_with}
 use Rattle.mq_replay.proofs.Growing.{behind, as_behind, ticked_behind, within_behind, none_within, one_within}
 use Rattle.mq_replay.proofs.Passing.{both_passed, broken_behind, broken_within}
-
--- a step whose messages were handed out and put, is one of a replay
-step_put : {T E : Type 0} (family : Family) (now : ℕ) (before after : LinkValue) (step : Step) (old new : Option (List ℕ)) (held left : List ℕ) (r : Result T E) (messages : List Outgoing) (answers : List Bool)
-    → family ≡ before.config.family → after.config ≡ before.config → HandsOut before.config step messages answers after.state
-    → Puts old new held left (query_lines family now messages) r → IfOk r (λ _. answers ≡ list_map (λ message. true) messages)
-    → PutsReplayed before after (after_step before.config now step []) old new held left r
-step_put family now before after step old new held left r messages answers is_family same out put sent =
-    record {
-      same_config = same;
-      link = linked r sent;
-      text = subst (λ (ms : List Outgoing). Puts old new held left (query_lines before.config.family now ms) r) out.handed
-          (subst (λ (f : Family). Puts old new held left (query_lines f now messages) r) is_family put);
-    }
-  where
-    linked : {T E : Type 0} (r : Result T E) → IfOk r (λ _. answers ≡ list_map (λ message. true) messages) → IfOk r (λ _. after.state ≡ (after_step before.config now step []).link)
-    linked (Ok x) all = out.leaves ∙ ap (λ (given : List Bool). answered given step) (all ∙ ap all_sent out.handed)
-    linked (Err e) all = tt
-
-pub tick_put : (family : Family) (now : ℕ) (before after : LinkValue) (old new : Option (List ℕ)) (held left : List ℕ) (r : Result Unit LineFault)
-    → family ≡ before.config.family → after.config ≡ before.config → TicksPrinting family now before after old new held left r
-    → PutsReplayed before after (ticked_at before.config now (begun_with before.state)) old new held left r
-unfolding ticked_at
-tick_put family now before after old new held left r is_family same ticks =
-    step_put family now before after (tick_of before.config now before.state) old new held left r ticks.messages ticks.answers is_family same ticks.ticks ticks.put ticks.all_sent
-
-pub receipt_put : (family : Family) (envelope : Envelope) (bytes : List ℕ) (now : ℕ) (before after : LinkValue) (old new : Option (List ℕ)) (held left : List ℕ) (r : Result Received LineFault)
-    → family ≡ before.config.family → after.config ≡ before.config → ReceivesPrinting family envelope bytes now before after old new held left r
-    → PutsReplayed before after (after_step before.config now (receipt_of before.config envelope bytes now before.state).step []) old new held left r
-receipt_put family envelope bytes now before after old new held left r is_family same receives =
-    step_put family now before after (receipt_of before.config envelope bytes now before.state).step old new held left r receives.messages receives.answers is_family same receives.receives.hands_out receives.put receives.all_sent
 
 -- A replay has come to another one by ticks before a limit, and there are as many left as may be to come.
 pub record IsTickedTo (config : Configuration) (limit : ℕ) (from to : Replayed) : Type 0 where
@@ -70,90 +32,95 @@ once_more config limit from to due later ticked = by_left ticked.left ticked.eno
     by_left (suc n) enough same = record { left = n; enough = omega (arith, enough, later); same = same ∙ one_within n config limit to due }
 
 -- a tick behind a text
-ticked_text : (config : Configuration) (moment : ℕ) (link : LinkState) (text : List ℕ) → ticked_at config moment (record { link = link; text = text }) ≡ behind text (ticked_at config moment (begun_with link))
-ticked_text config moment link text = ap (ticked_at config moment) (sym (as_behind (record { link = link; text = text }))) ∙ ticked_behind config moment text (begun_with link)
+ticked_text : (changes : Bool) (config : Configuration) (moment : ℕ) (link : LinkState) (text : List ℕ) → ticked_at config moment (record { link = link; text = text; changes = changes }) ≡ behind text (ticked_at config moment (begun_with changes link))
+ticked_text changes config moment link text = ap (ticked_at config moment) (sym (as_behind (record { link = link; text = text; changes = changes }))) ∙ ticked_behind config moment text (begun_with changes link)
 
 -- the text of ticks begins with that of the first of them
-all_text : (most : ℕ) (config : Configuration) (limit : ℕ) (r : Replayed) → (ticked_within most config limit r).text ≡ r.text ++ (ticked_within most config limit (begun_with r.link)).text
-all_text most config limit r = ap (λ (x : Replayed). x.text) (ap (ticked_within most config limit) (sym (as_behind r)) ∙ within_behind most config limit r.text (begun_with r.link))
+all_text : (most : ℕ) (config : Configuration) (limit : ℕ) (r : Replayed) → (ticked_within most config limit r).text ≡ r.text ++ (ticked_within most config limit (begun_with r.changes r.link)).text
+all_text most config limit r = ap (λ (x : Replayed). x.text) (ap (ticked_within most config limit) (sym (as_behind r)) ∙ within_behind most config limit r.text (begun_with r.changes r.link))
 
 -- one tick more was made, and its lines were put
-pub tick_done : {T E : Type 0} (config : Configuration) (limit : ℕ) (from : Replayed) (mid after : LinkValue) (text : List ℕ) (old now new : Option (List ℕ)) (held more left : List ℕ) (x : T)
+pub tick_done : {changes : Bool} {T E : Type 0} (config : Configuration) (limit : ℕ) (from : Replayed) (mid after : LinkValue) (text : List ℕ) (old now new : Option (List ℕ)) (held more left : List ℕ) (x : T)
     → mid.config ≡ config → next_of mid.state < limit → next_of mid.state < next_of (tick_of mid.config (next_of mid.state) mid.state).state
-    → IsTickedTo config limit from (record { link = mid.state; text = text }) → Passes old now held more text
-    → PutsReplayed {E = E} mid after (ticked_at mid.config (next_of mid.state) (begun_with mid.state)) now new more left (Ok x)
-    → (said : List ℕ) × IsTickedTo config limit from (record { link = after.state; text = said }) × Passes old new held left said
+    → IsTickedTo config limit from (record { link = mid.state; text = text; changes = changes }) → Passes old now held more text
+    → PutsReplayed {E = E} mid after (ticked_at mid.config (next_of mid.state) (begun_with changes mid.state)) now new more left (Ok x)
+    → (said : List ℕ) × IsTickedTo config limit from (record { link = after.state; text = said; changes = changes }) × Passes old new held left said
 unfolding ticked_at
-tick_done {E} config limit from mid after text old now new held more left x is_config due later ticked passed put =
+tick_done {changes} {E = E} config limit from mid after text old now new held more left x is_config due later ticked passed put =
     let moment = next_of mid.state in
-    let piece = (ticked_at mid.config moment (begun_with mid.state)).text in
-    let later_so : moment < next_of (ticked_at config moment (record { link = mid.state; text = text })).link = subst (λ (c : Configuration). moment < next_of (tick_of c moment mid.state).state) is_config later in
-    let next = once_more config limit from (record { link = mid.state; text = text }) due later_so ticked in
-    let same : ticked_at config moment (record { link = mid.state; text = text }) ≡ record { link = after.state; text = text ++ piece } =
-    ap (λ (c : Configuration). ticked_at c moment (record { link = mid.state; text = text })) (sym is_config) ∙ ticked_text mid.config moment mid.state text ∙ (λ i. record { link = sym put.link i; text = text ++ piece }) in
+    let piece = (ticked_at mid.config moment (begun_with changes mid.state)).text in
+    let later_so : moment < next_of (ticked_at config moment (record { link = mid.state; text = text; changes = changes })).link = subst (λ (c : Configuration). moment < next_of (tick_of c moment mid.state).state) is_config later in
+    let next = once_more config limit from (record { link = mid.state; text = text; changes = changes }) due later_so ticked in
+    let same : ticked_at config moment (record { link = mid.state; text = text; changes = changes }) ≡ record { link = after.state; text = text ++ piece; changes = changes } =
+    ap (λ (c : Configuration). ticked_at c moment (record { link = mid.state; text = text; changes = changes })) (sym is_config) ∙ ticked_text changes mid.config moment mid.state text ∙ (λ i. record { link = sym put.link i; text = text ++ piece; changes = changes }) in
     (text ++ piece, subst (IsTickedTo config limit from) same next, both_passed old now new held more left text piece passed put.text)
 
 -- its lines were not put whole
-pub tick_broken : {T E : Type 0} (config : Configuration) (limit : ℕ) (from : Replayed) (mid after : LinkValue) (text : List ℕ) (old now new : Option (List ℕ)) (held more left : List ℕ) (e : E)
+pub tick_broken : {changes : Bool} {T E : Type 0} (config : Configuration) (limit : ℕ) (from : Replayed) (mid after : LinkValue) (text : List ℕ) (old now new : Option (List ℕ)) (held more left : List ℕ) (e : E)
     → mid.config ≡ config → next_of mid.state < limit
-    → IsTickedTo config limit from (record { link = mid.state; text = text }) → Passes old now held more text
-    → PutsReplayed {T = T} mid after (ticked_at mid.config (next_of mid.state) (begun_with mid.state)) now new more left (Err e)
+    → IsTickedTo config limit from (record { link = mid.state; text = text; changes = changes }) → Passes old now held more text
+    → PutsReplayed {T = T} mid after (ticked_at mid.config (next_of mid.state) (begun_with changes mid.state)) now new more left (Err e)
     → GrowsByBeginning old new (held ++ (ticked_before config limit from).text)
-tick_broken config limit from mid after text old now new held more left e is_config due ticked passed put = by_left ticked.left ticked.enough ticked.same
+tick_broken {changes} config limit from mid after text old now new held more left e is_config due ticked passed put = by_left ticked.left ticked.enough ticked.same
   where
     moment : ℕ
     moment = next_of mid.state
 
     piece : List ℕ
-    piece = (ticked_at mid.config moment (begun_with mid.state)).text
+    piece = (ticked_at mid.config moment (begun_with changes mid.state)).text
 
     here : Replayed
-    here = record { link = mid.state; text = text }
+    here = record { link = mid.state; text = text; changes = changes }
 
     said : (ticked_at config moment here).text ≡ text ++ piece
-    said = ap (λ (c : Configuration). (ticked_at c moment here).text) (sym is_config) ∙ ap (λ (r : Replayed). r.text) (ticked_text mid.config moment mid.state text)
+    said = ap (λ (c : Configuration). (ticked_at c moment here).text) (sym is_config) ∙ ap (λ (r : Replayed). r.text) (ticked_text changes mid.config moment mid.state text)
 
     by_left : (n : ℕ) → limit ≤ n + next_of mid.state → ticked_before config limit from ≡ ticked_within n config limit here → GrowsByBeginning old new (held ++ (ticked_before config limit from).text)
     by_left zero enough same = absurd (omega arith)
     by_left (suc n) enough same =
         let next = ticked_at config moment here in
-        let rest = (ticked_within n config limit (begun_with next.link)).text in
+        let rest = (ticked_within n config limit (begun_with next.changes next.link)).text in
         let all : (ticked_before config limit from).text ≡ text ++ (piece ++ rest) =
         ap (λ (r : Replayed). r.text) (same ∙ one_within n config limit here due) ∙ all_text n config limit next ∙ ap (λ (t : List ℕ). t ++ rest) said ∙ append_assoc text piece rest in
         subst (λ (t : List ℕ). GrowsByBeginning old new (held ++ t)) (sym all) (broken_behind old now new held more text (piece ++ rest) passed (broken_within now new more piece rest put.text))
 
 -- the same of what the code names otherwise
-put_next : {T E : Type 0} (mid after : LinkValue) (moment : ℕ) (now new : Option (List ℕ)) (more left : List ℕ) (r : Result T E) → moment ≡ next_of mid.state
-    → PutsReplayed mid after (ticked_at mid.config moment (begun_with mid.state)) now new more left r
-    → PutsReplayed mid after (ticked_at mid.config (next_of mid.state) (begun_with mid.state)) now new more left r
-put_next mid after moment now new more left r is_next put =
-    subst (λ (m : ℕ). PutsReplayed mid after (ticked_at mid.config m (begun_with mid.state)) now new more left r) is_next put
+put_next : {T E : Type 0} (changes : Bool) (mid after : LinkValue) (moment : ℕ) (now new : Option (List ℕ)) (more left : List ℕ) (r : Result T E) → moment ≡ next_of mid.state
+    → PutsReplayed mid after (ticked_at mid.config moment (begun_with changes mid.state)) now new more left r
+    → PutsReplayed mid after (ticked_at mid.config (next_of mid.state) (begun_with changes mid.state)) now new more left r
+put_next changes mid after moment now new more left r is_next put =
+    subst (λ (m : ℕ). PutsReplayed mid after (ticked_at mid.config m (begun_with changes mid.state)) now new more left r) is_next put
 
-pub printed_done : (family : Family) (config : Configuration) (limit : ℕ) (from : Replayed) (mid after : LinkValue) (moment : ℕ) (text : List ℕ) (old now new : Option (List ℕ)) (held more left : List ℕ)
-    → family ≡ mid.config.family → after.config ≡ mid.config → mid.config ≡ config → moment ≡ next_of mid.state → moment < limit
-    → ((m : ℕ) → m < next_of (tick_of mid.config m mid.state).state)
-    → IsTickedTo config limit from (record { link = mid.state; text = text }) → Passes old now held more text
-    → TicksPrinting family moment mid after now new more left (Ok tt)
-    → (said : List ℕ) × IsTickedTo config limit from (record { link = after.state; text = said }) × Passes old new held left said
-printed_done family config limit from mid after moment text old now new held more left is_family same is_config is_next due later ticked passed ticks =
+pub next_done : {changes : Bool} (config : Configuration) (limit : ℕ) (from : Replayed) (mid after : LinkValue) (moment : ℕ) (text : List ℕ) (old now new : Option (List ℕ)) (held more left : List ℕ)
+    → mid.config ≡ config → moment ≡ next_of mid.state → moment < limit → ((m : ℕ) → m < next_of (tick_of mid.config m mid.state).state)
+    → IsTickedTo config limit from (record { link = mid.state; text = text; changes = changes }) → Passes old now held more text
+    → PutsReplayed {T = Unit} {E = LineFault} mid after (ticked_at mid.config moment (begun_with changes mid.state)) now new more left (Ok tt)
+    → (said : List ℕ) × IsTickedTo config limit from (record { link = after.state; text = said; changes = changes }) × Passes old new held left said
+next_done {changes} config limit from mid after moment text old now new held more left is_config is_next due later ticked passed put =
     tick_done {E = LineFault} config limit from mid after text old now new held more left tt is_config (subst (λ (m : ℕ). m < limit) is_next due) (later (next_of mid.state)) ticked passed
-    (put_next mid after moment now new more left (Ok tt) is_next (tick_put family moment mid after now new more left (Ok tt) is_family same ticks))
+    (put_next changes mid after moment now new more left (Ok tt) is_next put)
 
-pub printed_broken : (family : Family) (config : Configuration) (limit : ℕ) (from : Replayed) (mid after : LinkValue) (moment : ℕ) (text : List ℕ) (old now new : Option (List ℕ)) (held more left : List ℕ) (e : LineFault)
-    → family ≡ mid.config.family → after.config ≡ mid.config → mid.config ≡ config → moment ≡ next_of mid.state → moment < limit
-    → IsTickedTo config limit from (record { link = mid.state; text = text }) → Passes old now held more text
-    → TicksPrinting family moment mid after now new more left (Err e)
+pub next_broken : {changes : Bool} (config : Configuration) (limit : ℕ) (from : Replayed) (mid after : LinkValue) (moment : ℕ) (text : List ℕ) (old now new : Option (List ℕ)) (held more left : List ℕ) (e : LineFault)
+    → mid.config ≡ config → moment ≡ next_of mid.state → moment < limit
+    → IsTickedTo config limit from (record { link = mid.state; text = text; changes = changes }) → Passes old now held more text
+    → PutsReplayed {T = Unit} mid after (ticked_at mid.config moment (begun_with changes mid.state)) now new more left (Err e)
     → GrowsByBeginning old new (held ++ (ticked_before config limit from).text)
-printed_broken family config limit from mid after moment text old now new held more left e is_family same is_config is_next due ticked passed ticks =
+next_broken {changes} config limit from mid after moment text old now new held more left e is_config is_next due ticked passed put =
     tick_broken {T = Unit} config limit from mid after text old now new held more left e is_config (subst (λ (m : ℕ). m < limit) is_next due) ticked passed
-    (put_next mid after moment now new more left (Err e) is_next (tick_put family moment mid after now new more left (Err e) is_family same ticks))
+    (put_next changes mid after moment now new more left (Err e) is_next put)
+
+-- the next moment is later then
+pub comes_later : (changes : Bool) (config : Configuration) (before after : LinkState) (now : ℕ) → ((m : ℕ) → m < next_of (tick_of config m before).state)
+    → after ≡ (ticked_at config now (begun_with changes before)).link → now < next_of after
+unfolding ticked_at
+comes_later changes config before after now later same = subst (λ (s : LinkState). now < next_of s) (sym same) (later now)
 
 -- no tick is left
-pub ticks_done : {E : Type 0} (before after : LinkValue) (limit : ℕ) (text : List ℕ) (old new : Option (List ℕ)) (held left : List ℕ) → after.config ≡ before.config → limit ≤ next_of after.state
-    → IsTickedTo before.config limit (begun_with before.state) (record { link = after.state; text = text }) → Passes old new held left text
-    → PutsReplayed {T = Unit} {E = E} before after (ticked_before before.config limit (begun_with before.state)) old new held left (Ok tt)
-ticks_done before after limit text old new held left same reached ticked passed =
-    let all = all_ticked before.config limit (begun_with before.state) (record { link = after.state; text = text }) reached ticked in
+pub ticks_done : {changes : Bool} {E : Type 0} (before after : LinkValue) (limit : ℕ) (text : List ℕ) (old new : Option (List ℕ)) (held left : List ℕ) → after.config ≡ before.config → limit ≤ next_of after.state
+    → IsTickedTo before.config limit (begun_with changes before.state) (record { link = after.state; text = text; changes = changes }) → Passes old new held left text
+    → PutsReplayed {T = Unit} {E = E} before after (ticked_before before.config limit (begun_with changes before.state)) old new held left (Ok tt)
+ticks_done {changes} before after limit text old new held left same reached ticked passed =
+    let all = all_ticked before.config limit (begun_with changes before.state) (record { link = after.state; text = text; changes = changes }) reached ticked in
     record {
       same_config = same;
       link = sym (ap (λ (r : Replayed). r.link) all);

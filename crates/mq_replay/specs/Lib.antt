@@ -1,6 +1,8 @@
+pub mod ChangeLines
 pub mod Datagrams
 pub mod Line
 pub mod Listing
+pub mod NamedSources
 pub mod Numbered
 pub mod Printing
 pub mod Putting

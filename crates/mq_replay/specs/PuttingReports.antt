@@ -1,5 +1,5 @@
 -- What the parts of a replay come to that go to a writer by way of a buffer.
-use Rattle.std.specs.Prelude.{◌≡◌, ◌⊎◌, ℕ, Bool, true, false, List, ◌++◌, Option, None, Result, Ok, Err}
+use Rattle.std.specs.Prelude.{◌≡◌, ◌⊎◌, ℕ, List, ◌++◌, Option, None, Result, Ok, Err}
 use Rattle.std.specs.Io.KnownBytes.{IsAtEnd}
 use Rattle.mq_pcap.specs.declared.fault.PcapFault.{PcapFault}
 use Rattle.mq_pcap.specs.declared.fault.PcapFault.TheVariants as fault
@@ -9,6 +9,7 @@ use Rattle.mq_pcap.specs.Filling.{InputState, Takes}
 use Rattle.mq_link.specs.Configuration.{Configuration}
 use Rattle.mq_link.specs.Counters.{Counters}
 use Rattle.mq_link.specs.State.{LinkState}
+use Rattle.mq_replay.specs.declared.asked.Asked.{Asked}
 use Rattle.mq_replay.specs.declared.replay_fault.ReplayFault.{ReplayFault}
 use Rattle.mq_replay.specs.declared.replay_fault.ReplayFault.TheVariants as answer
 use Rattle.mq_replay.specs.Printing.{GrowsByBeginning, Passes}
@@ -23,42 +24,42 @@ counted counters (Err f) = Err f
 
 -- What was put: the text of the report; where a read failed, that of the packets that were read; and where a write failed,
 -- a beginning of that one was written, or, if the file had ended, of the report.
-abbrev pub IsReportPut : Configuration → (until : Option ℕ) → ReadCapture → InputState → (before after : Option (List ℕ)) → (held left : List ℕ) → Result Counters ReplayFault → Type 0
-IsReportPut config until c new before after held left (Err answer.Write) =
-    GrowsByBeginning before after (held ++ packets_text config c)
-    ⊎ ((c.end ≡ None) × IsAtEnd new.ahead × GrowsByBeginning before after (held ++ text_of config until c))
-IsReportPut config until c new before after held left (Err (answer.Pcap fault.Read)) = Passes before after held left (packets_text config c)
-IsReportPut config until c new before after held left (Err answer.Memory) = ⊥
-IsReportPut config until c new before after held left r = Passes before after held left (text_of config until c)
+abbrev pub IsReportPut : Configuration → Asked → ReadCapture → InputState → (before after : Option (List ℕ)) → (held left : List ℕ) → Result Counters ReplayFault → Type 0
+IsReportPut config asked c new before after held left (Err answer.Write) =
+    GrowsByBeginning before after (held ++ packets_text config asked c)
+    ⊎ ((c.end ≡ None) × IsAtEnd new.ahead × GrowsByBeginning before after (held ++ text_of config asked c))
+IsReportPut config asked c new before after held left (Err (answer.Pcap fault.Read)) = Passes before after held left (packets_text config asked c)
+IsReportPut config asked c new before after held left (Err answer.Memory) = ⊥
+IsReportPut config asked c new before after held left r = Passes before after held left (text_of config asked c)
 
 -- the report of a capture was put
-pub record PutsReport (config : Configuration) (until : Option ℕ) (old new : InputState) (before after : Option (List ℕ)) (held left : List ℕ)
+pub record PutsReport (config : Configuration) (asked : Asked) (old new : InputState) (before after : Option (List ℕ)) (held left : List ℕ)
     (r : Result Counters ReplayFault) : Type 0 where
   pub read : ReadCapture
   pub takes : Takes old new read.bytes
   pub capture : Captures read.bytes read.header read.packets read.end
-  pub ended : IsEndedBy config until read old new r
-  pub put : IsReportPut config until read new before after held left r
+  pub ended : IsEndedBy config asked read old new r
+  pub put : IsReportPut config asked read new before after held left r
 
 -- a capture of which these bytes stand behind its header
 abbrev pub behind_header : Form → List ℕ → List Captured → Option PcapFault → ReadCapture
 behind_header form bytes packets end = record { bytes = bytes; header = Ok form; packets = packets; end = end }
 
 -- the report of what stands behind a file's header was put
-pub record PutsRecords (config : Configuration) (until : Option ℕ) (form : Form) (old new : InputState) (before after : Option (List ℕ)) (held left : List ℕ)
+pub record PutsRecords (config : Configuration) (asked : Asked) (form : Form) (old new : InputState) (before after : Option (List ℕ)) (held left : List ℕ)
     (r : Result Counters ReplayFault) : Type 0 where
   pub bytes : List ℕ
   pub packets : List Captured
   pub end : Option PcapFault
   pub takes : Takes old new bytes
   pub records : AreRecords form 1 bytes packets end
-  pub ended : IsEndedBy config until (behind_header form bytes packets end) old new r
-  pub put : IsReportPut config until (behind_header form bytes packets end) new before after held left r
+  pub ended : IsEndedBy config asked (behind_header form bytes packets end) old new r
+  pub put : IsReportPut config asked (behind_header form bytes packets end) new before after held left r
 
 -- what is reported behind the packets of a file that has ended: the moment of the last, and the number of the next
-abbrev pub rest_of : Configuration → (until : Option ℕ) → (last number : ℕ) → LinkState → Report
-rest_of config until last number link =
-    reported config until number None None (record { replayed = begun_with link; moment = last; gap = None })
+abbrev pub rest_of : Configuration → Asked → (last number : ℕ) → LinkState → Report
+rest_of config asked last number link =
+    reported config asked number None None (record { replayed = begun_with asked.changes link; moment = last; gap = None })
 
 -- that was put, or a beginning of it was written
 abbrev pub IsRestPut : Report → (before after : Option (List ℕ)) → (held left : List ℕ) → Result Counters ReplayFault → Type 0

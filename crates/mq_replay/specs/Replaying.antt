@@ -8,6 +8,7 @@ use Rattle.mq_pcap.specs.Capture.{Captured, Captures}
 use Rattle.mq_pcap.specs.Filling.{InputState, Takes}
 use Rattle.mq_link.specs.Configuration.{Configuration}
 use Rattle.mq_link.specs.Counters.{Counters}
+use Rattle.mq_replay.specs.declared.asked.Asked.{Asked}
 use Rattle.mq_replay.specs.declared.replay_fault.ReplayFault.{ReplayFault}
 use Rattle.mq_replay.specs.declared.replay_fault.ReplayFault.TheVariants as answer
 use Rattle.mq_replay.specs.Listing.{IsOfTheFile}
@@ -22,44 +23,44 @@ pub record ReadCapture : Type 0 where
   pub end : Option PcapFault
 
 -- The text and the answer of its report, and the text of its packets alone.
-abbrev pub text_of : Configuration → Option ℕ → ReadCapture → List ℕ
-text_of config until c = (report_of config until c.header c.packets c.end).text
+abbrev pub text_of : Configuration → Asked → ReadCapture → List ℕ
+text_of config asked c = (report_of config asked c.header c.packets c.end).text
 
-abbrev pub answer_of : Configuration → Option ℕ → ReadCapture → Result Counters ReplayFault
-answer_of config until c = (report_of config until c.header c.packets c.end).answer
+abbrev pub answer_of : Configuration → Asked → ReadCapture → Result Counters ReplayFault
+answer_of config asked c = (report_of config asked c.header c.packets c.end).answer
 
-abbrev pub packets_text : Configuration → ReadCapture → List ℕ
-packets_text config c = so_far config c.header c.packets
+abbrev pub packets_text : Configuration → Asked → ReadCapture → List ℕ
+packets_text config asked c = so_far config asked c.header c.packets
 
 -- Why the answer is that of the whole file: the bytes that were read end it, or what follows them doesn't matter.
-abbrev pub IsEndedBy : Configuration → (until : Option ℕ) → ReadCapture → (old new : InputState) → Result Counters ReplayFault → Type 0
-IsEndedBy config until c old new (Ok counters) =
-    (answer_of config until c ≡ Ok counters) × IsAtEnd new.ahead × (new.failed ≡ old.failed)
-IsEndedBy config until c old new (Err (answer.Pcap fault.Read)) = new.failed ≡ true
-IsEndedBy config until c old new (Err (answer.Pcap f)) =
-    (answer_of config until c ≡ Err (answer.Pcap f)) × IsOfTheFile c.header f c.bytes new × (new.failed ≡ old.failed)
-IsEndedBy config until c old new (Err (answer.Gap number)) =
-    (answer_of config until c ≡ Err (answer.Gap number)) × ((number ≤ length c.packets) ⊎ IsAtEnd new.ahead)
+abbrev pub IsEndedBy : Configuration → Asked → ReadCapture → (old new : InputState) → Result Counters ReplayFault → Type 0
+IsEndedBy config asked c old new (Ok counters) =
+    (answer_of config asked c ≡ Ok counters) × IsAtEnd new.ahead × (new.failed ≡ old.failed)
+IsEndedBy config asked c old new (Err (answer.Pcap fault.Read)) = new.failed ≡ true
+IsEndedBy config asked c old new (Err (answer.Pcap f)) =
+    (answer_of config asked c ≡ Err (answer.Pcap f)) × IsOfTheFile c.header f c.bytes new × (new.failed ≡ old.failed)
+IsEndedBy config asked c old new (Err (answer.Gap number)) =
+    (answer_of config asked c ≡ Err (answer.Gap number)) × ((number ≤ length c.packets) ⊎ IsAtEnd new.ahead)
     × (new.failed ≡ old.failed)
-IsEndedBy config until c old new (Err answer.Write) = Unit {0}
-IsEndedBy config until c old new (Err answer.Memory) = c.bytes ≡ []
+IsEndedBy config asked c old new (Err answer.Write) = Unit {0}
+IsEndedBy config asked c old new (Err answer.Memory) = c.bytes ≡ []
 
 -- What was written: the text of the report; where a read failed, that of the packets that were read; and where a write
 -- failed, a beginning of that one, or, if the file had ended, of the report.
-abbrev pub IsWritten : Configuration → (until : Option ℕ) → ReadCapture → InputState → (before after : Option (List ℕ)) → Result Counters ReplayFault → Type 0
-IsWritten config until c new before after (Err answer.Write) =
-    GrowsByBeginning before after (packets_text config c)
-    ⊎ ((c.end ≡ None) × IsAtEnd new.ahead × GrowsByBeginning before after (text_of config until c))
-IsWritten config until c new before after (Err (answer.Pcap fault.Read)) = Appends before after (packets_text config c)
-IsWritten config until c new before after (Err answer.Memory) = Appends before after []
-IsWritten config until c new before after r = Appends before after (text_of config until c)
+abbrev pub IsWritten : Configuration → Asked → ReadCapture → InputState → (before after : Option (List ℕ)) → Result Counters ReplayFault → Type 0
+IsWritten config asked c new before after (Err answer.Write) =
+    GrowsByBeginning before after (packets_text config asked c)
+    ⊎ ((c.end ≡ None) × IsAtEnd new.ahead × GrowsByBeginning before after (text_of config asked c))
+IsWritten config asked c new before after (Err (answer.Pcap fault.Read)) = Appends before after (packets_text config asked c)
+IsWritten config asked c new before after (Err answer.Memory) = Appends before after []
+IsWritten config asked c new before after r = Appends before after (text_of config asked c)
 
 -- A capture was replayed. Some bytes were taken from the input, and what was written and answered is what the report
 -- of the capture has that they are, taken as a whole file.
-pub record Replays (config : Configuration) (until : Option ℕ) (old new : InputState) (before after : Option (List ℕ))
+pub record Replays (config : Configuration) (asked : Asked) (old new : InputState) (before after : Option (List ℕ))
     (r : Result Counters ReplayFault) : Type 0 where
   pub read : ReadCapture
   pub takes : Takes old new read.bytes
   pub capture : Captures read.bytes read.header read.packets read.end
-  pub ended : IsEndedBy config until read old new r
-  pub written : IsWritten config until read new before after r
+  pub ended : IsEndedBy config asked read old new r
+  pub written : IsWritten config asked read new before after r

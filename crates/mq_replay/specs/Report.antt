@@ -1,48 +1,72 @@
--- What a replay writes: a line for each query that the link sends and for each packet, and at the end what the link
--- holds.
-use Rattle.std.specs.Prelude.{ℕ, zero, suc, ◌+◌, max, nat_lt, Bool, true, false, List, [], ◌∷◌, ◌++◌, length, map as list_map, Option, None, Some, Result, Ok, Err, unwrap_or}
+-- What a replay writes: a line for each query that the link sends and for each packet; where they are asked for, lines for the
+-- groups that each event changes; and at the end what the link holds.
+use Rattle.std.specs.Prelude.{ℕ, zero, suc, ◌+◌, max, nat_lt, Bool, true, false, List, [], ◌∷◌, ◌++◌, length, filter, map as list_map, Option, None, Some, Result, Ok, Err, unwrap_or}
+use Rattle.std.specs.Ordering.{nat_cmp}
+use Rattle.std.specs.FinMap as map
 use Rattle.mq_pcap.specs.declared.fault.PcapFault.{PcapFault}
 use Rattle.mq_pcap.specs.declared.form.Form.{Form}
 use Rattle.mq_pcap.specs.declared.link_type.LinkType.{LinkType}
 use Rattle.mq_pcap.specs.Capture.{Captured}
 use Rattle.mq_pcap.specs.Frame.{Carried, Igmp, Mld, carried_in}
+use Rattle.mq_wire.specs.declared.message.Message.{Message}
+use Rattle.mq_wire.specs.declared.message.Message.TheVariants.{Query as AQuery, OldReport, Leave, Report as AReport}
+use Rattle.mq_wire.specs.declared.message.WireFault.{WireFault}
 use Rattle.mq_wire.specs.Family.{Family}
 use Rattle.mq_wire.specs.Family as family
 use Rattle.mq_sched.specs.Election.{is_querier}
 use Rattle.mq_link.specs.Configuration.{Configuration}
 use Rattle.mq_link.specs.Counters.{Counters}
-use Rattle.mq_link.specs.Receive.{Envelope, receipt_of}
+use Rattle.mq_link.specs.Forwarding.{changed_by_datagram, changed_by_tick}
+use Rattle.mq_link.specs.Receive.{Envelope, pseudo_of, read_of, receipt_of}
 use Rattle.mq_link.specs.Run.{answered}
 use Rattle.mq_link.specs.Sent.{Outgoing, outgoing_of}
 use Rattle.mq_link.specs.State.{LinkState, link_at}
 use Rattle.mq_link.specs.Tick.{Step, tick_of, next_of}
+use Rattle.mq_replay.specs.declared.asked.Asked.{Asked}
 use Rattle.mq_replay.specs.declared.replay_fault.ReplayFault.{ReplayFault}
 use Rattle.mq_replay.specs.declared.replay_fault.ReplayFault.TheVariants.{Pcap, Gap}
+use Rattle.mq_replay.specs.ChangeLines.{change_lines, lines_asked}
 use Rattle.mq_replay.specs.Listing.{moment_of}
 use Rattle.mq_replay.specs.ReplayLines.{query_lines, receipt_line, skip_line, end_lines}
 
--- A replay under way: the link, and the text so far.
+-- A replay under way: the link, the text so far, and whether the lines of the groups that change are asked for.
 pub record Replayed : Type 0 where
   pub link : LinkState
   pub text : List ℕ
+  pub changes : Bool
 
 -- the link starts at 0, and nothing is written
-abbrev pub at_the_start : Configuration → Replayed
-at_the_start config = record { link = link_at config 0; text = [] }
+abbrev pub at_the_start : Configuration → (changes : Bool) → Replayed
+at_the_start config changes = record { link = link_at config 0; text = []; changes = changes }
 
 -- what the outlet of a replay answers: each message is sent
 abbrev pub all_sent : List Outgoing → List Bool
 all_sent messages = list_map (λ message. true) messages
 
--- a step of the link at a moment, behind a text: a line for each message
-abbrev pub after_step : Configuration → (moment : ℕ) → Step → (text : List ℕ) → Replayed
-after_step config moment step text =
+-- a step of the link at a moment: a line for each message
+abbrev pub after_step : Configuration → (moment : ℕ) → Step → Replayed → Replayed
+after_step config moment step r =
     let messages = outgoing_of config step in
-    record { link = answered (all_sent messages) step; text = text ++ query_lines config.family moment messages }
+    record r { link = answered (all_sent messages) step; text = r.text ++ query_lines config.family moment messages }
 
--- a tick at a moment
+-- some addresses, ascending, each once
+abbrev pub in_order : List ℕ → List ℕ
+in_order addresses = map.keys (map.from_entries {R = nat_cmp} (list_map (λ address. (address, address)) addresses))
+
+-- those of them that pass a test
+abbrev pub those_among : (test : ℕ → Bool) → (addresses : List ℕ) → List ℕ
+those_among test addresses = filter test (in_order addresses)
+
+-- the lines of the groups that were changed at a moment, behind all other lines of the event that changed them
+abbrev pub with_changes : Family → (moment : ℕ) → (changed : List ℕ) → Replayed → Replayed
+with_changes family moment changed r =
+    record r { text = r.text ++ lines_asked r.changes (change_lines family moment r.link.groups changed) }
+
+-- a tick at a moment: it changes only groups that are held
 unfoldable pub ticked_at : Configuration → (moment : ℕ) → Replayed → Replayed
-ticked_at config moment r = after_step config moment (tick_of config moment r.link) r.text
+ticked_at config moment r =
+    with_changes config.family moment (those_among (changed_by_tick config moment r.link) (map.keys r.link.groups))
+    (after_step config moment (tick_of config moment r.link) r)
 
 -- Ticks at the link's next moments, one after the other, as long as these are before a limit; `most` at most.
 unfoldable pub ticked_within : (most : ℕ) → Configuration → (limit : ℕ) → Replayed → Replayed
@@ -74,14 +98,29 @@ datagram_of family.Mld (Mld source destination hop_limit alert body) = Some (rec
 })
 datagram_of family.Mld carried = None
 
+-- the groups that a datagram speaks of, by what was read of it; a query changes none
+abbrev pub spoken_of : Result (Message ℕ) WireFault → List ℕ
+spoken_of (Err fault) = []
+spoken_of (Ok (AQuery query)) = []
+spoken_of (Ok (OldReport version group)) = group ∷ []
+spoken_of (Ok (Leave group)) = group ∷ []
+spoken_of (Ok (AReport records)) = list_map (λ r. r.group) records
+
+-- the groups that a datagram changes: only such that are held before it, and such that it speaks of
+abbrev pub changed_at : Configuration → (moment : ℕ) → Datagram → LinkState → List ℕ
+changed_at config moment datagram link =
+    let read = read_of config.family (pseudo_of config.family datagram.envelope datagram.body) datagram.body in
+    those_among (changed_by_datagram config datagram.envelope datagram.body moment link) (map.keys link.groups ++ spoken_of read)
+
 -- the datagram of packet `number` at its moment: the messages that the link sends, and then what it answers
 unfoldable pub received_at : Configuration → (moment number : ℕ) → Datagram → Replayed → Replayed
 received_at config moment number datagram r =
     let receipt = receipt_of config datagram.envelope datagram.body moment r.link in
-    let after = after_step config moment receipt.step r.text in
-    record after {
+    let after = after_step config moment receipt.step r in
+    with_changes config.family moment (changed_at config moment datagram r.link)
+    (record after {
       text = after.text ++ receipt_line config.family moment number datagram.envelope.source receipt.answer;
-    }
+    })
 
 -- a packet that has a datagram for the link, or is skipped
 abbrev pub taken_or_skipped : Configuration → (moment number : ℕ) → Carried → Option Datagram → Replayed → Replayed
@@ -118,8 +157,8 @@ with_packets config link first before number (packet ∷ packets) r =
     ]
 
 -- the packets of a capture, numbered from 1
-abbrev pub with_all_packets : Configuration → Form → List Captured → Course
-with_all_packets config form packets = with_packets config form.link None 0 1 packets (at_the_start config)
+abbrev pub with_all_packets : Configuration → (changes : Bool) → Form → List Captured → Course
+with_all_packets config changes form packets = with_packets config form.link None 0 1 packets (at_the_start config changes)
 
 -- A report: its text, and the counters at the end of the run, or why it ends before.
 pub record Report : Type 0 where
@@ -146,23 +185,23 @@ abbrev pub last_moment : (until : Option ℕ) → Course → ℕ
 last_moment until course = max course.moment (unwrap_or until 0)
 
 -- what stands behind the packets: the capture's end or its fault, unless a gap comes first; the number of the next packet
-abbrev pub reported : Configuration → (until : Option ℕ) → (number : ℕ) → (end : Option PcapFault) → (gap : Option ℕ) → Course → Report
-reported config until number end (Some gap) course = broken_off (Gap gap) course
-reported config until number (Some fault) None course = broken_off (Pcap fault) course
-reported config until number None None course =
-    elim (is_gap course.moment (last_moment until course)) [
+abbrev pub reported : Configuration → Asked → (number : ℕ) → (end : Option PcapFault) → (gap : Option ℕ) → Course → Report
+reported config asked number end (Some gap) course = broken_off (Gap gap) course
+reported config asked number (Some fault) None course = broken_off (Pcap fault) course
+reported config asked number None None course =
+    elim (is_gap course.moment (last_moment asked.until course)) [
       | true ↦ broken_off (Gap number) course
-      | false ↦ ended_at config (last_moment until course) course.replayed
+      | false ↦ ended_at config (last_moment asked.until course) course.replayed
     ]
 
 -- The report of a capture: what its header says, its packets, and its end.
-abbrev pub report_of : Configuration → (until : Option ℕ) → Result Form PcapFault → List Captured → (end : Option PcapFault) → Report
-report_of config until (Err fault) packets end = record { text = []; answer = Err (Pcap fault) }
-report_of config until (Ok form) packets end =
-    let course = with_all_packets config form packets in
-    reported config until (length packets + 1) end course.gap course
+abbrev pub report_of : Configuration → Asked → Result Form PcapFault → List Captured → (end : Option PcapFault) → Report
+report_of config asked (Err fault) packets end = record { text = []; answer = Err (Pcap fault) }
+report_of config asked (Ok form) packets end =
+    let course = with_all_packets config asked.changes form packets in
+    reported config asked (length packets + 1) end course.gap course
 
 -- the text of the packets alone, whatever follows them
-abbrev pub so_far : Configuration → Result Form PcapFault → List Captured → List ℕ
-so_far config (Err fault) packets = []
-so_far config (Ok form) packets = (with_all_packets config form packets).replayed.text
+abbrev pub so_far : Configuration → Asked → Result Form PcapFault → List Captured → List ℕ
+so_far config asked (Err fault) packets = []
+so_far config asked (Ok form) packets = (with_all_packets config asked.changes form packets).replayed.text

@@ -1,13 +1,13 @@
 -- What the parts of a replay make of a link and of the text.
-use Rattle.std.specs.Prelude.{◌≡◌, ℕ, List, [], Option, Result, IfOk}
+use Rattle.std.specs.Prelude.{◌≡◌, ℕ, Bool, List, [], Option, Result, IfOk}
 use Rattle.mq_link.specs.Link.{LinkValue}
 use Rattle.mq_link.specs.State.{LinkState}
 use Rattle.mq_replay.specs.Printing.{Puts}
 use Rattle.mq_replay.specs.Report.{Replayed}
 
 -- a replay of a link in this state, of which nothing is written
-abbrev pub begun_with : LinkState → Replayed
-begun_with link = record { link = link; text = [] }
+abbrev pub begun_with : (changes : Bool) → LinkState → Replayed
+begun_with changes link = record { link = link; text = []; changes = changes }
 
 -- A link has come to where a replay has it, and the text of that was put; or a write failed.
 pub record PutsReplayed {T E : Type 0} (before after : LinkValue) (replayed : Replayed) (old new : Option (List ℕ)) (held left : List ℕ)

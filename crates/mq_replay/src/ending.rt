@@ -44,6 +44,7 @@ pub(crate) fn last_moment(until: Option<Moment>, last: Moment) -> Moment
 pub(crate) fn put_ending<F: CapturedFamily, W: Write>(
     link: &mut Link<F>,
     end: Moment,
+    changes: bool,
     buffer: &mut Buffer,
     writer: &mut Watched<W>,
 ) -> Result<(), LineFault>
@@ -52,13 +53,13 @@ where
     requires { end ≤ 2 ^ 53 }
     ensures text { Puts
         (W.contents (inner_of writer.old)) (W.contents (inner_of writer.new))
-        buffer.old.items buffer.new.items (spec.ended_at link.old.config end (begun_with link.old.state)).text result }
+        buffer.old.items buffer.new.items (spec.ended_at link.old.config end (begun_with changes link.old.state)).text result }
     ensures answer { IfOk result (λ _.
-        (spec.ended_at link.old.config end (begun_with link.old.state)).answer ≡ Ok link.new.state.counters) }
+        (spec.ended_at link.old.config end (begun_with changes link.old.state)).answer ≡ Ok link.new.state.counters) }
     ensures failed { has_failed writer.new ≡ has_failed writer.old || is_err result }
 {
     link.config().is_faultless();
-    tick_before(link, end.after(Span::from_ms(1)), buffer, writer)?;
+    tick_before(link, end.after(Span::from_ms(1)), changes, buffer, writer)?;
     put_role(end, link.is_querier(), buffer, writer)?;
     put_groups(link, buffer, writer)?;
     put_counts(link.counts(), buffer, writer)

@@ -7,15 +7,20 @@
 //! ```
 //!
 //! - Lines: `igmp_line`, `mld_line`, and what they are written to: an `Output`.
-//! - The listing of a capture: `show`, and its replay on a link: `replay`; and `ReplayFault`, which says why one ended early.
+//! - The listing of a capture: `show`, and its replay on a link: `replay`, of which something is `Asked`; and `ReplayFault`, which
+//!   says why one ended early.
 //! - Printing on a watched writer: `print`, and `LineFault`, which says that a write failed; `make_room` and `flush`, for
 //!   text that is put together first.
 //! - The moments of a capture's packets: `Stamps` and `first_moment`, and `is_gap`, which says that two lie too far apart.
 #![tactic(auto)]
 
+mod asked;
 mod buffer;
 mod captured_family;
+mod change_lines;
+mod change_pieces;
 mod ending;
+mod events;
 mod group_line;
 mod hexadecimal;
 mod line_key;
@@ -34,6 +39,7 @@ mod sent_queries;
 mod stamps;
 mod ticks;
 
+pub use asked::Asked;
 pub use buffer::{flush, make_room};
 pub use captured_family::{CapturedDatagram, CapturedFamily};
 pub use ending::is_gap;

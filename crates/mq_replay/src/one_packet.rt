@@ -8,6 +8,7 @@ ghost use Rattle.mq_replay.specs.Steps.{PutsReplayed, begun_with};
 
 use crate::buffer::Buffer;
 use crate::captured_family::{CapturedDatagram, CapturedFamily};
+use crate::change_lines::put_changes;
 use crate::line_key::LineKey;
 use crate::printing::LineFault;
 use crate::replay_lines::{put_receipt, put_skip};
@@ -23,6 +24,7 @@ pub(crate) fn replay_packet<F: CapturedFamily, W: Write>(
     link: &mut Link<F>,
     moment: Moment,
     number: u64,
+    changes: bool,
     inner: &Inner<'_>,
     buffer: &mut Buffer,
     writer: &mut Watched<W>,
@@ -31,24 +33,26 @@ where
     F::Address: LineKey,
     requires { moment ≤ 2 ^ 53 }
     ensures puts { PutsReplayed link.old link.new
-        (with_packet link.old.config moment number (carried_of inner.now) (begun_with link.old.state))
+        (with_packet link.old.config moment number (carried_of inner.now) (begun_with changes link.old.state))
         (W.contents (inner_of writer.old)) (W.contents (inner_of writer.new))
         buffer.old.items buffer.new.items result }
     ensures failed { has_failed writer.new ≡ has_failed writer.old || is_err result }
 {
     link.config().is_faultless();
-    tick_before(link, moment, buffer, writer)?;
+    tick_before(link, moment, changes, buffer, writer)?;
     match F::datagram(inner) {
-        Some(datagram) => hand_over(link, moment, number, datagram, buffer, writer),
+        Some(datagram) => hand_over(link, moment, number, changes, datagram, buffer, writer),
         None => put_skip(moment, number, inner, buffer, writer),
     }
 }
 
-/// Hands a datagram to a link: puts the lines of the queries that it sends, and that of its answer.
+/// Hands a datagram to a link: puts the lines of the queries that it sends, that of its answer, and then, where they are asked
+/// for, those of the groups that it changes.
 fn hand_over<F: CapturedFamily, W: Write>(
     link: &mut Link<F>,
     moment: Moment,
     number: u64,
+    changes: bool,
     datagram: CapturedDatagram<'_, F::Envelope>,
     buffer: &mut Buffer,
     writer: &mut Watched<W>,
@@ -57,7 +61,7 @@ where
     F::Address: LineKey,
     requires { moment ≤ 2 ^ 53 }
     ensures puts { PutsReplayed link.old link.new
-        (received_at link.old.config moment number (record { envelope = F.envelope_of datagram.entry.envelope; body = datagram.entry.body.now }) (begun_with link.old.state))
+        (received_at link.old.config moment number (record { envelope = F.envelope_of datagram.entry.envelope; body = datagram.entry.body.now }) (begun_with changes link.old.state))
         (W.contents (inner_of writer.old)) (W.contents (inner_of writer.new))
         buffer.old.items buffer.new.items result }
     ensures failed { has_failed writer.new ≡ has_failed writer.old || is_err result }
@@ -78,5 +82,6 @@ where
         answer,
         buffer,
         writer,
-    )
+    )?;
+    put_changes(link, moment, changes, buffer, writer)
 }

@@ -11,6 +11,7 @@ ghost use Rattle.mq_replay.specs.Listing as spec;
 ghost use Rattle.mq_replay.specs.PuttingReports.{IsRestPut, PutsRecords, PutsReport, counted, rest_of};
 ghost use Rattle.mq_replay.specs.Replaying.{Replays};
 
+use crate::asked::Asked;
 use crate::buffer::{Buffer, flush};
 use crate::captured_family::CapturedFamily;
 use crate::ending::{is_gap, last_moment, put_ending};
@@ -25,21 +26,22 @@ use std::alloc::Global;
 use std::io::{Read, Write};
 
 /// Replays a capture: a link so configured, which starts at 0, is handed its datagrams at their moments, with a tick at
-/// each of its next moments between. Writes a line for each query that is sent and for each packet, and at the end what the
-/// link is and holds; and answers what it counted. The end is the moment of the last packet, or `until`, if that is later.
+/// each of its next moments between. Writes a line for each query that is sent and for each packet, where they are asked for lines
+/// for the groups that each event changes, and at the end what the link is and holds; and answers what it counted. The end is
+/// the moment of the last packet, or the one that is asked for, if that is later.
 /// All memory is taken before anything is read or written. Where the capture has a fault or a gap, the lines of all that
 /// comes before it are written first.
 pub fn replay<F: CapturedFamily, R: Read, W: Write>(
     alloc: Global,
     config: Config<F>,
-    until: Option<Moment>,
+    asked: Asked,
     reader: &mut Watched<R>,
     writer: &mut Watched<W>,
 ) -> Result<Counts, ReplayFault>
 where
     F::Address: LineKey,
-    requires { IfSome until (λ moment. moment ≤ 2 ^ 53) }
-    ensures replays { Replays config until
+    requires { IfSome asked.until (λ moment. moment ≤ 2 ^ 53) }
+    ensures replays { Replays config asked
         (input_of R.remaining reader.old) (input_of R.remaining reader.new)
         (W.contents (inner_of writer.old)) (W.contents (inner_of writer.new))
         result }
@@ -52,14 +54,14 @@ where
     let Ok(mut link) = Link::new(alloc, config, first_moment()) else {
         return Err(ReplayFault::Memory);
     };
-    replay_on(&mut link, until, packet.as_mut_slice(), reader, writer)?;
+    replay_on(&mut link, asked, packet.as_mut_slice(), reader, writer)?;
     Ok(link.into_counts())
 }
 
 /// The same on a link that is made, with room for a packet that is lent.
 fn replay_on<F: CapturedFamily, R: Read, W: Write>(
     link: &mut Link<F>,
-    until: Option<Moment>,
+    asked: Asked,
     packet: &mut [u8],
     reader: &mut Watched<R>,
     writer: &mut Watched<W>,
@@ -67,9 +69,9 @@ fn replay_on<F: CapturedFamily, R: Read, W: Write>(
 where
     F::Address: LineKey,
     requires room { most_bytes ≤ length packet.old }
-    requires in_range { IfSome until (λ moment. moment ≤ 2 ^ 53) }
+    requires in_range { IfSome asked.until (λ moment. moment ≤ 2 ^ 53) }
     requires starts { link.old.state ≡ link_at link.old.config 0 }
-    ensures replays { Replays link.old.config until
+    ensures replays { Replays link.old.config asked
         (input_of R.remaining reader.old) (input_of R.remaining reader.new)
         (W.contents (inner_of writer.old)) (W.contents (inner_of writer.new))
         (counted link.new.state.counters result) }
@@ -77,7 +79,7 @@ where
     ensures no_memory { result ≡ Err ReplayFault.Memory → ⊥ }
 {
     let mut buffer = Buffer::new();
-    let answer = put_replay(link, until, packet, &mut buffer, reader, writer);
+    let answer = put_replay(link, asked, packet, &mut buffer, reader, writer);
     if is_failed_write(&answer) {
         return answer;
     }
@@ -88,7 +90,7 @@ where
 /// Puts the lines of a capture.
 fn put_replay<F: CapturedFamily, R: Read, W: Write>(
     link: &mut Link<F>,
-    until: Option<Moment>,
+    asked: Asked,
     packet: &mut [u8],
     buffer: &mut Buffer,
     reader: &mut Watched<R>,
@@ -97,9 +99,9 @@ fn put_replay<F: CapturedFamily, R: Read, W: Write>(
 where
     F::Address: LineKey,
     requires room { most_bytes ≤ length packet.old }
-    requires in_range { IfSome until (λ moment. moment ≤ 2 ^ 53) }
+    requires in_range { IfSome asked.until (λ moment. moment ≤ 2 ^ 53) }
     requires starts { link.old.state ≡ link_at link.old.config 0 }
-    ensures puts { PutsReport link.old.config until
+    ensures puts { PutsReport link.old.config asked
         (input_of R.remaining reader.old) (input_of R.remaining reader.new)
         (W.contents (inner_of writer.old)) (W.contents (inner_of writer.new))
         buffer.old.items buffer.new.items (counted link.new.state.counters result) }
@@ -107,13 +109,13 @@ where
     ensures no_memory { result ≡ Err ReplayFault.Memory → ⊥ }
 {
     let mut capture = PcapReader::open(reader)?;
-    put_packets(link, until, &mut capture, packet, buffer, reader, writer)
+    put_packets(link, asked, &mut capture, packet, buffer, reader, writer)
 }
 
 /// Puts the lines of the packets of a capture before its first packet was read, and of the end.
 fn put_packets<F: CapturedFamily, R: Read, W: Write>(
     link: &mut Link<F>,
-    until: Option<Moment>,
+    asked: Asked,
     capture: &mut PcapReader,
     packet: &mut [u8],
     buffer: &mut Buffer,
@@ -125,9 +127,9 @@ where
     requires room { most_bytes ≤ length packet.old }
     requires first { number_of capture.old ≡ 1 }
     requires reading { progress_of capture.old ≡ Reading }
-    requires in_range { IfSome until (λ moment. moment ≤ 2 ^ 53) }
+    requires in_range { IfSome asked.until (λ moment. moment ≤ 2 ^ 53) }
     requires starts { link.old.state ≡ link_at link.old.config 0 }
-    ensures puts { PutsRecords link.old.config until (form_of capture.old)
+    ensures puts { PutsRecords link.old.config asked (form_of capture.old)
         (input_of R.remaining reader.old) (input_of R.remaining reader.new)
         (W.contents (inner_of writer.old)) (W.contents (inner_of writer.new))
         buffer.old.items buffer.new.items (counted link.new.state.counters result) }
@@ -147,16 +149,16 @@ where
         }
         last = moment;
         let inner = unwrap_frame(capture.link(), &packet[..read.length]);
-        replay_packet(link, moment, number, &inner, buffer, writer)?;
+        replay_packet(link, moment, number, asked.changes, &inner, buffer, writer)?;
     }
-    put_rest(link, until, last, number, buffer, writer)
+    put_rest(link, asked, last, number, buffer, writer)
 }
 
 /// Puts what stands behind the packets of a capture that has ended: what the link is and holds at the end of the replay,
 /// unless there is a gap before that.
 fn put_rest<F: CapturedFamily, W: Write>(
     link: &mut Link<F>,
-    until: Option<Moment>,
+    asked: Asked,
     last: Moment,
     number: u64,
     buffer: &mut Buffer,
@@ -166,17 +168,17 @@ where
     F::Address: LineKey,
     requires few { number < endless }
     requires last_in_range { last ≤ 2 ^ 53 }
-    requires in_range { IfSome until (λ moment. moment ≤ 2 ^ 53) }
-    ensures rest { IsRestPut (rest_of link.old.config until last (number + 1) link.old.state)
+    requires in_range { IfSome asked.until (λ moment. moment ≤ 2 ^ 53) }
+    ensures rest { IsRestPut (rest_of link.old.config asked last (number + 1) link.old.state)
         (W.contents (inner_of writer.old)) (W.contents (inner_of writer.new))
         buffer.old.items buffer.new.items (counted link.new.state.counters result) }
     ensures failed { has_failed writer.new ≡ has_failed writer.old || spec.is_failed_write result }
     ensures no_memory { result ≡ Err ReplayFault.Memory → ⊥ }
 {
-    let end = last_moment(until, last);
+    let end = last_moment(asked.until, last);
     if is_gap(last, end) {
         return Err(ReplayFault::Gap { number: number + 1 });
     }
-    put_ending(link, end, buffer, writer)?;
+    put_ending(link, end, asked.changes, buffer, writer)?;
     Ok(())
 }

@@ -2,6 +2,7 @@
 
 ghost use Rattle.std.specs.Prelude.{◌≡◌, ◌≤◌, ◌^◌, ◌||◌, is_err};
 ghost use Rattle.mq_count.specs.Streams.{inner_of, has_failed};
+ghost use Rattle.mq_link.specs.Forwarding.{AreThose, changed_by_datagram, changed_by_tick};
 ghost use Rattle.mq_replay.specs.QueryLines.{ReceivesPrinting, TicksPrinting};
 
 use crate::buffer::Buffer;
@@ -23,6 +24,7 @@ where
     F::Address: LineKey,
     requires in_range { now ≤ 2 ^ 53 }
     ensures config { link.new.config ≡ link.old.config }
+    ensures changed { AreThose (changed_by_tick link.old.config now link.old.state) link.new.changed }
     ensures ticks { TicksPrinting F.Address.family now link.old link.new
         (W.contents (inner_of writer.old)) (W.contents (inner_of writer.new))
         buffer.old.items buffer.new.items result }
@@ -47,6 +49,7 @@ where
     F::Address: LineKey,
     requires in_range { now ≤ 2 ^ 53 }
     ensures config { link.new.config ≡ link.old.config }
+    ensures changed { AreThose (changed_by_datagram link.old.config (F.envelope_of envelope.now) body.now now link.old.state) link.new.changed }
     ensures receives { ReceivesPrinting F.Address.family (F.envelope_of envelope.now) body.now now link.old link.new
         (W.contents (inner_of writer.old)) (W.contents (inner_of writer.new))
         buffer.old.items buffer.new.items result }

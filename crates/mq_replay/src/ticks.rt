@@ -7,18 +7,19 @@ ghost use Rattle.mq_replay.specs.Steps.{PutsReplayed, begun_with};
 
 use crate::buffer::Buffer;
 use crate::captured_family::CapturedFamily;
+use crate::events::tick_at;
 use crate::line_key::LineKey;
 use crate::printing::LineFault;
-use crate::sent_queries::tick;
 use mq_count::{Meter, Moment, Watched};
 use mq_link::Link;
 use std::io::Write;
 
-/// Does the ticks of a link at its next moments, one after the other, as long as these are before `limit`: puts the line
-/// of each query that it sends.
+/// Does the ticks of a link at its next moments, one after the other, as long as these are before `limit`: puts their
+/// lines.
 pub(crate) fn tick_before<F: CapturedFamily, W: Write>(
     link: &mut Link<F>,
     limit: Moment,
+    changes: bool,
     buffer: &mut Buffer,
     writer: &mut Watched<W>,
 ) -> Result<(), LineFault>
@@ -26,7 +27,7 @@ where
     F::Address: LineKey,
     requires { limit ≤ 2 ^ 53 + 1 }
     ensures puts { PutsReplayed link.old link.new
-        (ticked_before link.old.config limit (begun_with link.old.state))
+        (ticked_before link.old.config limit (begun_with changes link.old.state))
         (W.contents (inner_of writer.old)) (W.contents (inner_of writer.new))
         buffer.old.items buffer.new.items result }
     ensures failed { has_failed writer.new ≡ has_failed writer.old || is_err result }
@@ -34,8 +35,7 @@ where
     let mut next = link.next_deadline();
     while !Meter::new().reached(limit, next) {
         link.is_well_formed();
-        link.config().is_faultless();
-        tick(link, next, buffer, writer)?;
+        tick_at(link, next, changes, buffer, writer)?;
         next = link.next_deadline();
     }
     Ok(())

@@ -1,6 +1,7 @@
 -- What a replay comes to where the groups of its link are known one by one, for the worked examples.
-use Rattle.std.proofs.Common.{◌≡◌, ℕ, zero, suc, ◌+◌, true, false, refl, List, [], ◌∷◌, ◌++◌, length, Option, None, Some, Ok, Err, unwrap_or, ap, ◌∙◌}
+use Rattle.std.proofs.Common.{◌≡◌, ℕ, zero, suc, ◌+◌, true, false, refl, List, [], ◌∷◌, ◌++◌, length, Option, None, Some, Ok, Err, unwrap_or, append-nil, ap, ◌∙◌}
 use Rattle.std.specs.Prelude.{max, nat_lt, map as list_map}
+use Rattle.std.specs.FinMap as map
 use Rattle.std.specs.List.{flat_map}
 use Rattle.std.specs.Option.{option_to_list}
 use Rattle.mq_pcap.specs.declared.fault.PcapFault.{PcapFault}
@@ -18,9 +19,11 @@ use Rattle.mq_held.specs.Moments.{those_of, moments_of, moments_in, least}
 use Rattle.mq_link.specs.Configuration.{Configuration}
 use Rattle.mq_link.specs.Counters.{count_answers, no_counts}
 use Rattle.mq_link_examples.specs.Examples.{ListedGroup, ListedGroups, ListedLink, as_groups, as_held, as_link}
+use Rattle.mq_link.specs.Forwarding.{changed_by_tick}
 use Rattle.mq_link.specs.Receive.{read_of, pseudo_of}
 use Rattle.mq_link.specs.Sent.{outgoing}
-use Rattle.mq_link.specs.Tick.{next_of}
+use Rattle.mq_link.specs.State.{LinkState}
+use Rattle.mq_link.specs.Tick.{next_of, tick_of}
 use Rattle.mq_link.proofs.Known.{Entries, ordered, entries-known, with_values, ordered-with_values}
 use Rattle.mq_link_examples.proofs.KnownLinks.{KnownStep, tick_in, tick-known}
 use Rattle.mq_link_examples.proofs.KnownReceipts.{receipt_known, receipt-known}
@@ -29,7 +32,8 @@ use Rattle.mq_replay.specs.declared.replay_fault.ReplayFault.TheVariants.{Pcap, 
 use Rattle.mq_replay.specs.Listing.{moment_of}
 use Rattle.mq_replay.specs.Text.{line_of}
 use Rattle.mq_replay.specs.ReplayLines.{query_lines, receipt_line, skip_line, end_line, counts_line, timer_text, group_start, older_hosts_text, group_line, group_lines, end_lines}
-use Rattle.mq_replay.specs.Report.{Replayed, all_sent, after_step, ticked_at, ticked_within, Datagram, datagram_of, received_at, taken_or_skipped, with_packet, is_gap, Course, with_packets, Report, ended_at, broken_off, reported, report_of}
+use Rattle.mq_replay.specs.Report.{Replayed, all_sent, after_step, changed_at, those_among, with_changes, ticked_at, ticked_within, Datagram, datagram_of, received_at, taken_or_skipped, with_packet, is_gap, Course, with_packets, Report, ended_at, broken_off, reported, report_of}
+use Rattle.mq_replay_examples.specs.Examples.{up_to}
 
 -- the next moment
 abbrev pub moments_known : ListedGroup → List ℕ
@@ -58,13 +62,13 @@ next_in l = least (next_moment l.election.role) (all_moments_known l.groups)
 next-known : (l : ListedLink) → next_of (as_link l) ≡ next_in l
 next-known l = ap (least (next_moment l.election.role)) (moments_in-known l.groups)
 
--- a replay under way
+-- a replay under way, of which the lines of the groups that change aren't asked for
 pub record KnownReplayed : Type 0 where
   pub link : ListedLink
   pub text : List ℕ
 
 abbrev pub as_replayed : KnownReplayed → Replayed
-as_replayed k = record { link = as_link k.link; text = k.text }
+as_replayed k = record { link = as_link k.link; text = k.text; changes = false }
 
 abbrev pub after_known : Configuration → (moment : ℕ) → KnownStep → (text : List ℕ) → KnownReplayed
 after_known config moment s text =
@@ -75,12 +79,19 @@ after_known config moment s text =
       text = text ++ query_lines config.family moment messages;
     }
 
+-- so none are added
+none_added : (config : Configuration) (moment : ℕ) (changed : List ℕ) (link : LinkState) (text : List ℕ)
+    → with_changes config.family moment changed (record { link = link; text = text; changes = false }) ≡ record { link = link; text = text; changes = false }
+none_added config moment changed link text = λ i. record { link = link; text = append-nil text i; changes = false }
+
 abbrev pub ticked_known : Configuration → (moment : ℕ) → KnownReplayed → KnownReplayed
 ticked_known config moment k = after_known config moment (tick_in config moment k.link) k.text
 
 ticked-known : (config : Configuration) (moment : ℕ) (k : KnownReplayed) → ticked_at config moment (as_replayed k) ≡ as_replayed (ticked_known config moment k)
 unfolding ticked_at
-ticked-known config moment k = ap (λ s. after_step config moment s k.text) (tick-known config moment k.link)
+ticked-known config moment k =
+    none_added config moment (those_among (changed_by_tick config moment (as_link k.link)) (map.keys (as_groups k.link.groups))) (after_step config moment (tick_of config moment (as_link k.link)) (as_replayed k)).link _
+    ∙ ap (λ s. after_step config moment s (as_replayed k)) (tick-known config moment k.link)
 
 unfoldable pub within_known : (most : ℕ) → Configuration → (limit : ℕ) → KnownReplayed → KnownReplayed
 within_known zero config limit k = k
@@ -113,7 +124,8 @@ received_known config moment number datagram k =
 received-known : (config : Configuration) (moment number : ℕ) (datagram : Datagram) (k : KnownReplayed) → received_at config moment number datagram (as_replayed k) ≡ as_replayed (received_known config moment number datagram k)
 unfolding received_at
 received-known config moment number datagram k =
-    ap (λ receipt. let after = after_step config moment receipt.step k.text in record after { text = after.text ++ receipt_line config.family moment number datagram.envelope.source receipt.answer })
+    none_added config moment (changed_at config moment datagram (as_link k.link)) _ _
+    ∙ ap (λ receipt. let after = after_step config moment receipt.step (as_replayed k) in record after { text = after.text ++ receipt_line config.family moment number datagram.envelope.source receipt.answer })
     (receipt-known config datagram.envelope (read_of config.family (pseudo_of config.family datagram.envelope datagram.body) datagram.body) moment k.link)
 
 abbrev pub taken_known : Configuration → (moment number : ℕ) → Carried → Option Datagram → KnownReplayed → KnownReplayed
@@ -231,7 +243,7 @@ reported_known config until number None None k =
       | false ↦ ended_known config (max k.moment (unwrap_or until 0)) k.replayed
     ]
 
-reported-known : (config : Configuration) (until : Option ℕ) (number : ℕ) (end : Option PcapFault) (gap : Option ℕ) (k : KnownCourse) → reported config until number end gap (as_course k) ≡ reported_known config until number end gap k
+reported-known : (config : Configuration) (until : Option ℕ) (number : ℕ) (end : Option PcapFault) (gap : Option ℕ) (k : KnownCourse) → reported config (up_to until) number end gap (as_course k) ≡ reported_known config until number end gap k
 reported-known config until number end (Some gap) k = refl
 reported-known config until number (Some fault) None k = refl
 reported-known config until number None None k =
@@ -252,7 +264,7 @@ report_known config until form packets end =
     let k = packets_known config form.link None 0 1 packets (start_known config) in
     reported_known config until (length packets + 1) end k.gap k
 
-pub report-known : (config : Configuration) (until : Option ℕ) (form : Form) (packets : List Captured) (end : Option PcapFault) → report_of config until (Ok form) packets end ≡ report_known config until form packets end
+pub report-known : (config : Configuration) (until : Option ℕ) (form : Form) (packets : List Captured) (end : Option PcapFault) → report_of config (up_to until) (Ok form) packets end ≡ report_known config until form packets end
 report-known config until form packets end =
-    ap (λ (course : Course). reported config until (length packets + 1) end course.gap course) (packets-known config form.link None 0 1 packets (start_known config))
+    ap (λ (course : Course). reported config (up_to until) (length packets + 1) end course.gap course) (packets-known config form.link None 0 1 packets (start_known config))
     ∙ (let k = packets_known config form.link None 0 1 packets (start_known config) in reported-known config until (length packets + 1) end k.gap k)

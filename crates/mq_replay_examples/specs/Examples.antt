@@ -1,11 +1,12 @@
 -- The words of the worked examples of replays.
-use Rattle.std.specs.Prelude.{◌≡◌, ℕ, List, ◌++◌, Option, Result, Ok, Err}
+use Rattle.std.specs.Prelude.{◌≡◌, ℕ, false, List, ◌++◌, Option, Result, Ok, Err}
 use Rattle.mq_pcap.specs.declared.fault.PcapFault.{PcapFault}
 use Rattle.mq_pcap.specs.declared.form.Form.{Form}
 use Rattle.mq_pcap.specs.Capture.{Captured, Captures}
 use Rattle.mq_link.specs.Configuration.{Configuration}
 use Rattle.mq_link.specs.Counters.{Counters}
 use Rattle.mq_link_examples.specs.Examples.{octets}
+use Rattle.mq_replay.specs.declared.asked.Asked.{Asked}
 use Rattle.mq_replay.specs.declared.replay_fault.ReplayFault.{ReplayFault}
 use Rattle.mq_replay.specs.Report.{report_of}
 
@@ -52,6 +53,10 @@ totals_of (Ok c) = Ok (record {
 })
 totals_of (Err fault) = Err fault
 
+-- a replay up to a moment, without the lines of the groups that change
+abbrev pub up_to : (until : Option ℕ) → Asked
+up_to until = record { until = until; changes = false }
+
 -- the bytes are a capture, and its report has this text and this answer
 pub record Reports (config : Configuration) (until : Option ℕ) (bytes text : List ℕ) (answer : Result Totals ReplayFault)
     : Type 0 where
@@ -59,5 +64,5 @@ pub record Reports (config : Configuration) (until : Option ℕ) (bytes text : L
   pub packets : List Captured
   pub end : Option PcapFault
   pub capture : Captures bytes header packets end
-  pub text_is : (report_of config until header packets end).text ≡ text
-  pub answer_is : totals_of (report_of config until header packets end).answer ≡ answer
+  pub text_is : (report_of config (up_to until) header packets end).text ≡ text
+  pub answer_is : totals_of (report_of config (up_to until) header packets end).answer ≡ answer

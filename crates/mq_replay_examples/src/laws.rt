@@ -1,11 +1,13 @@
 //! Laws of what a replay writes. No function here does anything but name the laws that it rests on: its contract is
 //! the law.
 
-ghost use Rattle.std.specs.Prelude.{◌≤◌, ℕ};
+ghost use Rattle.std.specs.Prelude.{◌≡◌, ◌≤◌, ℕ, List};
+ghost use Rattle.std.specs.FinMap as map;
 ghost use Rattle.mq_link.specs.Configuration.{Configuration, IsFaultless};
-ghost use Rattle.mq_link.specs.State.{IsWellFormed};
+ghost use Rattle.mq_link.specs.Forwarding.{AreThose, changed_by_datagram, changed_by_tick};
+ghost use Rattle.mq_link.specs.State.{IsWellFormed, LinkState};
 ghost use Rattle.mq_link.specs.Tick.{next_of};
-ghost use Rattle.mq_replay.specs.Report.{Replayed, ticked_before};
+ghost use Rattle.mq_replay.specs.Report.{Datagram, Replayed, changed_at, those_among, ticked_before};
 
 use mq_link_laws::{links_keep_form_and_limits, ticks_are_quiet_until_the_next_moment};
 
@@ -18,3 +20,14 @@ pub fn no_tick_is_left()
     links_keep_form_and_limits();
     ticks_are_quiet_until_the_next_moment();
 }
+
+/// The groups of which a replay has lines are all that a tick or a datagram changes, whichever group that may be: the one
+/// ascending list of these.
+pub fn changed_groups_are_told()
+    ensures ticked { (config : Configuration) (now : ℕ) (state : LinkState) (listed : List ℕ)
+        → AreThose (changed_by_tick config now state) listed
+        → those_among (changed_by_tick config now state) (map.keys state.groups) ≡ listed }
+    ensures received { (config : Configuration) (now : ℕ) (datagram : Datagram) (state : LinkState) (listed : List ℕ)
+        → AreThose (changed_by_datagram config datagram.envelope datagram.body now state) listed
+        → changed_at config now datagram state ≡ listed }
+{}

@@ -9,6 +9,7 @@ use Rattle.mq_link.specs.Configuration.{Configuration, configuration_fault, IsFa
 use Rattle.mq_link.specs.Configured.{variables, configured}
 use Rattle.mq_link.specs.Counters.{Counters}
 use Rattle.mq_link.specs.Defaults.{defaults_of}
+use Rattle.mq_replay.specs.declared.asked.Asked.{Asked}
 use Rattle.mq_replay.specs.declared.replay_fault.ReplayFault.{ReplayFault}
 use Rattle.mq_replay.specs.Replaying.{Replays}
 use Rattle.mq_text.specs.Reading.{SpellsV4, SpellsV6}
@@ -68,18 +69,18 @@ IsAcceptedAt family own settings until =
     (is_too_large until ≡ false) × IsFaultless (asked_configuration family own settings)
 
 -- the capture was replayed as it is asked for, with this answer
-abbrev pub IsReplayedAt : Family → (own : ℕ) → Settings → (until : Option ℕ) → Input → Output → Result Counters ReplayFault → Type 0
-IsReplayedAt family own settings until input output answer =
-    Replays (asked_configuration family own settings) until input.old input.new output.old.held output.new.held answer
+abbrev pub IsReplayedAt : Family → (own : ℕ) → Settings → Asked → Input → Output → Result Counters ReplayFault → Type 0
+IsReplayedAt family own settings asked input output answer =
+    Replays (asked_configuration family own settings) asked input.old input.new output.old.held output.new.held answer
 
 -- it was accepted, and replayed to its end
-abbrev pub IsDoneAt : Family → (own : ℕ) → Settings → (until : Option ℕ) → Input → Output → (flag : Bool) → Type 0
-IsDoneAt family own settings until input output flag =
-    IsAcceptedAt family own settings until × (flag ≡ true) × (output.new.failed ≡ output.old.failed)
-    × (counters : Counters) × IsReplayedAt family own settings until input output (Ok counters)
+abbrev pub IsDoneAt : Family → (own : ℕ) → Settings → Asked → Input → Output → (flag : Bool) → Type 0
+IsDoneAt family own settings asked input output flag =
+    IsAcceptedAt family own settings asked.until × (flag ≡ true) × (output.new.failed ≡ output.old.failed)
+    × (counters : Counters) × IsReplayedAt family own settings asked input output (Ok counters)
 
 -- it was accepted, and broke off
-abbrev pub IsBrokenAt : Family → (own : ℕ) → Settings → (until : Option ℕ) → Input → Output → Failure → Type 0
-IsBrokenAt family own settings until input output failure =
-    IsAcceptedAt family own settings until
-    × IsBrokenOff (IsReplayedAt family own settings until input output) input output failure
+abbrev pub IsBrokenAt : Family → (own : ℕ) → Settings → Asked → Input → Output → Failure → Type 0
+IsBrokenAt family own settings asked input output failure =
+    IsAcceptedAt family own settings asked.until
+    × IsBrokenOff (IsReplayedAt family own settings asked input output) input output failure

@@ -11,6 +11,7 @@ use Rattle.mq_command.specs.declared.replay.Settings.{Settings}
 use Rattle.mq_convert.specs.declared.fault.ConvertFault.{ConvertFault}
 use Rattle.mq_convert.specs.declared.unread.Unread.{Unread}
 use Rattle.mq_convert.specs.Converting.{Converts}
+use Rattle.mq_replay.specs.declared.asked.Asked.{Asked}
 use Rattle.mq_replay.specs.declared.replay_fault.ReplayFault.{ReplayFault}
 use Rattle.mq_replay.specs.Listing.{Shows}
 use Rattle.mq_text.specs.Reading.{SpellsV6}
@@ -65,7 +66,7 @@ IsRefused (Message protocol hex from to) failure =
     IsRefusedMessage protocol (option_copied from) (option_copied to) hex.now failure
 IsRefused (Convert interface vlan file) failure = ⊥
 IsRefused (Show file) failure = ⊥
-IsRefused (Replay protocol own settings until file) failure = IsRefusedReplay protocol own.now settings until failure
+IsRefused (Replay protocol own settings until changes file) failure = IsRefusedReplay protocol own.now settings until failure
 IsRefused (Check protocol querier settings within cite until file) failure =
     IsRefusedReplay protocol querier.now settings until failure
 
@@ -98,10 +99,10 @@ WritesConversion interface vlan input output answer =
     Converts (record { interface = interface; vlan = vlan }) input.old input.new output.old.held output.new.held answer
 
 -- a capture was replayed to its end
-abbrev pub WritesReport : Protocol → (own : List ℕ) → Settings → (until : Option ℕ) → Input → Output → (flag : Bool) → Type 0
-WritesReport protocol own settings until input output flag =
+abbrev pub WritesReport : Protocol → (own : List ℕ) → Settings → Asked → Input → Output → (flag : Bool) → Type 0
+WritesReport protocol own settings asked input output flag =
     (address : ℕ) × SpellsAddress protocol own address
-    × IsDoneAt (family_of protocol) address settings until input output flag
+    × IsDoneAt (family_of protocol) address settings asked input output flag
 
 -- What is asked for was done: a line was written, of a message (true) or of its fault (false), or a capture was
 -- shown, replayed or checked to its end. (Whether a check found something is said apart.)
@@ -113,8 +114,8 @@ IsDone (Convert interface vlan file) input output flag =
     × WritesConversion interface vlan input output (Ok unread)
 IsDone (Show file) input output flag =
     (flag ≡ true) × (output.new.failed ≡ output.old.failed) × (count : ℕ) × WritesListing input output (Ok count)
-IsDone (Replay protocol own settings until file) input output flag =
-    WritesReport protocol own.now settings until input output flag
+IsDone (Replay protocol own settings until changes file) input output flag =
+    WritesReport protocol own.now settings (record { until = until; changes = changes }) input output flag
 IsDone (Check protocol querier settings within cite until file) input output flag =
     (flag ≡ true) × (totals : Totals)
     × WritesVerdict protocol querier.now settings (asked_terms within until cite) input output totals
@@ -128,10 +129,10 @@ IsBrokenMessage protocol from to hex output Write =
 IsBrokenMessage protocol from to hex output failure = ⊥
 
 -- why a capture was not replayed to its end
-abbrev pub IsBrokenReplay : Protocol → (own : List ℕ) → Settings → (until : Option ℕ) → Input → Output → Failure → Type 0
-IsBrokenReplay protocol own settings until input output failure =
+abbrev pub IsBrokenReplay : Protocol → (own : List ℕ) → Settings → Asked → Input → Output → Failure → Type 0
+IsBrokenReplay protocol own settings asked input output failure =
     (address : ℕ) × SpellsAddress protocol own address
-    × IsBrokenAt (family_of protocol) address settings until input output failure
+    × IsBrokenAt (family_of protocol) address settings asked input output failure
 
 -- why the status is 1, where no message's fault was written
 abbrev pub IsBroken : Request → Input → Output → Failure → Type 0
@@ -140,8 +141,8 @@ IsBroken (Message protocol hex from to) input output failure =
 IsBroken (Convert interface vlan file) input output failure =
     IsConversionBroken (WritesConversion interface vlan input output) input output failure
 IsBroken (Show file) input output failure = IsBrokenOff (WritesListing input output) input output failure
-IsBroken (Replay protocol own settings until file) input output failure =
-    IsBrokenReplay protocol own.now settings until input output failure
+IsBroken (Replay protocol own settings until changes file) input output failure =
+    IsBrokenReplay protocol own.now settings (record { until = until; changes = changes }) input output failure
 IsBroken (Check protocol querier settings within cite until file) input output failure =
     IsBrokenCheck protocol querier.now settings (asked_terms within until cite) input output failure
 
@@ -156,7 +157,7 @@ abbrev pub IsOfMessage : Request → Type 0
 IsOfMessage (Message protocol hex from to) = Unit {0}
 IsOfMessage (Convert interface vlan file) = ⊥
 IsOfMessage (Show file) = ⊥
-IsOfMessage (Replay protocol own settings until file) = ⊥
+IsOfMessage (Replay protocol own settings until changes file) = ⊥
 IsOfMessage (Check protocol querier settings within cite until file) = ⊥
 
 -- a request for a conversion
@@ -164,7 +165,7 @@ abbrev pub IsConversion : Request → Type 0
 IsConversion (Message protocol hex from to) = ⊥
 IsConversion (Convert interface vlan file) = Unit {0}
 IsConversion (Show file) = ⊥
-IsConversion (Replay protocol own settings until file) = ⊥
+IsConversion (Replay protocol own settings until changes file) = ⊥
 IsConversion (Check protocol querier settings within cite until file) = ⊥
 
 -- a request for a check
@@ -172,7 +173,7 @@ abbrev pub IsCheck : Request → Type 0
 IsCheck (Message protocol hex from to) = ⊥
 IsCheck (Convert interface vlan file) = ⊥
 IsCheck (Show file) = ⊥
-IsCheck (Replay protocol own settings until file) = ⊥
+IsCheck (Replay protocol own settings until changes file) = ⊥
 IsCheck (Check protocol querier settings within cite until file) = Unit {0}
 
 -- A check was made to its end, and standard error told nothing: this is what was counted.
@@ -194,8 +195,8 @@ IsDoneTelling (Convert interface vlan file) input output errors =
     (output.new.failed ≡ output.old.failed) × (unread : Unread)
     × WritesConversion interface vlan input output (Ok unread) × TellsUnread errors unread
 IsDoneTelling (Show file) input output errors = IsDone (Show file) input output true × (errors.new ≡ errors.old)
-IsDoneTelling (Replay protocol own settings until file) input output errors =
-    IsDone (Replay protocol own settings until file) input output true × (errors.new ≡ errors.old)
+IsDoneTelling (Replay protocol own settings until changes file) input output errors =
+    IsDone (Replay protocol own settings until changes file) input output true × (errors.new ≡ errors.old)
 IsDoneTelling (Check protocol querier settings within cite until file) input output errors =
     (totals : Totals) × (totals.findings ≡ 0) × HasChecked protocol querier.now settings within until cite input output errors totals
 
@@ -204,7 +205,7 @@ abbrev pub IsFinding : Request → Input → (output errors : Output) → Type 0
 IsFinding (Message protocol hex from to) input output errors = ⊥
 IsFinding (Convert interface vlan file) input output errors = ⊥
 IsFinding (Show file) input output errors = ⊥
-IsFinding (Replay protocol own settings until file) input output errors = ⊥
+IsFinding (Replay protocol own settings until changes file) input output errors = ⊥
 IsFinding (Check protocol querier settings within cite until file) input output errors =
     (totals : Totals) × (1 ≤ totals.findings) × HasChecked protocol querier.now settings within until cite input output errors totals
 

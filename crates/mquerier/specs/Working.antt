@@ -8,6 +8,7 @@ use Rattle.mq_command.specs.declared.Request.{Request}
 use Rattle.mq_command.specs.declared.replay.Settings.{Settings}
 use Rattle.mq_convert.specs.declared.unread.Unread.{Unread}
 use Rattle.mq_link.specs.Configuration.{Configuration, IsFaultless}
+use Rattle.mq_replay.specs.declared.asked.Asked.{Asked}
 use Rattle.mq_wire.specs.Family.{Family}
 use Rattle.mquerier.specs.declared.failure.Failure.{Failure}
 use Rattle.mquerier.specs.declared.failure.Failure.TheVariants.{NotHex, Memory}
@@ -51,18 +52,18 @@ WorksOnConversion interface vlan input output (Err failure) =
     IsConversionBroken (WritesConversion interface vlan input output) input output failure
 
 -- the same of a replay
-abbrev pub WorksOnReplay : Protocol → (own : List ℕ) → Settings → (until : Option ℕ) → Input → Output → Result Bool Failure → Type 0
-WorksOnReplay protocol own settings until input output (Ok flag) = WritesReport protocol own settings until input output flag
-WorksOnReplay protocol own settings until input output (Err failure) =
-    (status_of failure ≡ 2 → IsRefusedReplay protocol own settings until failure)
-    × (status_of failure ≡ 1 → IsBrokenReplay protocol own settings until input output failure)
+abbrev pub WorksOnReplay : Protocol → (own : List ℕ) → Settings → Asked → Input → Output → Result Bool Failure → Type 0
+WorksOnReplay protocol own settings asked input output (Ok flag) = WritesReport protocol own settings asked input output flag
+WorksOnReplay protocol own settings asked input output (Err failure) =
+    (status_of failure ≡ 2 → IsRefusedReplay protocol own settings asked.until failure)
+    × (status_of failure ≡ 1 → IsBrokenReplay protocol own settings asked input output failure)
 
 -- the same of one at an address that was read
-abbrev pub WorksAt : Family → (own : ℕ) → Settings → (until : Option ℕ) → Input → Output → Result Bool Failure → Type 0
-WorksAt family own settings until input output (Ok flag) = IsDoneAt family own settings until input output flag
-WorksAt family own settings until input output (Err failure) =
-    (status_of failure ≡ 2 → IsRefusedAt family own settings until failure)
-    × (status_of failure ≡ 1 → IsBrokenAt family own settings until input output failure)
+abbrev pub WorksAt : Family → (own : ℕ) → Settings → Asked → Input → Output → Result Bool Failure → Type 0
+WorksAt family own settings asked input output (Ok flag) = IsDoneAt family own settings asked input output flag
+WorksAt family own settings asked input output (Err failure) =
+    (status_of failure ≡ 2 → IsRefusedAt family own settings asked.until failure)
+    × (status_of failure ≡ 1 → IsBrokenAt family own settings asked input output failure)
 
 -- the same of a check
 abbrev pub WorksOnCheck : Protocol → (querier : List ℕ) → Settings → CheckTerms → Input → Output → Result Totals Failure → Type 0

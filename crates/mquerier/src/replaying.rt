@@ -10,7 +10,7 @@ use crate::work::flush;
 use mq_command::{Protocol, Settings};
 use mq_count::{Moment, Watched};
 use mq_link::{Config, Igmp, Limits, Mld};
-use mq_replay::{CapturedFamily, LineKey, ReplayFault, replay};
+use mq_replay::{Asked, CapturedFamily, LineKey, ReplayFault, replay};
 use mq_text::{read_v4, read_v6};
 use std::alloc::Global;
 use std::io::{Read, Write};
@@ -23,10 +23,11 @@ pub(crate) fn replay_capture<R: Read, W: Write>(
     own: &str,
     settings: &Settings,
     until: Option<u64>,
+    changes: bool,
     input: &mut Watched<R>,
     output: &mut Watched<W>,
 ) -> Result<bool, Failure>
-    ensures works { WorksOnReplay protocol own.now settings.now until
+    ensures works { WorksOnReplay protocol own.now settings.now (record { until = until; changes = changes })
         (input_by R.remaining input.old input.new)
         (output_by W.contents output.old output.new)
         result }
@@ -36,12 +37,14 @@ pub(crate) fn replay_capture<R: Read, W: Write>(
     match protocol {
         Protocol::Igmp => match read_v4(own) {
             Some(address) => replay_at::<Igmp, R, W>(
-                alloc, address, settings, until, input, output,
+                alloc, address, settings, until, changes, input, output,
             ),
             None => Err(Failure::NotAnAddress),
         },
         Protocol::Mld => match read_v6(own) {
-            Some(address) => replay_at::<Mld, R, W>(alloc, address, settings, until, input, output),
+            Some(address) => replay_at::<Mld, R, W>(
+                alloc, address, settings, until, changes, input, output,
+            ),
             None => Err(Failure::NotAnAddress),
         },
     }
@@ -53,12 +56,13 @@ fn replay_at<F: CapturedFamily, R: Read, W: Write>(
     own: F::Address,
     settings: &Settings,
     until: Option<u64>,
+    changes: bool,
     input: &mut Watched<R>,
     output: &mut Watched<W>,
 ) -> Result<bool, Failure>
 where
     F::Address: LineKey,
-    ensures works { WorksAt F.FAMILY (F.Address.number own) settings.now until
+    ensures works { WorksAt F.FAMILY (F.Address.number own) settings.now (record { until = until; changes = changes })
         (input_by R.remaining input.old input.new)
         (output_by W.contents output.old output.new)
         result }
@@ -67,7 +71,11 @@ where
 {
     let end = moment_asked(until)?;
     let config = configured::<F>(own, settings)?;
-    match replay(alloc, config, end, input, output) {
+    let asked = Asked {
+        until: end,
+        changes,
+    };
+    match replay(alloc, config, asked, input, output) {
         Ok(_counts) => {
             flush(output)?;
             Ok(true)

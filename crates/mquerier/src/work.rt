@@ -54,8 +54,11 @@ pub fn work<R: Read, W: Write>(
             own,
             settings,
             until,
+            changes,
             ..
-        } => replay_capture(alloc, *protocol, own, settings, *until, input, output),
+        } => replay_capture(
+            alloc, *protocol, own, settings, *until, *changes, input, output,
+        ),
     }
 }
 

@@ -15,7 +15,7 @@ use Rattle.mq_replay.proofs.replaying.put_packets.Goals as goal
 pub loop-read-init : goal.loop-read-init
 loop-read-init g c =
     record {
-      put = rw c.new-stamps.ensures (_, none_replayed _ _ _, sym c.requires.starts, nothing_passed _ _);
+      put = rw c.new-stamps.ensures (_, none_replayed _ _ _ _, sym c.requires.starts, nothing_passed _ _);
       config = refl;
       form = refl;
       next = c.requires.first;

@@ -15,7 +15,7 @@ invariant-loop-read g l =
     let old = input_of g.R.Read.remaining l.fn.reader in
     let now = input_of g.R.Read.remaining l.reader in
     record {
-      put : (r : Replayed) × IsReplayedTo l.fn.link.config (form_of l.fn.capture) old now l.stamps.first l.stamps.before l.number r
+      put : (r : Replayed) × IsReplayedTo l.fn.link.config l.fn.asked.changes (form_of l.fn.capture) old now l.stamps.first l.stamps.before l.number r
           × (r.link ≡ l.link.state)
           × Passes (g.W.Write.contents (inner_of l.fn.writer)) (g.W.Write.contents (inner_of l.writer)) l.fn.buffer.items l.buffer.items r.text;
       config : l.link.config ≡ l.fn.link.config;

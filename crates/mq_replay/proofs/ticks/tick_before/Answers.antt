@@ -1,10 +1,9 @@
-use Rattle.std.proofs.Common.{◌<◌, ◌≤◌, [], refl, ap, sym, ◌∙◌, subst, arith}
+use Rattle.std.proofs.Common.{◌<◌, ◌≤◌, [], refl, ◌∙◌, subst, arith}
 use Rattle.std.proofs.lemmas.Bool.Decides.{nat_tests}
 use Rattle.std.proofs.lemmas.Result.{err_from_is_err_and}
 use Rattle.std.proofs.Math.Bool.{or-false}
-use Rattle.mq_link.specs.Configuration.{Configuration}
 use Rattle.mq_replay.proofs.Passing.{nothing_passed}
-use Rattle.mq_replay.proofs.Ticking.{none_ticked, ticks_done, printed_done, printed_broken}
+use Rattle.mq_replay.proofs.Ticking.{comes_later, next_broken, next_done, none_ticked, ticks_done}
 use Rattle.mq_replay.proofs.ticks.tick_before.Goals as goal
 
 pub loop-limit-init : goal.loop-limit-init
@@ -19,25 +18,23 @@ loop-limit-init g c =
 pub loop-limit-preserved : goal.loop-limit-preserved
 loop-limit-preserved g c =
     let now = c.loop-limit.invariant in
-    let is_family = g.met.F.CapturedFamily.same_family ∙ sym c.is_faultless.ensures.family ∙ ap (λ (config : Configuration). config.family) c.config.ensures in
     let due : c.loop-limit.next < c.args.limit = grind (arith, nat_tests) in
     record {
-      ticked = printed_done _ _ _ _ _ _ _ _ _ _ _ _ _ _ is_family c.in_ok-tick.ensures.config now.config now.next due c.is_well_formed.ensures.later now.ticked.1 now.ticked.2 c.in_ok-tick.ensures.ticks;
+      ticked = next_done _ _ _ _ _ _ _ _ _ _ _ _ _ now.config now.next due c.is_well_formed.ensures.later now.ticked.1 now.ticked.2 c.in_ok-tick_at.ensures.puts;
       next = c.next_deadline-next-in-loop-limit.ensures;
-      config = c.in_ok-tick.ensures.config ∙ now.config;
-      failed = c.in_ok-tick.ensures.failed ∙ or-false _ ∙ now.failed;
+      config = c.in_ok-tick_at.ensures.puts.same_config ∙ now.config;
+      failed = c.in_ok-tick_at.ensures.failed ∙ or-false _ ∙ now.failed;
     }
 
-pub returns-in_err-tick-clause-puts : goal.returns-in_err-tick-clause-puts
-returns-in_err-tick-clause-puts g c =
+pub returns-in_err-tick_at-clause-puts : goal.returns-in_err-tick_at-clause-puts
+returns-in_err-tick_at-clause-puts g c =
     let p = err_from_is_err_and c.from_residual.result c.from_residual.ensures.1 in
     let now = c.loop-limit.invariant in
-    let is_family = g.met.F.CapturedFamily.same_family ∙ sym c.is_faultless.ensures.family ∙ ap (λ (config : Configuration). config.family) c.config.ensures in
     let due : c.loop-limit.next < c.args.limit = grind (arith, nat_tests) in
     rw p.1 (record {
-      same_config = c.in_err-tick.ensures.config ∙ now.config;
+      same_config = c.in_err-tick_at.ensures.puts.same_config ∙ now.config;
       link = tt;
-      text = printed_broken _ _ _ _ _ _ _ _ _ _ _ _ _ _ _ is_family c.in_err-tick.ensures.config now.config now.next due now.ticked.1 now.ticked.2 c.in_err-tick.ensures.ticks;
+      text = next_broken _ _ _ _ _ _ _ _ _ _ _ _ _ _ now.config now.next due now.ticked.1 now.ticked.2 c.in_err-tick_at.ensures.puts;
     })
 
 pub returns-clause-puts : goal.returns-clause-puts
@@ -45,3 +42,10 @@ returns-clause-puts g c =
     let now = c.loop-limit.invariant in
     let reached : c.args.limit ≤ c.loop-limit.next = grind (arith, nat_tests) in
     ticks_done _ _ _ _ _ _ _ _ now.config (subst (λ m. c.args.limit ≤ m) now.next reached) now.ticked.1 now.ticked.2
+
+pub loop-limit-smaller : goal.loop-limit-smaller
+loop-limit-smaller g c =
+    let later = comes_later _ _ _ _ _ c.is_well_formed.ensures.later c.in_ok-tick_at.ensures.puts.link in
+    let next = c.next_deadline-next-in-loop-limit.ensures in
+    let due : c.loop-limit.next < c.args.limit = grind (arith, nat_tests) in
+    omega (arith, later, next, due)

@@ -1,0 +1,38 @@
+use Rattle.std.proofs.Common.{ℕ, List, arith, ap, ◌∙◌}
+use Rattle.std.proofs.lemmas.Result.{err_from_is_err_and}
+use Rattle.std.proofs.lemmas.Bool.Decides.{nat_tests}
+use Rattle.mq_held.specs.Groups.{group_at}
+use Rattle.mq_replay.specs.ChangeLines.{change_line, change_lines}
+use Rattle.mq_replay.proofs.ChangeTexts.{all_passed, item_broken, lines-numbered}
+use Rattle.mq_replay.proofs.Passing.{item_passed}
+use Rattle.mq_replay.proofs.change_lines.put_each.Goals as goal
+
+pub loop-address-preserved : goal.loop-address-preserved
+loop-address-preserved g c =
+    let before = c.loop-address.invariant in
+    let number = g.F.Address.Key.number in
+    let text : _ → List ℕ = λ x. change_line g.F.Address.LineKey.family c.args.moment (number x) (group_at c.args.link.now.state.groups (number x)).group in
+    record {
+      put = item_passed text _ _ _ _ _ _ _ _ c.address-item.result c.address-item.result c.loop-address-test.true c.address-item.is before.put c.in_ok-put_group.ensures.text;
+      same = grind (arith, nat_tests, c.in_ok-put_group.ensures.failed, before.same);
+    }
+
+pub returns-in_err-put_group-clause-text : goal.returns-in_err-put_group-clause-text
+returns-in_err-put_group-clause-text g c =
+    let p = err_from_is_err_and c.from_residual.result c.from_residual.ensures.1 in
+    let number = g.F.Address.Key.number in
+    let text : _ → List ℕ = λ x. change_line g.F.Address.LineKey.family c.args.moment (number x) (group_at c.args.link.now.state.groups (number x)).group in
+    let family = g.F.Address.LineKey.family in
+    let groups = c.args.link.now.state.groups in
+    let items = c.changed-address-items.result.now in
+    rw p.1 (item_broken text _ _ _ _ _ _ _ c.address-item.result c.address-item.result _ c.loop-address-test.true c.address-item.is
+    (lines-numbered number family c.args.moment groups items ∙ ap (change_lines family c.args.moment groups) c.changed-address-items.ensures) c.loop-address.invariant.put c.in_err-put_group.ensures.text)
+
+pub returns-clause-text : goal.returns-clause-text
+returns-clause-text g c =
+    let number = g.F.Address.Key.number in
+    let family = g.F.Address.LineKey.family in
+    let groups = c.args.link.now.state.groups in
+    let items = c.changed-address-items.result.now in
+    let text : _ → List ℕ = λ x. change_line family c.args.moment (number x) (group_at groups (number x)).group in
+    all_passed text _ _ _ _ items c.loop-address.address-index _ (grind (arith, nat_tests)) (lines-numbered number family c.args.moment groups items ∙ ap (change_lines family c.args.moment groups) c.changed-address-items.ensures) c.loop-address.invariant.put

@@ -1,0 +1,14 @@
+use Rattle.std.proofs.Common.{[]}
+use Rattle.std.proofs.lemmas.Result.{err_from_is_err_and}
+use Rattle.mq_replay.proofs.ChangeTexts.{line-vacant}
+use Rattle.mq_replay.proofs.Passing.{broken_within, held_more}
+use Rattle.mq_replay.proofs.change_lines.put_unheld.Goals as goal
+
+pub returns-in_err-make_room-clause-text : goal.returns-in_err-make_room-clause-text
+returns-in_err-make_room-clause-text g c =
+    let p = err_from_is_err_and c.from_residual.result c.from_residual.ensures.1 in
+    rw p.1 (broken_within _ _ _ [] _ c.in_err-make_room.ensures.text)
+
+pub returns-clause-text : goal.returns-clause-text
+returns-clause-text g c =
+    rw (← line-vacant g.K.LineKey.family c.args.moment (g.K.Key.number c.args.address)) (held_more _ _ _ _ _ [] _ c.in_ok-make_room.ensures.text c.put_none.ensures)
