@@ -1,5 +1,5 @@
 -- What keeps room for groups and their sources.
-use Rattle.std.proofs.Common.{◌≡◌, ℕ, ◌*◌, ◌≤◌, List, Bool, ◌&&◌, leb, true, false, refl, ◌∙◌, sym, subst, arith}
+use Rattle.std.proofs.Common.{◌≡◌, ℕ, ◌*◌, ◌≤◌, List, length, Bool, ◌&&◌, leb, true, false, refl, ◌∙◌, sym, subst, arith}
 use Rattle.std.proofs.lemmas.Bool.{le-leb, leb-true}
 use Rattle.mq_link.specs.declared.configuration.Limits.{Limits}
 use Rattle.mq_link.specs.declared.storage.Lists.{Lists}
@@ -108,6 +108,6 @@ module _ (limits : Limits) (groups group_sources : ℕ) (enough : (leb limits.gr
 
 -- a workspace stays one
 pub workspace_next : {K : Type 0} (number : K → ℕ) (groups group_sources : ℕ) {scratch next : Scratch K} {lists next_lists : Lists K} → IsWorkspace number groups group_sources scratch lists
-    → KeepsRoom scratch next → HasSpace groups next_lists → AreNone next.met → AreNone next.changed → IsAscending number next_lists.changed.items → IsWorkspace number groups group_sources next next_lists
-workspace_next number groups group_sources was room space none none_changed ascending =
-    record { room = still_room groups group_sources was.room room; list_room = space; marks = room.changed ∙ was.marks; none_met = none; none_changed = none_changed; ascending = ascending }
+    → KeepsRoom scratch next → HasSpace groups next_lists → AreNone next.met → AreNone next.changed → IsAscending number next_lists.changed.items → length next_lists.changed.items ≤ 2 * groups → IsWorkspace number groups group_sources next next_lists
+workspace_next number groups group_sources was room space none none_changed ascending few =
+    record { room = still_room groups group_sources was.room room; list_room = space; marks = room.changed ∙ was.marks; none_met = none; none_changed = none_changed; ascending = ascending; few = few }

@@ -1,5 +1,5 @@
 -- What a contract sees of a workspace, and what it suffices for.
-use Rattle.std.specs.Prelude.{◌≡◌, ℕ, nat_le, Bool, ◌&&◌, List, length, refl}
+use Rattle.std.specs.Prelude.{◌≡◌, ℕ, ◌*◌, ◌≤◌, nat_le, Bool, ◌&&◌, List, length, refl}
 use Rattle.std.specs.Coded.{Coded, code_by, coded×, coded_ℕ, coded_list}
 use Rattle.mq_link.specs.declared.configuration.Limits.{Limits}
 use Rattle.mq_link.specs.declared.storage.Lists.{Lists}
@@ -30,7 +30,8 @@ suffices limits w = nat_le limits.groups w.groups && nat_le limits.group_sources
 abbrev pub with_changed : WorkspaceState → List ℕ → WorkspaceState
 with_changed w changed = record w { changed = changed }
 
--- It has the room that it says, no group is met or changed by the records of a datagram, and the addresses ascend.
+-- It has the room that it says, no group is met or changed by the records of a datagram, and the addresses ascend. There are at
+-- most twice as many as groups may be: those that a tick ends, and those that records make in their place.
 pub record IsWorkspace {K : Type 0} (number : K → ℕ) (groups group_sources : ℕ) (scratch : Scratch K) (lists : Lists K) : Type 0 where
   pub room : HasRoom groups group_sources scratch
   pub list_room : HasSpace groups lists
@@ -38,3 +39,4 @@ pub record IsWorkspace {K : Type 0} (number : K → ℕ) (groups group_sources :
   pub none_met : AreNone scratch.met
   pub none_changed : AreNone scratch.changed
   pub ascending : IsAscending number lists.changed.items
+  pub few : length lists.changed.items ≤ 2 * groups

@@ -1,6 +1,6 @@
 //! What calls of links work in, which many links may use in turn.
 
-ghost use Rattle.std.specs.Prelude.{◌≡◌, [], map, IfOk};
+ghost use Rattle.std.specs.Prelude.{◌≡◌, ◌*◌, ◌≤◌, [], length, map, IfOk};
 ghost use Rattle.mq_link.specs.Workspace as spec;
 
 use crate::configuration::Limits;
@@ -57,9 +57,11 @@ impl<F: Family> Workspace<F> {
 
     /// The addresses of the groups that the last call that it was lent to has changed, ascending: those of which another filter is
     /// forwarded after the tick, or after one of the datagram's records, than before it (RFC 3376 section 6.3, RFC 3810 section
-    /// 7.3). Of a fresh one there are none.
+    /// 7.3). Of a fresh one there are none. They are at most twice as many as groups may be held: those that the tick ended, and
+    /// those that records made.
     pub fn changed(&self) -> &[F::Address]
-        ensures { map F.Address.number result.now ≡ self.now.changed }
+        ensures changed { map F.Address.number result.now ≡ self.now.changed }
+        ensures few { length result.now ≤ 2 * self.now.groups }
     {
         &self.lists.changed
     }

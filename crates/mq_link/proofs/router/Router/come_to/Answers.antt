@@ -16,7 +16,7 @@ use Rattle.mq_link.specs.Workspace.{WorkspaceState, with_changed}
 use Rattle.mq_link.proofs.Faultless.{timing_in_range}
 use Rattle.mq_link.proofs.LinkStored.{ready_in, stored_next, none_due}
 use Rattle.mq_link.proofs.LinkTicked.{HasDone, does_tick, sound_after_tick}
-use Rattle.mq_link.proofs.Rooms.{enough_room, enough_space, ready_counted, still_space, workspace_next}
+use Rattle.mq_link.proofs.Rooms.{enough_groups, enough_room, enough_space, ready_counted, still_space, workspace_next}
 use Rattle.mq_link.proofs.RouterSteps.{enough_inside}
 use Rattle.mq_link.proofs.TickedFilters.{ascending_keys}
 use Rattle.mq_link.proofs.router.Router.come_to.Given.{Over}
@@ -73,6 +73,7 @@ invariant_of-self g c =
 
 pub invariant_of-work : goal.invariant_of-work
 invariant_of-work g c =
+    let enough = enough_inside c.self.view_is c.work.view_is c.requires.enough in
     let space = c.work.invariant.list_room in
     let due = space.due in
     let spare = space.spare in
@@ -86,6 +87,7 @@ invariant_of-work g c =
     c.work.invariant.none_met
     c.work.invariant.none_changed
     (ascending_keys g.F.Address.Key.number c.do_due.new.lists.changed.items c.do_due.ensures.changed.ascending)
+    (omega (arith, c.do_due.ensures.few, c.self.invariant.sound.within.group_count, enough_groups c.self.inside.status.config.limits _ _ enough))
 
 pub returns-clause-step : goal.returns-clause-step
 returns-clause-step g c =

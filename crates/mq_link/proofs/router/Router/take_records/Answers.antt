@@ -73,7 +73,11 @@ invariant_of-work g c =
     let taken = c.take_each-received.new.work in
     let listed = c.list_changed.ensures in
     let cleared : KeepsRoom taken (record taken { met = c.clear.new.self; changed = c.list_changed.new.marks }) = record { group = omega arith; named = refl; asked = omega arith; met = c.clear.ensures.room; changed = listed.len } in
+    let enough = enough_inside c.self.view_is c.work.view_is c.requires.enough in
+    let limits = ap (λ (r : RouterValue). r.at.config.limits.groups) c.self.view_is in
+    let few = few_inside g.F.Address.Key.number c.work.inside.lists _ _ _ c.work.view_is refl c.requires.few_changed in
     workspace_next _ _ _ c.work.invariant (room_on c.take_each-received.ensures.room cleared) (subst (λ n. HasSpace n c.list_changed.new.lists) (marks g c) listed.space) c.clear.ensures.none listed.none listed.ascending
+    (omega (arith, listed.count, few, limits, enough_groups c.self.inside.status.config.limits _ _ enough, marks g c))
 
 pub returns-clause-receipt : goal.returns-clause-receipt
 returns-clause-receipt g c =
