@@ -57,7 +57,7 @@ impl<F: Family> Model for Link<F> {
 
     ghost view = { λ l. record l.bare { changed = l.workspace.changed } };
 
-    ghost invariant = { λ l. suffices l.bare.config.limits l.workspace ≡ true };
+    ghost invariant = { λ l. (suffices l.bare.config.limits l.workspace ≡ true) × (l.workspace.groups ≡ l.bare.config.limits.groups) };
 }
 
 impl<F: Family> Link<F> {
@@ -232,9 +232,11 @@ impl<F: Family> Link<F> {
 
     /// The addresses of the groups that the last `tick` or `receive` has changed, ascending: those of which another filter is
     /// forwarded after the tick, or after one of the datagram's records, than before it (RFC 3376 section 6.3, RFC 3810 section
-    /// 7.3). A timer that is refreshed changes nothing.
+    /// 7.3). A timer that is refreshed changes nothing. They are at most twice as many as groups may be held: those that the tick
+    /// ended, and those that records made.
     pub fn changed(&self) -> &[F::Address]
-        ensures { map_each F.Address.number result.now ≡ self.now.changed }
+        ensures changed { map_each F.Address.number result.now ≡ self.now.changed }
+        ensures few { length result.now ≤ 2 * self.now.config.limits.groups }
     {
         self.workspace.changed()
     }

@@ -1,10 +1,19 @@
-use Rattle.std.proofs.Common.{◌∙◌, subst}
+use Rattle.std.proofs.Common.{sym, ap, ◌∙◌, subst}
+use Rattle.mq_link.specs.Configuration.{Configuration}
 use Rattle.mq_link.specs.Link.{HasReceived, LinkValue}
-use Rattle.mq_link.specs.Workspace.{suffices}
+use Rattle.mq_link.specs.Workspace.{WorkspaceState, suffices}
 use Rattle.mq_link.proofs.link.Link.receive.Goals as goal
 
 pub invariant_of-self : goal.invariant_of-self
-invariant_of-self g c = (λ i. suffices (c.receive_in.ensures.config i).limits (c.receive_in.ensures.workspace i)) ∙ c.self.invariant
+invariant_of-self g c =
+    let config = c.receive_in.ensures.config in
+    let workspace = c.receive_in.ensures.workspace in (
+      (λ i. suffices (config i).limits (workspace i)) ∙ c.self.invariant.0,
+      ap (λ (w : WorkspaceState). w.groups) workspace ∙ c.self.invariant.1 ∙ sym (ap (λ (k : Configuration). k.limits.groups) config),
+    )
+
+pub receive_in-requires-clause-enough : goal.receive_in-requires-clause-enough
+receive_in-requires-clause-enough g c = c.self.invariant.0
 
 pub returns-clause-receives : goal.returns-clause-receives
 returns-clause-receives g c =
