@@ -26,7 +26,7 @@ returns-in_err-put_group-clause-text g c =
     let groups = c.args.link.now.state.groups in
     let items = c.changed-address-items.result.now in
     rw p.1 (item_broken text _ _ _ _ _ _ _ c.address-item.result c.address-item.result _ c.loop-address-test.true c.address-item.is
-    (lines-numbered number family c.args.moment groups items ∙ ap (change_lines family c.args.moment groups) c.changed-address-items.ensures) c.loop-address.invariant.put c.in_err-put_group.ensures.text)
+    (lines-numbered number family c.args.moment groups items ∙ ap (change_lines family c.args.moment groups) c.changed-address-items.ensures.changed) c.loop-address.invariant.put c.in_err-put_group.ensures.text)
 
 pub returns-clause-text : goal.returns-clause-text
 returns-clause-text g c =
@@ -35,4 +35,4 @@ returns-clause-text g c =
     let groups = c.args.link.now.state.groups in
     let items = c.changed-address-items.result.now in
     let text : _ → List ℕ = λ x. change_line family c.args.moment (number x) (group_at groups (number x)).group in
-    all_passed text _ _ _ _ items c.loop-address.address-index _ (grind (arith, nat_tests)) (lines-numbered number family c.args.moment groups items ∙ ap (change_lines family c.args.moment groups) c.changed-address-items.ensures) c.loop-address.invariant.put
+    all_passed text _ _ _ _ items c.loop-address.address-index _ (grind (arith, nat_tests)) (lines-numbered number family c.args.moment groups items ∙ ap (change_lines family c.args.moment groups) c.changed-address-items.ensures.changed) c.loop-address.invariant.put
