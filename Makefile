@@ -12,16 +12,17 @@ AARCH64 := lib/aarch64-unknown-linux-gnu
 archive_for_x86_64-unknown-linux-gnu := lib/libmquerier.a
 archive_for_aarch64-unknown-linux-gnu := $(AARCH64)/libmquerier.a
 ARCHIVE := $(archive_for_$(TARGET))
+LENT := $(ARCHIVE:.a=-lent.a)
 ifeq ($(ARCHIVE),)
 $(error TARGET=$(TARGET): the library is made for x86_64-unknown-linux-gnu and for aarch64-unknown-linux-gnu)
 endif
 ifneq ($(ARCHIVE),lib/libmquerier.a)
-ifneq ($(MAKECMDGOALS),lib)
-$(error TARGET=$(TARGET): only `make lib` takes another processor than that of this machine)
+ifneq ($(or $(filter-out lib lib-lent,$(MAKECMDGOALS)),$(if $(MAKECMDGOALS),,all)),)
+$(error TARGET=$(TARGET): only `make lib` and `make lib-lent` take another processor than that of this machine)
 endif
 endif
 
-.PHONY: all run lib quick test live live-test arm-test mutants bench install dist clean
+.PHONY: all run lib lib-lent quick test live live-test page page-test arm-test mutants bench install dist clean
 
 # Both archives are of what is built in one folder, so one is made after the other. tools/build works side by side by itself.
 .NOTPARALLEL:
@@ -47,12 +48,35 @@ lib/libmquerier.a: $(SOURCES)
 	@mv $@.new $@
 	@echo "$@ is built"
 
+# The same library without a heap, for links in memory that the program has: lib/libmquerier-lent.a. It takes a TARGET too.
+lib-lent: $(LENT)
+
+lib/libmquerier-lent.a: lib/no_heap.o $(SOURCES)
+	@tools/build --library
+	@printf 'create $@.new\naddlib crates/mq_c/out/libmq_c.a\naddmod $<\nsave\nend\n' | ar -M
+	@mv $@.new $@
+	@echo "$@ is built"
+
+lib/no_heap.o: trusted/no_heap.c
+	@mkdir -p $(@D)
+	@$(CC) -std=c99 -O2 -fPIC -ffreestanding -Wall -Wextra -Werror -c $< -o $@
+
 # The kit has no heap for aarch64, so that archive has the one of this repository.
 $(AARCH64)/libmquerier.a: $(AARCH64)/heap.o $(SOURCES)
 	@tools/build --library aarch64-unknown-linux-gnu
 	@printf 'create $@.new\naddlib crates/mq_c/out/libmq_c.a\naddmod $<\nsave\nend\n' | $(CROSS_COMPILE)ar -M
 	@mv $@.new $@
 	@echo "$@ is built"
+
+$(AARCH64)/libmquerier-lent.a: $(AARCH64)/no_heap.o $(SOURCES)
+	@tools/build --library aarch64-unknown-linux-gnu
+	@printf 'create $@.new\naddlib crates/mq_c/out/libmq_c.a\naddmod $<\nsave\nend\n' | $(CROSS_COMPILE)ar -M
+	@mv $@.new $@
+	@echo "$@ is built"
+
+$(AARCH64)/no_heap.o: trusted/no_heap.c
+	@mkdir -p $(@D)
+	@$(CROSS_COMPILE)gcc -std=c99 -O2 -fPIC -ffreestanding -Wall -Wextra -Werror -c $< -o $@
 
 $(AARCH64)/heap.o: trusted/heap.c
 	@printf '#include <stdlib.h>\n#ifndef __aarch64__\n#error\n#endif\n' | $(CROSS_COMPILE)gcc -fsyntax-only -x c - 2> /dev/null || \
@@ -85,13 +109,28 @@ bin/mquerier-live: $(LIVE) include/mquerier.h lib/libmquerier.a
 # The examples in C do what docs/EMBEDDING.md says; the querier on an interface serves hosts of the Linux kernel, and does what the
 # vectors say that are played to it, those that end within SECONDS. The last two want to be root, and the last one the program.
 SECONDS := 600
-live-test: live
+live-test: live lib/libmquerier-lent.a
 	@examples/check
 	@examples/live/test
 	@examples/live/vectors --seconds $(SECONDS)
 
+# The page: static files in page/dist, with the proved code as WebAssembly inside (docs/PAGE.md).
+PAGE := page/make $(wildcard page/src/*) $(wildcard samples/*.pcap samples/*.pcapng)
+page: page/dist/index.html
+
+page/dist/index.html: crates/mq_page/out/mq_page.wasm $(PAGE)
+	@page/make
+
+crates/mq_page/out/mq_page.wasm: $(SOURCES)
+	@tools/build --crates mq_page
+
+# The page's module, called by node, and the page in headless Chromium: texts are those of the program, bars and marks what they say.
+page-test: page bin/mquerier
+	@page/module-test
+	@page/test
+
 # Programs of C over the library for aarch64, run by qemu, print what they print here.
-arm-test: lib/libmquerier.a $(AARCH64)/libmquerier.a
+arm-test: lib/libmquerier.a $(AARCH64)/libmquerier.a $(AARCH64)/libmquerier-lent.a
 	@CROSS_COMPILE=$(CROSS_COMPILE) tools/aarch64
 
 # How fast captures are listed and replayed, what hostile hosts cost, and how near datagrams come to the sum bound
@@ -104,20 +143,20 @@ bench: bin/mquerier
 	@bench/spent $(WRITE)
 	@bench/links $(WRITE)
 
-# The program, the library for C with its header and what pkg-config has to know of it, and the manual pages.
-install: bin/mquerier lib/libmquerier.a
+# The program, the libraries for C with their header and what pkg-config has to know of them, and the manual pages.
+install: bin/mquerier lib/libmquerier.a lib/libmquerier-lent.a
 	install -d $(DESTDIR)$(PREFIX)/bin $(DESTDIR)$(PREFIX)/include $(DESTDIR)$(PREFIX)/lib/pkgconfig
 	install -d $(DESTDIR)$(PREFIX)/share/man/man1 $(DESTDIR)$(PREFIX)/share/man/man3
 	install -m 755 bin/mquerier $(DESTDIR)$(PREFIX)/bin/mquerier
-	install -m 644 lib/libmquerier.a $(DESTDIR)$(PREFIX)/lib/libmquerier.a
+	install -m 644 lib/libmquerier.a lib/libmquerier-lent.a $(DESTDIR)$(PREFIX)/lib
 	install -m 644 include/mquerier.h $(DESTDIR)$(PREFIX)/include/mquerier.h
 	sed 's|@PREFIX@|$(PREFIX)|; s|@VERSION@|$(VERSION)|' include/libmquerier.pc.in > $(DESTDIR)$(PREFIX)/lib/pkgconfig/libmquerier.pc
 	install -m 644 man/mquerier.1 $(DESTDIR)$(PREFIX)/share/man/man1/mquerier.1
 	install -m 644 man/libmquerier.3 $(DESTDIR)$(PREFIX)/share/man/man3/libmquerier.3
 
 # The release of this commit, as one archive with its sum: dist/mquerier-VERSION.tar.gz.
-dist: bin/mquerier lib/libmquerier.a
+dist: bin/mquerier lib/libmquerier.a lib/libmquerier-lent.a page
 	@tools/dist
 
 clean:
-	rm -rf bin lib dist crates/*/out
+	rm -rf bin lib dist page/dist crates/*/out

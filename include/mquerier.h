@@ -2,7 +2,8 @@
    lib/libmquerier.a.
 
    An object holds one link. Datagrams and moments go in; what is forwarded, and the queries to be sent, come out. The
-   library has no clock, no socket and no thread. Only `new`, `new_bare` and `workspace_new` take memory.
+   library has no clock, no socket and no thread. Only `new`, `new_bare` and `workspace_new` take memory, from the heap; `new_in`
+   and its like make links in memory that the caller has, and `make lib-lent` a library without a heap.
 
    A router with many links may make one workspace for all of them, and links without one, which then take less memory: see
    `mq_igmp_workspace_new`.
@@ -12,8 +13,12 @@
      length 0 stands for no bytes.
    - `queries`, `address`, `addresses`, `group`, `groups`, `sources` and `line` overlap neither each other nor the body nor the
      object.
-   - An object comes from a `new`, a `new_bare` or a `workspace_new` of its kind that answered 0, is freed once, and is not
-     used beside a copy of it. After one that answered anything else there is nothing to free.
+   - An object comes from a `new`, a `new_bare` or a `workspace_new` of its kind that answered 0, or from one of these that ends
+     in `_in`, and is not used beside a copy of it. It is freed once, but for one that comes from an `_in`, which is never freed.
+     After a call that answered anything else there is nothing to free.
+   - The memory that such a call takes is the library's from then on, for good: nobody else reads or writes it, or hands it to
+     another call, and it doesn't go out of scope. It is an `mq_memory` that `mq_memory_of` answered, or one of whole units at a
+     multiple of 16, shorter than 2^63 bytes.
    - One thread at a time uses an object, and no signal handler calls. So a workspace and all links that use it belong to one
      thread at a time, or a lock keeps two calls that are lent it apart.
    - malloc, realloc and free are of one allocator, and align a block to each power of two up to 16 that divides its
@@ -216,6 +221,46 @@ mq_mld_config mq_mld_defaults(const uint8_t own[16]);
    variables, the limits, the own address; MQ_MOMENT; MQ_MEMORY. */
 uint32_t mq_igmp_new(mq_igmp_config config, uint64_t start, mq_igmp *link);
 uint32_t mq_mld_new(mq_mld_config config, uint64_t start, mq_mld *link);
+
+/* Memory that a link is to have for good: so many units of 16 bytes, the first of which lies at a multiple of 16. */
+typedef struct {
+  void *first;
+  size_t units;
+} mq_memory;
+
+/* The whole units of 16 bytes that lie in `size` bytes: all of these, where `bytes` and `size` are multiples of 16. */
+static inline mq_memory mq_memory_of(void *bytes, size_t size) {
+  const size_t before = (16 - (size_t)((uintptr_t)bytes & 15)) & 15;
+  mq_memory memory = {(void *)(uintptr_t)16, 0};
+  if (before < size) {
+    memory.first = (uint8_t *)bytes + before;
+    memory.units = (size - before) / 16;
+  }
+  return memory;
+}
+
+/* How many bytes of memory suffice for a link of this configuration, with its own workspace: a multiple of 16. It depends on
+   `groups`, `group_sources` and `sources` alone. Where the configuration has a fault, so that there is no link, it means
+   nothing. */
+size_t mq_igmp_size(mq_igmp_config config);
+size_t mq_mld_size(mq_mld_config config);
+
+/* Makes a link as `new` does, in memory that the caller has, as in `mq_igmp_new_in(config, now, mq_memory_of(bytes, size),
+   &link)`. Answers as `new` does, but MQ_MEMORY only where the memory is smaller than `mq_igmp_size` says. The memory is lent
+   for good, also where there is no link: such a link is never freed. All other calls serve it as any link. */
+uint32_t mq_igmp_new_in(mq_igmp_config config, uint64_t start, mq_memory memory, mq_igmp *link);
+uint32_t mq_mld_new_in(mq_mld_config config, uint64_t start, mq_memory memory, mq_mld *link);
+
+/* The same of a link without a workspace of its own, and of a workspace: they are used as those of `new_bare` and
+   `workspace_new`, together with any others, and never freed. */
+size_t mq_igmp_bare_size(mq_igmp_config config);
+size_t mq_mld_bare_size(mq_mld_config config);
+uint32_t mq_igmp_new_bare_in(mq_igmp_config config, uint64_t start, mq_memory memory, mq_igmp *link);
+uint32_t mq_mld_new_bare_in(mq_mld_config config, uint64_t start, mq_memory memory, mq_mld *link);
+size_t mq_igmp_workspace_size(mq_igmp_config config);
+size_t mq_mld_workspace_size(mq_mld_config config);
+uint32_t mq_igmp_workspace_new_in(mq_igmp_config config, mq_memory memory, mq_igmp_workspace *workspace);
+uint32_t mq_mld_workspace_new_in(mq_mld_config config, mq_memory memory, mq_mld_workspace *workspace);
 
 /* Gives back the memory of a link, also of one that was made by `new_bare`. */
 void mq_igmp_free(mq_igmp link);

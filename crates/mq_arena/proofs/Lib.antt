@@ -3,3 +3,5 @@ mod InTurn
 mod Kept
 mod Rooms
 mod Taken
+pub mod Takes
+mod EmptyVectors

@@ -34,7 +34,8 @@ impl Unused {
 
     /// How many bytes are left.
     pub fn size(&self) -> usize
-        ensures { result ≡ self.now }
+        ensures size { result ≡ self.now }
+        ensures small { result < 2 ^ 63 }
     {
         UNIT * self.units.len()
     }

@@ -17,6 +17,7 @@ mod RoomForTicks
 mod RoomSuffices
 mod RoomTaken
 mod ShownGroups
+mod SizedObjects
 mod ToldAddresses
 mod UnheldGroups
 mod WorkedIn

@@ -9,7 +9,7 @@ use base.Fml.{GName, Fml, ftrue, flft, fsep}
 use contract.Running.{Running, tables}
 use contract.Lifetimes.{Lfts}
 use mir.Raw.{raw as bare}
-use mir.Syntax.{named, erased, mut, Ty, Fn, Callee, ty_ptr, ty_ref, local, value_local, place, field, deref, copy, assign, rv_opd, addr_of, aggregate, seq, block, return}
+use mir.Syntax.{named, erased, static, mut, Ty, Fn, Callee, ty_ptr, ty_ref, local, value_local, place, field, deref, copy, assign, rv_opd, addr_of, aggregate, seq, block, return}
 use mir.Val.{Val, vptr}
 use prog.Model.{Model}
 use prog.Wp.{WpFn, Closed}
@@ -38,7 +38,7 @@ use Rattle.std_alloc.specs.Box.Ownership.{box_owns}
 use Rattle.std_heap.specs.contracts.Global as heap
 use Rattle.std_heap.specs.contracts.GlobalAllocator.TheImpl.{ghosts}
 use Rattle.std_heap.proofs.Global.TheLaws as heap_laws
-use Rattle.mq_c.specs.Freeing.{freeing}
+use Rattle.mq_c.specs.Freeing.{freeing, no_freeing}
 use Rattle.mq_c.specs.contracts.loose.Loose as loose
 use Rattle.mq_c.proofs.LooseValues.{both, al, loose_good, loose_in, loose_out}
 use Rattle.mq_c.proofs.Pointing.{Pointing, row_of, boxed, alone, pointer_in, pointer_out}
@@ -54,8 +54,8 @@ module _ (R : RattleType) (P : Pointing) where
   L = loose.the_row R Z ghosts
 
   module _ (kept : P.D → R.Denot) where
-    abbrev O : RattleType
-    O = row_of P (boxed R P kept)
+    abbrev B : RattleType
+    B = row_of P (boxed freeing R P kept)
 
     -- ---- the box is taken out
     abbrev pub into_code : Fn
@@ -65,7 +65,7 @@ module _ (R : RattleType) (P : Pointing) where
       ty_params = [];
       givens = 0;
       params = 2;
-      locals = local (ty_of L) value_local ∷ local (ty_of O) value_local ∷ local (ty_of Z) value_local ∷ local ty_ptr value_local ∷ local ty_ptr value_local ∷ [];
+      locals = local (ty_of L) value_local ∷ local (ty_of B) value_local ∷ local (ty_of Z) value_local ∷ local ty_ptr value_local ∷ local ty_ptr value_local ∷ [];
       body =
           seq (assign (place 3 []) (rv_opd (copy (place 1 (field 0 ∷ [])))))
           (seq (assign (place 4 []) (rv_opd (copy (place 3 []))))
@@ -74,7 +74,7 @@ module _ (R : RattleType) (P : Pointing) where
 
     abbrev pub into_ended : Ended
     into_ended = record {
-      signature = record { lifetimes = 0; outlives = []; params = plain (λ κs. O) ∷ plain (λ κs. Z) ∷ []; result = plain (λ κs. L) };
+      signature = record { lifetimes = 0; outlives = []; params = plain (λ κs. B) ∷ plain (λ κs. Z) ∷ []; result = plain (λ κs. L) };
       kept = (yes, (yes, tt));
     }
 
@@ -84,11 +84,11 @@ module _ (R : RattleType) (P : Pointing) where
           → Meets 𝓛 into_ended.signature ((tables 𝓤 𝓛.H 𝓜 𝓡 𝓡.env).C k) (closing 𝓛 into_ended c)
       into_meets holds closed =
           let 𝓣 = tables 𝓤 𝓛.H 𝓜 𝓡 𝓡.env in let LZ = heap_laws.the_row_laws in let T = into_ended in
-          let hs : Stays T.signature.params T.kept = (stay_dropped (plain (λ κs. O)) yes, (stay_dropped (plain (λ κs. Z)) yes, tt)) in
-          proved_at 𝓛 T hs c 𝓜 𝓡 (Goes-blank 𝓛 0 (plain (λ κs. O)) yes (λ κs x f. tt), (Goes-blank 𝓛 0 (plain (λ κs. Z)) yes (λ κs x f. tt), tt)) k into_code closed (λ z are.
+          let hs : Stays T.signature.params T.kept = (stay_dropped (plain (λ κs. B)) yes, (stay_dropped (plain (λ κs. Z)) yes, tt)) in
+          proved_at 𝓛 T hs c 𝓜 𝓡 (Goes-blank 𝓛 0 (plain (λ κs. B)) yes (λ κs x f. tt), (Goes-blank 𝓛 0 (plain (λ κs. Z)) yes (λ κs x f. tt), tt)) k into_code closed (λ z are.
           let κs = z.0.0 in let v = z.0.3.0 in let a = z.0.3.1.0 in let Post : Val → SProp 𝓤 = (walk_of 𝓛 T hs c).post z in let Run : List Val → SProp 𝓤 = λ ws. WpFn 𝓤 𝓛.H 𝓣.C 𝓣.Λ into_code ws Post in
           qed 𝓛 ((‵ ftrue ⊛ ‵ (owns (types_at T.signature.params κs) z.0.3 z.0.4)) ∷ raw ((c κs z.0.3).requires z.1) ∷ []) ∵ split ! $ move ! (1 ∷ []) $ fsplit ! $
-          pointer_out P R kept ! v z.0.4.0 (λ b o e ws. move ! (1 ∷ []) $ fsplit ! $ handle_tells (al R Z LZ ghosts) ! a z.0.4.1.0 (λ h eh fits.
+          pointer_out P freeing R kept ! v z.0.4.0 (λ b o e ws. move ! (1 ∷ []) $ fsplit ! $ handle_tells (al R Z LZ ghosts) ! a z.0.4.1.0 (λ h eh fits.
           -- [the handle; nothing; what is owned; the tokens; nothing]
           let us : List Val = alone (vptr b o) ∷ h ∷ [] in let made : L.Denot = record { at = block_ptr b o; alloc = a; value = kept v } in
           suffices ! (Run us) (subst (λ (xs : List Val). ent 𝓤 (Run us) (Run xs)) (sym (λ i. ws i ++ (eh i ++ []))) (id⊢ 𝓤 (Run us))) $
@@ -100,7 +100,11 @@ module _ (R : RattleType) (P : Pointing) where
           use0 𝓛 (raw ((c κs z.0.3).ensures z.1 made (at_exit T κs z.0.3 (tt, (tt, tt))))) (holds κs z.0.3 z.1 made (at_exit T κs z.0.3 (tt, (tt, tt))) refl) $ nothing ! $ nothing ! $ fjoin ! $ nothing ! $ fjoin ! $
           returns ! (look_at ! 0 refl) $ free_all ! refl $ keep ! (3 ∷ 0 ∷ 2 ∷ 1 ∷ []) $ by ! (leaves 𝓛 T hs c z (both (vptr b o) h) made (tt, (tt, tt)) (tt, (tt, tt)))))))
 
-    -- ---- what is behind the pointer is lent
+  -- ---- what is behind the pointer is lent, whatever right there is to give it back
+  module _ (right : Ty → Ptr → Fml) (kept : P.D → R.Denot) where
+    abbrev O : RattleType
+    O = row_of P (boxed right R P kept)
+
     abbrev pub lend_code : Fn
     lend_code = record {
       lifetimes = 1;
@@ -130,16 +134,16 @@ module _ (R : RattleType) (P : Pointing) where
         module _ (rb ro : ℕ) (h : P.D) (b o : ℕ) where
           -- all of the object but what is behind its pointer
           abbrev Rest : Fml
-          Rest = fsep (freeing (bare (ty_of R)) (block_ptr b o)) (cell_at full_share O.mir (alone (vptr b o) ∷ []) rb ro)
+          Rest = fsep (right (bare (ty_of R)) (block_ptr b o)) (cell_at full_share O.mir (alone (vptr b o) ∷ []) rb ro)
 
           back : (P.as_values h).0 ≡ block_ptr b o → (w : R.Denot) → ent 𝓤 (sep 𝓤 (sem 𝓛 ((mem R).own_at w b o)) (sem 𝓛 Rest)) (sem 𝓛 ((mem O).own_at (with_kept h w) rb ro))
           unfolding part_of
           back at_b w =
               let here = same_at h w ∙ at_b in
               qed 𝓛 (‵ (part_at R full_share w b o) ∷ ‵ Rest ∷ []) ∵ move ! (1 ∷ []) $ fsplit ! $ move ! (2 ∷ 0 ∷ []) $ fjoin ! $
-              rewrite ! 0 (λ (p : Ptr). ‵ (box_owns freeing R p w)) (sym here) refl $
-              rewrite ! 0 (λ (x : R.Denot). ‵ (box_owns freeing R (P.as_values (with_kept h w)).0 x)) (sym (is_kept h w)) refl $
-              pointer_in P (boxed R P kept) ! b o (with_kept h w) here $ move ! (1 ∷ 0 ∷ []) $ fjoin ! $
+              rewrite ! 0 (λ (p : Ptr). ‵ (box_owns right R p w)) (sym here) refl $
+              rewrite ! 0 (λ (x : R.Denot). ‵ (box_owns right R (P.as_values (with_kept h w)).0 x)) (sym (is_kept h w)) refl $
+              pointer_in P (boxed right R P kept) ! b o (with_kept h w) here $ move ! (1 ∷ 0 ∷ []) $ fjoin ! $
               fpack ! (List Val) (λ us. fsep (cell_at full_share O.mir us rb ro) (O.own_val (with_kept h w) us)) (alone (vptr b o) ∷ []) $ done !
 
         module _ (𝓜 : Model 𝓤 𝓛.H) (𝓡 : Running 𝓤 𝓛.H 𝓜) (k : Callee) (c : Clauses 𝓤 lend_ended) where
@@ -157,7 +161,7 @@ module _ (R : RattleType) (P : Pointing) where
               qed 𝓛 (((‵ (flft κ q) ⊛ ‵ ftrue) ⊛ ‵ (fsep ((MutRef (named 0) κ O).own_val a.0 vs) ftrue)) ∷ raw ((c κs a).requires g) ∷ []) ∵ split ! $
               enter ! 𝓣.C 𝓣.Λ lend_code _ Post $ alloc_all ! (λ l. pass_all ! refl ((tt, tt), tt) $ let En = env lend_code.locals l in
               move ! (1 ∷ []) $ fsplit ! $ fsplit3 ! $ drop ! $ move ! (3 ∷ []) $ split ! $ move ! (2 ∷ 3 ∷ 0 ∷ []) $
-              opens ! tt O {h = h} rb ro (λ us. move ! (1 ∷ []) $ pointer_out P R kept ! h us (λ b o at_b ws. fsplit ! $
+              opens ! tt O {h = h} rb ro (λ us. move ! (1 ∷ []) $ pointer_out P right R kept ! h us (λ b o at_b ws. fsplit ! $
               rewrite ! 2 (λ (xs : List Val). ‵ (cell_at full_share O.mir xs rb ro)) ws refl $
               -- [what is behind the pointer; the right to free it; the object's cell; the open borrow, in three entries]
               first ! $ blocks ! $
@@ -174,6 +178,59 @@ module _ (R : RattleType) (P : Pointing) where
               use1 𝓛 (‵ ((MutRef (named 0) κ R).own_val lent (vptr b o ∷ [])) ⊛ ‵ (flft κ q) ⊛ ‵ (follows O R γ γ' (with_kept h))) (id⊢ 𝓤 _) $ split ! $ move ! (1 ∷ []) $ split ! $ move ! (2 ∷ 0 ∷ 1 ∷ []) $
               suffices ! _ (ends_at 𝓛 T hs c y (vptr b o) lent (tt, tt) (tt, tt)) $
               nothing ! $ nothing ! $ fjoin ! $ join ! $ nothing ! $ move ! (2 ∷ 0 ∷ []) $ join ! $ join ! $ frame ! $ by ! (holds κs a g lent (at_exit T κs a (tt, tt)) refl))))))
+
+  -- ---- the pointer of a value that is lent for good is put in
+  module _ (owned : P.D → Fml) (made : Ptr → R.Denot → P.D) (at_is : (p : Ptr) (v : R.Denot) → (P.as_values (made p v)).0 ≡ p) (is_owned : (p : Ptr) (v : R.Denot) → owned (made p v) ≡ box_owns no_freeing R p v) where
+    abbrev Q : RattleType
+    Q = row_of P owned
+
+    abbrev pub stay_code : Fn
+    stay_code = record {
+      lifetimes = 0;
+      outlives = [];
+      ty_params = [];
+      givens = 0;
+      params = 1;
+      locals = local (ty_of Q) value_local ∷ local (ty_ref static mut R.written.ty) value_local ∷ local ty_ptr value_local ∷ local ty_ptr value_local ∷ [];
+      body =
+          seq (assign (place 2 []) (addr_of (place 1 (deref (ty_of R) ∷ []))))
+          (seq (assign (place 3 []) (rv_opd (copy (place 2 []))))
+          (seq (assign (place 0 []) (aggregate (copy (place 3 []) ∷ []))) return));
+    }
+
+    module _ (one : One R.mir) where
+      abbrev pub stay_ended : Ended
+      stay_ended = record {
+        signature = record { lifetimes = 0; outlives = []; params = RefMutOf [] tt (plain (λ κs. R)) (λ κs. one) ∷ []; result = plain (λ κs. Q) };
+        kept = (no, tt);
+      }
+
+      module _ {M : Type 1} (𝓤 : Ura M) (𝓛 : Logic 𝓤) (𝓜 : Model 𝓤 𝓛.H) (𝓡 : Running 𝓤 𝓛.H 𝓜) (k : Callee) (c : Clauses 𝓤 stay_ended) where
+        pub stay_meets : ((κs : Lfts 0) (a : Args stay_ended.signature κs) (g : (c κs a).ghost) (e : AtExit stay_ended κs) → ent 𝓤 (emp 𝓤) ((c κs a).ensures g (made (block_ptr a.0.ref_ptr.0 a.0.ref_ptr.1) a.0.now) e))
+            → Closed 𝓤 𝓛.H (tables 𝓤 𝓛.H 𝓜 𝓡 𝓡.env).C (tables 𝓤 𝓛.H 𝓜 𝓡 𝓡.env).Λ k stay_code
+            → Meets 𝓛 stay_ended.signature ((tables 𝓤 𝓛.H 𝓜 𝓡 𝓡.env).C k) (closing 𝓛 stay_ended c)
+        unfolding part_of
+        stay_meets holds closed =
+            let 𝓣 = tables 𝓤 𝓛.H 𝓜 𝓡 𝓡.env in let T = stay_ended in
+            let hs : Stays T.signature.params T.kept = (stay_dropped (mut_ref_to [] tt (plain (λ κs. R))) no, tt) in let W = walk_of 𝓛 T hs c in
+            proved 𝓛 T hs c 𝓜 𝓡 (Goes-spent_ref 𝓛 0 [] tt (plain (λ κs. R)), tt) k stay_code closed
+            (λ κs. (mut_vals, tt)) (λ κs. (mut_Tells static [] R, tt)) (λ κs qs bounds a g are.
+            let b = a.0.ref_ptr.0 in let o = a.0.ref_ptr.1 in let v = a.0.now in let vs = mut_vals a.0 in let p : Ptr = block_ptr b o in let x = made p v in
+            let y : W.Ghost = ((κs, qs, bounds, a, (vs, tt)), g) in let Post : Val → SProp 𝓤 = W.post y in
+            qed 𝓛 ((‵ ftrue ⊛ ‵ (fsep ((MutRef static [] R).own_val a.0 vs) ftrue)) ∷ raw ((c κs a).requires g) ∷ []) ∵ split ! $
+            enter ! 𝓣.C 𝓣.Λ stay_code _ Post $ alloc_all ! (λ l. pass_all ! refl ((tt, tt), tt) $
+            move ! (1 ∷ []) $ fsplit ! $ fsplit3 ! $ drop ! $ use0 𝓛 (‵ (flft [] full_share)) (𝓛.lfts.lft-nil full_share) $ move ! (1 ∷ 2 ∷ 0 ∷ []) $
+            opens ! tt R {h = v} b o (λ us.
+            -- [the cell; what it owns; the open borrow, in three entries]
+            fjoin ! $ fpack ! (List Val) (λ ws. fsep (cell_at full_share R.mir ws b o) (R.own_val v ws)) us $ nothing ! $ move ! (1 ∷ 0 ∷ []) $ fjoin ! $
+            rewrite ! 0 (λ (F : Fml). ‵ F) (sym (is_owned p v)) refl $ pointer_in P owned ! b o x (at_is p v) $
+            sets ! (addr ! (through ! refl (stop !))) refl (tt, tt) $
+            sets ! (of_opd ! (get ! refl)) refl (tt, tt) $
+            sets ! (agg ! (and_then ! (get ! refl) (no_more !))) refl (tt, (tt, tt)) $
+            returns ! (look_at ! 0 refl) $ free_all ! refl $ keep ! (0 ∷ []) $
+            suffices ! _ (ends_at 𝓛 T hs c y (alone (vptr b o)) x (tt, tt) (tt, tt)) $
+            nothing ! $ nothing ! $ fjoin ! $ join ! $ nothing ! $ join ! $ frame ! $
+            use0 𝓛 (raw ((c κs a).ensures g x (at_exit T κs a (tt, tt)))) (holds κs a g (at_exit T κs a (tt, tt))) $ done !)))
 
   -- ---- the pointer of a box is put in
   module _ (owned : P.D → Fml) (made : L.Denot → P.D) (at_is : (v : L.Denot) → (P.as_values (made v)).0 ≡ v.at) (is_owned : (v : L.Denot) → owned (made v) ≡ box_owns freeing R v.at v.value) where

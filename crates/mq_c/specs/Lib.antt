@@ -2,6 +2,7 @@ pub mod Calls
 pub mod Changed
 pub mod Counted
 pub mod Freeing
+pub mod HeapOrLent
 pub mod Igmp
 pub mod Lent
 pub mod LineRoom
@@ -14,4 +15,5 @@ pub mod Placing
 pub mod Queries
 pub mod Rooms
 pub mod Rows
+pub mod Sizes
 pub mod Statuses

@@ -15,11 +15,15 @@ ghost use Rattle.mq_c.specs.Changed.{WorksIn};
 ghost use Rattle.mq_c.specs.Queries.{outbox_of};
 ghost use Rattle.mq_c.specs.Rooms.{longest_body, receive_room, tick_room};
 
+use crate::any_link::AnyLink;
+use crate::any_workspace::AnyWorkspace;
 use crate::forms::Answer;
+use crate::heap_or_lent::HeapOrLent;
 use crate::queries::Queries;
 use crate::statuses::{DONE, MOMENT, WORKSPACE};
 use mq_count::Moment;
 use mq_link::{BareLink, Family, Received, Workspace};
+use std::alloc::Allocator;
 
 /// The answer of a call that did nothing, for the reason that its status says.
 fn refused(status: u32) -> Answer
@@ -88,9 +92,9 @@ fn answer_to(received: Received, queries: &Queries<'_>) -> Answer
 
 /// A tick at a moment, with its queries, and how much it compares and moves at most, as of the link; where the memory is as long
 /// as the room of a tick, none is left out. Nothing, where the workspace is too small.
-fn tick_at<F: Family>(
-    link: &mut BareLink<F>,
-    workspace: &mut Workspace<F>,
+fn tick_at<F: Family, A: Allocator, B: Allocator>(
+    link: &mut BareLink<F, A>,
+    workspace: &mut Workspace<F, B>,
     now: Moment,
     out: &mut [u8],
 ) -> Answer
@@ -117,9 +121,9 @@ fn tick_at<F: Family>(
 
 /// A datagram at a moment, with its queries, and how much it compares and moves at most, as of the link; where the memory is as
 /// long as the room of a datagram, none is left out. Nothing, where the workspace is too small.
-fn receive_at<F: Family>(
-    link: &mut BareLink<F>,
-    workspace: &mut Workspace<F>,
+fn receive_at<F: Family, A: Allocator, B: Allocator>(
+    link: &mut BareLink<F, A>,
+    workspace: &mut Workspace<F, B>,
     envelope: &F::Envelope,
     body: &[u8],
     now: Moment,
@@ -148,8 +152,8 @@ fn receive_at<F: Family>(
 
 /// Does what is due, in a workspace; with as much memory as the room of a tick, no query is left out.
 pub(crate) fn tick<F: Family>(
-    link: &mut BareLink<F>,
-    workspace: &mut Workspace<F>,
+    link: &mut AnyLink<F>,
+    workspace: &mut AnyWorkspace<F>,
     now: u64,
     out: &mut [u8],
 ) -> Answer
@@ -166,15 +170,24 @@ pub(crate) fn tick<F: Family>(
 {
     link.is_well_formed();
     match Moment::from_ms(now) {
-        Some(now) => tick_at(link, workspace, now, out),
+        Some(now) => match &mut link.bare {
+            HeapOrLent::Heap(link) => match &mut workspace.workspace {
+                HeapOrLent::Heap(workspace) => tick_at(link, workspace, now, out),
+                HeapOrLent::Lent(workspace) => tick_at(link, workspace, now, out),
+            },
+            HeapOrLent::Lent(lent) => match &mut workspace.workspace {
+                HeapOrLent::Heap(workspace) => tick_at(lent, workspace, now, out),
+                HeapOrLent::Lent(workspace) => tick_at(lent, workspace, now, out),
+            },
+        },
         None => refused(MOMENT),
     }
 }
 
 /// Takes a datagram, in a workspace; with as much memory as the room of a datagram, no query is left out.
 pub(crate) fn receive<F: Family>(
-    link: &mut BareLink<F>,
-    workspace: &mut Workspace<F>,
+    link: &mut AnyLink<F>,
+    workspace: &mut AnyWorkspace<F>,
     envelope: F::Envelope,
     body: &[u8],
     now: u64,
@@ -191,7 +204,24 @@ pub(crate) fn receive<F: Family>(
 {
     link.is_well_formed();
     match Moment::from_ms(now) {
-        Some(now) => receive_at(link, workspace, &envelope, body, now, out),
+        Some(now) => match &mut link.bare {
+            HeapOrLent::Heap(link) => match &mut workspace.workspace {
+                HeapOrLent::Heap(workspace) => receive_at(
+                    link, workspace, &envelope, body, now, out,
+                ),
+                HeapOrLent::Lent(workspace) => receive_at(
+                    link, workspace, &envelope, body, now, out,
+                ),
+            },
+            HeapOrLent::Lent(lent) => match &mut workspace.workspace {
+                HeapOrLent::Heap(workspace) => receive_at(
+                    lent, workspace, &envelope, body, now, out,
+                ),
+                HeapOrLent::Lent(workspace) => receive_at(
+                    lent, workspace, &envelope, body, now, out,
+                ),
+            },
+        },
         None => refused(MOMENT),
     }
 }

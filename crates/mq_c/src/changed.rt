@@ -3,10 +3,10 @@
 ghost use Rattle.std.specs.Prelude.{◌≡◌, ◌++◌, length, take, drop, map as list_map};
 ghost use Rattle.mq_c.specs.Changed.{TellsChanged, own_changed, stored_octets};
 
+use crate::any_workspace::AnyWorkspace;
 use crate::c_family::CFamily;
 use crate::c_link::CLink;
 use crate::counting::few;
-use mq_link::Workspace;
 
 /// Writes addresses to the front, as many as fit.
 fn put_addresses<F: CFamily>(from: &[F::Address], out: &mut [F::Octets])
@@ -23,7 +23,7 @@ fn put_addresses<F: CFamily>(from: &[F::Address], out: &mut [F::Octets])
 /// Writes the addresses of the groups that the last call changed that the workspace was lent to, from a place on, as many as
 /// fit; answers how many these groups are.
 pub(crate) fn put_changed<F: CFamily>(
-    workspace: &Workspace<F>,
+    workspace: &AnyWorkspace<F>,
     first: u32,
     out: &mut [F::Octets],
 ) -> u32

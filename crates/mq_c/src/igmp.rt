@@ -32,7 +32,7 @@ ghost use Rattle.mq_c.specs.Rooms.{longest_body, receive_room, tick_room};
 use crate::c_link::CLink;
 use crate::changed::put_own_changed;
 use crate::forms::{Answer, Counted, IgmpConfig, IgmpGroup, IgmpSource, Page};
-use crate::igmp_object::{IgmpObject, IgmpPlace};
+use crate::igmp_object::{IgmpBox, IgmpObject, IgmpPlace};
 use crate::lines::put_igmp_line;
 use crate::making::{default_settings, made};
 use crate::milliseconds::milliseconds;
@@ -98,7 +98,7 @@ pub extern "C" fn mq_igmp_new(
 
 /// Gives back the memory of a link.
 #[unsafe(no_mangle)]
-pub extern "C" fn mq_igmp_free(alloc: Global, link: IgmpObject) {
+pub extern "C" fn mq_igmp_free(alloc: Global, link: IgmpBox) {
     drop(link.into_loose(alloc).into_box());
 }
 

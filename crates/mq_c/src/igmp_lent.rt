@@ -20,25 +20,26 @@ ghost use Rattle.mq_c.specs.Rooms.{longest_body, receive_room, tick_room};
 ghost use Rattle.mq_c.specs.Rows.{igmp_workspace_row};
 ghost use Rattle.mq_c.specs.contracts.igmp_workspace.IgmpWorkspace as object;
 
+use crate::any_workspace::AnyWorkspace;
 use crate::calls;
 use crate::changed::put_changed;
 use crate::forms::{Answer, IgmpConfig};
 use crate::igmp_object::{IgmpObject, IgmpPlace};
-use crate::igmp_workspace::{IgmpWorkspace, IgmpWorkspacePlace};
+use crate::igmp_workspace::{IgmpWorkspace, IgmpWorkspaceBox, IgmpWorkspacePlace};
 use crate::making::{made, workspace_made};
 use crate::statuses::DONE;
 use mq_count::Addr4;
-use mq_link::{Igmp, IgmpEnvelope, Workspace};
+use mq_link::{Igmp, IgmpEnvelope};
 use std::alloc::Global;
 
 impl IgmpWorkspace {
     /// The workspace behind the pointer. Once the loan ends, the object holds what was last written there. It stands apart from
     /// the object, whose description it names.
-    fn lend(&mut self) -> &mut Workspace<Igmp>
+    fn lend(&mut self) -> &mut AnyWorkspace<Igmp>
         ensures* writes_back { sem 𝓛 (follows object.the_row igmp_workspace_row self.entry.ghost_name result.ghost_name (λ w. record self.old { kept = w })) }
         ensures value { result.now ≡ self.old.kept }
     {
-        unsafe { &mut *(self.at as *mut Workspace<Igmp>) }
+        unsafe { &mut *(self.at as *mut AnyWorkspace<Igmp>) }
     }
 }
 
@@ -69,7 +70,7 @@ pub extern "C" fn mq_igmp_workspace_new(
 
 /// Gives back the memory of a workspace.
 #[unsafe(no_mangle)]
-pub extern "C" fn mq_igmp_workspace_free(alloc: Global, workspace: IgmpWorkspace) {
+pub extern "C" fn mq_igmp_workspace_free(alloc: Global, workspace: IgmpWorkspaceBox) {
     drop(workspace.into_loose(alloc).into_box());
 }
 

@@ -5,12 +5,13 @@ ghost use Rattle.std.specs.Coded.{coded_option};
 ghost use Rattle.mq_link.specs.Workspace.{WorkspaceState};
 ghost use Rattle.mq_c.specs.Rows.{igmp_workspace_row};
 
+use crate::any_workspace::AnyWorkspace;
 use crate::loose::Loose;
-use mq_link::{Igmp, Workspace};
+use mq_link::Igmp;
 use std::alloc::Global;
 use std::marker::Model;
 
-/// A workspace for links of IGMP as C holds it: a pointer that owns the box of the workspace.
+/// A workspace for links of IGMP as C hands it to a call: a pointer that owns the workspace, wherever its memory is from.
 #[repr(C)]
 pub struct IgmpWorkspace {
     pub(crate) at: *mut u8,
@@ -19,20 +20,36 @@ pub struct IgmpWorkspace {
 
 impl Model for IgmpWorkspace {
     ghost use Rattle.std_alloc.specs.Box.Ownership.{box_owns};
+    ghost use Rattle.mq_c.specs.Freeing.{no_freeing};
+    ghost use Rattle.mq_c.specs.Rows.{igmp_workspace_row};
+
+    ghost also_owns = { λ h. box_owns no_freeing igmp_workspace_row h.at h.kept };
+}
+
+/// A workspace for links of IGMP as C gives it back: a pointer that owns the box of the workspace, with the right to give that
+/// back.
+#[repr(C)]
+pub struct IgmpWorkspaceBox {
+    pub(crate) at: *mut u8,
+    pub(crate) ghost kept: { WorkspaceState } by { igmp_workspace_row.coded },
+}
+
+impl Model for IgmpWorkspaceBox {
+    ghost use Rattle.std_alloc.specs.Box.Ownership.{box_owns};
     ghost use Rattle.mq_c.specs.Freeing.{freeing};
     ghost use Rattle.mq_c.specs.Rows.{igmp_workspace_row};
 
     ghost also_owns = { λ h. box_owns freeing igmp_workspace_row h.at h.kept };
 }
 
-impl IgmpWorkspace {
+impl IgmpWorkspaceBox {
     /// The workspace behind its pointer.
-    pub(crate) fn into_loose(self, alloc: Global) -> Loose<Workspace<Igmp>, Global>
+    pub(crate) fn into_loose(self, alloc: Global) -> Loose<AnyWorkspace<Igmp>, Global>
         ensures { result.value ≡ self.kept }
     {
-        let IgmpWorkspace { at } = self;
+        let IgmpWorkspaceBox { at } = self;
         Loose {
-            at: at as *mut Workspace<Igmp>,
+            at: at as *mut AnyWorkspace<Igmp>,
             alloc,
         }
     }
@@ -48,18 +65,45 @@ pub struct IgmpWorkspacePlace {
 }
 
 impl Model for IgmpWorkspacePlace {
+    ghost use Rattle.mq_c.specs.Freeing.{freeing};
     ghost use Rattle.mq_c.specs.Placing.{placed};
     ghost use Rattle.mq_c.specs.Rows.{igmp_workspace_row};
 
-    ghost also_owns = { λ p. placed igmp_workspace_row p.at p.kept };
+    ghost also_owns = { λ p. placed freeing igmp_workspace_row p.at p.kept };
 }
 
 impl IgmpWorkspacePlace {
     /// What stands there once a workspace is written: its pointer and its box, which are C's from now on.
-    pub(crate) fn of(workspace: Loose<Workspace<Igmp>, Global>) -> IgmpWorkspacePlace
+    pub(crate) fn of(workspace: Loose<AnyWorkspace<Igmp>, Global>) -> IgmpWorkspacePlace
         ensures { result.kept ≡ Some workspace.value }
     {
         let Loose { at, alloc: _ } = workspace;
         IgmpWorkspacePlace { at: at as *mut u8 }
+    }
+}
+
+/// The same for a workspace in memory that C lends for good: its pointer owns the workspace, but no right to give it back.
+#[repr(C)]
+#[derive(Drop)]
+pub struct IgmpWorkspaceLentPlace {
+    at: *mut u8,
+    pub(crate) ghost kept: { Option WorkspaceState } by { coded_option igmp_workspace_row.coded },
+}
+
+impl Model for IgmpWorkspaceLentPlace {
+    ghost use Rattle.mq_c.specs.Freeing.{no_freeing};
+    ghost use Rattle.mq_c.specs.Placing.{placed};
+    ghost use Rattle.mq_c.specs.Rows.{igmp_workspace_row};
+
+    ghost also_owns = { λ p. placed no_freeing igmp_workspace_row p.at p.kept };
+}
+
+impl IgmpWorkspaceLentPlace {
+    /// What stands there once a workspace is written: its pointer and the workspace, which are C's from now on.
+    pub(crate) fn of(workspace: &'static mut AnyWorkspace<Igmp>) -> IgmpWorkspaceLentPlace
+        ensures { result.kept ≡ Some workspace.old }
+    {
+        let at = workspace as *mut AnyWorkspace<Igmp>;
+        IgmpWorkspaceLentPlace { at: at as *mut u8 }
     }
 }

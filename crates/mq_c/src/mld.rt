@@ -36,7 +36,7 @@ use crate::forms::{Answer, Counted, MldConfig, MldGroup, MldSource, Page};
 use crate::lines::put_mld_line;
 use crate::making::{default_settings, made};
 use crate::milliseconds::milliseconds;
-use crate::mld_object::{MldObject, MldPlace};
+use crate::mld_object::{MldBox, MldObject, MldPlace};
 use crate::other_querier::other_querier;
 use crate::pages::{put_group, put_groups};
 use crate::statuses::DONE;
@@ -99,7 +99,7 @@ pub extern "C" fn mq_mld_new(
 
 /// Gives back the memory of a link.
 #[unsafe(no_mangle)]
-pub extern "C" fn mq_mld_free(alloc: Global, link: MldObject) {
+pub extern "C" fn mq_mld_free(alloc: Global, link: MldBox) {
     drop(link.into_loose(alloc).into_box());
 }
 

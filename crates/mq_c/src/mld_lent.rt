@@ -20,25 +20,26 @@ ghost use Rattle.mq_c.specs.Rooms.{longest_body, receive_room, tick_room};
 ghost use Rattle.mq_c.specs.Rows.{mld_workspace_row};
 ghost use Rattle.mq_c.specs.contracts.mld_workspace.MldWorkspace as object;
 
+use crate::any_workspace::AnyWorkspace;
 use crate::calls;
 use crate::changed::put_changed;
 use crate::forms::{Answer, MldConfig};
 use crate::making::{made, workspace_made};
 use crate::mld_object::{MldObject, MldPlace};
-use crate::mld_workspace::{MldWorkspace, MldWorkspacePlace};
+use crate::mld_workspace::{MldWorkspace, MldWorkspaceBox, MldWorkspacePlace};
 use crate::statuses::DONE;
 use mq_count::Addr6;
-use mq_link::{Mld, MldEnvelope, Workspace};
+use mq_link::{Mld, MldEnvelope};
 use std::alloc::Global;
 
 impl MldWorkspace {
     /// The workspace behind the pointer. Once the loan ends, the object holds what was last written there. It stands apart from
     /// the object, whose description it names.
-    fn lend(&mut self) -> &mut Workspace<Mld>
+    fn lend(&mut self) -> &mut AnyWorkspace<Mld>
         ensures* writes_back { sem 𝓛 (follows object.the_row mld_workspace_row self.entry.ghost_name result.ghost_name (λ w. record self.old { kept = w })) }
         ensures value { result.now ≡ self.old.kept }
     {
-        unsafe { &mut *(self.at as *mut Workspace<Mld>) }
+        unsafe { &mut *(self.at as *mut AnyWorkspace<Mld>) }
     }
 }
 
@@ -69,7 +70,7 @@ pub extern "C" fn mq_mld_workspace_new(
 
 /// Gives back the memory of a workspace.
 #[unsafe(no_mangle)]
-pub extern "C" fn mq_mld_workspace_free(alloc: Global, workspace: MldWorkspace) {
+pub extern "C" fn mq_mld_workspace_free(alloc: Global, workspace: MldWorkspaceBox) {
     drop(workspace.into_loose(alloc).into_box());
 }
 

@@ -25,7 +25,7 @@ use mq_count::Watched;
 use mq_link::{Config, Link};
 use mq_pcap::{GREATEST_PACKET, PcapReader};
 use mq_replay::{LineKey, Stamps, first_moment, is_gap};
-use std::alloc::Global;
+use std::alloc::Allocator;
 use std::io::{Read, Write};
 
 /// Checks the querier of a capture that has the own address of the configuration: the queries that it sent are compared with
@@ -33,8 +33,8 @@ use std::io::{Read, Write};
 /// for each finding, and at the end what was counted; and answers that. The end is the moment of the last packet, or `until`,
 /// if that is later. All memory is taken before anything is read or written. Where the capture has a fault or a gap, or more
 /// queries wait for their partners than there is room for, what was found before that is written first.
-pub fn check<F: CheckedFamily, R: Read, W: Write>(
-    alloc: Global,
+pub fn check<F: CheckedFamily, A: Allocator + Copy, R: Read, W: Write>(
+    alloc: A,
     config: Config<F>,
     terms: CheckTerms,
     reader: &mut Watched<R>,
@@ -58,7 +58,7 @@ where
     let Ok(mut link) = Link::new(alloc, config, first_moment()) else {
         return Err(CheckFault::Memory);
     };
-    let Ok(checking) = Checking::<F>::new(alloc, timing) else {
+    let Ok(checking) = Checking::<F, A>::new(alloc, timing) else {
         return Err(CheckFault::Memory);
     };
     let mut queries = WantedQueries::new(checking, own, first_moment());
@@ -73,9 +73,9 @@ where
 }
 
 /// The same on a link that is made, with room for a packet that is lent.
-fn check_on<F: CheckedFamily, R: Read, W: Write>(
-    link: &mut Link<F>,
-    queries: &mut WantedQueries<F>,
+fn check_on<F: CheckedFamily, A: Allocator, R: Read, W: Write>(
+    link: &mut Link<F, A>,
+    queries: &mut WantedQueries<F, A>,
     terms: CheckTerms,
     packet: &mut [u8],
     reader: &mut Watched<R>,
@@ -104,9 +104,9 @@ where
 }
 
 /// Tells what is found in a capture.
-fn check_file<F: CheckedFamily, R: Read, W: Write>(
-    link: &mut Link<F>,
-    queries: &mut WantedQueries<F>,
+fn check_file<F: CheckedFamily, A: Allocator, R: Read, W: Write>(
+    link: &mut Link<F, A>,
+    queries: &mut WantedQueries<F, A>,
     terms: CheckTerms,
     packet: &mut [u8],
     told: &mut Told,
@@ -142,9 +142,9 @@ where
 }
 
 /// Tells what is found in the packets of a capture before its first packet was read, and at the end.
-fn check_packets<F: CheckedFamily, R: Read, W: Write>(
-    link: &mut Link<F>,
-    queries: &mut WantedQueries<F>,
+fn check_packets<F: CheckedFamily, A: Allocator, R: Read, W: Write>(
+    link: &mut Link<F, A>,
+    queries: &mut WantedQueries<F, A>,
     terms: CheckTerms,
     capture: &mut PcapReader,
     packet: &mut [u8],

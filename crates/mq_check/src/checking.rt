@@ -27,14 +27,14 @@ use mq_link::{Config, Family};
 use mq_replay::{LineFault, LineKey};
 use mq_table::Timing;
 use mq_wire::{Query, QueryVersion, Sources, WireKey};
-use std::alloc::{AllocError, Global};
+use std::alloc::{AllocError, Allocator};
 use std::io::Write;
 use std::marker::Model;
 
 /// What waits; when the role of querier changed last; the general queries; and how many queries were seen.
 #[derive(Drop)]
-pub(crate) struct Checking<F: Family> {
-    waiting: Waiting<F>,
+pub(crate) struct Checking<F: Family, A: Allocator> {
+    waiting: Waiting<F, A>,
     changed: Option<Moment>,
     phase: Phase,
     last_general: Option<Stamp>,
@@ -42,7 +42,7 @@ pub(crate) struct Checking<F: Family> {
     specific: u64,
 }
 
-impl<F: Family> Model for Checking<F> {
+impl<F: Family, A: Allocator> Model for Checking<F, A> {
     ghost use Rattle.std.specs.Prelude.{◌≤◌, ◌^◌, IfSome};
     ghost use Rattle.mq_check.specs.Checking.{CheckingValue};
 
@@ -82,8 +82,8 @@ fn asked_without_sources<F: Family>(group: F::Address) -> Asked<F::Address>
 }
 
 /// Has an interval wait that isn't what is wanted, where there is one.
-fn put_interval<F: Family>(
-    waiting: &mut Waiting<F>,
+fn put_interval<F: Family, A: Allocator>(
+    waiting: &mut Waiting<F, A>,
     configured: Timing,
     stamp: Stamp,
     passed: Option<u64>,
@@ -96,8 +96,8 @@ fn put_interval<F: Family>(
 }
 
 /// Has a time without general queries wait that is too long, where there is one.
-fn put_silence<F: Family>(
-    waiting: &mut Waiting<F>,
+fn put_silence<F: Family, A: Allocator>(
+    waiting: &mut Waiting<F, A>,
     configured: Timing,
     stamp: Stamp,
     passed: Option<u64>,
@@ -109,9 +109,9 @@ fn put_silence<F: Family>(
     }
 }
 
-impl<F: Family> Checking<F> {
+impl<F: Family, A: Allocator> Checking<F, A> {
     /// At the start of a capture.
-    pub(crate) fn new(alloc: Global, configured: Timing) -> Result<Checking<F>, AllocError>
+    pub(crate) fn new(alloc: A, configured: Timing) -> Result<Checking<F, A>, AllocError>
         ensures { IfOk result (λ c. c ≡ spec.checking_at_start configured) }
     {
         Ok(Checking {
@@ -343,7 +343,7 @@ impl<F: Family> Checking<F> {
     }
 }
 
-impl<F: CheckedFamily> Checking<F>
+impl<F: CheckedFamily, A: Allocator> Checking<F, A>
 where
     F::Address: LineKey,
 {
@@ -395,7 +395,7 @@ where
         ensures { Tells F.Address.family (flat_map spec.found_of_last self.old.waiting.entries) told.old told.new
             (output_of W.contents writer.old) (output_of W.contents writer.new) result }
     {
-        tell_rest::<F, W>(&mut self.waiting, told, writer)
+        tell_rest::<F, A, W>(&mut self.waiting, told, writer)
     }
 
     /// Takes out what is over at a moment, and tells what is found of it.
@@ -411,7 +411,7 @@ where
         ensures tells { Tells F.Address.family (spec.told within now self.old) told.old told.new
             (output_of W.contents writer.old) (output_of W.contents writer.new) result }
     {
-        settle::<F, W>(
+        settle::<F, A, W>(
             &mut self.waiting,
             Span::from_ms(within),
             &self.changed,

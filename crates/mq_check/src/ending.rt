@@ -23,6 +23,7 @@ use mq_count::Watched;
 use mq_link::{Family, Link};
 use mq_replay::{LineFault, LineKey, is_gap};
 use mq_table::Timing;
+use std::alloc::Allocator;
 use std::io::Write;
 
 /// The moment at which a check ends: that of the last packet, or the one that is asked for, if that is later.
@@ -38,9 +39,9 @@ fn last_moment(until: Option<u64>, last: Stamp) -> Stamp
 
 /// Checks what stands behind the packets of a capture that has ended, unless there is a gap before the end of the check:
 /// `number` is that of the packet that would follow the last.
-pub(crate) fn check_rest<F: CheckedFamily, W: Write>(
-    link: &mut Link<F>,
-    queries: &mut WantedQueries<F>,
+pub(crate) fn check_rest<F: CheckedFamily, A: Allocator, W: Write>(
+    link: &mut Link<F, A>,
+    queries: &mut WantedQueries<F, A>,
     within: u32,
     until: Option<u64>,
     last: Stamp,
@@ -68,9 +69,9 @@ where
 }
 
 /// Checks up to and including the end, and tells what was counted.
-fn check_end<F: CheckedFamily, W: Write>(
-    link: &mut Link<F>,
-    queries: &mut WantedQueries<F>,
+fn check_end<F: CheckedFamily, A: Allocator, W: Write>(
+    link: &mut Link<F, A>,
+    queries: &mut WantedQueries<F, A>,
     within: u32,
     end: Stamp,
     number: u64,
@@ -100,8 +101,8 @@ where
 
 /// Tells what is found of what still waits at the end, and whether no general query was seen for too long, and then what was
 /// counted.
-fn tell_end<F: CheckedFamily, W: Write>(
-    queries: &mut WantedQueries<F>,
+fn tell_end<F: CheckedFamily, A: Allocator, W: Write>(
+    queries: &mut WantedQueries<F, A>,
     within: u32,
     configured: Timing,
     end: Stamp,

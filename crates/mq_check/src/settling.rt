@@ -13,11 +13,12 @@ use crate::waiting::Waiting;
 use mq_count::{Moment, Span, Watched};
 use mq_link::Family;
 use mq_replay::{LineFault, LineKey};
+use std::alloc::Allocator;
 use std::io::Write;
 
 /// Takes out what is over at a moment, and tells what is found of it, where the role changed last at `changed`.
-pub(crate) fn settle<F: Family, W: Write>(
-    waiting: &mut Waiting<F>,
+pub(crate) fn settle<F: Family, A: Allocator, W: Write>(
+    waiting: &mut Waiting<F, A>,
     within: Span,
     changed: &Option<Moment>,
     now: Moment,
@@ -39,8 +40,8 @@ where
 }
 
 /// Takes out all that still waits at the end of a capture, and tells what is found of it.
-pub(crate) fn tell_rest<F: Family, W: Write>(
-    waiting: &mut Waiting<F>,
+pub(crate) fn tell_rest<F: Family, A: Allocator, W: Write>(
+    waiting: &mut Waiting<F, A>,
     told: &mut Told,
     writer: &mut Watched<W>,
 ) -> Result<(), LineFault>

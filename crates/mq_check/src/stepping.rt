@@ -17,12 +17,13 @@ use mq_link::Link;
 use mq_pcap::{LinkType, unwrap_frame};
 use mq_replay::{CapturedDatagram, LineFault, LineKey};
 use mq_table::Timing;
+use std::alloc::Allocator;
 use std::io::Write;
 
 /// Does what is due at a moment: what the link sends is wanted, and it may be querier again.
-pub(crate) fn tick<F: CheckedFamily>(
-    link: &mut Link<F>,
-    queries: &mut WantedQueries<F>,
+pub(crate) fn tick<F: CheckedFamily, A: Allocator>(
+    link: &mut Link<F, A>,
+    queries: &mut WantedQueries<F, A>,
     within: u32,
     now: Moment,
 )
@@ -49,9 +50,9 @@ where
 }
 
 /// Hands the link a datagram: what it sends then is wanted, and the role may change.
-pub(crate) fn receive<F: CheckedFamily>(
-    link: &mut Link<F>,
-    queries: &mut WantedQueries<F>,
+pub(crate) fn receive<F: CheckedFamily, A: Allocator>(
+    link: &mut Link<F, A>,
+    queries: &mut WantedQueries<F, A>,
     within: u32,
     stamp: Stamp,
     datagram: &CapturedDatagram<'_, F::Envelope>,
@@ -82,8 +83,8 @@ where
 }
 
 /// The role was lost, or is had again, or stays.
-fn change_role<F: CheckedFamily>(
-    queries: &mut WantedQueries<F>,
+fn change_role<F: CheckedFamily, A: Allocator>(
+    queries: &mut WantedQueries<F, A>,
     within: u32,
     configured: Timing,
     stamp: Stamp,
@@ -105,9 +106,9 @@ where
 }
 
 /// Does the ticks of the link at its next moments up to and including this one; before each, what is over then is told.
-pub(crate) fn tick_through<F: CheckedFamily, W: Write>(
-    link: &mut Link<F>,
-    queries: &mut WantedQueries<F>,
+pub(crate) fn tick_through<F: CheckedFamily, A: Allocator, W: Write>(
+    link: &mut Link<F, A>,
+    queries: &mut WantedQueries<F, A>,
     within: u32,
     moment: Moment,
     told: &mut Told,
@@ -134,9 +135,9 @@ where
 }
 
 /// Checks one packet: first what happens up to its moment.
-pub(crate) fn check_packet<F: CheckedFamily, W: Write>(
-    link: &mut Link<F>,
-    queries: &mut WantedQueries<F>,
+pub(crate) fn check_packet<F: CheckedFamily, A: Allocator, W: Write>(
+    link: &mut Link<F, A>,
+    queries: &mut WantedQueries<F, A>,
     within: u32,
     link_type: LinkType,
     frame: &[u8],
@@ -163,9 +164,9 @@ where
 }
 
 /// Checks one datagram: first what is over at its moment is told.
-fn check_datagram<F: CheckedFamily, W: Write>(
-    link: &mut Link<F>,
-    queries: &mut WantedQueries<F>,
+fn check_datagram<F: CheckedFamily, A: Allocator, W: Write>(
+    link: &mut Link<F, A>,
+    queries: &mut WantedQueries<F, A>,
     within: u32,
     link_type: LinkType,
     frame: &[u8],

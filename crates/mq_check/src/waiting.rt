@@ -12,7 +12,7 @@ use crate::entry::Entry;
 use crate::terms::Terms;
 use mq_count::{Meter, Moment, Span};
 use mq_link::Family;
-use std::alloc::{AllocError, Global};
+use std::alloc::{AllocError, Allocator};
 use std::collections::VecDeque;
 use std::marker::Model;
 
@@ -28,12 +28,12 @@ pub enum Side {
 
 /// What waits, the earliest first, and whether there was no room for something. All memory for it is taken as it is made.
 #[derive(Drop)]
-pub(crate) struct Waiting<F: Family> {
-    entries: VecDeque<Entry<F::Address>, Global>,
+pub(crate) struct Waiting<F: Family, A: Allocator> {
+    entries: VecDeque<Entry<F::Address>, A>,
     is_full: bool,
 }
 
-impl<F: Family> Model for Waiting<F> {
+impl<F: Family, A: Allocator> Model for Waiting<F, A> {
     ghost use Rattle.std.specs.Prelude.{◌≤◌, map as list_map};
     ghost use Rattle.std.specs.VecDeque.{deque_capacity};
     ghost use Rattle.mq_check.specs.Numbered.{numbered_entry};
@@ -89,9 +89,9 @@ fn is_group_wanted<F: Family>(moment: Moment, group: F::Address, entry: &Entry<F
     }
 }
 
-impl<F: Family> Waiting<F> {
+impl<F: Family, A: Allocator> Waiting<F, A> {
     /// Nothing, with all memory that is taken for what will wait.
-    pub(crate) fn new(alloc: Global) -> Result<Waiting<F>, AllocError>
+    pub(crate) fn new(alloc: A) -> Result<Waiting<F, A>, AllocError>
         ensures { IfOk result (λ w. w ≡ waits.nothing) }
     {
         Ok(Waiting {

@@ -16,22 +16,23 @@ use mq_link::{Config, Outlet};
 use mq_replay::{LineFault, LineKey};
 use mq_table::Timing;
 use mq_wire::Query;
+use std::alloc::Allocator;
 use std::io::Write;
 use std::marker::Model;
 
 /// A check under way, to which a link hands what it sends at one moment.
 #[derive(Drop)]
-pub(crate) struct WantedQueries<F: CheckedFamily>
+pub(crate) struct WantedQueries<F: CheckedFamily, A: Allocator>
 where
     F::Address: LineKey,
 {
-    checking: Checking<F>,
+    checking: Checking<F, A>,
     own: F::Address,
     moment: Moment,
     is_returning: bool,
 }
 
-impl<F: CheckedFamily> Model for WantedQueries<F>
+impl<F: CheckedFamily, A: Allocator> Model for WantedQueries<F, A>
 where
     F::Address: LineKey,
 {
@@ -42,12 +43,16 @@ where
     ghost view = { λ w. record { checking = w.checking; own = F.Address.number w.own; moment = w.moment; is_returning = w.is_returning } };
 }
 
-impl<F: CheckedFamily> WantedQueries<F>
+impl<F: CheckedFamily, A: Allocator> WantedQueries<F, A>
 where
     F::Address: LineKey,
 {
     /// For the queries that the router at `own` sends, which are wanted at the moment that `begin` tells.
-    pub(crate) fn new(checking: Checking<F>, own: F::Address, moment: Moment) -> WantedQueries<F>
+    pub(crate) fn new(
+        checking: Checking<F, A>,
+        own: F::Address,
+        moment: Moment,
+    ) -> WantedQueries<F, A>
         ensures { result ≡ record { checking = checking; own = F.Address.number own; moment = moment; is_returning = false } }
     {
         WantedQueries {
@@ -67,7 +72,7 @@ where
     }
 
     /// The check so far.
-    pub(crate) fn checking(&self) -> &Checking<F>
+    pub(crate) fn checking(&self) -> &Checking<F, A>
         ensures { result.now ≡ self.now.checking }
     {
         &self.checking
@@ -148,7 +153,7 @@ where
     }
 }
 
-impl<F: CheckedFamily> Outlet<F::Address> for WantedQueries<F>
+impl<F: CheckedFamily, A: Allocator> Outlet<F::Address> for WantedQueries<F, A>
 where
     F::Address: LineKey,
 {

@@ -23,14 +23,14 @@ use crate::unread::Unread;
 use mq_count::Watched;
 use mq_replay::{LineFault, flush};
 use mq_text::{Text, put};
-use std::alloc::Global;
+use std::alloc::Allocator;
 use std::io::{Read, Write};
 
 /// Writes the packets of a file as one classic capture of Ethernet in nanoseconds, those that are chosen, and
 /// answers how many of them have a link type that isn't read. Memory for one block is taken before anything is read
 /// or written. Where the file has a fault, the packets before it are written first.
-pub fn convert<R: Read, W: Write>(
-    alloc: Global,
+pub fn convert<A: Allocator, R: Read, W: Write>(
+    alloc: A,
     choice: Choice,
     reader: &mut Watched<R>,
     writer: &mut Watched<W>,

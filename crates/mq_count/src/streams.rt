@@ -33,6 +33,13 @@ impl<T> Watched<T> {
         }
     }
 
+    /// The reader or writer that it watched.
+    pub fn into_inner(self) -> T
+        ensures { result ≡ inner_of self }
+    {
+        self.inner
+    }
+
     /// Whether a call has answered an error, or a write of some bytes has taken none.
     pub fn failed(&self) -> bool
         ensures { result ≡ has_failed self.now }

@@ -4,3 +4,4 @@ pub mod Places
 pub mod Held
 pub mod Stored
 pub mod Listed
+pub mod Sizes

@@ -15,6 +15,7 @@ ghost use Rattle.mq_held.specs.Stored.{earliest_of, timer_moments};
 use mq_count::{Key, Meter, Moment, Timed};
 use mq_sched::{QuerySchedule, Schedule};
 use mq_table::{FilterMode, Group, Source};
+use std::alloc::Allocator;
 
 /// The earlier of two moments, of those that there are. At most one comparison.
 fn earlier(first: Option<Moment>, second: Option<Moment>, m: &mut Meter) -> Option<Moment>
@@ -81,7 +82,11 @@ fn earliest_with_row<K: Key>(
 
 /// The earliest of all moments of a group and its schedule. A group that is held has one. At
 /// most one comparison for each source, and four more.
-pub(crate) fn earliest_moment<K: Key>(group: &Group<K>, schedule: Schedule, m: &mut Meter) -> Moment
+pub(crate) fn earliest_moment<K: Key, A: Allocator>(
+    group: &Group<K, A>,
+    schedule: Schedule,
+    m: &mut Meter,
+) -> Moment
     requires held { group_of.IsWellFormed group.now.state }
     ensures earliest { let e : ScheduledGroup = record { group = group.now.state; schedule = schedule } in
         earliest_of (moments_of e) ≡ Some result }

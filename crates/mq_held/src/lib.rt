@@ -11,15 +11,19 @@
 //! held.due(now, &mut numbers, &mut spare, &mut m, &mut moves);
 //! ```
 //!
-//! - `HeldGroups`: the finite map from address to group with its schedule, and what may be asked of it.
+//! - `HeldGroups`: the finite map from address to group with its schedule, and what may be asked of it. What changes one group is in
+//!   `group_edits`, what takes out those that are vacant in `vacant_groups`, and which are due in `due_groups`.
 //! - `HeldGroup`: one of them, as it stands there; `HeldEntries`: all, one after the other.
 #![tactic(auto)]
 
+mod due_groups;
 pub mod earliest;
+mod group_edits;
 pub mod held_entries;
 pub mod held_group;
 pub mod held_groups;
 mod scheduled_head;
+mod vacant_groups;
 
 pub use earliest::count_schedules;
 pub use held_entries::HeldEntries;

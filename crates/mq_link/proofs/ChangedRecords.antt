@@ -24,8 +24,8 @@ use Rattle.mq_link.specs.Record.{Seen, Setting, judged, met, seen_after}
 use Rattle.mq_link.specs.Seen.{AreMarked, AreMet, AreNone, KeepsNumbers, counted_again, met_in}
 use Rattle.mq_link.proofs.KeptFilters.{alike_after, change_keeps_filter, kept_filter, round_keeps_filter, unchanged}
 use Rattle.mq_link.proofs.KeptGroups.{absent_unheld}
-use Rattle.mq_link.proofs.ListedNumbers.{none_listed}
-use Rattle.mq_link.proofs.MetNumbers.{AreNumbered, met_again_by_number, met_still, none_met, was_absent, length-counted_again}
+use Rattle.mq_link.proofs.ListedNumbers.{none_counted}
+use Rattle.mq_link.proofs.MetNumbers.{AreNumbered, met_again_by_number, met_still, unmarked, was_absent, length-counted_again}
 use Rattle.mq_link.proofs.Recorded.{get-with_group}
 use Rattle.mq_link.proofs.TakenRecords.{again, met_once, met_other}
 
@@ -175,9 +175,6 @@ length-by counts false number = refl
 length-by counts true None = refl
 length-by counts true (Some number) = length-counted_again counts number
 
-none_marked : (counts : List ℕ) → AreNone counts → met_in counts ≡ 0
-none_marked counts none = sym (none_listed counts none).count
-
 -- With the records that are left, those that are marked are the groups that all of them change; no more are marked than there were
 -- records.
 pub record AreMarkedSoFar (at : Setting) (all : List (RecordView ℕ)) (was : Groups) (left : List (RecordView ℕ)) (seen : Seen) (s : HeldState) (counts : List ℕ) : Type 0 where
@@ -189,9 +186,9 @@ pub record AreMarkedSoFar (at : Setting) (all : List (RecordView ℕ)) (was : Gr
 pub none_marked_yet : (at : Setting) (all : List (RecordView ℕ)) (s : HeldState) (counts : List ℕ) → AreNone counts → AreMarkedSoFar at all s.groups all map.empty s counts
 none_marked_yet at all s counts none = record {
   test = λ address. false;
-  marked = record { seen = map.empty; are_met = none_met s counts none; each = λ address. ap (λ x. ltb 0 (unwrap_or x 0)) (map.get-empty {X = ℕ} nat_cmp address) };
+  marked = unmarked s counts none;
   changed = λ address. refl;
-  few = omega (arith, none_marked counts none);
+  few = omega (arith, none_counted counts none);
 }
 
 or_assoc : (a b c : Bool) → ((a || b) || c) ≡ (a || (b || c))

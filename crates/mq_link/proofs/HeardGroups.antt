@@ -113,7 +113,7 @@ cleared_small most groups address few = subst (λ (e : Option ScheduledGroup). s
     by_group (Some e) few = let fewer = (cleared_no_more e).sources in omega arith
 
 -- and they are fit to be worked on still
-pub cleared_ready : {K : Type 0} (room more : ℕ) (s t : Storage K) → IsReady room s → t.held.groups ≡ groups_cleared s.held.groups → room ≤ more → IsReady more t
+pub cleared_ready : {K A : Type 0} (room more : ℕ) (s t : Storage K A) → IsReady room s → t.held.groups ≡ groups_cleared s.held.groups → room ≤ more → IsReady more t
 cleared_ready room more s t ready is wide = record {
   few = let n = ap map.len is in omega (arith, n, cleared_len s.held.groups, ready.few);
   served = subst (AreServed more) (sym is) (cleared_served room more s.held.groups wide ready.served);

@@ -37,7 +37,7 @@ pub well_formed_at : (r : RouterValue) → AreSound r.at r.groups → AreInRange
 well_formed_at r sound timing = record { groups = sound.all; within = sound.within; timing = timing; silent = sound.silent }
 
 -- the storage of a link at its start
-pub stored_at_start : {K : Type 0} (config : Configuration) (start : ℕ) (storage : Storage K)
+pub stored_at_start : {K A : Type 0} (config : Configuration) (start : ℕ) (storage : Storage K A)
     → IsFaultless config → storage.held ≡ empty_state config.limits.groups config.limits.sources
     → (let status : Setting = record { config = config; election = election_at config.timing start; now = start } in IsStored status storage)
 stored_at_start config start storage faultless held =
@@ -53,7 +53,7 @@ pub nothing_put_by : (groups sources : ℕ) → put_by_rows (empty_state groups 
 nothing_put_by groups sources = let none = map.len-empty nat_cmp ScheduledGroup in omega arith
 
 -- the groups are fit to be worked on, and there is room for each
-pub ready_in : {K : Type 0} (status : Setting) (storage : Storage K) → IsFaultless status.config → AreSound status storage.held.groups → (room : ℕ) → 2 * status.config.limits.group_sources ≤ room → IsReady room storage
+pub ready_in : {K A : Type 0} (status : Setting) (storage : Storage K A) → IsFaultless status.config → AreSound status storage.held.groups → (room : ℕ) → 2 * status.config.limits.group_sources ≤ room → IsReady room storage
 ready_in status storage faultless sound room wide = record {
   few = let n = sound.within.group_count in omega (arith, n, few_groups status.config faultless);
   served = λ group e is.
@@ -76,7 +76,7 @@ none_due state now before group e is =
     none_reached now (moments_of e) (from-each (λ _ e. AllAbove now (moments_of e)) (map.entries state.groups) each group e (sym (map.get-entries state.groups group) ∙ is))
 
 -- what is stored after a call: the groups are sound still, and the rooms stay
-pub stored_next : {K : Type 0} (status after : Setting) (storage next : Storage K)
+pub stored_next : {K A : Type 0} (status after : Setting) (storage next : Storage K A)
     → IsStored status storage → after.config ≡ status.config → AreSound after next.held.groups → KeepsRooms storage next → IsStored after next
 stored_next status after storage next was same sound kept = record {
   sound = sound;

@@ -15,7 +15,6 @@ use Rattle.mq_link.specs.Seen.{AreMarked, AreNone}
 use Rattle.mq_link.specs.Storage.{HasRoom, HasSpace}
 use Rattle.mq_link.specs.Workspace.{WorkspaceState, IsWorkspace, suffices}
 use Rattle.mq_link.proofs.KeptGroups.{is_number}
-use Rattle.mq_link.proofs.MetNumbers.{none_met}
 use Rattle.mq_link.proofs.PaidEdits.{some_of}
 use Rattle.mq_link.proofs.Rooms.{enough_groups}
 
@@ -27,14 +26,6 @@ numbers_marked s counts test marked number some = let used = marked.are_met.unus
 pub those_so : {test other : ℕ → Bool} {addresses : List ℕ} → ((address : ℕ) → test address ≡ other address) → AreThose test addresses → AreThose other addresses
 those_so same are = record { ascending = are.ascending; each = λ address. are.each address ∙ same address }
 
--- where no group is counted, none is marked
-pub unmarked : (s : HeldState) (counts : List ℕ) → AreNone counts → AreMarked s counts (λ address. false)
-unmarked s counts none = record {
-  seen = map.empty;
-  are_met = none_met s counts none;
-  each = λ address. ap (λ x. ltb 0 (unwrap_or x 0)) (map.get-empty {X = ℕ} nat_cmp address);
-}
-
 or_false : (b : Bool) → b ≡ (b || false)
 or_false true = refl
 or_false false = refl
@@ -44,7 +35,7 @@ pub those_alone : {test : ℕ → Bool} {addresses : List ℕ} → AreThose test
 those_alone {test} are = those_so (λ address. or_false (test address)) are
 
 -- how many there are in a workspace, by what is inside of it
-pub few_inside : {K : Type 0} (number : K → ℕ) (lists : Lists K) (w lent : WorkspaceState) (most : ℕ) → w ≡ lent → w.changed ≡ list_map number lists.changed.items → length lent.changed ≤ most → length lists.changed.items ≤ most
+pub few_inside : {K A : Type 0} (number : K → ℕ) (lists : Lists K A) (w lent : WorkspaceState) (most : ℕ) → w ≡ lent → w.changed ≡ list_map number lists.changed.items → length lent.changed ≤ most → length lists.changed.items ≤ most
 few_inside number lists w lent most is inside few =
     let same = ap (λ (w : WorkspaceState). length w.changed) is in
     let long = ap length inside ∙ length-map lists.changed.items number in

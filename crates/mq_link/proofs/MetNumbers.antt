@@ -1,5 +1,5 @@
 -- The counts of groups by number are those by address, whatever records meet.
-use Rattle.std.proofs.Common.{◌≡◌, ◌≢◌, ℕ, ◌+◌, ◌<◌, ◌≤◌, min, Bool, true, false, cond, ◌&&◌, ◌⊎◌, inl, inr, List, length, set, refl, sym, ap, ◌∙◌, subst, arith, leb, length-set}
+use Rattle.std.proofs.Common.{◌≡◌, ◌≢◌, ℕ, ◌+◌, ◌<◌, ◌≤◌, min, Bool, true, false, cond, ◌&&◌, ◌⊎◌, inl, inr, List, length, set, refl, sym, ap, ◌∙◌, subst, arith, leb, ltb, length-set}
 use Rattle.std.specs.Prelude.{slice_index}
 use Rattle.std.specs.Option.{unwrap_or}
 use Rattle.std.specs.Ordering.{nat_cmp, eq_by_cmp}
@@ -9,7 +9,7 @@ use Rattle.std.proofs.lemmas.List.{get_or-set_same, get_or-set_other}
 use Rattle.mq_held.specs.Held.{HeldState, HasNumber}
 use Rattle.mq_held.proofs.Sorted.{tied, ties}
 use Rattle.mq_link.specs.Record.{Seen, met, is_repeated}
-use Rattle.mq_link.specs.Seen.{AreMet, AreNone, KeepsNumbers, counted_again}
+use Rattle.mq_link.specs.Seen.{AreMarked, AreMet, AreNone, KeepsNumbers, counted_again}
 use Rattle.mq_link.proofs.TakenRecords.{again, met_once, met_other}
 
 -- before the first record none was met
@@ -22,6 +22,14 @@ none_met s counts none = record {
   where
     none_at : (address : ℕ) → met map.empty address ≡ 0
     none_at address = ap (λ x. unwrap_or x 0) (map.get-empty {X = ℕ} nat_cmp address)
+
+-- where no group is counted, none is marked
+pub unmarked : (s : HeldState) (counts : List ℕ) → AreNone counts → AreMarked s counts (λ address. false)
+unmarked s counts none = record {
+  seen = map.empty;
+  are_met = none_met s counts none;
+  each = λ address. ap (λ x. ltb 0 (unwrap_or x 0)) (map.get-empty {X = ℕ} nat_cmp address);
+}
 
 -- What is so of the numbers of the groups of some state.
 pub record AreNumbered (s : HeldState) : Type 0 where

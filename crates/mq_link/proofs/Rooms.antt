@@ -11,17 +11,17 @@ use Rattle.mq_link.specs.Seen.{AreNone}
 use Rattle.mq_link.specs.Storage.{HasRoom, HasSpace, IsReady, KeepsRoom, KeepsRooms, KeepsSpace, has_counted}
 use Rattle.mq_link.specs.Workspace.{IsWorkspace, suffices}
 
-pub room_stays : {K : Type 0} (w : Scratch K) → KeepsRoom w w
+pub room_stays : {K A : Type 0} (w : Scratch K A) → KeepsRoom w w
 room_stays w = record { group = omega arith; named = refl; asked = omega arith; met = refl; changed = refl }
 
-pub rooms_stay : {K : Type 0} (s : Storage K) → KeepsRooms s s
+pub rooms_stay : {K A : Type 0} (s : Storage K A) → KeepsRooms s s
 rooms_stay s = record { groups = refl; sources = refl }
 
-pub ready_counted : {K : Type 0} (room : ℕ) (s : Storage K) (spent : ℕ) → IsReady room s → IsReady room (has_counted s spent)
+pub ready_counted : {K A : Type 0} (room : ℕ) (s : Storage K A) (spent : ℕ) → IsReady room s → IsReady room (has_counted s spent)
 ready_counted room s spent ready = record { few = ready.few; served = ready.served }
 
 -- one step after another
-pub room_on : {K : Type 0} {a b c : Scratch K} → KeepsRoom a b → KeepsRoom b c → KeepsRoom a c
+pub room_on : {K A : Type 0} {a b c : Scratch K A} → KeepsRoom a b → KeepsRoom b c → KeepsRoom a c
 room_on h k =
     let first = h.group in
     let second = k.group in
@@ -29,11 +29,11 @@ room_on h k =
     let fourth = k.asked in
     record { group = omega arith; named = k.named ∙ h.named; asked = omega arith; met = k.met ∙ h.met; changed = k.changed ∙ h.changed }
 
-pub rooms_on : {K : Type 0} {a b c : Storage K} → KeepsRooms a b → KeepsRooms b c → KeepsRooms a c
+pub rooms_on : {K A : Type 0} {a b c : Storage K A} → KeepsRooms a b → KeepsRooms b c → KeepsRooms a c
 rooms_on h k = record { groups = k.groups ∙ h.groups; sources = k.sources ∙ h.sources }
 
 -- there is room still for what there was room for
-pub still_room : {K : Type 0} (groups n : ℕ) {a b : Scratch K} → HasRoom groups n a → KeepsRoom a b → HasRoom groups n b
+pub still_room : {K A : Type 0} (groups n : ℕ) {a b : Scratch K A} → HasRoom groups n a → KeepsRoom a b → HasRoom groups n b
 still_room groups n room kept =
     let first = room.group in
     let second = kept.group in
@@ -48,10 +48,10 @@ still_room groups n room kept =
     record { group = omega arith; named = omega arith; asked = omega arith; met = omega arith; changed = omega arith }
 
 -- and for lists of groups
-pub space_stays : {K : Type 0} (lists : Lists K) → KeepsSpace lists lists
+pub space_stays : {K A : Type 0} (lists : Lists K A) → KeepsSpace lists lists
 space_stays lists = record { due = omega arith; spare = refl; changed = omega arith; by_tick = refl; by_records = refl }
 
-pub still_space : {K : Type 0} (n : ℕ) {a b : Lists K} → HasSpace n a → KeepsSpace a b → HasSpace n b
+pub still_space : {K A : Type 0} (n : ℕ) {a b : Lists K A} → HasSpace n a → KeepsSpace a b → HasSpace n b
 still_space n {a} {b} space kept =
     let first = space.due in
     let second = kept.due in
@@ -84,7 +84,7 @@ module _ (limits : Limits) (groups group_sources : ℕ) (enough : (leb limits.gr
   pub enough_sources : limits.group_sources ≤ group_sources
   enough_sources = leb-true limits.group_sources group_sources (both_true _ _ enough).1
 
-  module _ {K : Type 0} (number : K → ℕ) {scratch : Scratch K} {lists : Lists K} (is : IsWorkspace number groups group_sources scratch lists) where
+  module _ {K A : Type 0} (number : K → ℕ) {scratch : Scratch K A} {lists : Lists K A} (is : IsWorkspace number groups group_sources scratch lists) where
     pub enough_room : HasRoom limits.groups limits.group_sources scratch
     enough_room =
         let first = is.room.group in
@@ -107,7 +107,7 @@ module _ (limits : Limits) (groups group_sources : ℕ) (enough : (leb limits.gr
         record { due = omega arith; spare = omega arith; changed = omega arith; by_tick = omega arith; by_records = omega arith }
 
 -- a workspace stays one
-pub workspace_next : {K : Type 0} (number : K → ℕ) (groups group_sources : ℕ) {scratch next : Scratch K} {lists next_lists : Lists K} → IsWorkspace number groups group_sources scratch lists
+pub workspace_next : {K A : Type 0} (number : K → ℕ) (groups group_sources : ℕ) {scratch next : Scratch K A} {lists next_lists : Lists K A} → IsWorkspace number groups group_sources scratch lists
     → KeepsRoom scratch next → HasSpace groups next_lists → AreNone next.met → AreNone next.changed → IsAscending number next_lists.changed.items → length next_lists.changed.items ≤ 2 * groups → IsWorkspace number groups group_sources next next_lists
 workspace_next number groups group_sources was room space none none_changed ascending few =
     record { room = still_room groups group_sources was.room room; list_room = space; marks = room.changed ∙ was.marks; none_met = none; none_changed = none_changed; ascending = ascending; few = few }

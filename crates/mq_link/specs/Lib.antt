@@ -19,6 +19,7 @@ pub mod Status
 pub mod Storage
 pub mod Moved
 pub mod Limits
+pub mod Sizes
 pub mod Seen
 pub mod Workspace
 pub mod Serving

@@ -20,7 +20,7 @@ pub record IsPaid (budget before after old new : ℕ) : Type 0 where
   pub spends : Spends 0 moved old new
   pub paid : moved + after ≤ before + budget
 
-abbrev pub MovesWithin : {K : Type 0} → ℕ → Storage K → Storage K → Type 0
+abbrev pub MovesWithin : {K A : Type 0} → ℕ → Storage K A → Storage K A → Type 0
 MovesWithin budget old new = IsPaid budget (put_by_rows old.held) (put_by_rows new.held) old.moves new.moves
 
 abbrev pub HasMoved : ℕ → RouterValue → RouterValue → Type 0

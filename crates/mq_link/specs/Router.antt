@@ -24,7 +24,7 @@ pub record RouterValue : Type 0 where
   pub put_by : ℕ
 
 -- as it is stored
-abbrev pub router_of : {K : Type 0} → Setting → Storage K → Counters → RouterValue
+abbrev pub router_of : {K A : Type 0} → Setting → Storage K A → Counters → RouterValue
 router_of at storage counters =
     record {
       at = at;
@@ -75,7 +75,7 @@ pub record HasReceipt {S : Type 0} (takes : S → SentQuery → S → Type 0) (r
   pub answer_is : answer ≡ receipt.answer
 
 -- The groups are as the router may hold them, and there is room for what the configuration allows.
-pub record IsStored {K : Type 0} (at : Setting) (storage : Storage K) : Type 0 where
+pub record IsStored {K A : Type 0} (at : Setting) (storage : Storage K A) : Type 0 where
   pub sound : AreSound at storage.held.groups
   pub group_room : storage.held.order.room ≡ at.config.limits.groups
   pub source_room : storage.held.source_room ≡ at.config.limits.sources

@@ -22,7 +22,7 @@ group_stored number stored =
 
 -- room for a group of so many sources and a record that names no more, for what both may make, and for so many groups to be met
 -- and changed
-pub record HasRoom {K : Type 0} (groups sources : ℕ) (w : Scratch K) : Type 0 where
+pub record HasRoom {K A : Type 0} (groups sources : ℕ) (w : Scratch K A) : Type 0 where
   pub group : 2 * sources ≤ w.group.room
   pub named : sources ≤ w.named.room
   pub asked : 2 * sources ≤ vec_capacity w.asked
@@ -30,12 +30,12 @@ pub record HasRoom {K : Type 0} (groups sources : ℕ) (w : Scratch K) : Type 0 
   pub changed : groups ≤ length w.changed
 
 -- room for a group of so many sources, and for as many to ask for
-pub record HasRoomFor {K : Type 0} (sources : ℕ) (w : Scratch K) : Type 0 where
+pub record HasRoomFor {K A : Type 0} (sources : ℕ) (w : Scratch K A) : Type 0 where
   pub group : sources ≤ w.group.room
   pub asked : sources ≤ vec_capacity w.asked
 
 -- the work left no less room
-pub record KeepsRoom {K : Type 0} (old new : Scratch K) : Type 0 where
+pub record KeepsRoom {K A : Type 0} (old new : Scratch K A) : Type 0 where
   pub group : old.group.room ≤ new.group.room
   pub named : new.named.room ≡ old.named.room
   pub asked : vec_capacity old.asked ≤ vec_capacity new.asked
@@ -43,17 +43,17 @@ pub record KeepsRoom {K : Type 0} (old new : Scratch K) : Type 0 where
   pub changed : length new.changed ≡ length old.changed
 
 -- nor is there less room for groups and their sources
-pub record KeepsRooms {K : Type 0} (old new : Storage K) : Type 0 where
+pub record KeepsRooms {K A : Type 0} (old new : Storage K A) : Type 0 where
   pub groups : new.held.order.room ≡ old.held.order.room
   pub sources : new.held.source_room ≡ old.held.source_room
 
 -- the groups are fit to be worked on one after the other, where there is so much room for each of them
-pub record IsReady {K : Type 0} (room : ℕ) (s : Storage K) : Type 0 where
+pub record IsReady {K A : Type 0} (room : ℕ) (s : Storage K A) : Type 0 where
   pub few : map.len s.held.groups ≤ 65535
   pub served : AreServed room s.held.groups
 
 -- nothing differs but what was counted
-abbrev pub has_counted : {K : Type 0} → Storage K → (spent : ℕ) → Storage K
+abbrev pub has_counted : {K A : Type 0} → Storage K A → (spent : ℕ) → Storage K A
 has_counted s spent = record s { meter = spent }
 
 -- a group that was looked for has its number, or would go to the spot
@@ -62,7 +62,7 @@ IsSought number held sought =
     MatchResult sought.found (HasNumber held (number sought.address)) (IsSpotFor held.order.items held.order.pages (number sought.address))
 
 -- room for the numbers of so many groups, twice, and for the addresses of twice as many
-pub record HasSpace {K : Type 0} (groups : ℕ) (lists : Lists K) : Type 0 where
+pub record HasSpace {K A : Type 0} (groups : ℕ) (lists : Lists K A) : Type 0 where
   pub due : groups ≤ vec_capacity lists.due
   pub spare : groups ≤ length lists.spare.items
   pub changed : 2 * groups ≤ vec_capacity lists.changed
@@ -70,7 +70,7 @@ pub record HasSpace {K : Type 0} (groups : ℕ) (lists : Lists K) : Type 0 where
   pub by_records : groups ≤ vec_capacity lists.by_records
 
 -- a tick leaves no less room for groups
-pub record KeepsSpace {K : Type 0} (old new : Lists K) : Type 0 where
+pub record KeepsSpace {K A : Type 0} (old new : Lists K A) : Type 0 where
   pub due : vec_capacity old.due ≤ vec_capacity new.due
   pub spare : length new.spare.items ≡ length old.spare.items
   pub changed : vec_capacity old.changed ≤ vec_capacity new.changed

@@ -32,7 +32,7 @@ with_changed w changed = record w { changed = changed }
 
 -- It has the room that it says, no group is met or changed by the records of a datagram, and the addresses ascend. There are at
 -- most twice as many as groups may be: those that a tick ends, and those that records make in their place.
-pub record IsWorkspace {K : Type 0} (number : K → ℕ) (groups group_sources : ℕ) (scratch : Scratch K) (lists : Lists K) : Type 0 where
+pub record IsWorkspace {K A : Type 0} (number : K → ℕ) (groups group_sources : ℕ) (scratch : Scratch K A) (lists : Lists K A) : Type 0 where
   pub room : HasRoom groups group_sources scratch
   pub list_room : HasSpace groups lists
   pub marks : length scratch.changed ≡ groups

@@ -2,6 +2,9 @@
 
 ghost use Rattle.std.specs.Prelude.{◌≡◌, ℕ, ◌+◌, ◌*◌, ◌<◌, ◌≤◌, ◌^◌, true, false, [], length, IfOk, IfSome, is_ok, is_some};
 ghost use Rattle.std.specs.FinMap as map;
+ghost use Rattle.std.specs.contracts.vec.Vec as page;
+ghost use denote.Builtin.{u16};
+ghost use Rattle.mq_arena.specs.Vectors.{IsSize, Takes};
 ghost use Rattle.mq_count.specs.Spending.{Spends};
 ghost use Rattle.mq_sets.specs.Ascending.{IsAscending};
 ghost use Rattle.mq_table.specs.Stored.{number_in, timers_in};
@@ -14,6 +17,7 @@ ghost use Rattle.mq_link.specs.Storage.{IsGroupAt};
 ghost use Rattle.mq_link.specs.LeastCost.{least_received, least_ticked};
 ghost use Rattle.mq_link.specs.Link.{HasTicked, HasReceived, IsUntouched};
 ghost use Rattle.mq_link.specs.Moved.{most_moved};
+ghost use Rattle.mq_link.specs.Sizes.{bytes_of_link};
 ghost use Rattle.mq_link.specs.State as state;
 ghost use Rattle.mq_link.specs.State.{held_of, link_at, IsWellFormed};
 ghost use Rattle.mq_link.specs.Tick.{moment_of, tick_of, next_of};
@@ -28,12 +32,13 @@ use crate::outlet::Outlet;
 use crate::router::Router;
 use crate::sender::{QueryTerms, Sender};
 use crate::workspace::Workspace;
+use mq_arena::{OfAllocator, VectorSource};
 use mq_count::{Meter, Moment};
-use mq_held::{HeldEntries, HeldGroup};
+use mq_held::{HeldEntries, HeldGroup, HeldGroups};
 use mq_sched::OtherQuerier;
 use mq_sets::Memory;
 use mq_table::Timing;
-use std::alloc::Global;
+use std::alloc::{Allocator, Global};
 use std::marker::Model;
 
 /// Why a call did nothing: the workspace that it was lent has room for fewer groups, or for fewer sources of one, than the link's
@@ -45,11 +50,11 @@ pub struct TooSmall;
 /// no memory that grows with its limits. It is as the definitions have it: its configuration, its state, and how many comparisons
 /// it has made and items it has moved. The memory of its groups is taken by `new`, and no other call takes any.
 #[derive(Drop)]
-pub struct BareLink<F: Family> {
-    router: Router<F>,
+pub struct BareLink<F: Family, A: Allocator = Global> {
+    router: Router<F, A>,
 }
 
-impl<F: Family> Model for BareLink<F> {
+impl<F: Family, A: Allocator> Model for BareLink<F, A> {
     ghost use Rattle.mq_table.specs.contracts.timers.FilterMode as filter_mode;
     ghost use Rattle.mq_table.specs.contracts.timers.SourceTimer as source_timer;
     ghost use Rattle.mq_sched.specs.contracts.queries.QuerySchedule as query_schedule;
@@ -64,19 +69,43 @@ impl<F: Family> Model for BareLink<F> {
     ghost view = { λ l. link_of l.router };
 }
 
-impl<F: Family> BareLink<F> {
+impl<F: Family, A: Allocator + Copy> BareLink<F, A> {
     /// A link that starts at `start`, as `Link::new` makes it; or `Memory`, where that of its groups was refused.
-    pub fn new(alloc: Global, config: Config<F>, start: Moment) -> Result<BareLink<F>, Memory>
+    pub fn new(alloc: A, config: Config<F>, start: Moment) -> Result<BareLink<F, A>, Memory>
         requires in_range { start ≤ 2 ^ 53 }
         ensures { IfOk result (λ link. link ≡ record { config = config; state = link_at config start; spent = 0; moved = 0; changed = [] }) }
     {
+        BareLink::new_in(&mut OfAllocator(alloc), config, start)
+    }
+}
+
+impl<F: Family, A: Allocator> BareLink<F, A> {
+    /// How many bytes `new_in` takes of memory; or none, where no memory has as many.
+    pub fn size(config: &Config<F>) -> Option<usize>
+        ensures { IsSize (bytes_of_link (page.the_row u16 A.row ⟦<A as Allocator>⟧) F.Address.row config.now.limits) result }
+    {
+        config.is_faultless();
+        let limits = config.limits();
+        HeldGroups::<F::Address, A>::size(limits.groups as usize, limits.sources as usize)
+    }
+
+    /// The same, of memory that vectors are made of. It is granted where that memory has `size` of the configuration.
+    pub fn new_in<M: VectorSource<A>>(
+        memory: &mut M,
+        config: Config<F>,
+        start: Moment,
+    ) -> Result<BareLink<F, A>, Memory>
+        requires in_range { start ≤ 2 ^ 53 }
+        ensures link { IfOk result (λ link. link ≡ record { config = config; state = link_at config start; spent = 0; moved = 0; changed = [] }) }
+        ensures memory { Takes (bytes_of_link (page.the_row u16 A.row ⟦<A as Allocator>⟧) F.Address.row config.limits) (M.less_than memory.old) (M.less_than memory.new) (is_ok result) }
+    {
         Ok(BareLink {
-            router: Router::new(alloc, config, start)?,
+            router: Router::new(memory, config, start)?,
         })
     }
 
     /// Whether a workspace has room for the limits of the link.
-    pub fn fits(&self, workspace: &Workspace<F>) -> bool
+    pub fn fits<B: Allocator>(&self, workspace: &Workspace<F, B>) -> bool
         ensures { result ≡ suffices self.now.config.limits workspace.now }
     {
         workspace.suffices(&self.router.config().limits())
@@ -84,9 +113,9 @@ impl<F: Family> BareLink<F> {
 
     /// Does what `Link::tick` does, in a workspace that it is lent; nothing, where that is too small. What the workspace held
     /// before makes no difference.
-    pub fn tick<O: Outlet<F::Address>>(
+    pub fn tick<B: Allocator, O: Outlet<F::Address>>(
         &mut self,
-        workspace: &mut Workspace<F>,
+        workspace: &mut Workspace<F, B>,
         now: Moment,
         outlet: &mut O,
     ) -> Result<(), TooSmall>
@@ -117,9 +146,9 @@ impl<F: Family> BareLink<F> {
 
     /// Takes a datagram as `Link::receive` does, in a workspace that it is lent; does nothing, where that is too small. What the
     /// workspace held before makes no difference.
-    pub fn receive<O: Outlet<F::Address>>(
+    pub fn receive<B: Allocator, O: Outlet<F::Address>>(
         &mut self,
-        workspace: &mut Workspace<F>,
+        workspace: &mut Workspace<F, B>,
         envelope: &F::Envelope,
         body: &[u8],
         now: Moment,
@@ -148,9 +177,9 @@ impl<F: Family> BareLink<F> {
     }
 
     /// A tick, in a workspace that suffices.
-    pub(crate) fn tick_in<O: Outlet<F::Address>>(
+    pub(crate) fn tick_in<B: Allocator, O: Outlet<F::Address>>(
         &mut self,
-        workspace: &mut Workspace<F>,
+        workspace: &mut Workspace<F, B>,
         now: Moment,
         outlet: &mut O,
     )
@@ -180,9 +209,9 @@ impl<F: Family> BareLink<F> {
     }
 
     /// A datagram, in a workspace that suffices.
-    pub(crate) fn receive_in<O: Outlet<F::Address>>(
+    pub(crate) fn receive_in<B: Allocator, O: Outlet<F::Address>>(
         &mut self,
-        workspace: &mut Workspace<F>,
+        workspace: &mut Workspace<F, B>,
         envelope: &F::Envelope,
         body: &[u8],
         now: Moment,
@@ -276,7 +305,7 @@ impl<F: Family> BareLink<F> {
     }
 
     /// All groups that it holds, by ascending address, each as it stands in the storage.
-    pub fn entries(&self) -> HeldEntries<'_, F::Address>
+    pub fn entries(&self) -> HeldEntries<'_, F::Address, A>
         ensures { result ≡ map.entries self.now.state.groups }
     {
         self.router.held().entries()

@@ -28,6 +28,7 @@ use crate::statement::StatementKind;
 use crate::workspace::Workspace;
 use mq_count::Moment;
 use mq_wire::{Message, QueryVersion, WireFault, WireKey};
+use std::alloc::Allocator;
 
 /// What a message is counted as.
 fn kind_of<K: WireKey>(message: &Message<'_, K>) -> MessageKind
@@ -54,7 +55,7 @@ fn count_read<K: WireKey>(counts: &mut Counts, read: &Result<Message<'_, K>, Wir
     }
 }
 
-impl<F: Family> Router<F> {
+impl<F: Family, A: Allocator> Router<F, A> {
     /// Counts a datagram that was read so.
     fn count_read(&mut self, read: &Result<Message<'_, F::Address>, WireFault>)
         ensures { self.new ≡ record self.old { counters = spec.count_read (numbered_read F.Address.number read.now) self.old.counters } }
@@ -65,9 +66,9 @@ impl<F: Family> Router<F> {
     /// Takes a message that isn't dropped: hears a query, and takes the records of any other. At most 24 comparisons for
     /// each source that is held, 20 for each group or one for each that the tick changed, and 64 for each byte that it has at least
     /// (`least_length`).
-    fn take_message<O: Outlet<F::Address>>(
+    fn take_message<B: Allocator, O: Outlet<F::Address>>(
         &mut self,
-        work: &mut Workspace<F>,
+        work: &mut Workspace<F, B>,
         envelope: &F::Envelope,
         message: &Message<'_, F::Address>,
         sender: &mut Sender<F, O>,
@@ -116,9 +117,9 @@ impl<F: Family> Router<F> {
 
     /// Reads a datagram, counts it, and drops it or takes it. At most 24 comparisons for each source that is held, 20 for
     /// each group or one for each that the tick changed, and 64 for each byte of the datagram.
-    fn take_in<O: Outlet<F::Address>>(
+    fn take_in<B: Allocator, O: Outlet<F::Address>>(
         &mut self,
-        work: &mut Workspace<F>,
+        work: &mut Workspace<F, B>,
         envelope: &F::Envelope,
         body: &[u8],
         sender: &mut Sender<F, O>,
@@ -157,9 +158,9 @@ impl<F: Family> Router<F> {
 
     /// A datagram that came at `now`: what is due then is done, the datagram is dropped or taken, and the answers of the
     /// outlet are counted.
-    pub(crate) fn receive<O: Outlet<F::Address>>(
+    pub(crate) fn receive<B: Allocator, O: Outlet<F::Address>>(
         &mut self,
-        work: &mut Workspace<F>,
+        work: &mut Workspace<F, B>,
         envelope: &F::Envelope,
         body: &[u8],
         now: Moment,

@@ -7,6 +7,7 @@ use crate::family::Family;
 use crate::link::Link;
 use crate::outlet::Outlet;
 use mq_count::Moment;
+use std::alloc::Allocator;
 
 /// An event of a link.
 pub enum Event<'a, F: Family> {
@@ -26,8 +27,8 @@ pub enum Event<'a, F: Family> {
 /// Hands all events to a link, in their order: to `tick` or to `receive`. The answers to the datagrams are not told. So
 /// whatever the events, what the link does and what the outlet is handed is a run of them as the definitions have it; and
 /// where `Link::new` made the link, it is a run from its start.
-pub fn run<F: Family, O: Outlet<F::Address>>(
-    link: &mut Link<F>,
+pub fn run<F: Family, A: Allocator, O: Outlet<F::Address>>(
+    link: &mut Link<F, A>,
     events: &[Event<'_, F>],
     outlet: &mut O,
 )

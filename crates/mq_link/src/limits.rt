@@ -23,6 +23,7 @@ use mq_count::{Key, Meter, Moment};
 use mq_held::count_schedules;
 use mq_sched::Schedule;
 use mq_table::{Group, Source, SourceTimer};
+use std::alloc::Allocator;
 
 /// What is known of the change of a group that is not kept yet, beside the new group itself: whether the group is held
 /// before it, with how many sources and with which schedule; and the schedule after it.
@@ -68,9 +69,9 @@ fn any_has_more<K: Key>(row: &[Source<K>]) -> bool
 }
 
 /// Whether the sources of a group have sendings to go after a round at `now`. At most one comparison.
-fn sources_stay_due<K: Key>(
+fn sources_stay_due<K: Key, A: Allocator>(
     schedule: &Schedule,
-    group: &Group<K>,
+    group: &Group<K, A>,
     now: Moment,
     m: &mut Meter,
 ) -> bool
@@ -97,9 +98,9 @@ fn group_stays_due(schedule: &Schedule, now: Moment, m: &mut Meter) -> bool
 }
 
 /// How many schedules a group has after a round at `now`, none of which is done by this. At most two comparisons.
-fn schedules_after_round<K: Key>(
+fn schedules_after_round<K: Key, A: Allocator>(
     schedule: &Schedule,
-    group: &Group<K>,
+    group: &Group<K, A>,
     now: Moment,
     m: &mut Meter,
 ) -> usize
@@ -114,12 +115,12 @@ fn schedules_after_round<K: Key>(
     usize::from(group_stays) + usize::from(sources_stay)
 }
 
-impl<K: Key> Storage<K> {
+impl<K: Key, A: Allocator> Storage<K, A> {
     /// The first limit that the groups would pass if one of them were changed so into a group that was worked on, and then
     /// had sent what is due at `now`. No group is changed by this. At most two comparisons.
-    pub(crate) fn refusal(
+    pub(crate) fn refusal<B: Allocator>(
         &mut self,
-        after: &Group<K>,
+        after: &Group<K, B>,
         change: &Change,
         limits: &Limits,
         now: Moment,

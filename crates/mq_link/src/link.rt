@@ -1,7 +1,10 @@
 //! The whole of one link.
 
-ghost use Rattle.std.specs.Prelude.{◌≡◌, ℕ, ◌+◌, ◌*◌, ◌<◌, ◌≤◌, ◌^◌, [], length, map as map_each, IfOk, IfSome, is_some};
+ghost use Rattle.std.specs.Prelude.{◌≡◌, ℕ, ◌+◌, ◌*◌, ◌<◌, ◌≤◌, ◌^◌, [], length, map as map_each, IfOk, IfSome, is_ok, is_some};
 ghost use Rattle.std.specs.FinMap as map;
+ghost use Rattle.std.specs.contracts.vec.Vec as page;
+ghost use denote.Builtin.{u16};
+ghost use Rattle.mq_arena.specs.Vectors.{IsSize, Takes};
 ghost use Rattle.mq_count.specs.Spending.{Spends};
 ghost use Rattle.mq_sets.specs.Ascending.{IsAscending};
 ghost use Rattle.mq_table.specs.Stored.{number_in, timers_in};
@@ -15,6 +18,7 @@ ghost use Rattle.mq_link.specs.Forwarding.{AreThose, changed_by_datagram, change
 ghost use Rattle.mq_link.specs.LeastCost.{least_received, least_ticked};
 ghost use Rattle.mq_link.specs.Link.{HasTicked, HasReceived};
 ghost use Rattle.mq_link.specs.Moved.{most_moved};
+ghost use Rattle.mq_link.specs.Sizes.{bytes_of_link, bytes_of_workspace};
 ghost use Rattle.mq_link.specs.State as state;
 ghost use Rattle.mq_link.specs.State.{held_of, link_at, IsWellFormed};
 ghost use Rattle.mq_link.specs.Tick.{moment_of, tick_of, next_of};
@@ -26,23 +30,24 @@ use crate::counts::Counts;
 use crate::family::Family;
 use crate::outlet::Outlet;
 use crate::workspace::Workspace;
+use mq_arena::{OfAllocator, VectorSource, both_sizes};
 use mq_count::Moment;
 use mq_held::{HeldEntries, HeldGroup};
 use mq_sched::OtherQuerier;
 use mq_sets::Memory;
 use mq_table::Timing;
-use std::alloc::Global;
+use std::alloc::{Allocator, Global};
 use std::marker::Model;
 
 /// One link of a multicast router with a workspace of its own, as the definitions have it: its configuration, its state, and how
 /// many comparisons it has made and items it has moved. All storage is taken by `new`, and no other call takes any.
 #[derive(Drop)]
-pub struct Link<F: Family> {
-    bare: BareLink<F>,
-    workspace: Workspace<F>,
+pub struct Link<F: Family, A: Allocator = Global> {
+    bare: BareLink<F, A>,
+    workspace: Workspace<F, A>,
 }
 
-impl<F: Family> Model for Link<F> {
+impl<F: Family, A: Allocator> Model for Link<F, A> {
     ghost use Rattle.std.specs.Prelude.{◌≡◌, true};
     ghost use Rattle.mq_table.specs.contracts.timers.FilterMode as filter_mode;
     ghost use Rattle.mq_table.specs.contracts.timers.SourceTimer as source_timer;
@@ -60,17 +65,42 @@ impl<F: Family> Model for Link<F> {
     ghost invariant = { λ l. (suffices l.bare.config.limits l.workspace ≡ true) × (l.workspace.groups ≡ l.bare.config.limits.groups) };
 }
 
-impl<F: Family> Link<F> {
+impl<F: Family, A: Allocator + Copy> Link<F, A> {
     /// A link that starts at `start`: nothing is held, and it is querier, with its first general query due (RFC 3376
     /// section 8.7, RFC 3810 section 9.7). It takes all memory that its limits allow, or answers `Memory` where that was
     /// refused: only `new` can run out of memory.
-    pub fn new(alloc: Global, config: Config<F>, start: Moment) -> Result<Link<F>, Memory>
+    pub fn new(alloc: A, config: Config<F>, start: Moment) -> Result<Link<F, A>, Memory>
         requires in_range { start ≤ 2 ^ 53 }
         ensures { IfOk result (λ link. link ≡ record { config = config; state = link_at config start; spent = 0; moved = 0; changed = [] }) }
     {
-        let workspace = Workspace::with_room(alloc, &config.limits())?;
+        Link::new_in(&mut OfAllocator(alloc), config, start)
+    }
+}
+
+impl<F: Family, A: Allocator> Link<F, A> {
+    /// How many bytes `new_in` takes of memory; or none, where no memory has as many.
+    pub fn size(config: &Config<F>) -> Option<usize>
+        ensures { IsSize (bytes_of_workspace F.Address.row config.now.limits + bytes_of_link (page.the_row u16 A.row ⟦<A as Allocator>⟧) F.Address.row config.now.limits) result }
+    {
+        both_sizes(
+            Workspace::<F, A>::size(&config.limits()),
+            BareLink::<F, A>::size(config),
+        )
+    }
+
+    /// The same, of memory that vectors are made of. It is granted where that memory has `size` of the configuration.
+    pub fn new_in<M: VectorSource<A>>(
+        memory: &mut M,
+        config: Config<F>,
+        start: Moment,
+    ) -> Result<Link<F, A>, Memory>
+        requires in_range { start ≤ 2 ^ 53 }
+        ensures link { IfOk result (λ link. link ≡ record { config = config; state = link_at config start; spent = 0; moved = 0; changed = [] }) }
+        ensures memory { Takes (bytes_of_workspace F.Address.row config.limits + bytes_of_link (page.the_row u16 A.row ⟦<A as Allocator>⟧) F.Address.row config.limits) (M.less_than memory.old) (M.less_than memory.new) (is_ok result) }
+    {
+        let workspace = Workspace::with_room_in(memory, &config.limits())?;
         Ok(Link {
-            bare: BareLink::new(alloc, config, start)?,
+            bare: BareLink::new_in(memory, config, start)?,
             workspace,
         })
     }
@@ -194,7 +224,7 @@ impl<F: Family> Link<F> {
     }
 
     /// All groups that it holds, by ascending address, each as it stands in the storage.
-    pub fn entries(&self) -> HeldEntries<'_, F::Address>
+    pub fn entries(&self) -> HeldEntries<'_, F::Address, A>
         ensures { result ≡ map.entries self.now.state.groups }
     {
         self.bare.entries()

@@ -1,12 +1,15 @@
 //! How many records of one datagram have met each group, or have changed it, by the numbers of the groups.
 
-ghost use Rattle.std.specs.Prelude.{◌≡◌, ℕ, ◌<◌, ◌≤◌, nat_le, nat_lt, length, slice_index, IfOk};
+ghost use Rattle.std.specs.Prelude.{◌≡◌, ℕ, ◌<◌, ◌≤◌, nat_le, nat_lt, length, slice_index, IfOk, is_ok};
 ghost use Rattle.std.specs.List.{All};
+ghost use Rattle.mq_arena.specs.Vectors.{IsSize, Takes};
 ghost use Rattle.mq_sets.specs.Slots.{times};
 ghost use Rattle.mq_link.specs.Seen.{AreListed, AreNone, counted_again};
+ghost use Rattle.mq_link.specs.Sizes.{bytes_of_marks};
 
+use mq_arena::{VectorSource, both_sizes, filled, vector_size};
 use mq_sets::Memory;
-use std::alloc::Global;
+use std::alloc::Allocator;
 use std::marker::Model;
 
 /// How many records of a datagram may meet a group that is held. Those after them are refused.
@@ -16,14 +19,14 @@ const MEETINGS: u8 = 4;
 /// fifth it is known that it is one too many. A contract sees the list of these counts, by the number. Nothing is looked for,
 /// compared or moved, and it takes three bytes for each group that may be held.
 #[derive(Drop)]
-pub(crate) struct MetGroups {
+pub(crate) struct MetGroups<A: Allocator> {
     // By the number.
-    counts: Vec<u8>,
+    counts: Vec<u8, A>,
     // The numbers whose count isn't zero, each once, in the order in which they were met.
-    numbers: Vec<u16>,
+    numbers: Vec<u16, A>,
 }
 
-impl Model for MetGroups {
+impl<A: Allocator> Model for MetGroups<A> {
     ghost use Rattle.std.specs.Prelude.{ℕ, List, ◌≤◌, length, vec_capacity};
     ghost use Rattle.std.specs.Coded.{coded_ℕ, coded_list};
     ghost use Rattle.mq_link.specs.Seen.{AreListed};
@@ -38,7 +41,7 @@ impl Model for MetGroups {
 }
 
 /// Sets the counts of some numbers to zero, which are all that have another.
-fn set_to_zero(counts: &mut Vec<u8>, numbers: &[u16])
+fn set_to_zero<A: Allocator>(counts: &mut Vec<u8, A>, numbers: &[u16])
     requires within { All (λ number. number < length counts.old.items) numbers.now }
     requires each { (number : ℕ) → 1 ≤ slice_index counts.old.items number → 1 ≤ times number numbers.now }
     ensures none { AreNone counts.new.items }
@@ -49,18 +52,32 @@ fn set_to_zero(counts: &mut Vec<u8>, numbers: &[u16])
     }
 }
 
-impl MetGroups {
-    /// No group was met, with memory for so many of them, or `Memory` where that was refused.
-    pub(crate) fn with_room(alloc: Global, groups: usize) -> Result<MetGroups, Memory>
-        ensures room { IfOk result (λ s. length s ≡ groups) }
-        ensures none { IfOk result AreNone }
+impl<A: Allocator> MetGroups<A> {
+    /// How many bytes `with_room` takes; or none, where no memory has as many.
+    pub(crate) fn size(groups: usize) -> Option<usize>
+        ensures { IsSize (bytes_of_marks groups) result }
     {
-        Ok(MetGroups {
-            counts: vec![in alloc; 0; groups]?,
-            numbers: Vec::with_capacity(alloc, groups)?,
-        })
+        both_sizes(vector_size::<u8>(groups), vector_size::<u16>(groups))
     }
 
+    /// No group was met, with memory for so many of them, or `Memory` where that was refused.
+    #[tactic(auto, unfolding(crate::specs::Sizes::bytes_of_marks))]
+    pub(crate) fn with_room<M: VectorSource<A>>(
+        memory: &mut M,
+        groups: usize,
+    ) -> Result<MetGroups<A>, Memory>
+        ensures room { IfOk result (λ s. length s ≡ groups) }
+        ensures none { IfOk result AreNone }
+        ensures memory { Takes (bytes_of_marks groups) (M.less_than memory.old) (M.less_than memory.new) (is_ok result) }
+    {
+        Ok(MetGroups {
+            counts: filled(memory, 0, groups)?,
+            numbers: memory.with_capacity(groups)?,
+        })
+    }
+}
+
+impl<A: Allocator> MetGroups<A> {
     /// The numbers of the groups that were met, each once, in the order in which they were.
     pub(crate) fn numbers(&self) -> &[u16]
         ensures { AreListed self.now result.now }

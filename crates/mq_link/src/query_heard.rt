@@ -29,10 +29,11 @@ use mq_count::{Meter, Moment};
 use mq_sched::Announced;
 use mq_table::{Group, Timing};
 use mq_wire::{Query, QueryVersion, Sources, WireKey};
+use std::alloc::Allocator;
 
 /// Lowers the timers of the sources that a query asks for, one after the other, however often it names one.
-fn lower_sources<K: WireKey>(
-    group: &mut Group<K>,
+fn lower_sources<K: WireKey, A: Allocator>(
+    group: &mut Group<K, A>,
     sources: &Sources<'_, K>,
     now: Moment,
     timing: &Timing,
@@ -51,8 +52,8 @@ fn lower_sources<K: WireKey>(
 /// Lowers what a query asks for in its group: nothing with the S flag set; else the group timer, or the timers of its
 /// sources (RFC 3376 section 6.6.1, RFC 3810 section 7.6.1). At most one comparison, or for each source that it names one
 /// for each binary digit of the number of the group's sources and one more.
-fn lower<K: WireKey>(
-    group: &mut Group<K>,
+fn lower<K: WireKey, A: Allocator>(
+    group: &mut Group<K, A>,
     version: &QueryVersion<'_, K>,
     now: Moment,
     timing: &Timing,
@@ -78,10 +79,10 @@ fn lower<K: WireKey>(
     }
 }
 
-impl<K: WireKey> Storage<K> {
+impl<K: WireKey, A: Allocator> Storage<K, A> {
     /// Drops what is to go for the group of a number, if anything is. At most one comparison for each of its sources, four
     /// more, and one for each binary digit of how many groups there are.
-    fn clear_group(&mut self, number: u16, group: &mut Group<K>)
+    fn clear_group<B: Allocator>(&mut self, number: u16, group: &mut Group<K, B>)
         requires number { IsNumber self.old.held number }
         requires served { (address : ℕ) → HasNumber self.old.held address number →
             IsServed group.old.room (group_at self.old.held.groups address) }
@@ -109,7 +110,7 @@ impl<K: WireKey> Storage<K> {
     /// Drops what is to go for each group, as a router does that is no longer querier (RFC 3376 section 6.6.2, RFC 3810
     /// section 7.6.2). Groups for which nothing is to go are left alone. At most one comparison for each source, and 20
     /// for each group.
-    fn clear_groups(&mut self, numbers: &mut Vec<u16>, group: &mut Group<K>)
+    fn clear_groups<B: Allocator>(&mut self, numbers: &mut Vec<u16, B>, group: &mut Group<K, B>)
         requires space { map.len self.old.held.groups ≤ vec_capacity numbers.old }
         requires ready { IsReady group.old.room self.old }
         ensures groups { self.new.held.groups ≡ groups_cleared self.old.held.groups }
@@ -130,7 +131,12 @@ impl<K: WireKey> Storage<K> {
 
     /// Lowers what a query asks for in its group, if that is held. At most one comparison for each source of the group, 12
     /// for each source that the query names, and 39 more.
-    fn lower_held(&mut self, query: &Query<'_, K>, group: &mut Group<K>, at: &InForce)
+    fn lower_held<B: Allocator>(
+        &mut self,
+        query: &Query<'_, K>,
+        group: &mut Group<K, B>,
+        at: &InForce,
+    )
         requires in_range { at.now.moment ≤ 2 ^ 53 }
         requires ready { IsReady group.old.room self.old }
         requires small { (address : ℕ) → sources_of (group_at self.old.held.groups address) ≤ 1024 }
@@ -177,11 +183,11 @@ impl<F: Family> Status<F> {
     /// 7.6.2): the election takes note of it; a router that loses the role by it drops what is to go for each group; then
     /// what the query asks for is lowered, by the timing that is in force then. At most two comparisons for each source
     /// that is held, 20 for each group, 12 for each source that the query names, and 40 more.
-    fn hear_query(
+    fn hear_query<A: Allocator, B: Allocator>(
         &mut self,
-        storage: &mut Storage<F::Address>,
-        numbers: &mut Vec<u16>,
-        group: &mut Group<F::Address>,
+        storage: &mut Storage<F::Address, A>,
+        numbers: &mut Vec<u16, B>,
+        group: &mut Group<F::Address, B>,
         source: F::Address,
         query: &Query<'_, F::Address>,
     )
@@ -211,12 +217,12 @@ impl<F: Family> Status<F> {
     }
 }
 
-impl<F: Family> Router<F> {
+impl<F: Family, A: Allocator> Router<F, A> {
     /// Takes a query that was heard from another router. At most two comparisons for each source that is held, 20 for each
     /// group, 12 for each source that the query names, and 40 more.
-    pub(crate) fn hear(
+    pub(crate) fn hear<B: Allocator>(
         &mut self,
-        work: &mut Workspace<F>,
+        work: &mut Workspace<F, B>,
         source: F::Address,
         query: &Query<'_, F::Address>,
     )

@@ -1,7 +1,10 @@
 //! The inside of a link, as one object.
 
-ghost use Rattle.std.specs.Prelude.{◌≡◌, ◌+◌, ◌^◌, ◌<◌, ◌≤◌, IfOk};
+ghost use Rattle.std.specs.Prelude.{◌≡◌, ◌+◌, ◌^◌, ◌<◌, ◌≤◌, IfOk, is_ok};
 ghost use Rattle.std.specs.FinMap as map;
+ghost use Rattle.std.specs.contracts.vec.Vec as page;
+ghost use denote.Builtin.{u16};
+ghost use Rattle.mq_arena.specs.Vectors.{Takes};
 ghost use Rattle.mq_count.specs.Streams.{counted_on};
 ghost use Rattle.mq_link.specs.Counters as counters;
 ghost use Rattle.mq_link.specs.Counters.{no_counts};
@@ -9,6 +12,7 @@ ghost use Rattle.mq_link.specs.Judging.{verdict_of};
 ghost use Rattle.mq_table.specs.Variables.{AreInRange};
 ghost use Rattle.mq_sched.specs.Election.{election_at};
 ghost use Rattle.mq_link.specs.Configuration.{IsFaultless};
+ghost use Rattle.mq_link.specs.Sizes.{bytes_of_link};
 ghost use Rattle.mq_link.specs.Sound.{AreSound};
 ghost use Rattle.mq_link.specs.State.{sources_in};
 
@@ -19,23 +23,24 @@ use crate::family::Family;
 use crate::statement::Verdict;
 use crate::status::Status;
 use crate::storage::Storage;
+use mq_arena::VectorSource;
 use mq_count::Moment;
 use mq_held::HeldGroups;
 use mq_sched::Election;
 use mq_sets::Memory;
-use std::alloc::Global;
+use std::alloc::Allocator;
 use std::marker::Model;
 
 /// All that the calls of a link change: the router's status, the groups with their storage, and what was counted. What is due, a
 /// query that is heard, a statement and the records of a Report are its steps, each of which is lent a workspace. A contract sees a `RouterValue`, and each is one that a router may be.
 #[derive(Drop)]
-pub(crate) struct Router<F: Family> {
+pub(crate) struct Router<F: Family, A: Allocator> {
     pub(crate) status: Status<F>,
-    pub(crate) storage: Storage<F::Address>,
+    pub(crate) storage: Storage<F::Address, A>,
     pub(crate) counts: Counts,
 }
 
-impl<F: Family> Model for Router<F> {
+impl<F: Family, A: Allocator> Model for Router<F, A> {
     ghost use Rattle.mq_table.specs.contracts.timers.FilterMode as filter_mode;
     ghost use Rattle.mq_table.specs.contracts.timers.SourceTimer as source_timer;
     ghost use Rattle.mq_sched.specs.contracts.queries.QuerySchedule as query_schedule;
@@ -51,11 +56,15 @@ impl<F: Family> Model for Router<F> {
     ghost invariant = { λ r. IsStored r.status r.storage };
 }
 
-impl<F: Family> Router<F> {
+impl<F: Family, A: Allocator> Router<F, A> {
     /// That of a link that starts at a moment, or `Memory`, where that was refused.
-    pub(crate) fn new(alloc: Global, config: Config<F>, start: Moment) -> Result<Router<F>, Memory>
+    pub(crate) fn new<M: VectorSource<A>>(
+        memory: &mut M,
+        config: Config<F>,
+        start: Moment,
+    ) -> Result<Router<F, A>, Memory>
         requires in_range { start ≤ 2 ^ 53 }
-        ensures { IfOk result (λ r. r ≡ record {
+        ensures router { IfOk result (λ r. r ≡ record {
           at = record { config = config; election = election_at config.timing start; now = start };
           groups = map.empty;
           counters = no_counts;
@@ -63,16 +72,19 @@ impl<F: Family> Router<F> {
           moved = 0;
           put_by = 0;
         }) }
+        ensures memory { Takes (bytes_of_link (page.the_row u16 A.row ⟦<A as Allocator>⟧) F.Address.row config.limits) (M.less_than memory.old) (M.less_than memory.new) (is_ok result) }
     {
         config.is_faultless();
-        let storage = Storage::with_room(alloc, &config.limits())?;
+        let storage = Storage::with_room(memory, &config.limits())?;
         Ok(Router {
             status: Status::new(config, start),
             storage,
             counts: Counts::none(),
         })
     }
+}
 
+impl<F: Family, A: Allocator> Router<F, A> {
     /// What each is: its groups are sound, its status is one that a router may have, and no more is put by than packing its rows
     /// moves. It does nothing: its contract is the fact.
     pub(crate) fn lemma_is_stored(&self)
@@ -102,7 +114,7 @@ impl<F: Family> Router<F> {
     }
 
     /// The groups that it holds.
-    pub(crate) fn held(&self) -> &HeldGroups<F::Address>
+    pub(crate) fn held(&self) -> &HeldGroups<F::Address, A>
         ensures { result.now.groups ≡ self.now.groups }
     {
         &self.storage.held

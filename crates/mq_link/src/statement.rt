@@ -38,6 +38,7 @@ use mq_held::HeldGroup;
 use mq_sched::{Schedule, Sink};
 use mq_table::{Head, Hosts, Kind, Loaded, OlderVersion, translate};
 use mq_wire::WireKey;
+use std::alloc::Allocator;
 
 /// What one message says of one group, whose sources are named apart from it.
 #[derive(Clone, Copy)]
@@ -106,7 +107,7 @@ fn acted_as(
     }
 }
 
-impl<K: Key> Scratch<K> {
+impl<K: Key, A: Allocator> Scratch<K, A> {
     /// What a statement changes of a group, which is read where it stands: the new group is written down, and with it the
     /// sources to ask for, ascending, each of which the new group has. There is room for the sources of the group and of the
     /// statement together. Answers whether the group is to be asked for, and whether another filter is forwarded of it then;
@@ -198,7 +199,7 @@ impl<K: Key> Scratch<K> {
 }
 
 /// Counts that a record has changed the group of a number, where it has one and another filter is forwarded of it.
-fn count_changed(changed: &mut MetGroups, number: Option<u16>, changes: bool)
+fn count_changed<A: Allocator>(changed: &mut MetGroups<A>, number: Option<u16>, changes: bool)
     requires number { IfSome number (λ number. number < length changed.old) }
     ensures { changed.new ≡ (if changes then option_map_or (counted_again changed.old) number changed.old else changed.old) }
 {
@@ -227,10 +228,10 @@ impl<F: Family> Status<F> {
     /// a group of which another filter is forwarded then. At most six comparisons for each source of the group and each that
     /// it names, twelve more, and one for each binary digit of how many groups there are; at least one for each of those that
     /// are fewer, the sources of the group or those that count.
-    pub(crate) fn apply<S: Sink<F::Address>>(
+    pub(crate) fn apply<A: Allocator, B: Allocator, S: Sink<F::Address>>(
         &self,
-        storage: &mut Storage<F::Address>,
-        work: &mut Scratch<F::Address>,
+        storage: &mut Storage<F::Address, A>,
+        work: &mut Scratch<F::Address, B>,
         sought: Sought<F::Address>,
         said: StatementKind,
         sink: &mut S,

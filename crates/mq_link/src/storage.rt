@@ -1,10 +1,14 @@
 //! The storage of the groups, and what the work on them takes.
 
-ghost use Rattle.std.specs.Prelude.{◌≡◌, ℕ, ◌+◌, ◌-◌, ◌*◌, ◌<◌, ◌≤◌, true, false, length, min, IfOk, is_ok, MatchOption, []};
+ghost use Rattle.std.specs.Prelude.{◌≡◌, ℕ, ◌+◌, ◌-◌, ◌*◌, ◌^◌, ◌<◌, ◌≤◌, true, false, length, min, IfOk, is_ok, MatchOption, []};
 ghost use Rattle.std.specs.FinMap as map;
+ghost use Rattle.std.specs.contracts.vec.Vec as page;
+ghost use denote.Builtin.{u16};
+ghost use Rattle.mq_arena.specs.Vectors.{IsSize, Takes, item_bytes};
 ghost use Rattle.mq_count.specs.Spending.{Spends};
 ghost use Rattle.mq_sets.specs.Ascending.{IsAscending};
 ghost use Rattle.mq_sets.specs.Search.{bitlen};
+ghost use Rattle.mq_table.specs.contracts.sources.Source as source;
 ghost use Rattle.mq_table.specs.Group.{is_vacant, IsWellFormed as IsHeld};
 ghost use Rattle.mq_table.specs.Stored.{number_in, size_of};
 ghost use Rattle.mq_sched.specs.Schedule.{ScheduledGroup};
@@ -13,50 +17,68 @@ ghost use Rattle.mq_held.specs.Groups.{group_at, kept_as, sources_of, sources_in
 ghost use Rattle.mq_held.specs.Held.{HasNumber, IsNumber, empty_state};
 ghost use Rattle.mq_link.specs.Moved.{MovesWithin, moved_by_edit};
 ghost use Rattle.mq_link.specs.Seen.{AreNone, KeepsNumbers};
+ghost use Rattle.mq_link.specs.Sizes.{bytes_of_link, bytes_of_lists, bytes_of_scratch};
 ghost use Rattle.mq_link.specs.Storage.{HasRoom, HasSpace, group_stored, IsSought, KeepsRooms};
 
 use crate::configuration::Limits;
 use crate::met::MetGroups;
+use mq_arena::{VectorSource, both_sizes, filled, vector_size};
 use mq_count::{Key, Meter, Moves};
 use mq_held::{HeldGroup, HeldGroups};
 use mq_sched::Schedule;
 use mq_sets::{Memory, SourceSet, Spot};
-use mq_table::{FilterMode, Group};
-use std::alloc::Global;
+use mq_table::{FilterMode, Group, Source};
+use std::alloc::Allocator;
 
 /// What the work on the records of a datagram takes: the group that one of them works on, the sources that it names, those to
 /// ask for, and how many records have met each group, and have changed it.
 #[derive(Drop)]
-pub(crate) struct Scratch<K: Key> {
-    pub(crate) group: Group<K>,
-    pub(crate) named: SourceSet<K>,
-    pub(crate) asked: Vec<K>,
-    pub(crate) met: MetGroups,
-    pub(crate) changed: MetGroups,
+pub(crate) struct Scratch<K: Key, A: Allocator> {
+    pub(crate) group: Group<K, A>,
+    pub(crate) named: SourceSet<K, A>,
+    pub(crate) asked: Vec<K, A>,
+    pub(crate) met: MetGroups<A>,
+    pub(crate) changed: MetGroups<A>,
 }
 
-impl<K: Key> Scratch<K> {
+impl<K: Key, A: Allocator> Scratch<K, A> {
+    /// How many bytes `with_room` takes; or none, where no memory has as many.
+    pub(crate) fn size(groups: usize, sources: usize) -> Option<usize>
+        requires counted { sources < 2 ^ 32 }
+        ensures { IsSize (bytes_of_scratch (item_bytes K.row) (item_bytes (source.the_row K.row)) groups sources) result }
+    {
+        let of_sources = both_sizes(
+            both_sizes(
+                vector_size::<Source<K>>(2 * sources),
+                vector_size::<K>(sources),
+            ),
+            vector_size::<K>(2 * sources),
+        );
+        let marks = MetGroups::<A>::size(groups);
+        both_sizes(both_sizes(of_sources, marks), marks)
+    }
+
     /// With room for so many groups to be met, of at most so many sources, and for a record that names no more; or `Memory`,
-    /// where that was refused or is more than can be counted.
-    pub(crate) fn with_room(
-        alloc: Global,
+    /// where that was refused.
+    #[tactic(auto, unfolding(crate::specs::Sizes::bytes_of_scratch))]
+    pub(crate) fn with_room<M: VectorSource<A>>(
+        memory: &mut M,
         groups: usize,
         sources: usize,
-    ) -> Result<Scratch<K>, Memory>
+    ) -> Result<Scratch<K, A>, Memory>
+        requires counted { sources < 2 ^ 32 }
         ensures room { IfOk result (HasRoom groups sources) }
         ensures none_met { IfOk result (λ w. AreNone w.met) }
         ensures none_changed { IfOk result (λ w. AreNone w.changed) }
         ensures marks { IfOk result (λ w. length w.changed ≡ groups) }
+        ensures memory { Takes (bytes_of_scratch (item_bytes K.row) (item_bytes (source.the_row K.row)) groups sources) (M.less_than memory.old) (M.less_than memory.new) (is_ok result) }
     {
-        let Some(both) = sources.checked_mul(2) else {
-            return Err(Memory);
-        };
         Ok(Scratch {
-            group: Group::with_room(alloc, both)?,
-            named: SourceSet::with_room(alloc, sources)?,
-            asked: Vec::with_capacity(alloc, both)?,
-            met: MetGroups::with_room(alloc, groups)?,
-            changed: MetGroups::with_room(alloc, groups)?,
+            group: Group::with_room_in(memory, 2 * sources)?,
+            named: SourceSet::with_room_in(memory, sources)?,
+            asked: memory.with_capacity(2 * sources)?,
+            met: MetGroups::with_room(memory, groups)?,
+            changed: MetGroups::with_room(memory, groups)?,
         })
     }
 }
@@ -64,30 +86,46 @@ impl<K: Key> Scratch<K> {
 /// Lists of groups, with room for all: the numbers of those that are due, or that records changed, and what puts them in order;
 /// the addresses of those that a call changed; and what puts these together.
 #[derive(Drop)]
-pub(crate) struct Lists<K: Key> {
-    pub(crate) due: Vec<u16>,
-    pub(crate) spare: Vec<u16>,
-    pub(crate) changed: Vec<K>,
-    pub(crate) by_tick: Vec<K>,
-    pub(crate) by_records: Vec<K>,
+pub(crate) struct Lists<K: Key, A: Allocator> {
+    pub(crate) due: Vec<u16, A>,
+    pub(crate) spare: Vec<u16, A>,
+    pub(crate) changed: Vec<K, A>,
+    pub(crate) by_tick: Vec<K, A>,
+    pub(crate) by_records: Vec<K, A>,
 }
 
-impl<K: Key> Lists<K> {
+impl<K: Key, A: Allocator> Lists<K, A> {
+    /// How many bytes `with_room` takes; or none, where no memory has as many.
+    pub(crate) fn size(groups: usize) -> Option<usize>
+        requires counted { groups < 2 ^ 32 }
+        ensures { IsSize (bytes_of_lists (item_bytes K.row) groups) result }
+    {
+        let numbers = vector_size::<u16>(groups);
+        let both = vector_size::<K>(2 * groups);
+        both_sizes(
+            both_sizes(both_sizes(both_sizes(numbers, numbers), both), both),
+            vector_size::<K>(groups),
+        )
+    }
+
     /// For so many groups; or `Memory`, where that was refused. A call may change twice as many: those that a tick ends, and those
     /// that come in their place.
-    pub(crate) fn with_room(alloc: Global, groups: usize) -> Result<Lists<K>, Memory>
+    #[tactic(auto, unfolding(crate::specs::Sizes::bytes_of_lists))]
+    pub(crate) fn with_room<M: VectorSource<A>>(
+        memory: &mut M,
+        groups: usize,
+    ) -> Result<Lists<K, A>, Memory>
+        requires counted { groups < 2 ^ 32 }
         ensures room { IfOk result (HasSpace groups) }
         ensures none { IfOk result (λ lists. lists.changed.items ≡ []) }
+        ensures memory { Takes (bytes_of_lists (item_bytes K.row) groups) (M.less_than memory.old) (M.less_than memory.new) (is_ok result) }
     {
-        let Some(both) = groups.checked_mul(2) else {
-            return Err(Memory);
-        };
         Ok(Lists {
-            due: Vec::with_capacity(alloc, groups)?,
-            spare: vec![in alloc; 0; groups]?,
-            changed: Vec::with_capacity(alloc, both)?,
-            by_tick: Vec::with_capacity(alloc, both)?,
-            by_records: Vec::with_capacity(alloc, groups)?,
+            due: memory.with_capacity(groups)?,
+            spare: filled(memory, 0, groups)?,
+            changed: memory.with_capacity(2 * groups)?,
+            by_tick: memory.with_capacity(2 * groups)?,
+            by_records: memory.with_capacity(groups)?,
         })
     }
 }
@@ -95,8 +133,8 @@ impl<K: Key> Lists<K> {
 /// The groups that a router holds, and how many comparisons and moves the work on them has made. All storage is taken as it is
 /// made.
 #[derive(Drop)]
-pub(crate) struct Storage<K: Key> {
-    pub(crate) held: HeldGroups<K>,
+pub(crate) struct Storage<K: Key, A: Allocator> {
+    pub(crate) held: HeldGroups<K, A>,
     pub(crate) meter: Meter,
     pub(crate) moves: Moves,
 }
@@ -110,7 +148,11 @@ pub(crate) struct Sought<K: Key> {
 
 /// Looks for a group. At most two comparisons more than the binary digits of how many groups there are; at least one, where a
 /// group is held.
-pub(crate) fn find<K: Key>(held: &HeldGroups<K>, address: K, m: &mut Meter) -> Sought<K>
+pub(crate) fn find<K: Key, A: Allocator>(
+    held: &HeldGroups<K, A>,
+    address: K,
+    m: &mut Meter,
+) -> Sought<K>
     ensures address { result.address ≡ address }
     ensures held { is_ok result.found ≡ map.contains_key held.now.groups (K.number address) }
     ensures sought { IsSought K.number held.now result }
@@ -125,7 +167,10 @@ pub(crate) fn find<K: Key>(held: &HeldGroups<K>, address: K, m: &mut Meter) -> S
 
 /// A group that was looked for, as it stands in the storage. One that isn't held is INCLUDE without sources, and nothing is
 /// due for it. No comparison.
-pub(crate) fn look<K: Key>(held: &HeldGroups<K>, sought: Sought<K>) -> HeldGroup<'_, K>
+pub(crate) fn look<K: Key, A: Allocator>(
+    held: &HeldGroups<K, A>,
+    sought: Sought<K>,
+) -> HeldGroup<'_, K>
     requires sought { IsSought K.number held.now sought }
     ensures group { let e : ScheduledGroup = record { group = group_stored K.number result; schedule = result.schedule } in
         e ≡ group_at held.now.groups (K.number sought.address) }
@@ -146,22 +191,28 @@ pub(crate) fn look<K: Key>(held: &HeldGroups<K>, sought: Sought<K>) -> HeldGroup
     }
 }
 
-impl<K: Key> Storage<K> {
+impl<K: Key, A: Allocator> Storage<K, A> {
     /// No groups, with room for as many as the limits allow; or `Memory`, where that was refused.
-    pub(crate) fn with_room(alloc: Global, limits: &Limits) -> Result<Storage<K>, Memory>
+    pub(crate) fn with_room<M: VectorSource<A>>(
+        memory: &mut M,
+        limits: &Limits,
+    ) -> Result<Storage<K, A>, Memory>
         requires groups { limits.now.groups ≤ 65535 }
         requires sources { limits.now.sources ≤ 65535 }
         ensures held { IfOk result (λ s. s.held ≡ empty_state limits.now.groups limits.now.sources) }
         ensures unspent { IfOk result (λ s. s.meter ≡ 0) }
         ensures unmoved { IfOk result (λ s. s.moves ≡ 0) }
+        ensures memory { Takes (bytes_of_link (page.the_row u16 A.row ⟦<A as Allocator>⟧) K.row limits.now) (M.less_than memory.old) (M.less_than memory.new) (is_ok result) }
     {
         Ok(Storage {
-            held: HeldGroups::with_room(alloc, limits.groups as usize, limits.sources as usize)?,
+            held: HeldGroups::with_room(memory, limits.groups as usize, limits.sources as usize)?,
             meter: Meter::new(),
             moves: Moves::none(),
         })
     }
+}
 
+impl<K: Key, A: Allocator> Storage<K, A> {
     /// The groups have no more sources than there may be. It does nothing: its contract is the fact.
     pub(crate) fn lemma_sources_fit(&self)
         ensures { sources_in self.now.held.groups ≤ self.now.held.source_room }
@@ -172,7 +223,7 @@ impl<K: Key> Storage<K> {
     /// Puts a group that was worked on back under its number. One that is INCLUDE without sources, and so no longer held,
     /// stays until it is taken out. At most one comparison for each of its sources, four more, and one for each binary digit of
     /// how many groups there are.
-    pub(crate) fn put(&mut self, number: u16, group: &Group<K>, schedule: Schedule)
+    pub(crate) fn put<B: Allocator>(&mut self, number: u16, group: &Group<K, B>, schedule: Schedule)
         requires number { IsNumber self.old.held number }
         requires held { is_vacant group.now.state ≡ false → IsHeld group.now.state }
         requires fits { (address : ℕ) → HasNumber self.old.held address number →
@@ -192,10 +243,10 @@ impl<K: Key> Storage<K> {
     /// Keeps a group that was worked on, which was looked for: it is put back, made, or, where it isn't held before or after,
     /// left alone. One that is held stays held. Answers its number, where it is held. At most one comparison for each of its
     /// sources, four more, and one for each binary digit of how many groups there are.
-    pub(crate) fn keep(
+    pub(crate) fn keep<B: Allocator>(
         &mut self,
         sought: Sought<K>,
-        group: &Group<K>,
+        group: &Group<K, B>,
         schedule: Schedule,
     ) -> Option<u16>
         requires few { self.old.held.order.room ≤ 65535 }
@@ -230,7 +281,13 @@ impl<K: Key> Storage<K> {
     }
 
     /// Makes a group that was worked on, at the spot where it goes. Answers its number.
-    fn insert(&mut self, spot: Spot, address: K, group: &Group<K>, schedule: Schedule) -> u16
+    fn insert<B: Allocator>(
+        &mut self,
+        spot: Spot,
+        address: K,
+        group: &Group<K, B>,
+        schedule: Schedule,
+    ) -> u16
         requires few { self.old.held.order.room ≤ 65535 }
         requires spot { IsSpotFor self.old.held.order.items self.old.held.order.pages (K.number address) spot }
         requires held { IsHeld group.now.state }

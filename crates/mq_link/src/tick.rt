@@ -38,12 +38,13 @@ use mq_count::{Meter, Moment};
 use mq_sched::{Schedule, Sink};
 use mq_table::Group;
 use mq_wire::WireKey;
+use std::alloc::Allocator;
 
 /// Ends the timers of a group that have run out, and sends what is due for it then. Answers whether another filter is
 /// forwarded of it then. At most three comparisons for each of its sources, and six more.
-fn serve<K: WireKey, S: Sink<K>>(
+fn serve<K: WireKey, A: Allocator, S: Sink<K>>(
     address: K,
-    group: &mut Group<K>,
+    group: &mut Group<K, A>,
     schedule: &mut Schedule,
     at: &InForce,
     m: &mut Meter,
@@ -65,14 +66,14 @@ fn serve<K: WireKey, S: Sink<K>>(
     changes
 }
 
-impl<K: WireKey> Storage<K> {
+impl<K: WireKey, A: Allocator> Storage<K, A> {
     /// Serves the group of a number, and puts it back; one that is INCLUDE without sources then stays until it is taken out.
     /// Answers its address, where another filter is forwarded of it then. At most four comparisons for each of its sources,
     /// ten more, and one for each binary digit of how many groups there are.
-    fn tick_group<S: Sink<K>>(
+    fn tick_group<B: Allocator, S: Sink<K>>(
         &mut self,
         number: u16,
-        group: &mut Group<K>,
+        group: &mut Group<K, B>,
         at: &InForce,
         sink: &mut S,
     ) -> Option<K>
@@ -111,10 +112,10 @@ impl<K: WireKey> Storage<K> {
     /// at or before it are left alone. Lists the addresses of those of which another filter is forwarded then. At least one
     /// comparison for each group that has such a moment, and one more, where there is another group; at most four for each
     /// source, 44 for each group and one more; where no group has such a moment, one at most.
-    fn tick_groups<S: Sink<K>>(
+    fn tick_groups<B: Allocator, S: Sink<K>>(
         &mut self,
-        lists: &mut Lists<K>,
-        group: &mut Group<K>,
+        lists: &mut Lists<K, B>,
+        group: &mut Group<K, B>,
         at: &InForce,
         sink: &mut S,
     )
@@ -186,11 +187,11 @@ fn send_general<F: Family, O: Outlet<F::Address>>(is_due: bool, sender: &mut Sen
 /// addresses of the groups of which another filter is forwarded then. At least one comparison for each group that has such
 /// a moment, and one more; at most four for each source, 44 for each group and two more; where no group has such a moment,
 /// two at most.
-fn do_due<F: Family, O: Outlet<F::Address>>(
+fn do_due<F: Family, A: Allocator, B: Allocator, O: Outlet<F::Address>>(
     status: &mut Status<F>,
-    storage: &mut Storage<F::Address>,
-    lists: &mut Lists<F::Address>,
-    group: &mut Group<F::Address>,
+    storage: &mut Storage<F::Address, A>,
+    lists: &mut Lists<F::Address, B>,
+    group: &mut Group<F::Address, B>,
     now: Moment,
     sender: &mut Sender<F, O>,
 )
@@ -229,13 +230,13 @@ fn do_due<F: Family, O: Outlet<F::Address>>(
     storage.tick_groups(lists, group, &at, sender);
 }
 
-impl<F: Family> Router<F> {
+impl<F: Family, A: Allocator> Router<F, A> {
     /// Does what is due at or before `now`; a moment before the last one counts as the last one. The workspace lists the
     /// groups that it changes, and no others. At least one comparison for each group that has something to do, and two more;
     /// at most four for each source, 44 for each group and three more; before the next moment, three at most.
-    pub(crate) fn come_to<O: Outlet<F::Address>>(
+    pub(crate) fn come_to<B: Allocator, O: Outlet<F::Address>>(
         &mut self,
-        work: &mut Workspace<F>,
+        work: &mut Workspace<F, B>,
         now: Moment,
         sender: &mut Sender<F, O>,
     )
@@ -269,9 +270,9 @@ impl<F: Family> Router<F> {
     }
 
     /// A tick: what is due then is done, and the answers of the outlet are counted.
-    pub(crate) fn tick<O: Outlet<F::Address>>(
+    pub(crate) fn tick<B: Allocator, O: Outlet<F::Address>>(
         &mut self,
-        work: &mut Workspace<F>,
+        work: &mut Workspace<F, B>,
         now: Moment,
         sender: &mut Sender<F, O>,
     )

@@ -1,13 +1,16 @@
 //! What calls of links work in, which many links may use in turn.
 
-ghost use Rattle.std.specs.Prelude.{◌≡◌, ◌*◌, ◌≤◌, [], length, map, IfOk};
+ghost use Rattle.std.specs.Prelude.{◌≡◌, ◌*◌, ◌≤◌, [], length, map, IfOk, is_ok};
+ghost use Rattle.mq_arena.specs.Vectors.{IsSize, Takes};
+ghost use Rattle.mq_link.specs.Sizes.{bytes_of_workspace};
 ghost use Rattle.mq_link.specs.Workspace as spec;
 
 use crate::configuration::Limits;
 use crate::family::Family;
 use crate::storage::{Lists, Scratch};
+use mq_arena::{OfAllocator, VectorSource, both_sizes};
 use mq_sets::Memory;
-use std::alloc::Global;
+use std::alloc::{Allocator, Global};
 use std::marker::Model;
 
 /// What the calls of a link work in, for as long as one of them lasts: a group, the sources that a record names and those to ask
@@ -16,14 +19,14 @@ use std::marker::Model;
 /// of many links, in any order. A contract sees for how many groups it has room, for how many sources of one, and these addresses;
 /// no call depends on what it held before. `with_room` takes the memory.
 #[derive(Drop)]
-pub struct Workspace<F: Family> {
-    pub(crate) scratch: Scratch<F::Address>,
-    pub(crate) lists: Lists<F::Address>,
+pub struct Workspace<F: Family, A: Allocator = Global> {
+    pub(crate) scratch: Scratch<F::Address, A>,
+    pub(crate) lists: Lists<F::Address, A>,
     groups: u32,
     group_sources: u32,
 }
 
-impl<F: Family> Model for Workspace<F> {
+impl<F: Family, A: Allocator> Model for Workspace<F, A> {
     ghost use Rattle.std.specs.Prelude.{map};
     ghost use Rattle.mq_link.specs.Workspace.{WorkspaceState, workspace_code, IsWorkspace};
 
@@ -40,16 +43,41 @@ impl<F: Family> Model for Workspace<F> {
     ghost invariant = { λ w. IsWorkspace F.Address.number w.groups w.group_sources w.scratch w.lists };
 }
 
-impl<F: Family> Workspace<F> {
+impl<F: Family, A: Allocator + Copy> Workspace<F, A> {
     /// One for links of these limits, and of any that allow no more groups and no more sources of one; or `Memory`, where that
     /// was refused.
-    pub fn with_room(alloc: Global, limits: &Limits) -> Result<Workspace<F>, Memory>
+    pub fn with_room(alloc: A, limits: &Limits) -> Result<Workspace<F, A>, Memory>
         ensures { IfOk result (λ w. w ≡ record { groups = limits.now.groups; group_sources = limits.now.group_sources; changed = [] }) }
+    {
+        Workspace::with_room_in(&mut OfAllocator(alloc), limits)
+    }
+}
+
+impl<F: Family, A: Allocator> Workspace<F, A> {
+    /// How many bytes `with_room_in` takes; or none, where no memory has as many.
+    pub fn size(limits: &Limits) -> Option<usize>
+        ensures { IsSize (bytes_of_workspace F.Address.row limits.now) result }
+    {
+        let groups = limits.groups as usize;
+        both_sizes(
+            Scratch::<F::Address, A>::size(groups, limits.group_sources as usize),
+            Lists::<F::Address, A>::size(groups),
+        )
+    }
+
+    /// The same, of memory that vectors are made of. It is granted where that memory has `size` of the limits.
+    #[tactic(auto, unfolding(crate::specs::Sizes::bytes_of_room))]
+    pub fn with_room_in<M: VectorSource<A>>(
+        memory: &mut M,
+        limits: &Limits,
+    ) -> Result<Workspace<F, A>, Memory>
+        ensures workspace { IfOk result (λ w. w ≡ record { groups = limits.now.groups; group_sources = limits.now.group_sources; changed = [] }) }
+        ensures memory { Takes (bytes_of_workspace F.Address.row limits.now) (M.less_than memory.old) (M.less_than memory.new) (is_ok result) }
     {
         let groups = limits.groups as usize;
         Ok(Workspace {
-            scratch: Scratch::with_room(alloc, groups, limits.group_sources as usize)?,
-            lists: Lists::with_room(alloc, groups)?,
+            scratch: Scratch::with_room(memory, groups, limits.group_sources as usize)?,
+            lists: Lists::with_room(memory, groups)?,
             groups: limits.groups,
             group_sources: limits.group_sources,
         })

@@ -14,6 +14,8 @@ mod kept;
 #[cfg(test)]
 mod playing;
 #[cfg(test)]
+mod reserving;
+#[cfg(test)]
 mod row;
 #[cfg(test)]
 mod spelling;

@@ -5,13 +5,15 @@ ghost use Rattle.std.specs.Prelude.{◌≤◌, ◌^◌};
 use crate::bytes::Bytes;
 use crate::facts::{at, is_at, unless};
 use crate::kept::Kept;
+use crate::reserving::{InLentMemory, OnHeap, Reserves};
 use crate::row::{Answer, Fact, Given, Happening, fact_of, given_of, happening_of};
 use crate::spelling::bytes_of;
 use crate::tally::Tally;
 use crate::written::Written;
+use mq_arena::Lodged;
 use mq_count::{Meter, Moment};
 use mq_link::{Config, ConfigFault, FilterMode, HeldGroup, Link, MessageKind, Source, SourceTimer};
-use std::alloc::Global;
+use std::alloc::{Allocator, Global};
 use std::process::Abort;
 use std::str::Lines;
 
@@ -29,22 +31,14 @@ pub fn configured<F: Written>(given: &Given<'_>) -> Option<Result<Config<F>, Con
     ))
 }
 
-/// A link that starts at 0, or what is wrong.
-fn started<F: Written>(alloc: Global, given: &Given<'_>) -> Result<Link<F>, &'static str> {
-    let Some(Ok(config)) = configured::<F>(given) else {
-        return Err("another configuration");
-    };
-    match Link::new(alloc, config, at(0)) {
-        Ok(link) => Ok(link),
-        Err(_) => Err("memory for a link"),
-    }
-}
-
 /// Also where one request for memory is refused. All memory is taken here.
-fn reserved<F: Written>(alloc: Global, given: &Given<'_>) -> Result<Link<F>, &'static str> {
-    match started(alloc, given) {
+fn reserved<F: Written, A: Allocator, R: Reserves<A>>(
+    alloc: Global,
+    given: &Given<'_>,
+) -> Result<Link<F, A>, &'static str> {
+    match R::link(alloc, given) {
         Ok(link) => Ok(link),
-        Err(_) => started(alloc, given),
+        Err(_) => R::link(alloc, given),
     }
 }
 
@@ -95,8 +89,8 @@ fn report(number: u32) -> [u8; 8] {
 
 /// A link with what its outlet was handed, and what it has to have counted.
 #[derive(Drop)]
-struct Play<F: Written> {
-    link: Link<F>,
+struct Play<F: Written, A: Allocator> {
+    link: Link<F, A>,
     /// What is known of the next datagrams.
     envelope: F::Envelope,
     /// What the outlet answers.
@@ -113,7 +107,7 @@ struct Play<F: Written> {
     by_other: u64,
 }
 
-impl<F: Written> Play<F> {
+impl<F: Written, A: Allocator> Play<F, A> {
     /// Before a call.
     fn begin(&mut self) {
         self.spent_before = self.link.spent();
@@ -361,7 +355,7 @@ impl<F: Written> Play<F> {
     }
 
     /// Goes on with another link, where this one is told.
-    fn go_on(&mut self, other: Result<Play<F>, &'static str>) -> Option<&'static str> {
+    fn go_on(&mut self, other: Result<Play<F, A>, &'static str>) -> Option<&'static str> {
         let failed = self.end();
         if failed.is_some() {
             return failed;
@@ -377,13 +371,17 @@ impl<F: Written> Play<F> {
 }
 
 /// A row that begins, by the line of its configuration.
-fn begun<F: Written>(alloc: Global, line: &str, answer: bool) -> Result<Play<F>, &'static str> {
+fn begun<F: Written, A: Allocator, R: Reserves<A>>(
+    alloc: Global,
+    line: &str,
+    answer: bool,
+) -> Result<Play<F, A>, &'static str> {
     let (Some(given), Some(envelope)) = (given_of(F::given(), line), F::envelope(&F::packet()))
     else {
         return Err("no configuration");
     };
     Ok(Play {
-        link: reserved(alloc, &given)?,
+        link: reserved::<F, A, R>(alloc, &given)?,
         envelope,
         answer,
         sent: Bytes::none(),
@@ -397,16 +395,16 @@ fn begun<F: Written>(alloc: Global, line: &str, answer: bool) -> Result<Play<F>,
 }
 
 /// Plays lines, where a link begins as `given` says. The one in which something is wrong, and what.
-fn wrong_line<'a, F: Written>(
+fn wrong_line<'a, F: Written, A: Allocator, R: Reserves<A>>(
     alloc: Global,
     given: &str,
-    play: &mut Play<F>,
+    play: &mut Play<F, A>,
     lines: Lines<'a>,
 ) -> Option<(&'a str, &'static str)> {
     for line in lines {
         let line = line.trim();
         let failed = if line == "anew" {
-            play.go_on(begun::<F>(alloc, given, play.answer))
+            play.go_on(begun::<F, A, R>(alloc, given, play.answer))
         } else {
             play.line(line)
         };
@@ -418,7 +416,7 @@ fn wrong_line<'a, F: Written>(
 }
 
 /// The line of a row in which something is wrong, and what.
-fn wrong_in<'a, F: Written>(
+fn wrong_in<'a, F: Written, A: Allocator, R: Reserves<A>>(
     alloc: Global,
     row: &'a str,
     answer: bool,
@@ -427,9 +425,9 @@ fn wrong_in<'a, F: Written>(
     let (Some(title), Some(given)) = (lines.next(), lines.next()) else {
         return Some((row, "no row"));
     };
-    match begun::<F>(alloc, given, answer) {
+    match begun::<F, A, R>(alloc, given, answer) {
         Ok(mut play) => {
-            wrong_line(alloc, given, &mut play, lines).or(of_title(title, play.end()))
+            wrong_line::<F, A, R>(alloc, given, &mut play, lines).or(of_title(title, play.end()))
         }
         Err(what) => Some((title, what)),
     }
@@ -443,15 +441,26 @@ fn of_title<'a>(title: &'a str, failed: Option<&'static str>) -> Option<(&'a str
     }
 }
 
-/// Plays the rows, each with an outlet that sends all and with one that sends nothing.
+/// Plays a row on a link whose memory is so reserved.
+fn expect_row<F: Written, A: Allocator, R: Reserves<A>>(
+    rt: &impl Abort,
+    alloc: Global,
+    row: &str,
+    answer: bool,
+) {
+    if let Some((line, what)) = wrong_in::<F, A, R>(alloc, row, answer) {
+        let shows = row.lines().next().unwrap_or("");
+        panic!(rt; "{shows}: {line}: {what}");
+    }
+}
+
+/// Plays the rows, each with an outlet that sends all and with one that sends nothing; and on a link in lent memory.
 pub fn expect_rows<F: Written>(rt: &impl Abort, alloc: Global, rows: &[&str]) {
     for row in rows {
         for answer in [true, false] {
-            if let Some((line, what)) = wrong_in::<F>(alloc, row, answer) {
-                let shows = row.lines().next().unwrap_or("");
-                panic!(rt; "{shows}: {line}: {what}");
-            }
+            expect_row::<F, Global, OnHeap>(rt, alloc, row, answer);
         }
+        expect_row::<F, Lodged, InLentMemory>(rt, alloc, row, true);
     }
 }
 
@@ -459,7 +468,7 @@ pub fn expect_rows<F: Written>(rt: &impl Abort, alloc: Global, rows: &[&str]) {
 pub fn expect_wrong<F: Written>(rt: &impl Abort, alloc: Global, rows: &[(&str, &str)]) {
     for (row, wanted) in rows {
         for answer in [true, false] {
-            match wrong_in::<F>(alloc, row, answer) {
+            match wrong_in::<F, Global, OnHeap>(alloc, row, answer) {
                 Some((_, what)) => assert!(rt; what == *wanted, "{wanted}: {what}"),
                 None => panic!(rt; "{wanted}: nothing is wrong"),
             }

@@ -19,11 +19,12 @@ use crate::printing::LineFault;
 use mq_count::{Moment, Watched};
 use mq_link::{Family, Link};
 use mq_table::{FilterMode, Source};
+use std::alloc::Allocator;
 use std::io::Write;
 
 /// Puts, where they are asked for, the lines of the groups that the last call of a link has changed.
-pub(crate) fn put_changes<F: Family, W: Write>(
-    link: &Link<F>,
+pub(crate) fn put_changes<F: Family, A: Allocator, W: Write>(
+    link: &Link<F, A>,
     moment: Moment,
     asked: bool,
     buffer: &mut Buffer,
@@ -44,8 +45,8 @@ where
 }
 
 /// Puts the line of each.
-fn put_each<F: Family, W: Write>(
-    link: &Link<F>,
+fn put_each<F: Family, A: Allocator, W: Write>(
+    link: &Link<F, A>,
     moment: Moment,
     buffer: &mut Buffer,
     writer: &mut Watched<W>,
@@ -65,8 +66,8 @@ where
 }
 
 /// Puts the line of a group; of one that isn't held nothing is forwarded.
-fn put_group<F: Family, W: Write>(
-    link: &Link<F>,
+fn put_group<F: Family, A: Allocator, W: Write>(
+    link: &Link<F, A>,
     moment: Moment,
     address: F::Address,
     buffer: &mut Buffer,

@@ -16,6 +16,7 @@ use crate::replay_lines::{put_counts, put_role};
 use crate::ticks::tick_before;
 use mq_count::{Meter, Moment, Span, Watched};
 use mq_link::Link;
+use std::alloc::Allocator;
 use std::io::Write;
 
 /// How far apart two moments of a replay may be at most, in milliseconds.
@@ -41,8 +42,8 @@ pub(crate) fn last_moment(until: Option<Moment>, last: Moment) -> Moment
 }
 
 /// Does the ticks up to and including the end of a replay, and puts what the link is and holds then.
-pub(crate) fn put_ending<F: CapturedFamily, W: Write>(
-    link: &mut Link<F>,
+pub(crate) fn put_ending<F: CapturedFamily, A: Allocator, W: Write>(
+    link: &mut Link<F, A>,
     end: Moment,
     changes: bool,
     buffer: &mut Buffer,
@@ -66,8 +67,8 @@ where
 }
 
 /// Puts the lines of the groups that a link holds.
-fn put_groups<F: CapturedFamily, W: Write>(
-    link: &Link<F>,
+fn put_groups<F: CapturedFamily, A: Allocator, W: Write>(
+    link: &Link<F, A>,
     buffer: &mut Buffer,
     writer: &mut Watched<W>,
 ) -> Result<(), LineFault>

@@ -13,12 +13,13 @@ use crate::printing::LineFault;
 use crate::sent_queries::tick;
 use mq_count::{Moment, Watched};
 use mq_link::Link;
+use std::alloc::Allocator;
 use std::io::Write;
 
 /// Does a tick of a link: puts the line of each query that it sends, and then, where they are asked for, those of the groups
 /// that it changes.
-pub(crate) fn tick_at<F: CapturedFamily, W: Write>(
-    link: &mut Link<F>,
+pub(crate) fn tick_at<F: CapturedFamily, A: Allocator, W: Write>(
+    link: &mut Link<F, A>,
     moment: Moment,
     changes: bool,
     buffer: &mut Buffer,

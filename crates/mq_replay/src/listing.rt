@@ -22,14 +22,14 @@ use crate::replay_fault::{ReplayFault, is_failed_write};
 use crate::stamps::Stamps;
 use mq_count::Watched;
 use mq_pcap::{GREATEST_PACKET, Inner, LinkType, PcapReader, unwrap_frame};
-use std::alloc::Global;
+use std::alloc::Allocator;
 use std::io::{Read, Write};
 
 /// Writes a line for each packet of a capture, and answers how many they are. Memory for one packet is taken
 /// before anything is read or written. Where the capture has a fault, the lines of all packets before it are
 /// written first.
-pub fn show<R: Read, W: Write>(
-    alloc: Global,
+pub fn show<A: Allocator, R: Read, W: Write>(
+    alloc: A,
     reader: &mut Watched<R>,
     writer: &mut Watched<W>,
 ) -> Result<u64, ReplayFault>

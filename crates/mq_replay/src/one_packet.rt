@@ -17,11 +17,12 @@ use crate::ticks::tick_before;
 use mq_count::{Moment, Watched};
 use mq_link::Link;
 use mq_pcap::Inner;
+use std::alloc::Allocator;
 use std::io::Write;
 
 /// Does the ticks before a packet, and then hands its datagram to the link, or skips it: puts the lines of all this.
-pub(crate) fn replay_packet<F: CapturedFamily, W: Write>(
-    link: &mut Link<F>,
+pub(crate) fn replay_packet<F: CapturedFamily, A: Allocator, W: Write>(
+    link: &mut Link<F, A>,
     moment: Moment,
     number: u64,
     changes: bool,
@@ -48,8 +49,8 @@ where
 
 /// Hands a datagram to a link: puts the lines of the queries that it sends, that of its answer, and then, where they are asked
 /// for, those of the groups that it changes.
-fn hand_over<F: CapturedFamily, W: Write>(
-    link: &mut Link<F>,
+fn hand_over<F: CapturedFamily, A: Allocator, W: Write>(
+    link: &mut Link<F, A>,
     moment: Moment,
     number: u64,
     changes: bool,

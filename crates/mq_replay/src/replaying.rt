@@ -22,7 +22,7 @@ use crate::stamps::{Stamps, first_moment};
 use mq_count::{Moment, Watched};
 use mq_link::{Config, Counts, Link};
 use mq_pcap::{GREATEST_PACKET, PcapReader, unwrap_frame};
-use std::alloc::Global;
+use std::alloc::Allocator;
 use std::io::{Read, Write};
 
 /// Replays a capture: a link so configured, which starts at 0, is handed its datagrams at their moments, with a tick at
@@ -31,8 +31,8 @@ use std::io::{Read, Write};
 /// the moment of the last packet, or the one that is asked for, if that is later.
 /// All memory is taken before anything is read or written. Where the capture has a fault or a gap, the lines of all that
 /// comes before it are written first.
-pub fn replay<F: CapturedFamily, R: Read, W: Write>(
-    alloc: Global,
+pub fn replay<F: CapturedFamily, A: Allocator + Copy, R: Read, W: Write>(
+    alloc: A,
     config: Config<F>,
     asked: Asked,
     reader: &mut Watched<R>,
@@ -59,8 +59,8 @@ where
 }
 
 /// The same on a link that is made, with room for a packet that is lent.
-fn replay_on<F: CapturedFamily, R: Read, W: Write>(
-    link: &mut Link<F>,
+fn replay_on<F: CapturedFamily, A: Allocator, R: Read, W: Write>(
+    link: &mut Link<F, A>,
     asked: Asked,
     packet: &mut [u8],
     reader: &mut Watched<R>,
@@ -88,8 +88,8 @@ where
 }
 
 /// Puts the lines of a capture.
-fn put_replay<F: CapturedFamily, R: Read, W: Write>(
-    link: &mut Link<F>,
+fn put_replay<F: CapturedFamily, A: Allocator, R: Read, W: Write>(
+    link: &mut Link<F, A>,
     asked: Asked,
     packet: &mut [u8],
     buffer: &mut Buffer,
@@ -113,8 +113,8 @@ where
 }
 
 /// Puts the lines of the packets of a capture before its first packet was read, and of the end.
-fn put_packets<F: CapturedFamily, R: Read, W: Write>(
-    link: &mut Link<F>,
+fn put_packets<F: CapturedFamily, A: Allocator, R: Read, W: Write>(
+    link: &mut Link<F, A>,
     asked: Asked,
     capture: &mut PcapReader,
     packet: &mut [u8],
@@ -156,8 +156,8 @@ where
 
 /// Puts what stands behind the packets of a capture that has ended: what the link is and holds at the end of the replay,
 /// unless there is a gap before that.
-fn put_rest<F: CapturedFamily, W: Write>(
-    link: &mut Link<F>,
+fn put_rest<F: CapturedFamily, A: Allocator, W: Write>(
+    link: &mut Link<F, A>,
     asked: Asked,
     last: Moment,
     number: u64,

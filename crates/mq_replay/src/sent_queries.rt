@@ -11,11 +11,12 @@ use crate::printing::LineFault;
 use crate::query_outlet::QueryLines;
 use mq_count::{Moment, Watched};
 use mq_link::{Family, Link, Received};
+use std::alloc::Allocator;
 use std::io::Write;
 
 /// Does what is due at a moment, and puts the line of each query that the link sends.
-pub(crate) fn tick<F: Family, W: Write>(
-    link: &mut Link<F>,
+pub(crate) fn tick<F: Family, A: Allocator, W: Write>(
+    link: &mut Link<F, A>,
     now: Moment,
     buffer: &mut Buffer,
     writer: &mut Watched<W>,
@@ -37,8 +38,8 @@ where
 
 /// Hands the link a datagram that came at a moment, and puts the line of each query that it sends then. Answers what
 /// became of the datagram.
-pub(crate) fn receive<F: Family, W: Write>(
-    link: &mut Link<F>,
+pub(crate) fn receive<F: Family, A: Allocator, W: Write>(
+    link: &mut Link<F, A>,
     envelope: &F::Envelope,
     body: &[u8],
     now: Moment,

@@ -12,12 +12,13 @@ use crate::line_key::LineKey;
 use crate::printing::LineFault;
 use mq_count::{Meter, Moment, Watched};
 use mq_link::Link;
+use std::alloc::Allocator;
 use std::io::Write;
 
 /// Does the ticks of a link at its next moments, one after the other, as long as these are before `limit`: puts their
 /// lines.
-pub(crate) fn tick_before<F: CapturedFamily, W: Write>(
-    link: &mut Link<F>,
+pub(crate) fn tick_before<F: CapturedFamily, A: Allocator, W: Write>(
+    link: &mut Link<F, A>,
     limit: Moment,
     changes: bool,
     buffer: &mut Buffer,

@@ -7,6 +7,7 @@ pub mod NumberedMoments
 pub mod PlaceMoves
 pub mod Portions
 pub mod Sending
+pub mod Sizes
 pub mod Sink
 pub mod Collected
 pub mod Announcement

@@ -1,15 +1,18 @@
 //! A tree of deadlines, with the earliest of them at its top.
 
-ghost use Rattle.std.specs.Prelude.{◌≡◌, ℕ, ◌+◌, ◌-◌, ◌*◌, ◌/◌, ◌<◌, ◌≤◌, ◌==◌, [], min, length, take, drop, slice_index, slice_index_or, if◌then◌else◌, IfOk, MatchOption};
+ghost use Rattle.std.specs.Prelude.{◌≡◌, ℕ, ◌+◌, ◌-◌, ◌*◌, ◌/◌, ◌<◌, ◌≤◌, ◌==◌, [], min, length, take, drop, slice_index, slice_index_or, if◌then◌else◌, IfOk, MatchOption, is_ok};
 ghost use Rattle.std.specs.List.{count_by};
+ghost use Rattle.mq_arena.specs.Vectors.{IsSize, Takes};
 ghost use Rattle.mq_count.specs.Spending.{Spends};
 ghost use Rattle.mq_sets.specs.Search.{bitlen};
 ghost use Rattle.mq_sched.specs.DeadlineTree.{TreeState, IsTreeBut, IsEarliestLeaf, is_leaf_due, leaf_before};
+ghost use Rattle.mq_sched.specs.Sizes.{bytes_of_tree};
 
 use crate::due_leaves::collect;
 use crate::leaf_names::LeafName;
 use crate::node_pairs::nodes_below;
 use crate::settling::settle;
+use mq_arena::{VectorSource, both_sizes, vector_size};
 use mq_count::{Meter, Moment, Moves};
 use mq_sets::Memory;
 use std::alloc::{Allocator, Global};
@@ -43,15 +46,28 @@ impl<A: Allocator> Model for DeadlineTree<A> {
         × (t.room ≤ vec_capacity t.lefts) };
 }
 
-impl<A: Allocator + Copy> DeadlineTree<A> {
-    /// No deadlines, with room for so many; or `Memory`, where that memory was refused.
-    pub(crate) fn with_room(alloc: A, room: usize) -> Result<DeadlineTree<A>, Memory>
+impl<A: Allocator> DeadlineTree<A> {
+    /// How many bytes `with_room` takes; or none, where no memory has as many.
+    pub(crate) fn size(room: usize) -> Option<usize>
         requires { room ≤ 65536 }
-        ensures { IfOk result (λ t. t ≡ record { nodes = []; count = 0; room = room }) }
+        ensures { IsSize (bytes_of_tree room) result }
+    {
+        both_sizes(vector_size::<Moment>(2 * room), vector_size::<bool>(room))
+    }
+
+    /// No deadlines, with room for so many; or `Memory`, where that memory was refused.
+    #[tactic(auto, unfolding(crate::specs::Sizes::bytes_of_tree))]
+    pub(crate) fn with_room<M: VectorSource<A>>(
+        memory: &mut M,
+        room: usize,
+    ) -> Result<DeadlineTree<A>, Memory>
+        requires { room ≤ 65536 }
+        ensures tree { IfOk result (λ t. t ≡ record { nodes = []; count = 0; room = room }) }
+        ensures memory { Takes (bytes_of_tree room) (M.less_than memory.old) (M.less_than memory.new) (is_ok result) }
     {
         Ok(DeadlineTree {
-            nodes: Vec::with_capacity(alloc, 2 * room)?,
-            lefts: Vec::with_capacity(alloc, room)?,
+            nodes: memory.with_capacity(2 * room)?,
+            lefts: memory.with_capacity(room)?,
             room,
         })
     }

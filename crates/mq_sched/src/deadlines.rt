@@ -9,6 +9,7 @@ ghost use Rattle.mq_sched.specs.Deadlines.{DeadlinesState, IsEarliest, is_due};
 
 use crate::deadline_tree::DeadlineTree;
 use crate::leaf_places::LeafPlaces;
+use mq_arena::OfAllocator;
 use mq_count::{Meter, Moment, Moves};
 use mq_sets::Memory;
 use std::alloc::Global;
@@ -51,7 +52,7 @@ impl Deadlines {
         ensures { IfOk result (λ d. d ≡ record { deadlines = []; room = room }) }
     {
         Ok(Deadlines {
-            tree: DeadlineTree::with_room(alloc, room)?,
+            tree: DeadlineTree::with_room(&mut OfAllocator(alloc), room)?,
             places: LeafPlaces::with_room(alloc, room)?,
             room,
         })

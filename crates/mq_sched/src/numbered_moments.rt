@@ -1,16 +1,19 @@
 //! Which groups are due: an index of their earliest moments, by the numbers of the groups.
 
-ghost use Rattle.std.specs.Prelude.{◌≡◌, ℕ, ◌+◌, ◌-◌, ◌*◌, ◌^◌, ◌<◌, ◌≤◌, min, length, take, drop, true, false, if◌then◌else◌, IfOk, MatchOption};
+ghost use Rattle.std.specs.Prelude.{◌≡◌, ℕ, ◌+◌, ◌-◌, ◌*◌, ◌^◌, ◌<◌, ◌≤◌, min, length, take, drop, true, false, if◌then◌else◌, IfOk, MatchOption, is_ok};
 ghost use Rattle.std.specs.FinMap as map;
 ghost use Rattle.std.specs.List.{All};
+ghost use Rattle.mq_arena.specs.Vectors.{IsSize, Takes};
 ghost use Rattle.mq_count.specs.Spending.{Spends};
 ghost use Rattle.mq_sets.specs.Search.{bitlen};
 ghost use Rattle.mq_sets.specs.Slots.{times};
 ghost use Rattle.mq_sched.specs.NumberedMoments.{NumberedMomentsState, IsEarliestMoment, is_number_due};
+ghost use Rattle.mq_sched.specs.Sizes.{bytes_of_moments};
 
 use crate::deadline_tree::DeadlineTree;
 use crate::leaf_moves::at_or;
 use crate::leaf_numbers::{give_up_number, write_numbers};
+use mq_arena::{VectorSource, both_sizes, filled, vector_size};
 use mq_count::{Meter, Moment, Moves};
 use mq_sets::Memory;
 use std::alloc::{Allocator, Global};
@@ -52,16 +55,32 @@ impl<A: Allocator> Model for NumberedMoments<A> {
         × (2 * n.room ≤ vec_capacity n.numbers) };
 }
 
-impl<A: Allocator + Copy> NumberedMoments<A> {
-    /// No moments, with room for those of the numbers below `room`; or `Memory`, where that memory was refused.
-    pub fn with_room(alloc: A, room: usize) -> Result<NumberedMoments<A>, Memory>
+impl<A: Allocator> NumberedMoments<A> {
+    /// How many bytes `with_room` takes; or none, where no memory has as many.
+    pub fn size(room: usize) -> Option<usize>
         requires numbered { room ≤ 2 ^ 16 }
-        ensures { IfOk result (λ n. n ≡ record { moments = map.empty; room = room }) }
+        ensures { IsSize (bytes_of_moments room) result }
+    {
+        both_sizes(
+            both_sizes(DeadlineTree::<A>::size(room), vector_size::<u32>(room)),
+            vector_size::<u16>(2 * room),
+        )
+    }
+
+    /// No moments, with room for those of the numbers below `room`; or `Memory`, where that memory was refused.
+    #[tactic(auto, unfolding(crate::specs::Sizes::bytes_of_moments))]
+    pub fn with_room<M: VectorSource<A>>(
+        memory: &mut M,
+        room: usize,
+    ) -> Result<NumberedMoments<A>, Memory>
+        requires numbered { room ≤ 2 ^ 16 }
+        ensures moments { IfOk result (λ n. n ≡ record { moments = map.empty; room = room }) }
+        ensures memory { Takes (bytes_of_moments room) (M.less_than memory.old) (M.less_than memory.new) (is_ok result) }
     {
         Ok(NumberedMoments {
-            tree: DeadlineTree::with_room(alloc, room)?,
-            leaves: vec![in alloc; 0; room]?,
-            numbers: Vec::with_capacity(alloc, 2 * room)?,
+            tree: DeadlineTree::with_room(memory, room)?,
+            leaves: filled(memory, 0, room)?,
+            numbers: memory.with_capacity(2 * room)?,
             room,
         })
     }

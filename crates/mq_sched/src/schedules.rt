@@ -14,6 +14,7 @@ ghost use Rattle.mq_sched.specs.Sending.{group_asked, sources_asked};
 use crate::queries::QuerySchedule;
 use mq_count::{Key, Meter, Moment};
 use mq_table::{FilterMode, Group, Source, SourceTimer, Timing};
+use std::alloc::Allocator;
 use std::marker::Model;
 
 /// The specific queries that are still to go for one group: its group-specific query, and from when
@@ -69,9 +70,9 @@ impl Schedule {
     /// Starts the group-specific query of a group: its timer is lowered to the last member query
     /// time, and the last member query count of sendings are to go, the first at once (RFC 3376
     /// section 6.6.3.1, RFC 3810 section 7.6.3.1). At most one comparison.
-    pub fn start_group<K: Key>(
+    pub fn start_group<K: Key, A: Allocator>(
         &mut self,
-        group: &mut Group<K>,
+        group: &mut Group<K, A>,
         now: Moment,
         timing: &Timing,
         m: &mut Meter,
@@ -94,7 +95,7 @@ impl Schedule {
     /// Drops what a record or the end of timers has left without its ground: the group query of a
     /// group that is INCLUDE, and the moment for sources where none has a sending to go. No
     /// comparison.
-    pub fn settle<K: Key>(&mut self, group: &Group<K>)
+    pub fn settle<K: Key, A: Allocator>(&mut self, group: &Group<K, A>)
         ensures { self.new ≡ settled group.now.state self.old }
     {
         if let FilterMode::Include = group.mode() {
@@ -109,9 +110,9 @@ impl Schedule {
     /// timers are above the last member query time are lowered to it, the last member query count of
     /// sendings are to go for each, and the first is due at once. Where there is none, all stays (RFC
     /// 3376 section 6.6.3.2, RFC 3810 section 7.6.3.2). At most two comparisons for each source of the group.
-    pub fn start_sources<K: Key>(
+    pub fn start_sources<K: Key, A: Allocator>(
         &mut self,
-        group: &mut Group<K>,
+        group: &mut Group<K, A>,
         asked: &[K],
         now: Moment,
         timing: &Timing,
@@ -132,7 +133,7 @@ impl Schedule {
 
     /// Drops all that was to go, as a router does that is no longer querier; no timer changes (RFC 3376
     /// section 6.6.2, RFC 3810 section 7.6.2). No comparison.
-    pub fn clear<K: Key>(&mut self, group: &mut Group<K>)
+    pub fn clear<K: Key, A: Allocator>(&mut self, group: &mut Group<K, A>)
         ensures cleared { let e : ScheduledGroup = record { group = group.old.state; schedule = self.old } in
             record { group = group.new.state; schedule = self.new } ≡ cleared e }
         ensures room { group.new.room ≡ group.old.room }
@@ -160,7 +161,7 @@ fn any_has_sendings<K: Key>(row: &[Source<K>]) -> bool
 }
 
 /// Whether some source of the group has a sending to go.
-pub(crate) fn has_sendings<K: Key>(group: &Group<K>) -> bool
+pub(crate) fn has_sendings<K: Key, A: Allocator>(group: &Group<K, A>) -> bool
     ensures { result ≡ some_source (has_sendings group.now.state) group.now.state }
 {
     any_has_sendings(group.sources())

@@ -14,6 +14,7 @@ use crate::schedules::{Schedule, has_sendings};
 use crate::sinks::{QueryParts, Sink};
 use mq_count::{Key, Meter, Moment};
 use mq_table::{Group, Timing, runs_on};
+use std::alloc::Allocator;
 
 /// A query that was sent at `now`, if it is to go once more.
 fn counted(query: &QuerySchedule, now: Moment, timing: &Timing) -> Option<QuerySchedule>
@@ -34,10 +35,10 @@ fn counted(query: &QuerySchedule, now: Moment, timing: &Timing) -> Option<QueryS
 
 impl Schedule {
     /// Sends the group query, where it is due, and counts it.
-    fn send_group_query<'a, K: Key, S: Sink<K>>(
+    fn send_group_query<'a, K: Key, A: Allocator, S: Sink<K>>(
         &mut self,
         address: K,
-        group: &'a Group<K>,
+        group: &'a Group<K, A>,
         now: Moment,
         timing: &Timing,
         m: &mut Meter,
@@ -63,10 +64,10 @@ impl Schedule {
 
     /// Sends the queries for the sources that have sendings to go, where they are due, and counts
     /// them.
-    fn send_source_queries<K: Key, S: Sink<K>>(
+    fn send_source_queries<K: Key, A: Allocator, S: Sink<K>>(
         &mut self,
         address: K,
-        group: &mut Group<K>,
+        group: &mut Group<K, A>,
         now: Moment,
         timing: &Timing,
         per_query: usize,
@@ -108,10 +109,10 @@ impl Schedule {
     /// query interval after `now` (RFC 3376 sections 6.6.3.1 and 6.6.3.2, RFC 3810 sections 7.6.3.1
     /// and 7.6.3.2). A message holds `per_query` sources, at least one and at most 366. At most two
     /// comparisons for each source, and three more.
-    pub fn round<K: Key, S: Sink<K>>(
+    pub fn round<K: Key, A: Allocator, S: Sink<K>>(
         &mut self,
         address: K,
-        group: &mut Group<K>,
+        group: &mut Group<K, A>,
         now: Moment,
         timing: &Timing,
         per_query: usize,

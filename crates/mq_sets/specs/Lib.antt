@@ -6,5 +6,6 @@ pub mod Pools
 pub mod Rules
 pub mod Search
 pub mod Sides
+pub mod Sizes
 pub mod Slots
 pub mod SourceSets

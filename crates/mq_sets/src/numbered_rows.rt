@@ -1,13 +1,16 @@
 //! Rows of cells that are kept by number, in memory that is reserved once.
 
-ghost use Rattle.std.specs.Prelude.{◌≡◌, ◌+◌, ◌^◌, ◌<◌, ◌≤◌, [], length, map, replicate, slice_index_or, slice_set, IfOk};
+ghost use Rattle.std.specs.Prelude.{◌≡◌, ◌+◌, ◌^◌, ◌<◌, ◌≤◌, [], length, map, replicate, slice_index_or, slice_set, IfOk, is_ok};
+ghost use Rattle.mq_arena.specs.Vectors.{IsSize, item_bytes, Takes};
 ghost use Rattle.mq_count.specs.Spending.{Spends};
 ghost use Rattle.mq_sets.specs.Pools.{cells_in};
 ghost use Rattle.mq_sets.specs.NumberedRows.{NumberedRowsState, NamesRows, MovesArePaid, cells_reserved, moved_for, size_at, with_row};
+ghost use Rattle.mq_sets.specs.Sizes.{bytes_of_rows};
 
 use crate::extents::{Extent, extent_at, write_over};
 use crate::memory::Memory;
 use crate::packing::make_space_for;
+use mq_arena::{VectorSource, both_sizes, filled, times_size, vector_size};
 use mq_count::Moves;
 use std::alloc::{Allocator, Global};
 use std::marker::Model;
@@ -53,11 +56,28 @@ impl<T: Copy, A: Allocator> Model for NumberedRows<T, A> {
         × (cells_reserved (length r.extents.items) r.cell_limit < 2 ^ 32) };
 }
 
-impl<T: Copy, A: Allocator + Copy> NumberedRows<T, A> {
-    /// Rows of no cells for the numbers below `rows`, with memory for `cells` cells together; or `Memory`, where that was refused.
-    pub fn with_room(alloc: A, rows: usize, cells: usize) -> Result<NumberedRows<T, A>, Memory>
+impl<T: Copy, A: Allocator> NumberedRows<T, A> {
+    /// How many bytes `with_room` takes; or none, where no memory has as many.
+    pub fn size(rows: usize, cells: usize) -> Option<usize>
         requires counted { cells_reserved rows cells < 2 ^ 32 }
-        ensures { IfOk result (λ r. r ≡ record { rows = replicate rows []; cell_limit = cells; ahead = cells_reserved rows cells }) }
+        ensures { IsSize (bytes_of_rows (item_bytes T.row) rows cells) result }
+    {
+        both_sizes(
+            vector_size::<Extent>(rows),
+            times_size(2, vector_size::<T>(cells + cells / 4 + rows)),
+        )
+    }
+
+    /// Rows of no cells for the numbers below `rows`, with memory for `cells` cells together; or `Memory`, where that was refused.
+    #[tactic(auto, unfolding(crate::specs::Sizes::bytes_of_rows))]
+    pub fn with_room<M: VectorSource<A>>(
+        memory: &mut M,
+        rows: usize,
+        cells: usize,
+    ) -> Result<NumberedRows<T, A>, Memory>
+        requires counted { cells_reserved rows cells < 2 ^ 32 }
+        ensures rows { IfOk result (λ r. r ≡ record { rows = replicate rows []; cell_limit = cells; ahead = cells_reserved rows cells }) }
+        ensures memory { Takes (bytes_of_rows (item_bytes T.row) rows cells) (M.less_than memory.old) (M.less_than memory.new) (is_ok result) }
     {
         let size = cells + cells / 4 + rows;
         let none = Extent {
@@ -65,9 +85,9 @@ impl<T: Copy, A: Allocator + Copy> NumberedRows<T, A> {
             length: 0,
         };
         Ok(NumberedRows {
-            extents: vec![in alloc; none; rows]?,
-            cells: Vec::with_capacity(alloc, size)?,
-            spare: Vec::with_capacity(alloc, size)?,
+            extents: filled(memory, none, rows)?,
+            cells: memory.with_capacity(size)?,
+            spare: memory.with_capacity(size)?,
             used: 0,
             cell_limit: cells,
         })

@@ -1,16 +1,21 @@
 //! Numbers in pages: a list of lists, each of which has a room that never changes.
 
-ghost use Rattle.std.specs.Prelude.{◌≡◌, ◌+◌, ◌-◌, ◌*◌, ◌<◌, ◌≤◌, [], ◌∷◌, ◌++◌, length, map, take, drop, min, sum, slice_index, slice_index_or, slice_set, vec_capacity, not, IfOk, IfErr, IsTrue};
+ghost use Rattle.std.specs.Prelude.{◌≡◌, ◌+◌, ◌-◌, ◌*◌, ◌<◌, ◌≤◌, [], ◌∷◌, ◌++◌, length, map, take, drop, min, sum, slice_index, slice_index_or, slice_set, vec_capacity, not, IfOk, IfErr, IsTrue, is_ok};
 ghost use Rattle.std.specs.List.{All, insert, remove};
+ghost use Rattle.std.specs.contracts.vec.Vec as page;
+ghost use denote.Builtin.{u16};
+ghost use Rattle.mq_arena.specs.Vectors.{IsSize, bytes_for, item_bytes, Takes};
 ghost use Rattle.mq_count.specs.Spending.{Spends};
 ghost use Rattle.mq_sets.specs.Ascending.{IsAscending};
 ghost use Rattle.mq_sets.specs.Search.{bitlen, IsPlaceFor};
+ghost use Rattle.mq_sets.specs.Sizes.{bytes_of_pages};
 ghost use Rattle.mq_sets.specs.NumberedKeys.{PagesState, AreFilled, IsTaken, above_least, first_key, joined, key_at, number_at, numbers_in, rank_of, moved_behind, moved_by_split, moved_by_insert, moved_by_remove};
 
 use crate::firsts::search;
 use crate::inserting::insert_at_once;
 use crate::memory::Memory;
 use crate::spots::Spot;
+use mq_arena::{VectorSource, both_sizes, times_size, vector_size};
 use mq_count::{Key, Meter, Moves};
 use std::alloc::{Allocator, Global};
 use std::marker::Model;
@@ -48,19 +53,49 @@ impl<A: Allocator> Model for Pages<A> {
         × (length s.used.items + length s.spare.items ≤ vec_capacity s.spare) };
 }
 
-impl<A: Allocator + Copy> Pages<A> {
-    /// One empty page, with memory for so many; or `Memory`, where that was refused.
-    pub(crate) fn with_room(alloc: A, limit: usize) -> Result<Pages<A>, Memory>
-        requires some { 1 ≤ limit }
-        ensures { IfOk result (λ s. s ≡ record { pages = [] ∷ []; limit = limit }) }
+/// So many empty pages, in a vector with room for `limit`; or `Memory`, where that was refused.
+fn empty_pages<A: Allocator, M: VectorSource<A>>(
+    memory: &mut M,
+    count: usize,
+    limit: usize,
+) -> Result<Vec<Vec<u16, A>, A>, Memory>
+    requires within { count ≤ limit }
+    ensures empty { IfOk result (λ v. All (λ page. (511 ≤ vec_capacity page) × (page.items ≡ [])) v.items) }
+    ensures count { IfOk result (λ v. (length v.items ≡ count) × (limit ≤ vec_capacity v)) }
+    ensures memory { Takes (bytes_for (item_bytes (page.the_row u16 A.row ⟦<A as Allocator>⟧)) limit + count * bytes_for 2 511) (M.less_than memory.old) (M.less_than memory.new) (is_ok result) }
+{
+    let mut pages = memory.with_capacity(limit)?;
+    for _ in 0..count {
+        pages.push(memory.with_capacity(PAGE_ROOM)?)?;
+    }
+    Ok(pages)
+}
+
+impl<A: Allocator> Pages<A> {
+    /// How many bytes `with_room` takes; or none, where no memory has as many.
+    pub(crate) fn size(limit: usize) -> Option<usize>
+        ensures { IsSize (bytes_of_pages (item_bytes (page.the_row u16 A.row ⟦<A as Allocator>⟧)) limit) result }
     {
-        let mut used = Vec::with_capacity(alloc, limit)?;
-        let mut spare = Vec::with_capacity(alloc, limit)?;
-        used.push(Vec::with_capacity(alloc, PAGE_ROOM)?)?;
-        for _ in 1..limit {
-            spare.push(Vec::with_capacity(alloc, PAGE_ROOM)?)?;
-        }
-        Ok(Pages { used, spare })
+        both_sizes(
+            times_size(2, vector_size::<Vec<u16, A>>(limit)),
+            times_size(limit, vector_size::<u16>(PAGE_ROOM)),
+        )
+    }
+
+    /// One empty page, with memory for so many; or `Memory`, where that was refused.
+    #[tactic(auto, unfolding(crate::specs::Sizes::bytes_of_pages))]
+    pub(crate) fn with_room<M: VectorSource<A>>(
+        memory: &mut M,
+        limit: usize,
+    ) -> Result<Pages<A>, Memory>
+        requires some { 1 ≤ limit }
+        ensures pages { IfOk result (λ s. s ≡ record { pages = [] ∷ []; limit = limit }) }
+        ensures memory { Takes (bytes_of_pages (item_bytes (page.the_row u16 A.row ⟦<A as Allocator>⟧)) limit) (M.less_than memory.old) (M.less_than memory.new) (is_ok result) }
+    {
+        Ok(Pages {
+            used: empty_pages(memory, 1, limit)?,
+            spare: empty_pages(memory, limit - 1, limit)?,
+        })
     }
 }
 

@@ -2,15 +2,16 @@
 
 use crate::group::Group;
 use mq_count::Key;
+use std::alloc::{Allocator, Global};
 
 /// What a record makes of its group, and the queries that go with it (RFC 3376 section 6.4, RFC
 /// 3810 section 7.4).
 #[derive(Drop)]
-pub struct Change<K: Key> {
+pub struct Change<K: Key, A: Allocator = Global> {
     /// The new group.
-    pub group: Group<K>,
+    pub group: Group<K, A>,
     /// The sources, ascending, for which the group is to be queried; there may be none.
-    pub query: Vec<K>,
+    pub query: Vec<K, A>,
     /// Whether the group itself is to be queried.
     pub query_group: bool,
 }

@@ -13,6 +13,7 @@ use crate::group::Group;
 use crate::sources::{Source, rest_of};
 use crate::timers::{FilterMode, SourceTimer, runs_on};
 use mq_count::{Key, Meter, Moment};
+use std::alloc::Allocator;
 
 /// A deadline that is still ahead. At most one comparison.
 fn still_ahead(deadline: &Option<Moment>, now: Moment, m: &mut Meter) -> Option<Moment>
@@ -49,7 +50,12 @@ fn timer_at_zero(mode: &FilterMode) -> Option<SourceTimer>
 }
 
 /// Moves so many sources at a place towards the front.
-fn move_run<K: Key>(sources: &mut Vec<Source<K>>, place: usize, left: usize, run: usize)
+fn move_run<K: Key, A: Allocator>(
+    sources: &mut Vec<Source<K>, A>,
+    place: usize,
+    left: usize,
+    run: usize,
+)
     requires within { place + run ≤ length sources.old.items }
     requires behind { left ≤ place }
     ensures moved { take (left + run) sources.new.items ≡ take left sources.old.items ++ take run (drop place sources.old.items) }
@@ -65,8 +71,8 @@ fn move_run<K: Key>(sources: &mut Vec<Source<K>>, place: usize, left: usize, run
 /// Leaves of a list the sources that the end of their timers leaves in a group of this mode, in one
 /// pass over the list, run by run of those whose timers run on. Answers whether a timer ran out. One comparison for each
 /// source with a deadline.
-fn leave_sources<K: Key>(
-    sources: &mut Vec<Source<K>>,
+fn leave_sources<K: Key, A: Allocator>(
+    sources: &mut Vec<Source<K>, A>,
     mode: &FilterMode,
     now: Moment,
     m: &mut Meter,
@@ -98,7 +104,7 @@ fn leave_sources<K: Key>(
     ran_out
 }
 
-impl<K: Key> Group<K> {
+impl<K: Key, A: Allocator> Group<K, A> {
     /// INCLUDE without sources isn't held, and its host-present timers go with it.
     fn let_go_if_vacant(&mut self)
         ensures state { self.new.state ≡ held_or_vacant self.old.state }

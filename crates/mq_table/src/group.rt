@@ -1,31 +1,34 @@
 //! The state of one group, stored.
 
-ghost use Rattle.std.specs.Prelude.{◌≡◌, ◌≤◌, min, length, IfOk};
+ghost use Rattle.std.specs.Prelude.{◌≡◌, ◌≤◌, min, length, IfOk, is_ok};
+ghost use Rattle.mq_arena.specs.Vectors.{Takes, bytes_for, item_bytes};
 ghost use Rattle.mq_count.specs.Spending.{Spends};
 ghost use Rattle.mq_sets.specs.Ascending.{IsAscending};
 ghost use Rattle.mq_sets.specs.Search.{bitlen};
+ghost use Rattle.mq_table.specs.contracts.sources.Source as source;
 ghost use Rattle.mq_table.specs.Group.{vacant, is_vacant, timer_at, forwards_in};
 ghost use Rattle.mq_table.specs.Stored.{timers_in, number_in, state_of, size_of};
 
 use crate::heads::Head;
 use crate::sources::{Source, timer_among};
 use crate::timers::{FilterMode, SourceTimer};
+use mq_arena::{OfAllocator, VectorSource};
 use mq_count::{Key, Meter, Moment};
 use mq_sets::Memory;
-use std::alloc::Global;
+use std::alloc::{Allocator, Global};
 use std::marker::Model;
 
 /// The state of one multicast group. A contract sees its state, as the definitions have it, and for
 /// how many sources it has room without more memory.
 #[derive(Drop)]
-pub struct Group<K: Key> {
+pub struct Group<K: Key, A: Allocator = Global> {
     pub(crate) mode: FilterMode,
-    pub(crate) sources: Vec<Source<K>>,
+    pub(crate) sources: Vec<Source<K>, A>,
     pub(crate) v1: Option<Moment>,
     pub(crate) v2: Option<Moment>,
 }
 
-impl<K: Key> Model for Group<K> {
+impl<K: Key, A: Allocator> Model for Group<K, A> {
     ghost use Rattle.std.specs.Prelude.{vec_capacity};
     ghost use Rattle.mq_sets.specs.Ascending.{IsAscending};
     ghost use Rattle.mq_table.specs.Stored.{StoredGroup, stored_code, timers_in};
@@ -41,10 +44,19 @@ impl<K: Key> Model for Group<K> {
     ghost invariant = { λ g. IsAscending (λ x. K.number x.address) g.sources.items };
 }
 
-impl<K: Key> Group<K> {
+impl<K: Key, A: Allocator + Copy> Group<K, A> {
+    /// The vacant group with room for so many sources, or `Memory` where that memory was refused.
+    pub fn with_room(alloc: A, sources: usize) -> Result<Group<K, A>, Memory>
+        ensures { IfOk result (λ g. g ≡ record { state = vacant; room = sources }) }
+    {
+        Group::with_room_in(&mut OfAllocator(alloc), sources)
+    }
+}
+
+impl<K: Key, A: Allocator> Group<K, A> {
     /// The state of every group that isn't held, INCLUDE without sources, with no room. It takes no
     /// memory until it grows, and then from `alloc`.
-    pub fn vacant(alloc: Global) -> Group<K>
+    pub fn vacant(alloc: A) -> Group<K, A>
         ensures { result ≡ record { state = vacant; room = 0 } }
     {
         Group {
@@ -55,13 +67,17 @@ impl<K: Key> Group<K> {
         }
     }
 
-    /// The vacant group with room for so many sources, or `Memory` where that memory was refused.
-    pub fn with_room(alloc: Global, sources: usize) -> Result<Group<K>, Memory>
-        ensures { IfOk result (λ g. g ≡ record { state = vacant; room = sources }) }
+    /// The vacant group with room for so many sources, of memory that vectors are made of; or `Memory`, where that was refused.
+    pub fn with_room_in<M: VectorSource<A>>(
+        memory: &mut M,
+        sources: usize,
+    ) -> Result<Group<K, A>, Memory>
+        ensures group { IfOk result (λ g. g ≡ record { state = vacant; room = sources }) }
+        ensures memory { Takes (bytes_for (item_bytes (source.the_row K.row)) sources) (M.less_than memory.old) (M.less_than memory.new) (is_ok result) }
     {
         Ok(Group {
             mode: FilterMode::Include,
-            sources: Vec::with_capacity(alloc, sources)?,
+            sources: memory.with_capacity(sources)?,
             v1: None,
             v2: None,
         })

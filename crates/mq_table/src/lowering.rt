@@ -12,6 +12,7 @@ use crate::timers::{FilterMode, SourceTimer};
 use crate::timing::Timing;
 use mq_count::{Key, Meter, Moment};
 use mq_sets::find;
+use std::alloc::Allocator;
 
 /// A source's timer, which runs no longer than up to `limit` then. At most one comparison.
 fn lower(timer: &SourceTimer, limit: Moment, m: &mut Meter) -> SourceTimer
@@ -26,7 +27,7 @@ fn lower(timer: &SourceTimer, limit: Moment, m: &mut Meter) -> SourceTimer
     }
 }
 
-impl<K: Key> Group<K> {
+impl<K: Key, A: Allocator> Group<K, A> {
     /// Lowers the group timer, which only EXCLUDE has, to the last member query time (RFC 3376
     /// sections 6.6.1 and 6.6.3.1, RFC 3810 sections 7.6.1 and 7.6.3.1).
     pub fn lower_group(&mut self, now: Moment, timing: &Timing, m: &mut Meter)

@@ -14,7 +14,7 @@ use crate::sources::Source;
 use crate::timers::SourceTimer;
 use mq_count::{Key, Meter};
 use mq_sets::{Merged, merge};
-use std::alloc::AllocError;
+use std::alloc::{AllocError, Allocator};
 
 /// A source with a timer, if there is one.
 fn source_with<K: Key>(address: K, timer: Option<SourceTimer>) -> Option<Source<K>>
@@ -59,7 +59,10 @@ pub(crate) fn source_turned<K: Key>(rule: &Rule, item: &Merged<'_, Source<K>, K>
 }
 
 /// Pushes an item, if there is one. A list with room for one more takes no memory.
-pub(crate) fn push_if_some<T: Copy>(list: &mut Vec<T>, item: Option<T>) -> Result<(), AllocError>
+pub(crate) fn push_if_some<T: Copy, A: Allocator>(
+    list: &mut Vec<T, A>,
+    item: Option<T>,
+) -> Result<(), AllocError>
     ensures items { OnOk result (list.new.items ≡ list.old.items ++ option_to_list item) }
     ensures capacity { vec_capacity list.old ≤ vec_capacity list.new }
     ensures full { OnErr result (vec_capacity list.old ≤ length list.old.items) }
@@ -75,12 +78,12 @@ pub(crate) fn push_if_some<T: Copy>(list: &mut Vec<T>, item: Option<T>) -> Resul
 /// Pushes what the record leaves of each source of the group and of the record, and the sources for
 /// which it sends a query. Each list is ascending then, and has no more than both sides have. Answers whether it turns a
 /// source.
-pub(crate) fn push_changes<'a, K: Key>(
+pub(crate) fn push_changes<'a, K: Key, A: Allocator, B: Allocator>(
     rule: &Rule,
     held: &'a [Source<K>],
     named: &'a [K],
-    sources: &mut Vec<Source<K>>,
-    asked: &mut Vec<K>,
+    sources: &mut Vec<Source<K>, A>,
+    asked: &mut Vec<K, B>,
     m: &mut Meter,
 ) -> Result<bool, AllocError>
     requires held_ascending { IsAscending (number_in K.number) held.now }

@@ -18,6 +18,7 @@ use crate::sources::{Source, rest_of};
 use crate::timers::{FilterMode, SourceTimer};
 use mq_count::{Key, Meter};
 use mq_sets::{Merged, find};
+use std::alloc::Allocator;
 use std::cmp::Ordering;
 
 /// The place of a name among ascending sources, or as an `Err` the place where it would go, by a walk from the front: one
@@ -73,7 +74,7 @@ fn leaves_alone<K: Key>(rule: &Rule, held: &[Source<K>]) -> bool
 }
 
 /// Pushes the sources of a run, for which there is room.
-fn push_run<K: Key>(list: &mut Vec<Source<K>>, run: &[Source<K>])
+fn push_run<K: Key, A: Allocator>(list: &mut Vec<Source<K>, A>, run: &[Source<K>])
     requires room { length list.old.items + length run.now ≤ vec_capacity list.old }
     ensures items { list.new.items ≡ list.old.items ++ run.now }
     ensures capacity { vec_capacity list.old ≤ vec_capacity list.new }
@@ -85,11 +86,11 @@ fn push_run<K: Key>(list: &mut Vec<Source<K>>, run: &[Source<K>])
 
 /// Pushes what the record leaves of a source that it names, and the source where it asks for it. There is room for both.
 /// Answers whether it turns it.
-fn push_named<K: Key>(
+fn push_named<K: Key, A: Allocator, B: Allocator>(
     rule: &Rule,
     item: &Merged<'_, Source<K>, K>,
-    sources: &mut Vec<Source<K>>,
-    asked: &mut Vec<K>,
+    sources: &mut Vec<Source<K>, A>,
+    asked: &mut Vec<K, B>,
 ) -> bool
     requires room { length sources.old.items < vec_capacity sources.old }
     requires asked_room { length asked.old.items < vec_capacity asked.old }
@@ -106,12 +107,12 @@ fn push_named<K: Key>(
 
 /// Pushes what `push_changes` pushes, and answers what it answers, for a record that leaves the sources alone that it doesn't
 /// name.
-fn push_runs<K: Key>(
+fn push_runs<K: Key, A: Allocator, B: Allocator>(
     rule: &Rule,
     held: &[Source<K>],
     named: &[K],
-    sources: &mut Vec<Source<K>>,
-    asked: &mut Vec<K>,
+    sources: &mut Vec<Source<K>, A>,
+    asked: &mut Vec<K, B>,
     m: &mut Meter,
 ) -> bool
     requires held_ascending { IsAscending (number_in K.number) held.now }
@@ -150,12 +151,12 @@ fn push_runs<K: Key>(
 
 /// Pushes what `push_changes` pushes, and answers what it answers, for a record of one source that leaves the others alone.
 /// Its place is looked for by halves.
-fn push_around<K: Key>(
+fn push_around<K: Key, A: Allocator, B: Allocator>(
     rule: &Rule,
     held: &[Source<K>],
     name: &K,
-    sources: &mut Vec<Source<K>>,
-    asked: &mut Vec<K>,
+    sources: &mut Vec<Source<K>, A>,
+    asked: &mut Vec<K, B>,
     m: &mut Meter,
 ) -> bool
     requires held_ascending { IsAscending (number_in K.number) held.now }
@@ -189,12 +190,12 @@ fn push_around<K: Key>(
 
 /// Pushes what `push_changes` pushes, and answers what it answers, to lists that have room for both sides. Where the record names one source and leaves
 /// the others alone, at most one comparison for each binary digit of how many the group has.
-pub(crate) fn push_within<K: Key>(
+pub(crate) fn push_within<K: Key, A: Allocator, B: Allocator>(
     rule: &Rule,
     held: &[Source<K>],
     named: &[K],
-    sources: &mut Vec<Source<K>>,
-    asked: &mut Vec<K>,
+    sources: &mut Vec<Source<K>, A>,
+    asked: &mut Vec<K, B>,
     m: &mut Meter,
 ) -> bool
     requires held_ascending { IsAscending (number_in K.number) held.now }

@@ -15,6 +15,7 @@ use crate::kind::Kind;
 use crate::timers::runs_on;
 use crate::timing::Timing;
 use mq_count::{Key, Meter, Moment, OlderVersion};
+use std::alloc::Allocator;
 
 /// Which older versions have hosts in a group, as far as the router knows (RFC 3376 section 7.3.2,
 /// RFC 3810 section 8.3.2). MLD has version 1 alone.
@@ -62,7 +63,7 @@ impl Head {
     }
 }
 
-impl<K: Key> Group<K> {
+impl<K: Key, A: Allocator> Group<K, A> {
     /// Sets the host-present timer of a version whose Report was heard to the older host present
     /// interval. The Report acts as IS_EX of no source besides.
     pub fn older(&mut self, version: OlderVersion, now: Moment, timing: &Timing)

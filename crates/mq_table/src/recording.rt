@@ -20,22 +20,22 @@ use crate::sources::Source;
 use crate::timing::Timing;
 use mq_count::{Key, Meter, Moment};
 use mq_sets::{Memory, SourceSet};
-use std::alloc::Global;
+use std::alloc::Allocator;
 
-impl<K: Key> Group<K> {
+impl<K: Key, A: Allocator> Group<K, A> {
     /// Becomes what a record leaves of a group, whose head and row of sources are read where they are stored. It takes no
     /// memory: the group and `asked` have room for the sources of the row and of the record together. The sources for which
     /// the record sends a query are written into `asked`, ascending, and the group has each of them. Answers whether the
     /// record sends a query to the group, and whether it changes what is forwarded.
-    pub fn load_changed(
+    pub fn load_changed<B: Allocator, C: Allocator>(
         &mut self,
         head: &Head,
         row: &[Source<K>],
         kind: Kind,
-        named: &SourceSet<K>,
+        named: &SourceSet<K, B>,
         now: Moment,
         timing: &Timing,
-        asked: &mut Vec<K>,
+        asked: &mut Vec<K, C>,
         m: &mut Meter,
     ) -> Loaded
         requires in_range { now ≤ 2 ^ 53 }
@@ -83,15 +83,15 @@ impl<K: Key> Group<K> {
 
     /// Applies a record. The group stays as it is; the change takes memory from `alloc`. `Memory`
     /// comes only where a growth was refused, and then the new group would have a source.
-    pub fn apply(
+    pub fn apply<B: Allocator, C: Allocator + Copy>(
         &self,
-        alloc: Global,
+        alloc: C,
         kind: Kind,
-        named: &SourceSet<K>,
+        named: &SourceSet<K, B>,
         now: Moment,
         timing: &Timing,
         m: &mut Meter,
-    ) -> Result<Change<K>, Memory>
+    ) -> Result<Change<K, C>, Memory>
         requires in_range { now ≤ 2 ^ 53 }
 
         ensures group { let change = change_of timing.now now self.now.state kind (named_in K.number named.now.members) in

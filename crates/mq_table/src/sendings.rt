@@ -16,6 +16,7 @@ use crate::sources::Source;
 use crate::timers::{SourceTimer, runs_on};
 use crate::timing::Timing;
 use mq_count::{Key, Meter, Moment};
+use std::alloc::Allocator;
 use std::cmp::Ordering;
 
 /// Whether the next of the addresses asked for is this one. One comparison, where there is a next.
@@ -34,8 +35,8 @@ fn is_next<K: Key>(asked: &[K], next: usize, address: K, m: &mut Meter) -> bool
 /// Asks for the sources of a list: those whose timers are above the limit are lowered to it, and so
 /// many sendings are to go for each. Answers whether there is one. One pass over both lists, which
 /// ascend, as far as the last that is asked for; at most two comparisons for each source held.
-fn ask_each<K: Key>(
-    sources: &mut Vec<Source<K>>,
+fn ask_each<K: Key, A: Allocator>(
+    sources: &mut Vec<Source<K>, A>,
     asked: &[K],
     limit: Moment,
     count: u32,
@@ -104,7 +105,7 @@ fn is_recounted(timer: &SourceTimer) -> bool
 }
 
 /// Counts the sendings of each source of a list anew.
-fn recount_each<K: Key>(sources: &mut Vec<Source<K>>, recount: Recount)
+fn recount_each<K: Key, A: Allocator>(sources: &mut Vec<Source<K>, A>, recount: Recount)
     ensures items { sources.new.items ≡ map (source_recounted recount) sources.old.items }
     ensures capacity { vec_capacity sources.new ≡ vec_capacity sources.old }
 {
@@ -119,7 +120,7 @@ fn recount_each<K: Key>(sources: &mut Vec<Source<K>>, recount: Recount)
     }
 }
 
-impl<K: Key> Group<K> {
+impl<K: Key, A: Allocator> Group<K, A> {
     /// Starts the group-and-source-specific query for sources that the group holds (RFC 3376 section
     /// 6.6.3.2, RFC 3810 section 7.6.3.2): those whose timers are above the last member query time
     /// are lowered to it, and the last member query count of sendings are to go for each. Answers

@@ -2,11 +2,23 @@
 
 use crate::facts::expect_that;
 use mq_arena::{Arena, Unused, block_size};
-use std::alloc::{AllocError, Global};
+use std::alloc::{AllocError, Allocator, Global};
 
 /// An arena over so many bytes, which are a multiple of 16.
 pub(crate) fn arena_of(alloc: Global, bytes: usize) -> Result<Arena, AllocError> {
     Ok(Arena::new(Vec::from_elem(alloc, u128::MAX, bytes / 16)?.leak()))
+}
+
+/// Puts as many numbers as are asked for to others, counted from the first.
+fn put_counted<A: Allocator>(
+    all: &mut Vec<u32, A>,
+    first: u32,
+    count: u32,
+) -> Result<(), AllocError> {
+    for i in 0..count {
+        all.push(first.wrapping_add(i))?;
+    }
+    Ok(())
 }
 
 /// As many numbers as are asked for, counted from the first.
@@ -16,9 +28,7 @@ fn numbers<'a>(
     count: u32,
 ) -> Result<Vec<u32, &'a Arena>, AllocError> {
     let mut all = Vec::with_capacity(arena, count as usize)?;
-    for i in 0..count {
-        all.push(first.wrapping_add(i))?;
-    }
+    put_counted(&mut all, first, count)?;
     Ok(all)
 }
 
@@ -137,12 +147,16 @@ fn an_arena_takes_the_first_unit_of_its_memory(rt: HostRuntime) {
     );
 }
 
+/// Memory that no block was taken from, of so many units.
+fn unused_units(alloc: Global, units: usize) -> Result<Unused, AllocError> {
+    Ok(Unused::of(Vec::from_elem(alloc, u128::MAX, units)?.leak()))
+}
+
 #[test]
 fn as_many_bytes_as_the_blocks_suffice(rt: HostRuntime) {
     let total = block_size(0) + block_size(1) + block_size(16) + block_size(17);
     expect_that(&rt, total == 64, "whole units");
-    let units = Vec::from_elem(rt.alloc(), 0, 4).expect(&rt, "memory to lend");
-    let mut unused = Unused::of(units.leak());
+    let mut unused = unused_units(rt.alloc(), 4).expect(&rt, "memory to lend");
     expect_that(&rt, unused.take(0, 1).is_ok(), "no byte");
     expect_that(&rt, unused.take(1, 2).is_ok(), "one byte");
     expect_that(&rt, unused.take(16, 16).is_ok(), "16 bytes");
@@ -152,4 +166,56 @@ fn as_many_bytes_as_the_blocks_suffice(rt: HostRuntime) {
     expect_that(&rt, unused.take(0, 16).is_ok(), "no byte of none");
     expect_that(&rt, unused.take(0, 32).is_err(), "an alignment of 32");
     expect_that(&rt, unused.take(1, 1).is_err(), "one byte of none");
+}
+
+#[test]
+fn a_vector_has_its_room_from_the_start(rt: HostRuntime) {
+    let mut unused = unused_units(rt.alloc(), 4).expect(&rt, "memory to lend");
+    let too_large = unused.vec_with_capacity::<u32>(17);
+    expect_that(&rt, too_large.is_err(), "68 bytes of 64");
+    let mut low = unused.vec_with_capacity(5).expect(&rt, "20 bytes");
+    let mut high = unused.vec_with_capacity(7).expect(&rt, "28 bytes");
+    expect_that(&rt, unused.size() == 0, "no byte is left");
+    put_counted(&mut low, 10, 5).expect(&rt, "room for five numbers");
+    put_counted(&mut high, 500, 7).expect(&rt, "room for seven numbers");
+    expect_that(&rt, low.push(15).is_err(), "no room for a sixth");
+    expect_that(&rt, high.reserve(1).is_err(), "no room for an eighth");
+    expect_that(&rt, are_counted(&low, 10, 5), "the first vector's numbers");
+    expect_that(
+        &rt,
+        are_counted(&high, 500, 7),
+        "the second vector's numbers",
+    );
+    drop(low);
+    let another = unused.vec_with_capacity::<u8>(1);
+    expect_that(&rt, another.is_err(), "memory of a vector that is gone");
+}
+
+#[test]
+fn what_has_no_bytes_takes_none(rt: HostRuntime) {
+    let mut unused = unused_units(rt.alloc(), 1).expect(&rt, "memory to lend");
+    let mut none = unused.vec_with_capacity::<u64>(0).expect(&rt, "no number");
+    expect_that(&rt, none.push(1).is_err(), "no room for a number");
+    let mut empty = unused
+        .vec_with_capacity(usize::MAX / 2)
+        .expect(&rt, "2^63 - 1 of no bytes");
+    expect_that(&rt, empty.push(()).is_ok(), "one of no bytes");
+    let too_many = unused.vec_with_capacity::<()>(usize::MAX / 2 + 1);
+    expect_that(&rt, too_many.is_err(), "2^63 of no bytes");
+    let overflow = unused.vec_with_capacity::<u64>(usize::MAX / 8 + 2);
+    expect_that(&rt, overflow.is_err(), "2^64 + 8 bytes");
+    expect_that(&rt, unused.size() == 16, "all bytes are left");
+}
+
+#[test]
+fn a_value_has_a_block_of_its_own(rt: HostRuntime) {
+    let mut unused = unused_units(rt.alloc(), 3).expect(&rt, "memory to lend");
+    let too_large = unused.place([0u64; 7]);
+    expect_that(&rt, too_large.is_err(), "56 bytes of 48");
+    let small: &'static mut u8 = unused.place(7).expect(&rt, "one byte");
+    let large: &'static mut [u64; 4] = unused.place([1, 2, 3, 4]).expect(&rt, "32 bytes");
+    *small = 9;
+    expect_that(&rt, *large == [1, 2, 3, 4], "the words");
+    expect_that(&rt, *small == 9, "the byte");
+    expect_that(&rt, unused.place(1u8).is_err(), "no byte is left");
 }

@@ -1,5 +1,6 @@
 //! Calls that only read, and that no other crate makes: each once.
 
+use mq_arena::OfAllocator;
 use mq_count::{Addr4, Meter};
 use mq_held::HeldGroups;
 use mq_sets::{Pool, SlotList};
@@ -18,7 +19,7 @@ fn rooms_of_nothing(rt: HostRuntime) {
     assert!(rt; pool.rows() == 0);
     let list: SlotList<u8> = SlotList::with_room(rt.alloc(), 3).expect(&rt, "memory for a list");
     assert!(rt; list.free_places() == 3);
-    let held: HeldGroups<Addr4> = HeldGroups::with_room(rt.alloc(), 3, 8).expect(
+    let held: HeldGroups<Addr4> = HeldGroups::with_room(&mut OfAllocator(rt.alloc()), 3, 8).expect(
         &rt,
         "memory for groups",
     );

@@ -2,7 +2,7 @@
 
 use crate::arenas::arena_of;
 use crate::facts::{expect_none_wrong, expect_that};
-use mq_arena::Arena;
+use mq_arena::{Arena, OfAllocator};
 use mq_count::{Addr4, Meter, Moves};
 use mq_held::HeldGroups;
 use mq_sched::NumberedMoments;
@@ -54,7 +54,7 @@ fn taken_out(keys: &mut NumberedKeys<Addr4, &Arena>, key: Addr4) -> Option<u16> 
 
 /// What is wrong with a set of two addresses of which one is taken out again, in lent memory.
 fn wrong_keys(arena: &Arena) -> Option<&'static str> {
-    let Ok(mut keys) = NumberedKeys::with_room(arena, 2) else {
+    let Ok(mut keys) = NumberedKeys::with_room(&mut OfAllocator(arena), 2) else {
         return Some("memory for two addresses");
     };
     let (first, second) = (
@@ -102,19 +102,33 @@ fn wrong_storage(held: &HeldGroups<Addr4, &Arena>) -> Option<&'static str> {
 #[test]
 fn groups_have_room_in_lent_memory(rt: HostRuntime) {
     let arena = arena_of(rt.alloc(), 8192).expect(&rt, "memory to lend");
-    let held = HeldGroups::with_room(&arena, 3, 8).expect(&rt, "memory for three groups");
+    let held = HeldGroups::with_room(&mut OfAllocator(&arena), 3, 8).expect(
+        &rt,
+        "memory for three groups",
+    );
     expect_none_wrong(&rt, wrong_storage(&held), "no groups");
 }
 
 #[test]
 fn storage_is_refused_where_lent_memory_ends(rt: HostRuntime) {
     let arena = arena_of(rt.alloc(), 16).expect(&rt, "memory to lend");
-    let keys: Result<NumberedKeys<Addr4, &Arena>, _> = NumberedKeys::with_room(&arena, 2);
+    let keys: Result<NumberedKeys<Addr4, &Arena>, _> = NumberedKeys::with_room(
+        &mut OfAllocator(&arena),
+        2,
+    );
     expect_that(&rt, keys.is_err(), "addresses");
-    let rows: Result<NumberedRows<u8, &Arena>, _> = NumberedRows::with_room(&arena, 2, 40);
+    let rows: Result<NumberedRows<u8, &Arena>, _> = NumberedRows::with_room(
+        &mut OfAllocator(&arena),
+        2,
+        40,
+    );
     expect_that(&rt, rows.is_err(), "rows");
-    let moments = NumberedMoments::with_room(&arena, 2);
+    let moments = NumberedMoments::with_room(&mut OfAllocator(&arena), 2);
     expect_that(&rt, moments.is_err(), "moments");
-    let held: Result<HeldGroups<Addr4, &Arena>, _> = HeldGroups::with_room(&arena, 1, 1);
+    let held: Result<HeldGroups<Addr4, &Arena>, _> = HeldGroups::with_room(
+        &mut OfAllocator(&arena),
+        1,
+        1,
+    );
     expect_that(&rt, held.is_err(), "groups");
 }

@@ -4,4 +4,4 @@ use Rattle.mq_link.proofs.met.set_to_zero.Given as goal
 
 -- what isn't zero is of a number that is left
 abbrev pub invariant-loop-number : goal.invariant-loop-number
-invariant-loop-number l = IsLeft l.counts.items l.fn.numbers l.number-index × (length l.counts.items ≡ length l.fn.counts.items)
+invariant-loop-number g l = IsLeft l.counts.items l.fn.numbers l.number-index × (length l.counts.items ≡ length l.fn.counts.items)

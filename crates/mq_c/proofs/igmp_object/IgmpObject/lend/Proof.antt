@@ -3,6 +3,7 @@ use Rattle.std.proofs.Common.{[], ◌∷◌, refl}
 use types.Kit.{‵, ◌$◌, ◌∵◌, !, qed, done}
 use denote.Follow.{follows}
 use denote.Triple.Walked.{says}
+use Rattle.mq_c.specs.Freeing.{no_freeing}
 use Rattle.mq_c.specs.Rows.{igmp_row}
 use Rattle.mq_c.specs.contracts.igmp_object.IgmpObject.{the_row}
 use Rattle.mq_c.specs.contracts.igmp_object.IgmpObject.lend as f
@@ -13,5 +14,5 @@ use Rattle.mq_c.proofs.igmp_object.IgmpObject.lend.Code as code
 
 pub lend_spec : {M : Type 1} → statement M
 lend_spec 𝓤 𝓛 𝓜 𝓡 wired =
-    lend_meets igmp_row igmp_object (λ d. d.kept) tt (λ d w. record d { kept = w }) (λ d w. refl) (λ d w. refl) 𝓤 𝓛 𝓜 𝓡 f.Key.name (f.clauses 𝓛 𝓜.mem 𝓡.returns)
+    lend_meets igmp_row igmp_object no_freeing (λ d. d.kept) tt (λ d w. record d { kept = w }) (λ d w. refl) (λ d w. refl) 𝓤 𝓛 𝓜 𝓡 f.Key.name (f.clauses 𝓛 𝓜.mem 𝓡.returns)
     (λ κs a g r e is. qed 𝓛 (‵ (follows the_row igmp_row a.0.ghost_name r.ghost_name (λ w. record a.0.now { kept = w })) ∷ []) ∵ says ! is $ done !) (code.unfolded 𝓤 𝓛.H 𝓜 𝓡 wired)

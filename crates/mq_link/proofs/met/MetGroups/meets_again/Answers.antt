@@ -6,7 +6,7 @@ use Rattle.mq_link.proofs.ListedNumbers.{listed_again, listed_first, room_for_on
 use Rattle.mq_link.proofs.met.MetGroups.meets_again.Goals as goal
 
 pub unwrap-requires : goal.unwrap-requires
-unwrap-requires c =
+unwrap-requires g c =
     let counts = c.self.inside.counts.items in
     let within : c.args.number < length counts = omega (arith, c.requires.number, ap length c.self.view_is) in
     let none : slice_index counts c.args.number ≡ 0 = get_or_default counts c.args.number 0 c.index-before.result.now within ∙ sym c.index-before.ensures ∙ c.if-before-eq0.true in
@@ -14,7 +14,7 @@ unwrap-requires c =
     c.push.ensures.succeeds (omega (arith, room, c.self.invariant.1, c.self.inside.numbers.ok.0))
 
 pub invariant_of-self : goal.invariant_of-self
-invariant_of-self c =
+invariant_of-self g c =
     let counts = c.self.inside.counts.items in
     let numbers = c.self.inside.numbers.items in
     let next = c.index-before.result.now + 1 in
@@ -26,7 +26,7 @@ invariant_of-self c =
     )
 
 pub invariant_of-self-else-before-eq0 : goal.invariant_of-self-else-before-eq0
-invariant_of-self-else-before-eq0 c =
+invariant_of-self-else-before-eq0 g c =
     let counts = c.self.inside.counts.items in
     let next = c.index-before.result.now + 1 in
     let within : c.args.number < length counts = omega (arith, c.requires.number, ap length c.self.view_is) in

@@ -40,7 +40,7 @@ pub invariant_of-work : goal.invariant_of-work
 invariant_of-work g c =
     let heard = c.hear_query.ensures in
     let was = c.work.invariant in
-    let lists : Lists _ = record c.work.inside.lists { due = c.hear_query.new.numbers } in
+    let lists : Lists _ _ = record c.work.inside.lists { due = c.hear_query.new.numbers } in
     let kept : KeepsSpace c.work.inside.lists lists = record { due = heard.capacity; spare = refl; changed = omega arith; by_tick = refl; by_records = refl } in
     workspace_next _ _ _ was (record { group = heard.room; named = refl; asked = omega arith; met = refl; changed = refl }) (still_space _ was.list_room kept) was.none_met was.none_changed was.ascending was.few
 

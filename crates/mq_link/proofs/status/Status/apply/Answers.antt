@@ -45,14 +45,14 @@ use Rattle.mq_link.proofs.status.Status.apply.Goals.{After-change, After-ask, Af
 abbrev stored_as : {K : Type 0} → (K → ℕ) → HeldGroup K → ScheduledGroup
 stored_as number stored = record { group = group_stored number stored; schedule = stored.schedule }
 
-abbrev change_as : {K : Type 0} → (K → ℕ) → Scratch K → (asks_group : Bool) → GroupChange
+abbrev change_as : {K A : Type 0} → (K → ℕ) → Scratch K A → (asks_group : Bool) → GroupChange
 change_as number work asks_group = record { group = work.group.state; query = set_of number work.asked.items; query_group = asks_group }
 
 -- whether the group is to be asked for, where something changes
 abbrev asks_of : Option Loaded → Option Bool
 asks_of = option_map (λ (loaded : Loaded). loaded.asks_group)
 
-abbrev asked_as : {K : Type 0} → Scratch K → ScheduleState → ScheduledGroup
+abbrev asked_as : {K A : Type 0} → Scratch K A → ScheduleState → ScheduledGroup
 asked_as work schedule = record { group = work.group.state; schedule = schedule }
 
 -- what is written is the change of the statement, in its setting
@@ -199,7 +199,7 @@ returns-in-Some-refusal-clause-rooms g c = rooms_so g c.before
 
 pub returns-in-Some-refusal-clause-outcome : goal.returns-in-Some-refusal-clause-outcome
 returns-in-Some-refusal-clause-outcome g c =
-    rw (judged g c.before, c.in-Some-refusal.is) (record { verdict_is = refl; groups_are = ap (λ (s : Storage _). s.held.groups) c.refusal.ensures.left; sent = refl })
+    rw (judged g c.before, c.in-Some-refusal.is) (record { verdict_is = refl; groups_are = ap (λ (s : Storage _ _). s.held.groups) c.refusal.ensures.left; sent = refl })
 
 -- what it has spent until it is judged
 spent_judging : (g : Over) (c : After-refusal g) → (let number = g.F.Address.Key.number in let members = c.args.work.now.named.members in
@@ -219,7 +219,7 @@ returns-in-Some-refusal-clause-spent g c =
 
 pub keep-kept-requires-clause-sought : goal.keep-kept-requires-clause-sought
 keep-kept-requires-clause-sought g c =
-    subst (λ (s : Storage _). IsSought g.F.Address.Key.number s.held c.args.sought) (sym c.refusal.ensures.left) c.requires.sought
+    subst (λ (s : Storage _ _). IsSought g.F.Address.Key.number s.held c.args.sought) (sym c.refusal.ensures.left) c.requires.sought
 
 -- what is left of the group behind the round
 left_is : (g : Over) (c : After-round g) → ◌≡◌ {A = ScheduledGroup} (record { group = c.round.new.group.state; schedule = c.round.new.self }) (after_sending c.args.self.now (asked_as c.ask.new.self c.ask.new.schedule))
@@ -246,7 +246,7 @@ keep-kept-requires-clause-room g c =
     let kept = c.refusal.ensures.left in
     let most = left_has_place _ _ _ c.args.storage.now.held.groups _ _ _ _ (changed g c.before.before.before.before.before.before.before.before.before.before.before.before) c.lemma_is_sound.ensures.positive c.requires.admitted c.requires.sound c.in_default-refusal.is in
     let same : map.len (with_group c.refusal.new.self.held.groups address _) ≡ map.len (with_group c.args.storage.now.held.groups address _) = λ i. map.len (with_group (kept i).held.groups address (left_is g c.before.before i)) in
-    let room = ap (λ (s : Storage _). s.held.order.room) kept ∙ c.requires.group_room in
+    let room = ap (λ (s : Storage _ _). s.held.order.room) kept ∙ c.requires.group_room in
     omega (arith, most, same, room)
 
 pub keep-kept-requires-clause-fits : goal.keep-kept-requires-clause-fits
@@ -255,7 +255,7 @@ keep-kept-requires-clause-fits g c =
     let most = left_has_room _ _ _ c.args.storage.now.held.groups _ _ _ _ (changed g c.before.before.before.before.before.before.before.before.before.before.before.before) c.lemma_is_sound.ensures.positive c.requires.admitted c.requires.sound c.in_default-refusal.is in
     let same = ap (λ (e : ScheduledGroup). size_of e.group) (left_is g c.before.before) in
     let room = c.requires.source_room in
-    subst (λ (s : Storage _). sources_in s.held.groups + size_of c.round.new.group.state ≤ s.held.source_room + sources_of (group_at s.held.groups address)) (sym c.refusal.ensures.left) (omega (arith, most, same, room))
+    subst (λ (s : Storage _ _). sources_in s.held.groups + size_of c.round.new.group.state ≤ s.held.source_room + sources_of (group_at s.held.groups address)) (sym c.refusal.ensures.left) (omega (arith, most, same, room))
 
 pub returns-clause-rooms : goal.returns-clause-rooms
 returns-clause-rooms g c =
@@ -285,7 +285,7 @@ returns-clause-spent g c =
     let work = least_work at (number c.args.sought.address) (statement_of c.args.said (named_in number c.args.work.now.named.members)) c.args.storage.now.held.groups in
     let round = Spends-join_within work (5 * sizes + 8) (spent_judging g c.before.before.before.before.before.before.before.before.before.before.before.before.before.before.before.before.before) c.round.ensures.spent (omega arith) (omega (arith, a, b)) in
     let size_left = ap (λ (e : ScheduledGroup). size_of e.group) (left_is g c.before.before.before.before.before.before.before) ∙ round_keeps_size at.election.timing at.now (asked_as c.ask.new.self c.ask.new.schedule) in
-    let digits = ap (λ (s : Storage _). bitlen (map.len s.held.groups)) c.refusal.ensures.left in
+    let digits = ap (λ (s : Storage _ _). bitlen (map.len s.held.groups)) c.refusal.ensures.left in
     Spends-join_within work _ round c.keep-kept.ensures.spent (omega arith) (omega (arith, a, b, size_before, size_left, digits))
 
 -- each group that was held keeps its number
@@ -293,17 +293,17 @@ pub returns-in_default-clause-numbers : goal.returns-in_default-clause-numbers
 returns-in_default-clause-numbers g c address number has = has
 
 pub returns-in-Some-refusal-clause-numbers : goal.returns-in-Some-refusal-clause-numbers
-returns-in-Some-refusal-clause-numbers g c = subst (λ (s : Storage _). KeepsNumbers c.args.storage.now.held s.held) (sym c.refusal.ensures.left) (λ address number has. has)
+returns-in-Some-refusal-clause-numbers g c = subst (λ (s : Storage _ _). KeepsNumbers c.args.storage.now.held s.held) (sym c.refusal.ensures.left) (λ address number has. has)
 
 pub returns-clause-numbers : goal.returns-clause-numbers
-returns-clause-numbers g c = subst (λ (s : Storage _). KeepsNumbers s.held c.keep-kept.new.self.held) c.refusal.ensures.left c.keep-kept.ensures.numbers
+returns-clause-numbers g c = subst (λ (s : Storage _ _). KeepsNumbers s.held c.keep-kept.new.self.held) c.refusal.ensures.left c.keep-kept.ensures.numbers
 
 -- nothing is moved until it is judged
 unmoved_so : (g : Over) (c : After-refusal g) → c.refusal.new.self.moves ≡ c.args.storage.now.moves
-unmoved_so g c = ap (λ (s : Storage _). s.moves) c.refusal.ensures.left
+unmoved_so g c = ap (λ (s : Storage _ _). s.moves) c.refusal.ensures.left
 
 put_by_so : (g : Over) (c : After-refusal g) → put_by_rows c.refusal.new.self.held ≡ put_by_rows c.args.storage.now.held
-put_by_so g c = ap (λ (s : Storage _). put_by_rows s.held) c.refusal.ensures.left
+put_by_so g c = ap (λ (s : Storage _ _). put_by_rows s.held) c.refusal.ensures.left
 
 pub returns-in_default-clause-moved : goal.returns-in_default-clause-moved
 returns-in_default-clause-moved g c =
@@ -339,7 +339,7 @@ returns-clause-moved g c =
 
 pub keep-kept-requires-clause-few : goal.keep-kept-requires-clause-few
 keep-kept-requires-clause-few g c =
-    let room = ap (λ (s : Storage _). s.held.order.room) c.refusal.ensures.left ∙ c.requires.group_room in
+    let room = ap (λ (s : Storage _ _). s.held.order.room) c.refusal.ensures.left ∙ c.requires.group_room in
     omega (arith, room, few_groups c.args.self.now.config c.lemma_is_sound.ensures.faultless)
 
 -- what is ignored or refused marks no group
@@ -365,7 +365,7 @@ within_so g c = by_number c.keep-kept.result c.keep-kept.ensures.number
     by_number None absent = tt
     by_number (Some n) has =
         let below = c.lemma_is_numbered-2.ensures.within _ n has in
-        let room = c.keep-kept.ensures.rooms.groups ∙ ap (λ (s : Storage _). s.held.order.room) c.refusal.ensures.left ∙ c.requires.group_room in
+        let room = c.keep-kept.ensures.rooms.groups ∙ ap (λ (s : Storage _ _). s.held.order.room) c.refusal.ensures.left ∙ c.requires.group_room in
         let counted = ap length (c.ask.ensures.changed ∙ c.change.ensures.changed) in
         omega (arith, below, room, counted, c.requires.room.changed)
 
@@ -393,7 +393,7 @@ returns-clause-changed g c before marked =
     let numbered : AreNumbered storage.held = record { held = was.held; of_one = was.of_one; same = was.same; one = was.one } in
     let numbered_next : AreNumbered kept = record { held = is.held; of_one = is.of_one; same = is.same; one = is.one } in
     let unmoved = c.refusal.ensures.left in
-    let keeps = subst (λ (s : Storage _). KeepsNumbers s.held kept) unmoved c.keep-kept.ensures.numbers in
+    let keeps = subst (λ (s : Storage _ _). KeepsNumbers s.held kept) unmoved c.keep-kept.ensures.numbers in
     let left : kept.groups ≡ with_group storage.held.groups address e = c.keep-kept.ensures.groups ∙ (λ i. with_group (unmoved i).held.groups address e) in
     let did = changed g c.before.before.before.before.before.before.before.before.before.before.before.before.before.before.before.before.before in
     let so = changed_then storage.held.groups kept.groups address (stored_as number c.look-stored.result) (asked_as c.ask.new.self c.ask.new.schedule) e (change_as number c.change.new.self c.in-Some.loaded.asks_group) (is_querier at.election.role) at.election.timing at.now c.in-Some.loaded.changes_filter

@@ -32,8 +32,8 @@ clear_groups-requires g c = record { space = c.requires.space; ready = ready_cou
 pub lower_held-requires-clause-small : goal.lower_held-requires-clause-small
 lower_held-requires-clause-small g c address = elim c.if-hear.branch [
   | then-hear w ↦
-      subst (λ groups. sources_of (group_at groups address) ≤ 1024) (sym (ap (λ (s : Storage _). s.held.groups) w.storage-is ∙ w.clear_groups.ensures.groups)) (cleared_small 1024 c.args.storage.now.held.groups address (c.requires.small address))
-  | else-hear w ↦ subst (λ (s : Storage _). sources_of (group_at s.held.groups address) ≤ 1024) (sym w.storage-is) (c.requires.small address)
+      subst (λ groups. sources_of (group_at groups address) ≤ 1024) (sym (ap (λ (s : Storage _ _). s.held.groups) w.storage-is ∙ w.clear_groups.ensures.groups)) (cleared_small 1024 c.args.storage.now.held.groups address (c.requires.small address))
+  | else-hear w ↦ subst (λ (s : Storage _ _). sources_of (group_at s.held.groups address) ≤ 1024) (sym w.storage-is) (c.requires.small address)
 ]
 
 pub returns-clause-election : goal.returns-clause-election
@@ -50,9 +50,9 @@ returns-clause-groups g c =
     let loses = loses_role before.config.own source before.election.role in
     let left : c.if-hear.storage.held.groups ≡ cond loses (groups_cleared groups) groups = elim c.if-hear.branch [
       | then-hear w ↦
-          ap (λ (s : Storage _). s.held.groups) w.storage-is ∙ w.clear_groups.ensures.groups ∙ ap (λ b. cond b (groups_cleared groups) groups) (sym w.if-hear.true ∙ c.hear.ensures.lost)
+          ap (λ (s : Storage _ _). s.held.groups) w.storage-is ∙ w.clear_groups.ensures.groups ∙ ap (λ b. cond b (groups_cleared groups) groups) (sym w.if-hear.true ∙ c.hear.ensures.lost)
       | else-hear w ↦
-          ap (λ (s : Storage _). s.held.groups) w.storage-is ∙ ap (λ b. cond b (groups_cleared groups) groups) (sym w.if-hear.false ∙ c.hear.ensures.lost)
+          ap (λ (s : Storage _ _). s.held.groups) w.storage-is ∙ ap (λ b. cond b (groups_cleared groups) groups) (sym w.if-hear.false ∙ c.hear.ensures.lost)
     ] in
     let moment = ap (λ (f : InForce). f.moment) c.in_force-at.ensures.in_force ∙ ap (λ (s : Setting). s.now) c.hear.ensures.heard in
     let timing = ap (λ (f : InForce). f.timing) c.in_force-at.ensures.in_force ∙ ap (λ (s : Setting). s.election.timing) (returns-clause-election g c) in

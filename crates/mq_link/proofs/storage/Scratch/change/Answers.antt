@@ -21,11 +21,11 @@ merged g c =
     let size = len-timers_in g.K.Key.number c.args.stored.now.sources.now c.requires.ascending in
     let same : c.in_ok-kind.is_emptied ≡ false → c.if-is_emptied.self.named.members ≡ c.args.self.now.named.members = elim c.if-is_emptied.branch [
       | then-is_emptied w ↦ λ kept. cc
-      | else-is_emptied w ↦ λ kept. ap (λ (s : Scratch _). s.named.members) w.self-is
+      | else-is_emptied w ↦ λ kept. ap (λ (s : Scratch _ _). s.named.members) w.self-is
     ] in
     let fewer : length c.if-is_emptied.self.named.members ≤ length c.args.self.now.named.members = elim c.if-is_emptied.branch [
-      | then-is_emptied w ↦ omega (arith, ap (λ (s : Scratch _). length s.named.members) w.self-is, ap (λ (s : SetState _). length s.members) w.clear.ensures)
-      | else-is_emptied w ↦ omega (arith, ap (λ (s : Scratch _). length s.named.members) w.self-is)
+      | then-is_emptied w ↦ omega (arith, ap (λ (s : Scratch _ _). length s.named.members) w.self-is, ap (λ (s : SetState _). length s.members) w.clear.ensures)
+      | else-is_emptied w ↦ omega (arith, ap (λ (s : Scratch _ _). length s.named.members) w.self-is)
     ] in
     merge_spends g.K.Key.number (size_of (group_stored g.K.Key.number c.args.stored.now)) c.in_ok-kind.kind c.in_ok-kind.is_emptied c.args.self.now.named.members c.if-is_emptied.self.named.members
     (acts_as c.args.muting.v1_mutes_leave c.args.muting.is_muted (hosts_of (group_stored g.K.Key.number c.args.stored.now) c.args.at.now.moment) (statement_of c.args.said (named_in g.K.Key.number c.args.self.now.named.members))) c.args.m.now c.acted_as.new.m c.load_changed-loaded.new.m

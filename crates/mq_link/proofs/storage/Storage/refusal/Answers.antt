@@ -23,8 +23,8 @@ overflow_sub-groups g c =
     let had = c.from-2.ensures ∙ as_number c.args.change.now.is_held in
     let has = c.from.ensures ∙ as_number (not c.is_vacant-is_vacant.result) ∙ ap (λ b. one_if (not b)) c.is_vacant-is_vacant.ensures in
     let held : c.if-is_vacant.self.held ≡ c.args.self.now.held = elim c.if-is_vacant.branch [
-      | then-is_vacant w ↦ ap (λ (s : Storage _). s.held) w.self-is
-      | else-is_vacant w ↦ ap (λ (s : Storage _). s.held) w.self-is
+      | then-is_vacant w ↦ ap (λ (s : Storage _ _). s.held) w.self-is
+      | else-is_vacant w ↦ ap (λ (s : Storage _ _). s.held) w.self-is
     ] in
     omega (arith, enough, had, has, c.len.ensures, ap (λ (h : HeldState). map.len h.groups) held)
 
@@ -35,8 +35,8 @@ overflow_sub-sources g c =
     let enough = enough_sources c.args.self.now.held.groups p.0 any_timing c.args.now _ after c.args.change.now.is_held p.1.is_held refl in
     let had = p.1.sources in
     let held : c.if-is_vacant.self.held ≡ c.args.self.now.held = elim c.if-is_vacant.branch [
-      | then-is_vacant w ↦ ap (λ (s : Storage _). s.held) w.self-is
-      | else-is_vacant w ↦ ap (λ (s : Storage _). s.held) w.self-is
+      | then-is_vacant w ↦ ap (λ (s : Storage _ _). s.held) w.self-is
+      | else-is_vacant w ↦ ap (λ (s : Storage _ _). s.held) w.self-is
     ] in
     omega (arith, enough, had, c.sources.ensures, c.sources-2.ensures.len, ap (λ (h : HeldState). sources_in h.groups) held)
 
@@ -51,8 +51,8 @@ overflow_sub-scheduled g c =
     ] in
     let had = same_schedules _ _ p.1.schedule in
     let held : c.if-is_vacant.self.held ≡ c.args.self.now.held = elim c.if-is_vacant.branch [
-      | then-is_vacant w ↦ ap (λ (s : Storage _). s.held) w.self-is
-      | else-is_vacant w ↦ ap (λ (s : Storage _). s.held) w.self-is
+      | then-is_vacant w ↦ ap (λ (s : Storage _ _). s.held) w.self-is
+      | else-is_vacant w ↦ ap (λ (s : Storage _ _). s.held) w.self-is
     ] in
     omega (arith, enough, had, left, c.schedules.ensures, c.count_schedules.ensures, ap (λ (h : HeldState). schedules_in h.groups) held)
 
@@ -66,8 +66,8 @@ returns-clause-name g c timing address is =
       | else-is_vacant w ↦ w.left-is ∙ w.schedules_after_round-left.ensures.left timing ∙ ap (λ b. cond b 0 (schedules_of (after_round timing c.args.now after))) (sym w.if-is_vacant.false ∙ c.is_vacant-is_vacant.ensures)
     ] in
     let held : c.if-is_vacant.self.held ≡ c.args.self.now.held = elim c.if-is_vacant.branch [
-      | then-is_vacant w ↦ ap (λ (s : Storage _). s.held) w.self-is
-      | else-is_vacant w ↦ ap (λ (s : Storage _). s.held) w.self-is
+      | then-is_vacant w ↦ ap (λ (s : Storage _ _). s.held) w.self-is
+      | else-is_vacant w ↦ ap (λ (s : Storage _ _). s.held) w.self-is
     ] in
     let len = c.len.ensures ∙ ap (λ (h : HeldState). map.len h.groups) held in
     let sources = c.sources.ensures ∙ ap (λ (h : HeldState). sources_in h.groups) held in

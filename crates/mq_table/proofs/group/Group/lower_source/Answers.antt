@@ -1,10 +1,25 @@
-use Rattle.std.proofs.Common.{◌≡◌, ◌+◌, ◌∙◌, set, ap, arith}
+use Rattle.std.proofs.Common.{◌≡◌, ℕ, ◌+◌, ◌∙◌, List, get_or, set, ap, subst, sym, arith}
+use Rattle.std.proofs.Math.Seq.{map-set_same}
 use Rattle.mq_count.proofs.Spent.{Spends-within, Spends-join_within}
+use Rattle.mq_sets.specs.Ascending.{IsAscending}
+use Rattle.mq_sets.proofs.Ascents.{IsAscending-map}
+use Rattle.mq_sets.proofs.SearchedPages.{IsAscending-unmap}
 use Rattle.mq_table.specs.declared.sources.Source.{Source}
 use Rattle.mq_table.specs.Lowering.{lowered_to, source_lowered}
 use Rattle.mq_table.proofs.SourceLists.{len-timers_in, get-absent}
 use Rattle.mq_table.proofs.MadeLists.{lowered_in_place, lowered_state, unlowered}
 use Rattle.mq_table.proofs.group.Group.lower_source.Goals as goal
+
+-- an item in the place of one of the same number
+IsAscending-set : {X : Type 0} (number : X → ℕ) (xs : List X) (i : ℕ) (y d : X) → number y ≡ number (get_or xs i d) → IsAscending number xs → IsAscending number (set xs i y)
+IsAscending-set number xs i y d same up =
+    IsAscending-unmap number (λ n. n) (set xs i y) (subst (IsAscending (λ n. n)) (sym (map-set_same number xs i y d same)) (IsAscending-map (λ n. n) number xs up))
+
+pub invariant_of-self : goal.invariant_of-self
+invariant_of-self g c =
+    let held = c.index.result.now in
+    let lowered : Source g.row.K.Denot = record { address = held.address; timer = c.lower.result } in
+    IsAscending-set (λ (x : Source g.row.K.Denot). g.K.Key.number x.address) c.self.inside.sources.items c.in-Ok.place lowered held (ap (λ (x : Source g.row.K.Denot). g.K.Key.number x.address) c.index.ensures) c.self.invariant
 
 pub returns-in-Ok-clause-state : goal.returns-in-Ok-clause-state
 returns-in-Ok-clause-state g c =

@@ -1,0 +1,61 @@
+-- What the page asks of a querier.
+use Rattle.std.specs.Prelude.{◌≡◌, ℕ, ◌^◌, ◌-◌, ◌==◌, nat_lt, not, Bool, true, false, Option, None, Some, Result, Ok, Err, unwrap_or, if◌then◌else◌}
+use Rattle.mq_check.specs.declared.check_terms.CheckTerms.{CheckTerms}
+use Rattle.mq_link.specs.Configuration.{Configuration, configuration_fault, IsFaultless}
+use Rattle.mq_link.specs.Configured.{variables, configured}
+use Rattle.mq_replay.specs.declared.asked.Asked.{Asked}
+use Rattle.mq_wire.specs.Family.{Family}
+use Rattle.mq_page.specs.declared.page_fault.PageFault.{PageFault}
+use Rattle.mq_page.specs.declared.page_fault.PageFault.TheVariants as fault
+use Rattle.mq_page.specs.declared.settings.Settings.{Settings}
+
+-- the configuration, of a family and an own address
+abbrev pub configuration_asked : Family → (own : ℕ) → Settings → Configuration
+configuration_asked family own s =
+    configured family (variables s.robustness s.query_interval s.response_interval s.last_member_interval)
+    (record { groups = s.groups; group_sources = s.group_sources; sources = s.sources; scheduled = s.scheduled })
+    own (not (s.source_specific == 0))
+
+-- the moment up to which it runs; 2^64 - 1 says that none is asked for
+abbrev pub until_asked : Settings → Option ℕ
+until_asked s = if s.until == 2 ^ 64 - 1 then None else Some s.until
+
+-- the lines of changes, and the citations, where their numbers aren't 0
+abbrev pub replay_asked : Settings → Asked
+replay_asked s = record { until = until_asked s; changes = not (s.changes == 0) }
+
+abbrev pub check_asked : Settings → CheckTerms
+check_asked s = record { within = s.within; until = until_asked s; cite = not (s.cite == 0) }
+
+-- the moment is above the greatest one
+abbrev pub is_too_large : (until : Option ℕ) → Bool
+is_too_large until = nat_lt (2 ^ 53) (unwrap_or until 0)
+
+-- nothing is refused
+abbrev pub IsAccepted : Configuration → (until : Option ℕ) → Type 0
+IsAccepted config until = (is_too_large until ≡ false) × IsFaultless config
+
+-- why it is refused: the first of these that holds
+abbrev pub IsRefused : Configuration → (until : Option ℕ) → PageFault → Type 0
+IsRefused config until fault.UntilTooLarge = is_too_large until ≡ true
+IsRefused config until (fault.Configuration f) = (is_too_large until ≡ false) × (configuration_fault config ≡ Some f)
+IsRefused config until fault.Full = ⊥
+IsRefused config until fault.Memory = ⊥
+IsRefused config until (fault.Capture f) = ⊥
+IsRefused config until (fault.Gap number) = ⊥
+IsRefused config until (fault.Waiting number) = ⊥
+IsRefused config until fault.ConversionRead = ⊥
+IsRefused config until (fault.Conversion number f) = ⊥
+
+-- the configuration that is asked for was made, or the fault is its first one
+abbrev pub IsConfigured : (asked : Configuration) → Result Configuration PageFault → Type 0
+IsConfigured asked (Ok config) = IsFaultless asked × (config ≡ asked)
+IsConfigured asked (Err (fault.Configuration f)) = configuration_fault asked ≡ Some f
+IsConfigured asked (Err fault.UntilTooLarge) = ⊥
+IsConfigured asked (Err fault.Full) = ⊥
+IsConfigured asked (Err fault.Memory) = ⊥
+IsConfigured asked (Err (fault.Capture f)) = ⊥
+IsConfigured asked (Err (fault.Gap number)) = ⊥
+IsConfigured asked (Err (fault.Waiting number)) = ⊥
+IsConfigured asked (Err fault.ConversionRead) = ⊥
+IsConfigured asked (Err (fault.Conversion number f)) = ⊥

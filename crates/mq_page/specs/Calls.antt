@@ -1,0 +1,66 @@
+-- What the calls come to.
+use Rattle.std.specs.Prelude.{◌≡◌, ◌⊎◌, ℕ, false, List, [], Option, Some, Result, Err}
+use Rattle.mq_check.specs.declared.check_terms.CheckTerms.{CheckTerms}
+use Rattle.mq_check.specs.CheckedCaptures.{Checks}
+use Rattle.mq_convert.specs.declared.choice.Choice.{Choice}
+use Rattle.mq_convert.specs.Converting.{Converts}
+use Rattle.mq_link.specs.Configuration.{Configuration}
+use Rattle.mq_link.specs.Counters.{Counters}
+use Rattle.mq_pcap.specs.Filling.{InputState}
+use Rattle.mq_replay.specs.declared.asked.Asked.{Asked}
+use Rattle.mq_replay.specs.Listing.{Shows}
+use Rattle.mq_replay.specs.Replaying.{Replays}
+use Rattle.mq_page.specs.declared.answer.Answer.{Answer}
+use Rattle.mq_page.specs.declared.page_fault.PageFault.{PageFault}
+use Rattle.mq_page.specs.declared.page_fault.PageFault.TheVariants.{Memory}
+use Rattle.mq_page.specs.Asked.{IsAccepted, IsRefused}
+use Rattle.mq_page.specs.Faults.{of_check, of_conversion, of_replay, outcome_of}
+use Rattle.mq_page.specs.Telling.{IsTold}
+
+-- a capture of which nothing was read
+abbrev pub unread : List ℕ → InputState
+unread capture = record { ahead = Some capture; taken = 0; failed = false }
+
+-- What a library's call over a capture comes to, by what it does of one from its state before and after, of a text before and
+-- after, and its answer: it was made, and wrote this text; or memory for it ran out, and nothing was written.
+abbrev pub IsMade : {X E : Type 0} → (Does : (old new : InputState) → (before after : Option (List ℕ)) → Result X E → Type 0)
+    → (count : X → ℕ) → (fault : E → PageFault) → (capture text : List ℕ) → (outcome : Result ℕ PageFault) → Type 0
+IsMade {X} {E} Does count fault capture text outcome =
+    ((outcome ≡ Err Memory) × (text ≡ []))
+    ⊎ ((after : InputState) × (r : Result X E) × (outcome ≡ outcome_of count fault r)
+    × Does (unread capture) after (Some []) (Some text) r)
+
+-- the listing of a capture was written
+pub record ListsInto (capture old new : List ℕ) (answer : Answer) : Type 0 where
+  pub text : List ℕ
+  pub outcome : Result ℕ PageFault
+  pub told : IsTold outcome text old new answer
+  pub lists : IsMade Shows (λ count. count) of_replay capture text outcome
+
+-- all packets of a capture were written as one classic capture
+pub record ConvertsInto (choice : Choice) (capture old new : List ℕ) (answer : Answer) : Type 0 where
+  pub text : List ℕ
+  pub outcome : Result ℕ PageFault
+  pub told : IsTold outcome text old new answer
+  pub converts : IsMade (Converts choice) (λ unread. unread.count) of_conversion capture text outcome
+
+-- the request was refused, before anything was written
+abbrev pub IsRefusal : Configuration → (until : Option ℕ) → (text : List ℕ) → (outcome : Result ℕ PageFault) → Type 0
+IsRefusal config until text outcome =
+    (fault : PageFault) × IsRefused config until fault × (outcome ≡ Err fault) × (text ≡ [])
+
+-- a capture was replayed
+pub record ReplaysInto (config : Configuration) (asked : Asked) (capture old new : List ℕ) (answer : Answer) : Type 0 where
+  pub text : List ℕ
+  pub outcome : Result ℕ PageFault
+  pub told : IsTold outcome text old new answer
+  pub replays : IsRefusal config asked.until text outcome
+      ⊎ (IsAccepted config asked.until × IsMade (Replays config asked) (λ (counters : Counters). 0) of_replay capture text outcome)
+
+-- a capture was checked
+pub record ChecksInto (config : Configuration) (terms : CheckTerms) (capture old new : List ℕ) (answer : Answer) : Type 0 where
+  pub text : List ℕ
+  pub outcome : Result ℕ PageFault
+  pub told : IsTold outcome text old new answer
+  pub checks : IsRefusal config terms.until text outcome
+      ⊎ (IsAccepted config terms.until × IsMade (Checks config terms) (λ totals. totals.findings) of_check capture text outcome)

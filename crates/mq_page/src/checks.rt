@@ -1,0 +1,50 @@
+//! The check of the querier of a capture.
+
+ghost use Rattle.mq_page.specs.Asked.{check_asked, configuration_asked};
+ghost use Rattle.mq_page.specs.Calls.{ChecksInto};
+
+use crate::answer::Answer;
+use crate::page_fault::{PageFault, of_check};
+use crate::settings::{Settings, querier_of};
+use crate::telling::told;
+use crate::work_room::WorkRoom;
+use mq_check::{CheckTerms, CheckedFamily, check};
+use mq_count::Watched;
+use mq_replay::LineKey;
+
+/// Checks the querier of a capture that has the address `own`.
+pub(crate) fn check_at<F: CheckedFamily>(
+    own: F::Address,
+    settings: &Settings,
+    capture: &[u8],
+    memory: &'static mut [u128],
+    text: &mut [u8],
+) -> Answer
+where
+    F::Address: LineKey,
+    ensures { ChecksInto (configuration_asked F.FAMILY (F.Address.number own) settings.now) (check_asked settings.now) capture.now text.old text.new result }
+{
+    let querier = match querier_of::<F>(own, settings) {
+        Ok(querier) => querier,
+        Err(fault) => return told(Err(fault), &[], text),
+    };
+    let Some(room) = WorkRoom::of(memory, text.len()) else {
+        return told(Err(PageFault::Memory), &[], text);
+    };
+    let WorkRoom {
+        text: written,
+        rest,
+    } = room;
+    let terms = CheckTerms {
+        within: settings.within,
+        until: settings.end(),
+        cite: settings.cite != 0,
+    };
+    let mut reader = Watched::new(capture);
+    let mut writer = Watched::new(written);
+    let outcome = match check(&rest, querier.config, terms, &mut reader, &mut writer) {
+        Ok(totals) => Ok(totals.findings),
+        Err(fault) => Err(of_check(fault)),
+    };
+    told(outcome, writer.into_inner().written(), text)
+}

@@ -1,0 +1,129 @@
+//! The calls, as the page makes them.
+
+ghost use Rattle.std.specs.Prelude.{◌≡◌, ◌≤◌, None, length};
+ghost use Rattle.std.specs.Int.{w32, w128, from_be_bytes};
+ghost use Rattle.mq_wire.specs.Family.{Igmp as FamilyIgmp, Mld as FamilyMld};
+ghost use Rattle.mq_page.specs.Asked.{check_asked, configuration_asked, replay_asked};
+ghost use Rattle.mq_page.specs.Calls.{ChecksInto, ConvertsInto, ListsInto, ReplaysInto};
+
+use crate::answer::Answer;
+use crate::checks::check_at;
+use crate::conversion::convert_all;
+use crate::listing::list;
+use crate::replays::replay_to;
+use crate::sentence::sentence_of;
+use crate::settings::Settings;
+use crate::status_faults::fault_of;
+use crate::telling::put_in_front;
+use mq_arena::LentMemory;
+use mq_count::{Addr4, Addr6};
+use mq_link::{Igmp, Mld};
+
+/// Lists a capture: a line for each packet.
+#[unsafe(no_mangle)]
+pub extern "C" fn page_show(capture: &[u8], memory: LentMemory, text: &mut [u8]) -> Answer
+    ensures { ListsInto capture.now text.old text.new result }
+{
+    list(capture, memory.into_units(), text)
+}
+
+/// Writes all packets of a capture as one classic capture of Ethernet.
+#[unsafe(no_mangle)]
+pub extern "C" fn page_convert(capture: &[u8], memory: LentMemory, text: &mut [u8]) -> Answer
+    ensures { ConvertsInto (record { interface = None; vlan = None }) capture.now text.old text.new result }
+{
+    convert_all(capture, memory.into_units(), text)
+}
+
+/// Replays a capture to a querier of IGMP.
+#[unsafe(no_mangle)]
+pub extern "C" fn page_replay_igmp(
+    own: &[u8; 4],
+    settings: &Settings,
+    capture: &[u8],
+    memory: LentMemory,
+    text: &mut [u8],
+) -> Answer
+    ensures { ReplaysInto (configuration_asked FamilyIgmp (from_be_bytes w32 own.now) settings.now) (replay_asked settings.now) capture.now text.old text.new result }
+{
+    replay_to::<Igmp>(
+        Addr4::from_octets(*own),
+        settings,
+        capture,
+        memory.into_units(),
+        text,
+    )
+}
+
+/// Replays a capture to a querier of MLD.
+#[unsafe(no_mangle)]
+pub extern "C" fn page_replay_mld(
+    own: &[u8; 16],
+    settings: &Settings,
+    capture: &[u8],
+    memory: LentMemory,
+    text: &mut [u8],
+) -> Answer
+    ensures { ReplaysInto (configuration_asked FamilyMld (from_be_bytes w128 own.now) settings.now) (replay_asked settings.now) capture.now text.old text.new result }
+{
+    replay_to::<Mld>(
+        Addr6::from_octets(*own),
+        settings,
+        capture,
+        memory.into_units(),
+        text,
+    )
+}
+
+/// Checks the querier of IGMP that has an address.
+#[unsafe(no_mangle)]
+pub extern "C" fn page_check_igmp(
+    own: &[u8; 4],
+    settings: &Settings,
+    capture: &[u8],
+    memory: LentMemory,
+    text: &mut [u8],
+) -> Answer
+    ensures { ChecksInto (configuration_asked FamilyIgmp (from_be_bytes w32 own.now) settings.now) (check_asked settings.now) capture.now text.old text.new result }
+{
+    check_at::<Igmp>(
+        Addr4::from_octets(*own),
+        settings,
+        capture,
+        memory.into_units(),
+        text,
+    )
+}
+
+/// Checks the querier of MLD that has an address.
+#[unsafe(no_mangle)]
+pub extern "C" fn page_check_mld(
+    own: &[u8; 16],
+    settings: &Settings,
+    capture: &[u8],
+    memory: LentMemory,
+    text: &mut [u8],
+) -> Answer
+    ensures { ChecksInto (configuration_asked FamilyMld (from_be_bytes w128 own.now) settings.now) (check_asked settings.now) capture.now text.old text.new result }
+{
+    check_at::<Mld>(
+        Addr6::from_octets(*own),
+        settings,
+        capture,
+        memory.into_units(),
+        text,
+    )
+}
+
+/// Writes what the library says of the fault that an answer tells, as far as there is room, and answers how many bytes that is;
+/// none, where it tells of no fault.
+#[unsafe(no_mangle)]
+pub extern "C" fn page_fault_text(answer: &Answer, text: &mut [u8]) -> usize
+    ensures room { result ≤ length text.old }
+    ensures length { length text.new ≡ length text.old }
+{
+    match fault_of(answer.status, answer.number) {
+        Some(fault) => put_in_front(sentence_of(fault).as_slice(), text),
+        None => 0,
+    }
+}

@@ -1,0 +1,30 @@
+//! The listing of a capture.
+
+ghost use Rattle.mq_page.specs.Calls.{ListsInto};
+
+use crate::answer::Answer;
+use crate::page_fault::{PageFault, of_replay};
+use crate::telling::told;
+use crate::work_room::WorkRoom;
+use mq_count::Watched;
+use mq_replay::show;
+
+/// Lists a capture: a line for each packet.
+pub(crate) fn list(capture: &[u8], memory: &'static mut [u128], text: &mut [u8]) -> Answer
+    ensures { ListsInto capture.now text.old text.new result }
+{
+    let Some(room) = WorkRoom::of(memory, text.len()) else {
+        return told(Err(PageFault::Memory), &[], text);
+    };
+    let WorkRoom {
+        text: written,
+        rest,
+    } = room;
+    let mut reader = Watched::new(capture);
+    let mut writer = Watched::new(written);
+    let outcome = match show(&rest, &mut reader, &mut writer) {
+        Ok(count) => Ok(count),
+        Err(fault) => Err(of_replay(fault)),
+    };
+    told(outcome, writer.into_inner().written(), text)
+}

@@ -1,0 +1,48 @@
+//! The replay of a capture.
+
+ghost use Rattle.mq_page.specs.Asked.{configuration_asked, replay_asked};
+ghost use Rattle.mq_page.specs.Calls.{ReplaysInto};
+
+use crate::answer::Answer;
+use crate::page_fault::{PageFault, of_replay};
+use crate::settings::{Settings, querier_of};
+use crate::telling::told;
+use crate::work_room::WorkRoom;
+use mq_count::Watched;
+use mq_replay::{Asked, CapturedFamily, LineKey, replay};
+
+/// Replays a capture to a querier with the address `own`.
+pub(crate) fn replay_to<F: CapturedFamily>(
+    own: F::Address,
+    settings: &Settings,
+    capture: &[u8],
+    memory: &'static mut [u128],
+    text: &mut [u8],
+) -> Answer
+where
+    F::Address: LineKey,
+    ensures { ReplaysInto (configuration_asked F.FAMILY (F.Address.number own) settings.now) (replay_asked settings.now) capture.now text.old text.new result }
+{
+    let querier = match querier_of::<F>(own, settings) {
+        Ok(querier) => querier,
+        Err(fault) => return told(Err(fault), &[], text),
+    };
+    let Some(room) = WorkRoom::of(memory, text.len()) else {
+        return told(Err(PageFault::Memory), &[], text);
+    };
+    let WorkRoom {
+        text: written,
+        rest,
+    } = room;
+    let asked = Asked {
+        until: querier.until,
+        changes: settings.changes != 0,
+    };
+    let mut reader = Watched::new(capture);
+    let mut writer = Watched::new(written);
+    let outcome = match replay(&rest, querier.config, asked, &mut reader, &mut writer) {
+        Ok(_counts) => Ok(0),
+        Err(fault) => Err(of_replay(fault)),
+    };
+    told(outcome, writer.into_inner().written(), text)
+}

@@ -1,0 +1,45 @@
+//! Room for a text, which takes as much of it as it has room for.
+
+ghost use Rattle.std.specs.Prelude.{◌≡◌, ◌-◌, ◌≤◌, [], Some};
+
+use mq_arena::Lodged;
+use std::io;
+use std::io::Write;
+
+/// Room for a text, and as much of the text as was written.
+#[derive(Drop)]
+pub(crate) struct TextRoom {
+    bytes: Vec<u8, Lodged>,
+}
+
+impl TextRoom {
+    /// The room of an empty vector.
+    pub(crate) fn of(bytes: Vec<u8, Lodged>) -> TextRoom
+        ensures { result.bytes ≡ bytes }
+    {
+        TextRoom { bytes }
+    }
+
+    /// What was written.
+    pub(crate) fn written(&self) -> &[u8]
+        ensures { result.now ≡ self.now.bytes.items }
+    {
+        self.bytes.as_slice()
+    }
+}
+
+/// A write takes what there is room for, and nothing where there is none.
+impl Write for TextRoom {
+    ghost contents = { λ room. Some room.bytes.items };
+
+    fn write(&mut self, more: &[u8]) -> io::Result<usize> {
+        let left = self.bytes.capacity().saturating_sub(self.bytes.len());
+        let count = more.len().min(left);
+        self.bytes.extend_from_slice(&more[..count])?;
+        Ok(count)
+    }
+
+    fn flush(&mut self) -> io::Result<()> {
+        Ok(())
+    }
+}

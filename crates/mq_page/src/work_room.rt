@@ -1,0 +1,33 @@
+//! The memory that the page lends for the work of a call.
+
+ghost use Rattle.std.specs.Prelude.{◌≡◌, [], IfSome};
+
+use crate::text_room::TextRoom;
+use mq_arena::{Arena, Unused};
+
+/// The memory of a call: room for as much text as the page has room for, and an allocator over the rest.
+#[derive(Drop)]
+pub(crate) struct WorkRoom {
+    pub(crate) text: TextRoom,
+    pub(crate) rest: Arena,
+}
+
+impl WorkRoom {
+    /// The memory of a call whose text goes to memory of so many bytes; or none, where there isn't room for as much text.
+    pub(crate) fn of(memory: &'static mut [u128], length: usize) -> Option<WorkRoom>
+        ensures { IfSome result (λ room. room.text.bytes.items ≡ []) }
+    {
+        let mut unused = Unused::of(memory);
+        let Ok(bytes) = unused.vec_with_capacity(length) else {
+            return None;
+        };
+        let left = unused.size();
+        let Ok(rest) = unused.take(left, 1) else {
+            return None;
+        };
+        Some(WorkRoom {
+            text: TextRoom::of(bytes),
+            rest: Arena::new(rest),
+        })
+    }
+}

@@ -1,0 +1,159 @@
+// Calls the module without a page: texts beside those of the program, statuses at the ends of what it is lent.
+//
+// usage: node module_test.mjs MODULE PROGRAM FILE..      (page/module-test has the words)
+
+import { spawnSync } from "node:child_process";
+import { readFileSync } from "node:fs";
+
+const PAGE = 65536;
+const UNIT = 16;
+const PACKET = 262144; // the bytes of the work that hold one packet
+const NO_END = 2n ** 64n - 1n;
+const NAMES = ["robustness", "query_interval", "response_interval", "last_member_interval", "groups", "group_sources", "sources", "scheduled", "source_specific", "changes", "within", "cite"];
+const IGMP = { robustness: 2, query_interval: 125, response_interval: 10000, last_member_interval: 1000, groups: 1024, group_sources: 366, sources: 16384, scheduled: 256, within: 100 };
+const QUERIERS = {
+  igmp: { text: "10.0.0.9", own: Uint8Array.from([10, 0, 0, 9]), settings: IGMP },
+  mld: { text: "fe80::9", own: Uint8Array.from([0xfe, 0x80, ...Array(13).fill(0), 9]), settings: { ...IGMP, group_sources: 89 } },
+};
+const [module, program, ...files] = process.argv.slice(2);
+const compiled = new WebAssembly.Module(readFileSync(module));
+const sums = { passed: 0, failed: 0 };
+
+function want(isSo, what) {
+  sums[isSo ? "passed" : "failed"] += 1;
+  if (!isSo) console.log(`module-test: ${what}`);
+}
+
+// An instance, whose memory grows by what it is lent. Node takes a number of pages before its version 24, and a BigInt from then on.
+class Lent {
+  constructor() {
+    this.exports = new WebAssembly.Instance(compiled, {}).exports;
+    this.memory = this.exports.memory;
+  }
+
+  lend(length) {
+    const [at, pages] = [this.memory.buffer.byteLength, Math.ceil(length / PAGE) || 1];
+    try {
+      this.memory.grow(BigInt(pages));
+    } catch {
+      this.memory.grow(pages);
+    }
+    return at;
+  }
+
+  put(bytes) {
+    const at = this.lend(bytes.length);
+    new Uint8Array(this.memory.buffer, at, bytes.length).set(bytes);
+    return BigInt(at);
+  }
+
+  bytes(at, length) {
+    return Buffer.from(this.memory.buffer.slice(at, at + length));
+  }
+}
+
+function packed(settings) {
+  const view = new DataView(new ArrayBuffer(56));
+  NAMES.forEach((name, at) => view.setUint32(4 * at, settings[name] ?? 0, true));
+  view.setBigUint64(48, settings.until ?? NO_END, true);
+  return new Uint8Array(view.buffer);
+}
+
+// Calls an export with memory for so much text and so much work, and behind the text four bytes that have to stay.
+function call(name, capture, { querier = null, room = PAGE + 4 * capture.length, work = 2 ** 26 } = {}) {
+  const lent = new Lent();
+  const [answer, text] = [lent.lend(24), lent.lend(room + 4)];
+  new Uint8Array(lent.memory.buffer, text + room, 4).fill(7);
+  const memory = lent.put(new Uint8Array(new BigUint64Array([BigInt(lent.lend(work)), BigInt(work / UNIT)]).buffer));
+  const handed = querier ? [lent.put(querier.own), lent.put(packed(querier.settings))] : [];
+  lent.exports[name](BigInt(answer), ...handed, lent.put(capture), BigInt(capture.length), memory, BigInt(text), BigInt(room));
+  const [status, written, number] = Array.from(new BigUint64Array(lent.memory.buffer.slice(answer, answer + 24)), Number);
+  const sentence = lent.lend(PAGE);
+  const said = Number(lent.exports.page_fault_text(BigInt(answer), BigInt(sentence), BigInt(PAGE)));
+  want(lent.bytes(text + room, 4).equals(Buffer.from([7, 7, 7, 7])), `${name}: wrote behind its text`);
+  want((said > 0) === (status > 0), `${name}: a sentence of ${said} bytes at status ${status}`);
+  return { status, number, text: lent.bytes(text, written), sentence: lent.bytes(sentence, said).toString() };
+}
+
+// The text of an export is that of the program, which fails where that has a fault.
+function beside(file, capture, name, words, querier = null) {
+  const ran = spawnSync(program, words, { input: capture, maxBuffer: 2 ** 30 });
+  const told = call(name, capture, { querier });
+  want(told.text.equals(ran.stdout), `${file}: ${words.join(" ")}: another text`);
+  want((told.status > 0) === (ran.status === 1), `${file}: ${words.join(" ")}: status ${told.status} where the program's is ${ran.status}`);
+}
+
+function with_settings(family, more) {
+  const { own, settings } = QUERIERS[family];
+  return { own, settings: { ...settings, ...more } };
+}
+
+function all_of(file) {
+  const capture = readFileSync(file);
+  beside(file, capture, "page_show", ["show"]);
+  beside(file, capture, "page_convert", ["convert"]);
+  for (const [family, { text }] of Object.entries(QUERIERS)) {
+    const [replay, check] = [`page_replay_${family}`, `page_check_${family}`];
+    beside(file, capture, replay, ["replay", family, "--own", text], with_settings(family, {}));
+    const late = { changes: 1, until: 400000n };
+    beside(file, capture, replay, ["replay", family, "--own", text, "--changes", "--until", "400000"], with_settings(family, late));
+    beside(file, capture, check, ["check", family, "--querier", text], with_settings(family, {}));
+    beside(file, capture, check, ["check", family, "--querier", text, "--cite", "--within", "5"], with_settings(family, { cite: 1, within: 5 }));
+  }
+}
+
+// The text is cut where its memory ends, and that is told where there is more.
+function text_memory(capture) {
+  for (const [name, querier] of [["page_show", null], ["page_convert", null], ["page_replay_igmp", QUERIERS.igmp], ["page_check_igmp", QUERIERS.igmp]]) {
+    const whole = call(name, capture, { querier }).text;
+    for (const room of [0, 1, whole.length - 1, whole.length, whole.length + 1]) {
+      const { status, text } = call(name, capture, { querier, room });
+      want(status === (room < whole.length ? 1 : 0), `${name}: status ${status} with memory for ${room} of ${whole.length} bytes`);
+      want(text.equals(whole.subarray(0, room)), `${name}: another text in memory for ${room} of ${whole.length} bytes`);
+    }
+  }
+}
+
+// The work of a listing wants memory for the text and for a packet, to the byte; that of the others is refused where it is little.
+function work_memory(capture) {
+  const least = PACKET + PAGE;
+  for (const [work, wanted] of [[0, 2], [UNIT, 2], [least - UNIT, 2], [least, 0]]) {
+    const { status, text } = call("page_show", capture, { room: PAGE, work });
+    want(status === wanted, `page_show: status ${status} with ${work} bytes for its work`);
+    want((text.length > 0) === (wanted === 0), `page_show: ${text.length} bytes at status ${status}`);
+  }
+  for (const name of ["page_replay_igmp", "page_check_igmp"]) {
+    for (let work = PAGE, last = 2; last === 2; work *= 2) {
+      last = call(name, capture, { querier: QUERIERS.igmp, room: PAGE, work }).status;
+      want(last === 2 || (last === 0 && work > PACKET), `${name}: status ${last} with ${work} bytes for its work`);
+    }
+  }
+}
+
+const REFUSED = [[{ robustness: 0 }, 51], [{ query_interval: 0 }, 52], [{ response_interval: 125000 }, 53], [{ last_member_interval: 1 }, 54], [{ groups: 0 }, 61], [{ group_sources: 1025 }, 62], [{ sources: 0 }, 63], [{ scheduled: 65536 }, 64], [{ until: 2n ** 53n + 1n, groups: 0 }, 22]];
+
+// A querier that can't be so is refused by its first fault, and nothing is written.
+function refusals(capture) {
+  for (const [more, wanted] of REFUSED) {
+    const { status, text } = call("page_replay_igmp", capture, { querier: with_settings("igmp", more) });
+    want(status === wanted && text.length === 0, `page_replay_igmp: status ${status}, not ${wanted}, and ${text.length} bytes`);
+  }
+  const { status } = call("page_check_igmp", capture, { querier: { ...QUERIERS.igmp, own: new Uint8Array(4) } });
+  want(status === 56, `page_check_igmp: status ${status} at the address 0.0.0.0`);
+}
+
+// Captures with faults have the fault's status, its number and its sentence.
+function faults(capture) {
+  const cut = (length) => capture.subarray(0, length);
+  const rows = [["page_show", cut(0), 15, 0, "the header of record 0 is cut"], ["page_show", cut(30), 15, 1, "the header of record 1 is cut"], ["page_show", cut(50), 16, 1, "the data of record 1 are cut"], ["page_convert", cut(30), 39, 1, "block 1: the file ends within it"], ["page_convert", Buffer.alloc(30), 32, 0, "block 0: no capture"]];
+  for (const [name, bytes, status, number, sentence] of rows) {
+    const told = call(name, bytes);
+    const is_so = told.status === status && told.number === number && told.sentence === sentence;
+    want(is_so, `${name} of ${bytes.length} bytes: ${told.status}, ${told.number}, ${told.sentence}`);
+  }
+}
+
+files.forEach(all_of);
+for (const test of [text_memory, work_memory, refusals, faults]) test(readFileSync(files[0]));
+console.log(`${sums.passed} passed, ${sums.failed} failed`);
+process.exit(sums.failed > 0 ? 1 : 0);

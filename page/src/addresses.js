@@ -1,0 +1,61 @@
+// Addresses as texts, as bytes, and in order.
+
+// The address that stands for all groups.
+export const ZERO = { igmp: "0.0.0.0", mld: "::" };
+
+function bytes4(text) {
+  const parts = text.split(".");
+  const isWhole = parts.length === 4 && parts.every((it) => /^(0|[1-9][0-9]{0,2})$/.test(it) && Number(it) < 256);
+  return isWhole ? Uint8Array.from(parts, Number) : null;
+}
+
+function words6(text) {
+  const halves = text.split("::").map((half) => (half === "" ? [] : half.split(":")));
+  if (halves.length > 2 || !halves.flat().every((it) => /^[0-9a-fA-F]{1,4}$/.test(it))) return null;
+  const missing = 8 - halves.flat().length;
+  if (halves.length === 1) return missing === 0 ? halves[0] : null;
+  return missing >= 1 ? [...halves[0], ...Array(missing).fill("0"), ...halves[1]] : null;
+}
+
+function bytes6(text) {
+  const words = words6(text);
+  return words && Uint8Array.from(words.flatMap((it) => [parseInt(it, 16) >> 8, parseInt(it, 16) & 255]));
+}
+
+// The 4 or 16 bytes of an address, or null where the text is none of the family.
+export function addressBytes(text, family) {
+  return family === "igmp" ? bytes4(text) : bytes6(text);
+}
+
+// A text by which addresses of one family stand in order.
+export function addressKey(text, family) {
+  return hexOf(addressBytes(text, family) ?? []);
+}
+
+function hexOf(bytes) {
+  return Array.from(bytes, (it) => it.toString(16).padStart(2, "0")).join("");
+}
+
+// The longest run of two or more zero words: where it begins, and how long it is.
+function zeroRun(words) {
+  let best = { at: 0, length: 1 };
+  for (let at = 0; at < words.length; at++) {
+    let length = 0;
+    while (words[at + length] === 0) length++;
+    if (length > best.length) best = { at, length };
+  }
+  return best;
+}
+
+function text6(bytes) {
+  const words = Array.from({ length: 8 }, (_, it) => (bytes[2 * it] << 8) | bytes[2 * it + 1]);
+  const { at, length } = zeroRun(words);
+  const texts = words.map((it) => it.toString(16));
+  if (length < 2) return texts.join(":");
+  return `${texts.slice(0, at).join(":")}::${texts.slice(at + length).join(":")}`;
+}
+
+// The text of 4 or 16 bytes, as the program writes it.
+export function addressText(bytes) {
+  return bytes.length === 4 ? bytes.join(".") : text6(bytes);
+}

@@ -1,0 +1,79 @@
+// Bars: while a group is in one filter mode, and while a source in it is forwarded or stopped. They come from the lines of
+// groups that change.
+
+import { BAR } from "./kinds.js";
+import { Table } from "./columns.js";
+
+const NONE = { mode: null, sources: new Map() };
+
+export class Bars {
+  constructor() {
+    this.table = new Table({
+      group: Uint32Array,
+      source: Uint32Array, // 0: the group itself; else the number of the source in `sources`, counted from 1
+      kind: Uint8Array,
+      begin: Float64Array,
+      end: Float64Array,
+      from: Uint32Array, // the line with which it begins, counted from 1
+      to: Uint32Array, // the line with which it ends; 0: it stands at the end
+    });
+    this.sources = [];
+    this.sourceNumbers = new Map();
+    this.states = new Map();
+  }
+
+  sourceNumber(group, text) {
+    const key = `${group} ${text}`;
+    if (!this.sourceNumbers.has(key)) {
+      this.sources.push({ group, text });
+      this.sourceNumbers.set(key, this.sources.length);
+    }
+    return this.sourceNumbers.get(key);
+  }
+
+  open(group, source, kind, begin, from) {
+    this.table.push({ group, source, kind, begin, end: Infinity, from, to: 0 });
+    return this.table.length - 1;
+  }
+
+  close(bar, end, line) {
+    this.table.end.items[bar] = end;
+    this.table.to.items[bar] = line;
+  }
+
+  // The line `T change G ..`, with the words behind the group.
+  change(time, group, words, line) {
+    const before = this.states.get(group) ?? NONE;
+    const kind = { include: BAR.INCLUDE, exclude: BAR.EXCLUDE }[words[0]] ?? null;
+    const after = { mode: kind, bar: before.bar, sources: new Map() };
+    if (kind !== before.mode) {
+      if (before.mode !== null) this.close(before.bar, time, line);
+      if (kind !== null) after.bar = this.open(group, 0, kind, time, line);
+    }
+    this.changeSources(time, group, words.slice(1), line, before.sources, after.sources);
+    if (kind === null) this.states.delete(group);
+    else this.states.set(group, after);
+  }
+
+  // Sources keep their places in `before` where they are as they were; the others end, and new ones begin.
+  changeSources(time, group, words, line, before, after) {
+    for (const word of words) {
+      const kept = before.get(word);
+      if (kept === undefined) {
+        const isStopped = word[0] === "!";
+        const source = this.sourceNumber(group, isStopped ? word.slice(1) : word);
+        after.set(word, this.open(group, source, isStopped ? BAR.stopped : BAR.forwarded, time, line));
+      } else {
+        after.set(word, kept);
+        before.delete(word);
+      }
+    }
+    for (const bar of before.values()) this.close(bar, time, line);
+  }
+
+  // The replay ends at this moment.
+  end(time) {
+    const { end } = this.table;
+    for (let bar = 0; bar < end.length; bar++) if (end.items[bar] === Infinity) end.items[bar] = time;
+  }
+}

@@ -1,0 +1,50 @@
+// A text as bytes: where its lines begin, and the lines one after the other.
+
+import { Column } from "./columns.js";
+
+const LINE_FEED = 10;
+const CHUNK = 1 << 16;
+
+// The offsets at which lines begin, and behind them the length of the text.
+export function lineStarts(bytes) {
+  const starts = new Column(Uint32Array);
+  starts.push(0);
+  for (let at = bytes.indexOf(LINE_FEED); at >= 0; at = bytes.indexOf(LINE_FEED, at + 1)) starts.push(at + 1);
+  return starts.taken();
+}
+
+// A text whose lines are asked for by their number, from 0 on.
+export class Text {
+  constructor(bytes, starts) {
+    this.bytes = bytes;
+    this.starts = starts;
+    this.decoder = new TextDecoder();
+  }
+
+  get count() {
+    return Math.max(0, this.starts.length - 1);
+  }
+
+  line(number) {
+    return this.decoder.decode(this.bytes.subarray(this.starts[number], this.starts[number + 1] - 1));
+  }
+}
+
+function endOfChunk(bytes, at) {
+  if (at + CHUNK >= bytes.length) return bytes.length;
+  const end = bytes.lastIndexOf(LINE_FEED, at + CHUNK) + 1;
+  return end > at ? end : bytes.indexOf(LINE_FEED, at) + 1 || bytes.length;
+}
+
+// Calls `visit` with each line and its number, and `tell` now and then with the share of the text that was read.
+export function eachLine(bytes, visit, tell = () => {}) {
+  const decoder = new TextDecoder();
+  for (let at = 0, number = 0, chunk = 0; at < bytes.length; chunk++) {
+    const end = endOfChunk(bytes, at);
+    const lines = decoder.decode(bytes.subarray(at, end)).split("\n");
+    if (lines[lines.length - 1] === "") lines.pop();
+    for (const line of lines) visit(line, number++);
+    at = end;
+    if (chunk % 32 === 31) tell(at / bytes.length);
+  }
+}

@@ -1,0 +1,309 @@
+// The page: what a person does, and what is shown then.
+
+import { Client } from "./client.js";
+import { base64Bytes, listenToButtons, listenToFiles, listenToForm } from "./controls.js";
+import { describe, linesOf, markLine } from "./description.js";
+import { showLegend } from "./legend.js";
+import { LineList } from "./line_list.js";
+import { Text } from "./lines.js";
+import { momentText } from "./moments.js";
+import { copy, save } from "./saving.js";
+import { fillIn, settingsOf } from "./settings.js";
+import { Timeline } from "./timeline.js";
+
+const $ = (id) => document.getElementById(id);
+const TEXTS = ["listing", "replay", "check"];
+const EMPTY = new Text(new Uint8Array(), new Uint32Array(1));
+
+const state = { file: "", opened: null, settings: null, history: null, texts: {}, faults: {}, converted: null, run: 0 };
+const lists = Object.fromEntries([...TEXTS, "marks"].map((name) => [name, new LineList($(name), (line) => choose(name, line))]));
+const timeline = new Timeline($("timeline"), (selection) => select(selection, "timeline"));
+const client = new Client(parts.worker, showProgress);
+
+function setState(name) {
+  $("page").dataset.state = name;
+  $("page").setAttribute("aria-busy", String(name === "working"));
+  $("working").hidden = name !== "working";
+}
+
+function showProgress({ step, share }) {
+  $("progress").value = share;
+  if ($("status").textContent !== `${step} …`) $("status").textContent = `${step} …`;
+}
+
+function number(count, one, many) {
+  return `${count.toLocaleString("en")} ${count === 1 ? one : many}`;
+}
+
+function showFaults() {
+  // The fault of a capture ends all texts, and is told once.
+  const sentences = [...new Set(Object.values(state.faults))].filter(Boolean);
+  $("faults").replaceChildren(
+    ...sentences.map((sentence) => {
+      const paragraph = document.createElement("p");
+      paragraph.textContent = sentenceOf(sentence.trim());
+      return paragraph;
+    }),
+  );
+}
+
+// A fault's words as a sentence.
+function sentenceOf(words) {
+  return `${words[0].toUpperCase()}${words.slice(1)}${/[.)]$/.test(words) ? "" : "."}`;
+}
+
+// Shows a text in its list, with how many lines it has.
+function showText(name, text) {
+  state.texts[name] = text;
+  lists[name].show(text.count, (line) => text.line(line));
+  count(name, number(text.count, "line", "lines"));
+}
+
+function count(name, words) {
+  $(name).parentElement.querySelector(".count").textContent = words;
+}
+
+// Runs some work, of which each failure becomes a sentence. Work that was started later makes this one void.
+async function work(task) {
+  const run = ++state.run;
+  setState("working");
+  try {
+    await task(() => run === state.run);
+    if (run !== state.run) return;
+    showFaults();
+    setState("ready");
+  } catch (why) {
+    if (run !== state.run) return;
+    state.faults.work = why.message;
+    showFaults();
+    $("status").textContent = "";
+    setState("failed");
+  }
+}
+
+function start() {
+  state.started = client.start(base64Bytes(parts.module));
+  state.started.catch((why) => {
+    state.faults.work = why.message;
+    showFaults();
+    setState("failed");
+  });
+}
+
+// Another Worker takes the place of the one that is stopped, which had the capture.
+function stop() {
+  hideResults();
+  client.stop();
+  start();
+}
+
+function openFile(file) {
+  return work(async (isCurrent) => {
+    state.file = file.name ?? "capture";
+    state.faults = {};
+    showFaults();
+    hideResults();
+    await state.started;
+    const opened = await client.call("open", { file });
+    if (!isCurrent()) return;
+    showOpened(opened);
+    await run(isCurrent);
+  });
+}
+
+function hideResults() {
+  for (const id of ["settings", "picture", "texts"]) $(id).hidden = true;
+  state.history = null;
+  timeline.clear();
+}
+
+function showOpened(opened) {
+  state.opened = opened;
+  state.converted = opened.converted;
+  state.faults.listing = opened.listing.fault;
+  state.faults.conversion = opened.conversionFault;
+  $("texts").hidden = false;
+  document.querySelector('[data-save="converted"]').hidden = !opened.converted;
+  showText("listing", new Text(opened.listing.bytes, opened.listing.starts));
+  for (const name of ["replay", "check"]) showText(name, EMPTY);
+  fillInFamily(firstFamily(opened.families));
+}
+
+// The family of the first general query; where there is none, that with more messages.
+function firstFamily({ igmp, mld }) {
+  if (igmp.first !== mld.first) return igmp.first < mld.first ? "igmp" : "mld";
+  return igmp.messages >= mld.messages ? "igmp" : "mld";
+}
+
+function fillInFamily(family) {
+  const { settings, querier, messages } = state.opened.families[family];
+  fillIn($("settings"), settings);
+  const name = family === "igmp" ? "IGMP" : "MLD";
+  const from = querier
+    ? `Filled in from the first general query, of ${querier}`
+    : `No general query of ${name} is in the capture, so these are the standard's values, and nobody is checked`;
+  $("origin").textContent = `${from}; ${number(messages, "message", "messages")} of ${name}.`;
+}
+
+// A querier is checked where the capture has one, or a person gave another address than the one that stands for none.
+function isChecked(settings) {
+  const { querier, settings: first } = state.opened.families[settings.family];
+  return querier !== null || settings.own !== first.own;
+}
+
+async function run(isCurrent) {
+  if (state.texts.listing.count === 0) {
+    $("status").textContent = `${state.file}: no packet could be read.`;
+    $("texts").hidden = true;
+    return;
+  }
+  $("settings").hidden = false;
+  state.faults.work = "";
+  const settings = settingsOf($("settings"));
+  const withCheck = isChecked(settings);
+  const answer = await client.call("replay", { settings, withCheck });
+  if (isCurrent()) await showRun(settings, answer);
+}
+
+async function showRun(settings, { replay, check, history }) {
+  state.settings = settings;
+  state.faults.replay = replay.fault;
+  state.faults.check = check ? check.fault : "";
+  showText("replay", new Text(replay.bytes, replay.starts));
+  state.withChanges = state.texts.replay;
+  showText("check", check ? new Text(check.bytes, check.starts) : EMPTY);
+  $("unchecked").hidden = check !== null;
+  $("unchecked").textContent = "No querier is checked: give the address of one above.";
+  $("picture").hidden = false;
+  showHistory(history);
+  await showChanges();
+}
+
+function showHistory(history) {
+  state.history = history;
+  const { marks, bars, names, isSource } = history;
+  const sources = isSource.reduce((sum, it) => sum + it, 0);
+  const parts = [
+    number(state.texts.listing.count, "packet", "packets"),
+    number(names.length - 1 - sources, "group", "groups"),
+    number(bars.kind.length, "bar", "bars"),
+    number(marks.kind.length, "mark", "marks"),
+    number(findingCount(), "finding", "findings"),
+  ];
+  const role = history.isQuerier ? "" : " At the end another router is querier.";
+  $("summary").textContent = `${parts.join(", ")}, in ${momentText(history.end)}.${role}`;
+  const isConverted = state.converted ? " It was converted first." : "";
+  $("status").textContent = `${state.file} is shown.${isConverted}`;
+  Object.assign($("timeline").dataset, { marks: marks.kind.length, bars: bars.kind.length });
+  timeline.show(history);
+  showLegend($("legend"), history.kinds);
+  lists.marks.show(marks.kind.length, (at) => markLine(history, marks.byTime[at], textsOfHistory()));
+  count("marks", number(marks.kind.length, "mark", "marks"));
+  state.placeOf = null;
+  showDetail(null);
+}
+
+const textsOfHistory = () => ({ ...state.texts, replay: state.withChanges });
+
+function findingCount() {
+  return state.texts.check.count - (state.faults.check || !state.texts.check.count ? 0 : 1);
+}
+
+// The replay without the lines of changed groups is another run. Marks keep their lines in the one with them.
+async function showChanges() {
+  if ($("changes").checked || !state.history) {
+    if (state.texts.replay !== state.withChanges) showText("replay", state.withChanges);
+    return;
+  }
+  const { replay } = await client.call("replayWithoutChanges", { settings: state.settings });
+  showText("replay", new Text(replay.bytes, replay.starts));
+}
+
+// The place of each mark in the list of marks, made when it is first asked for.
+function placeInList(mark) {
+  if (!state.placeOf) {
+    const { byTime } = state.history.marks;
+    state.placeOf = new Uint32Array(byTime.length);
+    byTime.forEach((it, at) => (state.placeOf[it] = at));
+  }
+  return state.placeOf[mark];
+}
+
+// Shows a mark or a bar in the picture, in all texts and in words. `from` is where it was chosen, which stays as it is.
+function select(selection, from) {
+  const lines = linesOf(state.history, selection);
+  timeline.select(selection);
+  for (const name of TEXTS) {
+    if (name === from) continue;
+    const isShown = name !== "replay" || state.texts.replay === state.withChanges;
+    lists[name].select(isShown ? lines[name] - 1 : -1);
+  }
+  if (from !== "marks") lists.marks.select(selection.mark === undefined ? -1 : placeInList(selection.mark));
+  showDetail(selection, lines);
+}
+
+function showDetail(selection, lines = {}) {
+  const detail = $("detail");
+  if (!selection) {
+    detail.innerHTML = "<p>No mark is chosen.</p>";
+    return;
+  }
+  const texts = textsOfHistory();
+  const { at, what, section } = describe(state.history, selection, texts);
+  const words = document.createElement("p");
+  words.textContent = `${at}: ${what}.${section ? ` ${section}.` : ""}`;
+  const said = TEXTS.filter((name) => lines[name]).map((name) => `${name} ${lines[name]}: ${texts[name].line(lines[name] - 1)}`);
+  const quoted = document.createElement("p");
+  quoted.className = "lines-of";
+  quoted.textContent = said.join("\n");
+  detail.replaceChildren(words, quoted);
+}
+
+// A line was chosen in a list: the first mark that belongs to it.
+function choose(name, line) {
+  if (!state.history) return;
+  const { marks, bars } = state.history;
+  if (name === "marks") return select({ mark: marks.byTime[line] }, name);
+  if (name === "replay" && state.texts.replay !== state.withChanges) return;
+  const mark = marks.byTime.find((it) => marks[name][it] === line + 1);
+  const bar = name === "replay" && mark === undefined ? bars.from.indexOf(line + 1) : -1;
+  if (mark !== undefined) select({ mark }, name);
+  else if (bar >= 0) select({ bar }, name);
+}
+
+function savedBytes(name) {
+  return name === "converted" ? [state.converted, ".pcap"] : [state.texts[name].bytes, `.${name}.txt`];
+}
+
+function saveText(name) {
+  const [bytes, ending] = savedBytes(name);
+  save(bytes, `${state.file.replace(/\.[a-z]+$/i, "")}${ending}`);
+}
+
+async function copyText(name) {
+  try {
+    await copy(new TextDecoder().decode(state.texts[name].bytes));
+    $("status").textContent = `The ${name} is copied.`;
+  } catch (why) {
+    $("status").textContent = `The ${name} can't be copied. ${why.message}`;
+  }
+}
+
+function showView(name) {
+  const views = {
+    in: () => timeline.zoom(1 / 1.5),
+    out: () => timeline.zoom(1.5),
+    whole: () => timeline.whole(),
+    earlier: () => timeline.go(-0.5),
+    later: () => timeline.go(0.5),
+  };
+  views[name]();
+}
+
+if (innerWidth < 600) $("key").open = false;
+listenToFiles(openFile, parts.samples);
+listenToForm(fillInFamily, () => work(run));
+listenToButtons({ view: showView, copy: copyText, save: saveText });
+$("changes").addEventListener("change", () => work(showChanges));
+$("stop").addEventListener("click", stop);
+start();

@@ -1,0 +1,126 @@
+// The Worker: it has the capture, calls the module, and reads the texts.
+
+import { ZERO } from "./addresses.js";
+import { foundIn } from "./found.js";
+import { heardIn, Names } from "./heard.js";
+import { historyOf } from "./history.js";
+import { lineStarts } from "./lines.js";
+import { Module, STATUS } from "./module.js";
+import { replayedIn } from "./replayed.js";
+import { defaultsOf } from "./settings.js";
+
+// What a listing comes to where the file may be one to convert.
+const MAY_BE_CONVERTED = [STATUS.otherMagic, STATUS.otherLinkType];
+
+const held = { module: null, capture: null, heard: null };
+
+function tell(step, share) {
+  self.postMessage({ progress: { step, share } });
+}
+
+// A text as it is sent to the page.
+function sent({ text, fault }) {
+  return { bytes: text, starts: lineStarts(text), fault };
+}
+
+async function read(file) {
+  const bytes = new Uint8Array(file.size);
+  let at = 0;
+  for (const reader = file.stream().getReader(); ; ) {
+    const { done, value } = await reader.read();
+    if (done) return bytes;
+    bytes.set(value, at);
+    at += value.length;
+    tell("Reading the file", (0.2 * at) / file.size);
+  }
+}
+
+// The listing of a file; one of another form is converted first.
+async function listed(bytes) {
+  tell("Listing the packets", 0.2);
+  const listing = await held.module.show(bytes);
+  if (!MAY_BE_CONVERTED.includes(listing.status)) return { bytes, listing, converted: null };
+  tell("Converting the file", 0.25);
+  const converted = await held.module.convert(bytes);
+  if (converted.status === STATUS.noCapture) return { bytes, listing, converted: null };
+  tell("Listing the packets", 0.4);
+  return { bytes: converted.text, listing: await held.module.show(converted.text), converted };
+}
+
+// What the page is told of a family: how many messages there are, and the settings to begin with.
+function familyIn(heard) {
+  const found = heard.querier();
+  const first = heard.general ? heard.general.line : Infinity;
+  return { messages: heard.messages, first, querier: found && found.own, settings: { ...defaultsOf(heard.family), ...found } };
+}
+
+async function open({ file }) {
+  const { bytes, listing, converted } = await listed(await read(file));
+  held.capture = bytes;
+  held.heard = heardIn(listing.text, (share) => tell("Reading the listing", 0.5 + 0.5 * share));
+  const families = { igmp: familyIn(held.heard.igmp), mld: familyIn(held.heard.mld) };
+  return {
+    listing: sent(listing),
+    families,
+    conversionFault: converted ? converted.fault : "",
+    converted: converted ? converted.text.slice() : null,
+  };
+}
+
+async function replay({ settings, withCheck }) {
+  const { family } = settings;
+  tell("Replaying the capture", 0);
+  const replayed = await held.module.replayChanges(held.capture, settings);
+  tell("Checking the querier", 0.3);
+  const checked = withCheck ? await held.module.check(held.capture, settings) : { text: new Uint8Array(), fault: "" };
+  const groups = Object.assign(new Names(), structuredClone(held.heard[family].groups));
+  groups.number(ZERO[family]);
+  const told = replayedIn(replayed.text, family, groups, (share) => tell("Reading the replay", 0.5 + 0.3 * share));
+  const found = foundIn(checked.text, groups, ZERO[family], (share) => tell("Reading the check", 0.8 + 0.1 * share));
+  tell("Ordering marks and bars", 0.9);
+  const history = historyOf(family, groups, held.heard[family], told, found);
+  return { replay: sent(replayed), check: withCheck ? sent(checked) : null, history };
+}
+
+async function replayWithoutChanges({ settings }) {
+  tell("Replaying the capture", 0);
+  return { replay: sent(await held.module.replay(held.capture, settings)) };
+}
+
+async function start({ module }) {
+  try {
+    held.module = await Module.of(module);
+  } catch (why) {
+    throw new Error(
+      `This browser can't run the module of this page: it wants WebAssembly with memories of 64 bits, as Chromium has them ` +
+        `from 133 on and Firefox from 134 on. (${why.message})`,
+    );
+  }
+  return {};
+}
+
+const CALLS = { start, open, replay, replayWithoutChanges };
+
+// The buffers of an answer, which go to the page without a copy.
+function buffersOf(value, found = new Set()) {
+  if (ArrayBuffer.isView(value)) found.add(value.buffer);
+  else if (value && typeof value === "object") Object.values(value).forEach((it) => buffersOf(it, found));
+  return found;
+}
+
+async function answerTo({ id, call, request }) {
+  try {
+    const answer = await CALLS[call](request);
+    self.postMessage({ id, answer }, [...buffersOf(answer)]);
+  } catch (why) {
+    const isOfMemory = why instanceof RangeError;
+    const failure = isOfMemory ? `This browser has no memory for a file of that size. (${why.message})` : why.message;
+    self.postMessage({ id, failure });
+  }
+}
+
+// One call after the other: the next may need what the one before it leaves.
+let last = Promise.resolve();
+self.onmessage = ({ data }) => {
+  last = last.then(() => answerTo(data));
+};
