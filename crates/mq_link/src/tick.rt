@@ -40,30 +40,40 @@ use mq_table::Group;
 use mq_wire::WireKey;
 use std::alloc::Allocator;
 
-/// Ends the timers of a group that have run out, and sends what is due for it then. Answers whether another filter is
-/// forwarded of it then. At most three comparisons for each of its sources, and six more.
-fn serve<K: WireKey, A: Allocator, S: Sink<K>>(
-    address: K,
-    group: &mut Group<K, A>,
-    schedule: &mut Schedule,
-    at: &InForce,
-    m: &mut Meter,
-    sink: &mut S,
-) -> bool
-    requires in_range { at.now.moment ≤ 2 ^ 53 }
-    ensures changes { result ≡ changes_filter group.old.state group.new.state }
-    ensures sent { let ended = group_expired at.now.moment (record { group = group.old.state; schedule = schedule.old }) in
-        Sends S.takes sink.old (messages_due K.PER_QUERY at.now.timing at.now.moment (K.number address) ended) sink.new }
-    ensures left { let ended = group_expired at.now.moment (record { group = group.old.state; schedule = schedule.old }) in
-        let e : ScheduledGroup = record { group = group.new.state; schedule = schedule.new } in
-        e ≡ after_round at.now.timing at.now.moment ended }
-    ensures room { group.old.room ≤ group.new.room }
-    ensures spent { Spends 0 (3 * size_of group.old.state + 6) m.old m.new }
-{
-    let changes = group.expire(at.moment, m);
-    schedule.settle(group);
-    schedule.round(address, group, at.moment, &at.timing, K::PER_QUERY, m, sink);
-    changes
+impl InForce {
+    /// Ends the timers of a group that have run out, and sends what is due for it then. Answers whether another filter is
+    /// forwarded of it then. At most three comparisons for each of its sources, and six more.
+    fn serve<K: WireKey, A: Allocator, S: Sink<K>>(
+        &self,
+        address: K,
+        group: &mut Group<K, A>,
+        schedule: &mut Schedule,
+        m: &mut Meter,
+        sink: &mut S,
+    ) -> bool
+        requires in_range { self.now.moment ≤ 2 ^ 53 }
+        ensures changes { result ≡ changes_filter group.old.state group.new.state }
+        ensures sent { let ended = group_expired self.now.moment (record { group = group.old.state; schedule = schedule.old }) in
+            Sends S.takes sink.old (messages_due K.PER_QUERY self.now.timing self.now.moment (K.number address) ended) sink.new }
+        ensures left { let ended = group_expired self.now.moment (record { group = group.old.state; schedule = schedule.old }) in
+            let e : ScheduledGroup = record { group = group.new.state; schedule = schedule.new } in
+            e ≡ after_round self.now.timing self.now.moment ended }
+        ensures room { group.old.room ≤ group.new.room }
+        ensures spent { Spends 0 (3 * size_of group.old.state + 6) m.old m.new }
+    {
+        let changes = group.expire(self.moment, m);
+        schedule.settle(group);
+        schedule.round(
+            address,
+            group,
+            self.moment,
+            &self.timing,
+            K::PER_QUERY,
+            m,
+            sink,
+        );
+        changes
+    }
 }
 
 impl<K: WireKey, A: Allocator> Storage<K, A> {
@@ -102,7 +112,7 @@ impl<K: WireKey, A: Allocator> Storage<K, A> {
         self.held.lemma_is_numbered();
         let address = self.held.address(number);
         let mut schedule = self.held.load(number, group);
-        let changes = serve(address, group, &mut schedule, at, &mut self.meter, sink);
+        let changes = at.serve(address, group, &mut schedule, &mut self.meter, sink);
         self.lemma_sources_fit();
         self.put(number, group, schedule);
         changes.then_some(address)
@@ -182,52 +192,54 @@ fn send_general<F: Family, O: Outlet<F::Address>>(is_due: bool, sender: &mut Sen
     }
 }
 
-/// Does what is due at or before `now`, in this order: the end of the other querier's deadline; the general query; the
-/// end of timers, and what is due for the groups. The sender begins anew, on the terms that are in force then. Lists the
-/// addresses of the groups of which another filter is forwarded then. At least one comparison for each group that has such
-/// a moment, and one more; at most four for each source, 44 for each group and two more; where no group has such a moment,
-/// two at most.
-fn do_due<F: Family, A: Allocator, B: Allocator, O: Outlet<F::Address>>(
-    status: &mut Status<F>,
-    storage: &mut Storage<F::Address, A>,
-    lists: &mut Lists<F::Address, B>,
-    group: &mut Group<F::Address, B>,
-    now: Moment,
-    sender: &mut Sender<F, O>,
-)
-    requires in_range { now ≤ 2 ^ 53 }
-    requires empty { lists.old.changed.items ≡ [] }
-    requires space { HasSpace (map.len storage.old.held.groups) lists.old }
-    requires ready { IsReady group.old.room storage.old }
-    ensures status { status.new ≡ record status.old { election = ticked status.old.config.timing now status.old.election; now = now } }
-    ensures groups { let in_force = (ticked status.old.config.timing now status.old.election).timing in
-        storage.new.held.groups ≡ groups_after_round in_force now (groups_expired now storage.old.held.groups) }
-    ensures sent { let config = status.old.config in
-        let in_force = (ticked config.timing now status.old.election).timing in
-        Sends (TakesQuery O.takes F.FAMILY) (begun config in_force sender.old)
-        (general_messages config.timing now status.old.election
-        ++ queries_due F.FAMILY in_force now (groups_expired now storage.old.held.groups))
-        sender.new }
-    ensures changed { AreThose (changes storage.old.held.groups storage.new.held.groups) (list_map F.Address.number lists.new.changed.items) }
-    ensures few { length lists.new.changed.items ≤ map.len storage.old.held.groups }
-    ensures rooms { KeepsRooms storage.old storage.new }
-    ensures room { group.old.room ≤ group.new.room }
-    ensures space { KeepsSpace lists.old lists.new }
-    ensures spent { let groups = storage.old.held.groups in
-        let least = least_ticked now groups in
-        Spends (1 + least) (4 * sources_in groups + 44 * map.len groups + 2) storage.old.meter storage.new.meter }
-    ensures moved { MovesWithin (most_moved_by_tick storage.old.held.groups) storage.old storage.new }
-    ensures quiet { let is_quiet = (address : ℕ) (e : ScheduledGroup) → map.get storage.old.held.groups address ≡ Some e → has_due now e ≡ false in
-        is_quiet → Spends 1 2 storage.old.meter storage.new.meter }
-    ensures still { let is_quiet = (address : ℕ) (e : ScheduledGroup) → map.get storage.old.held.groups address ≡ Some e → has_due now e ≡ false in
-        is_quiet → storage.new.moves ≡ storage.old.moves }
-{
-    let is_due = status.tick(now, &mut storage.meter);
-    status.lemma_is_sound();
-    let at = status.in_force();
-    sender.begin(status.config(), at.timing);
-    send_general(is_due, sender);
-    storage.tick_groups(lists, group, &at, sender);
+impl<F: Family> Status<F> {
+    /// Does what is due at or before `now`, in this order: the end of the other querier's deadline; the general query; the
+    /// end of timers, and what is due for the groups. The sender begins anew, on the terms that are in force then. Lists the
+    /// addresses of the groups of which another filter is forwarded then. At least one comparison for each group that has such
+    /// a moment, and one more; at most four for each source, 44 for each group and two more; where no group has such a moment,
+    /// two at most.
+    fn do_due<A: Allocator, B: Allocator, O: Outlet<F::Address>>(
+        &mut self,
+        storage: &mut Storage<F::Address, A>,
+        lists: &mut Lists<F::Address, B>,
+        group: &mut Group<F::Address, B>,
+        now: Moment,
+        sender: &mut Sender<F, O>,
+    )
+        requires in_range { now ≤ 2 ^ 53 }
+        requires empty { lists.old.changed.items ≡ [] }
+        requires space { HasSpace (map.len storage.old.held.groups) lists.old }
+        requires ready { IsReady group.old.room storage.old }
+        ensures status { self.new ≡ record self.old { election = ticked self.old.config.timing now self.old.election; now = now } }
+        ensures groups { let in_force = (ticked self.old.config.timing now self.old.election).timing in
+            storage.new.held.groups ≡ groups_after_round in_force now (groups_expired now storage.old.held.groups) }
+        ensures sent { let config = self.old.config in
+            let in_force = (ticked config.timing now self.old.election).timing in
+            Sends (TakesQuery O.takes F.FAMILY) (begun config in_force sender.old)
+            (general_messages config.timing now self.old.election
+            ++ queries_due F.FAMILY in_force now (groups_expired now storage.old.held.groups))
+            sender.new }
+        ensures changed { AreThose (changes storage.old.held.groups storage.new.held.groups) (list_map F.Address.number lists.new.changed.items) }
+        ensures few { length lists.new.changed.items ≤ map.len storage.old.held.groups }
+        ensures rooms { KeepsRooms storage.old storage.new }
+        ensures room { group.old.room ≤ group.new.room }
+        ensures space { KeepsSpace lists.old lists.new }
+        ensures spent { let groups = storage.old.held.groups in
+            let least = least_ticked now groups in
+            Spends (1 + least) (4 * sources_in groups + 44 * map.len groups + 2) storage.old.meter storage.new.meter }
+        ensures moved { MovesWithin (most_moved_by_tick storage.old.held.groups) storage.old storage.new }
+        ensures quiet { let is_quiet = (address : ℕ) (e : ScheduledGroup) → map.get storage.old.held.groups address ≡ Some e → has_due now e ≡ false in
+            is_quiet → Spends 1 2 storage.old.meter storage.new.meter }
+        ensures still { let is_quiet = (address : ℕ) (e : ScheduledGroup) → map.get storage.old.held.groups address ≡ Some e → has_due now e ≡ false in
+            is_quiet → storage.new.moves ≡ storage.old.moves }
+    {
+        let is_due = self.tick(now, &mut storage.meter);
+        self.lemma_is_sound();
+        let at = self.in_force();
+        sender.begin(self.config(), at.timing);
+        send_general(is_due, sender);
+        storage.tick_groups(lists, group, &at, sender);
+    }
 }
 
 impl<F: Family, A: Allocator> Router<F, A> {
@@ -259,8 +271,7 @@ impl<F: Family, A: Allocator> Router<F, A> {
         self.status.lemma_is_sound();
         let now = later(self.status.moment(), now, &mut self.storage.meter);
         work.lists.changed.clear();
-        do_due(
-            &mut self.status,
+        self.status.do_due(
             &mut self.storage,
             &mut work.lists,
             &mut work.scratch.group,

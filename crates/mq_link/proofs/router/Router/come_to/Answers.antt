@@ -59,14 +59,14 @@ at_moment g c = c.later-now.ensures.later ∙ ap (λ n. max n c.args.now) c.mome
 
 -- what is due then is done
 did : (g : Over) (c : After-do_due g) → (let parts = c.self.inside in
-    HasDone g.O.Outlet.takes g.F.Family.FAMILY c.later-now.result (router_of parts.status parts.storage parts.counts) (router_of c.do_due.new.status c.do_due.new.storage parts.counts) c.args.sender.now c.do_due.new.sender)
+    HasDone g.O.Outlet.takes g.F.Family.FAMILY c.later-now.result (router_of parts.status parts.storage parts.counts) (router_of c.do_due.new.self c.do_due.new.storage parts.counts) c.args.sender.now c.do_due.new.sender)
 did g c = let done = c.do_due.ensures in record { status_is = done.status; groups_are = done.groups; counters_are = refl; sent = done.sent }
 
 pub invariant_of-self : goal.invariant_of-self
 invariant_of-self g c =
     let parts = c.self.inside in
     let sure = c.lemma_is_sound.ensures in
-    stored_next parts.status c.do_due.new.status parts.storage c.do_due.new.storage c.self.invariant
+    stored_next parts.status c.do_due.new.self parts.storage c.do_due.new.storage c.self.invariant
     (does_tick _ _ c.args.now _ _ _ _ _ sure.family (at_moment g c) (did g c)).leaves.config
     (sound_after_tick _ _ c.args.now _ _ _ _ _ sure.family (at_moment g c) (did g c) (timing_in_range parts.status.config sure.faultless) sure.timing c.self.invariant.sound)
     (record { groups = c.do_due.ensures.rooms.groups; sources = c.do_due.ensures.rooms.sources })
@@ -92,7 +92,7 @@ invariant_of-work g c =
 pub returns-clause-step : goal.returns-clause-step
 returns-clause-step g c =
     let parts = c.self.inside in
-    let after = router_of c.do_due.new.status c.do_due.new.storage parts.counts in
+    let after = router_of c.do_due.new.self c.do_due.new.storage parts.counts in
     subst (λ (r : RouterValue). let step = tick_of r.at.config c.args.now (state_of r) in HasStep (TakesQuery g.O.Outlet.takes g.F.Family.FAMILY) step r after (begun r.at.config step.timing c.args.sender.now) c.do_due.new.sender) c.self.view_is
     (does_tick _ _ c.args.now _ _ after _ _ c.lemma_is_sound.ensures.family (at_moment g c) (did g c))
 
@@ -103,7 +103,7 @@ pub returns-clause-changed : goal.returns-clause-changed
 returns-clause-changed g c =
     let parts = c.self.inside in
     let inside = router_of parts.status parts.storage parts.counts in
-    let after = router_of c.do_due.new.status c.do_due.new.storage parts.counts in
+    let after = router_of c.do_due.new.self c.do_due.new.storage parts.counts in
     let listed = list_map g.F.Address.Key.number c.do_due.new.lists.changed.items in
     let left = (does_tick _ _ c.args.now _ inside after _ _ c.lemma_is_sound.ensures.family (at_moment g c) (did g c)).leaves.state_is in
     let there = subst (λ (s : LinkState). AreThose (changes inside.groups s.groups) listed) left c.do_due.ensures.changed in

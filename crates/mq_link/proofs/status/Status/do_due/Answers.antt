@@ -15,7 +15,7 @@ use Rattle.mq_link.specs.Sender.{TakesQuery, begun}
 use Rattle.mq_link.specs.Tick.{groups_after_round, groups_expired, queries_due}
 use Rattle.mq_link.proofs.DueSent.{due_sent}
 use Rattle.mq_link.proofs.Rooms.{ready_counted}
-use Rattle.mq_link.proofs.tick.do_due.Goals as goal
+use Rattle.mq_link.proofs.status.Status.do_due.Goals as goal
 
 pub tick_groups-requires-clause-ready : goal.tick_groups-requires-clause-ready
 tick_groups-requires-clause-ready g c = ready_counted c.args.group.now.room c.args.storage.now c.tick-is_due.new.m c.requires.ready
@@ -36,13 +36,13 @@ returns-clause-groups g c =
 pub returns-clause-sent : goal.returns-clause-sent
 returns-clause-sent g c =
     let now = c.args.now in
-    let config = c.args.status.now.config in
+    let config = c.args.self.now.config in
     let family = g.F.Family.FAMILY in
     let in_force = c.in_force-at.ensures.in_force in
     let timing = ap (λ (f : InForce). f.timing) in_force ∙ ap (λ (s : Setting). s.election.timing) c.tick-is_due.ensures.ticked in
     let moment : c.in_force-at.result.moment ≡ now = ap (λ (f : InForce). f.moment) in_force ∙ ap (λ (s : Setting). s.now) c.tick-is_due.ensures.ticked in
     let begun_is = c.begin.ensures ∙ ap (λ k. begun k c.in_force-at.result.timing c.args.sender.now) (c.config.ensures ∙ ap (λ (s : Setting). s.config) c.tick-is_due.ensures.ticked) in
-    due_sent g.O.Outlet.takes family config now c.args.status.now.election c.args.storage.now.held.groups c.in_force-at.result.timing c.args.sender.now c.begin.new.self c.send_general.new.sender c.tick_groups.new.sink c.tick-is_due.result
+    due_sent g.O.Outlet.takes family config now c.args.self.now.election c.args.storage.now.held.groups c.in_force-at.result.timing c.args.sender.now c.begin.new.self c.send_general.new.sender c.tick_groups.new.sink c.tick-is_due.result
     timing
     begun_is
     c.tick-is_due.ensures.sent
