@@ -1,5 +1,5 @@
 -- Sources that are collected for messages, and what a sink gets of them.
-use Rattle.std.proofs.Common.{◌≡◌, ℕ, ◌+◌, ◌-◌, ◌<◌, Bool, true, false, not, ◌&&◌, cond, ltb, List, [], ◌∷◌, ◌++◌, filter, length, take, drop, get_or, refl, arith, sym, ap, ◌∙◌, subst}
+use Rattle.std.proofs.Common.{◌≡◌, ℕ, ◌+◌, ◌-◌, ◌<◌, Bool, true, false, not, ◌&&◌, cond, ltb, List, [], ◌∷◌, ◌++◌, filter, length, take, drop, get_or, Some, refl, arith, sym, ap, ◌∙◌, subst}
 use Rattle.std.specs.Prelude.{map as list_map, slice_range}
 use Rattle.std.specs.List.{list_any}
 use Rattle.std.proofs.lemmas.List.{append_assoc, append-nil, drop-drop, take-append-drop, map-append, length-map, length_push, drop_more}
@@ -78,9 +78,9 @@ none_goes limit flag (x ∷ xs) none =
 
 -- so those of a part go, outside of which there is none that has a sending to go
 pub going_between : {K : Type 0} (number : K → ℕ) (limit : ℕ) (flag : Bool) (row : List (Source K)) (first end : ℕ) → PassesBetween item_has_sendings first end row → going_with number limit flag (slice_range row first end) ≡ going_with number limit flag row
-going_between number limit flag row first end between =
-    let goes : Source _ → Bool = goes_with limit flag in
-    let part : List (Source _) = slice_range row first end in
+going_between {K = K} number limit flag row first end between =
+    let goes : Source K → Bool = goes_with limit flag in
+    let part : List (Source K) = slice_range row first end in
     let behind : drop (end - first) (drop first row) ≡ drop end row = drop-drop (end - first) first row ∙ ap (λ n. drop n row) (omega (arith, between.ordered)) in
     let split : take first row ++ (part ++ drop end row) ≡ row = ap (λ ys. take first row ++ (part ++ ys)) (sym behind) ∙ ap (λ ys. take first row ++ ys) (take-append-drop (end - first) (drop first row)) ∙ take-append-drop first row in
     let apart : filter goes (take first row ++ (part ++ drop end row)) ≡ filter goes part =
