@@ -84,11 +84,11 @@ going_between {K = K} number limit flag row first end between =
     let behind : drop (end - first) (drop first row) ≡ drop end row = drop-drop (end - first) first row ∙ ap (λ n. drop n row) (omega (arith, between.ordered)) in
     let split : take first row ++ (part ++ drop end row) ≡ row = ap (λ ys. take first row ++ (part ++ ys)) (sym behind) ∙ ap (λ ys. take first row ++ ys) (take-append-drop (end - first) (drop first row)) ∙ take-append-drop first row in
     let apart : filter goes (take first row ++ (part ++ drop end row)) ≡ filter goes part =
-        filter-append goes (take first row) (part ++ drop end row)
-        ∙ ap (λ ys. ys ++ filter goes (part ++ drop end row)) (none_goes limit flag (take first row) between.none_before)
-        ∙ filter-append goes part (drop end row)
-        ∙ ap (λ ys. filter goes part ++ ys) (none_goes limit flag (drop end row) between.none_behind)
-        ∙ append-nil (filter goes part) in
+    filter-append goes (take first row) (part ++ drop end row)
+    ∙ ap (λ ys. ys ++ filter goes (part ++ drop end row)) (none_goes limit flag (take first row) between.none_before)
+    ∙ filter-append goes part (drop end row)
+    ∙ ap (λ ys. filter goes part ++ ys) (none_goes limit flag (drop end row) between.none_behind)
+    ∙ append-nil (filter goes part) in
     ap (list_map (number_in number)) (sym apart ∙ ap (filter goes) split)
 
 -- The sources of a group that go with either flag are those of its list that do.

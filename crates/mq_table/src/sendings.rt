@@ -99,10 +99,7 @@ fn ask_one<K: Key, A: Allocator>(
             let held = sources[place];
             let is_above = runs_on(held.timer.deadline(), limit, m);
             if is_above {
-                sources[place] = Source {
-                    address: held.address,
-                    timer: SourceTimer::Running(limit, count),
-                };
+                sources[place].timer = SourceTimer::Running(limit, count);
             }
             is_above
         }

@@ -1,7 +1,8 @@
-use Rattle.std.proofs.Common.{true, false, ◌∙◌, ap, sym, refl}
+use Rattle.std.proofs.Common.{true, false, set, ◌∙◌, ap, sym, refl}
+use Rattle.std.proofs.lemmas.List.{get_or_read}
 use Rattle.mq_table.specs.Group.{is_ahead}
 use Rattle.mq_table.specs.Stored.{number_in}
-use Rattle.mq_table.proofs.Asking.{stays}
+use Rattle.mq_table.proofs.Asking.{made_at, stays}
 use Rattle.mq_table.proofs.AskingOne.{asked_absent, asked_found}
 use Rattle.mq_table.proofs.sendings.ask_one.Goals as goal
 
@@ -11,7 +12,9 @@ returns-then-is_above-clause-items g c =
     let within = rw c.as_slice.ensures.value at c.in-Ok.ensures.found_in in
     let found = rw c.as_slice.ensures.value at (c.in-Ok.ensures.found held) in
     let above = sym c.if-is_above.true ∙ c.runs_on-is_above.ensures.answer ∙ ap (is_ahead c.args.limit) c.deadline.ensures in
-    (asked_found g.K.Key.number c.args.limit c.args.count c.args.asked.now c.args.sources.now.items c.in-Ok.place held true c.requires within c.index.ensures (ap (number_in g.K.Key.number) c.index.ensures ∙ found) above).0
+    let same = get_or_read c.args.sources.now.items c.in-Ok.place held within c.index.ensures c.index_mut.result.now ∙ sym c.index_mut.ensures.value in
+    ap (λ x. set c.args.sources.now.items c.in-Ok.place (made_at c.args.limit c.args.count true true x)) (sym same)
+    ∙ (asked_found g.K.Key.number c.args.limit c.args.count c.args.asked.now c.args.sources.now.items c.in-Ok.place held true c.requires within c.index.ensures (ap (number_in g.K.Key.number) c.index.ensures ∙ found) above).0
 
 pub returns-else-is_above-clause-items : goal.returns-else-is_above-clause-items
 returns-else-is_above-clause-items g c =
