@@ -1,7 +1,9 @@
 -- Sources that are collected for messages, and what a sink gets of them.
-use Rattle.std.proofs.Common.{◌≡◌, ℕ, ◌+◌, ◌<◌, Bool, true, false, not, ◌&&◌, cond, ltb, List, [], ◌∷◌, ◌++◌, filter, length, drop, get_or, sym, ap, ◌∙◌, subst}
-use Rattle.std.specs.Prelude.{map as list_map}
-use Rattle.std.proofs.lemmas.List.{append_assoc, map-append, length-map, length_push, drop_more}
+use Rattle.std.proofs.Common.{◌≡◌, ℕ, ◌+◌, ◌-◌, ◌<◌, Bool, true, false, not, ◌&&◌, cond, ltb, List, [], ◌∷◌, ◌++◌, filter, length, take, drop, get_or, Some, refl, arith, sym, ap, ◌∙◌, subst}
+use Rattle.std.specs.Prelude.{map as list_map, slice_range}
+use Rattle.std.specs.List.{list_any}
+use Rattle.std.proofs.lemmas.List.{append_assoc, append-nil, drop-drop, take-append-drop, map-append, length-map, length_push, drop_more}
+use Rattle.std.proofs.lemmas.List.Elements.{filter-append}
 use Rattle.std.specs.FinMap as map
 use Rattle.mq_sets.specs.Ascending.{IsAscending}
 use Rattle.mq_table.specs.declared.sources.Source.{Source}
@@ -10,7 +12,9 @@ use Rattle.mq_table.specs.Sets.{◌∩◌, ◌∖◌}
 use Rattle.mq_table.specs.Group.{GroupState, is_ahead, deadline_of, sendings_of}
 use Rattle.mq_table.specs.Lowering.{lowered_to}
 use Rattle.mq_table.specs.Sendings.{has_sendings, above}
+use Rattle.mq_table.specs.SendingPlaces.{item_has_sendings, PassesBetween}
 use Rattle.mq_table.specs.Stored.{number_in, timers_in}
+use Rattle.mq_table.proofs.Places.{or_none}
 use Rattle.mq_table.proofs.Rows.{filter_in_row}
 use Rattle.mq_sched.specs.Schedule.{ScheduledGroup}
 use Rattle.mq_sched.specs.Sending.{SentQuery, SourcesQuery, is_due, sources_where, sources_queries, source_messages}
@@ -60,6 +64,32 @@ module _ {K : Type 0} (number : K → ℕ) (limit : ℕ) (flag : Bool) (row : Li
 
   pub going_same : goes_with limit flag held ≡ false → going_with number limit flag (drop place row) ≡ going_with number limit flag (drop (place + 1) row)
   going_same stays = front ∙ ap (λ b. list_map (number_in number) (cond b (held ∷ filter (goes_with limit flag) (drop (place + 1) row)) (filter (goes_with limit flag) (drop (place + 1) row)))) stays
+
+-- where no source has a sending to go, none goes
+none_goes : {K : Type 0} (limit : ℕ) (flag : Bool) (xs : List (Source K)) → list_any item_has_sendings xs ≡ false → filter (goes_with limit flag) xs ≡ []
+none_goes limit flag [] none = refl
+none_goes limit flag (x ∷ xs) none =
+    let parts = or_none (item_has_sendings x) (list_any item_has_sendings xs) none in
+    rw (stays flag parts.0) (none_goes limit flag xs parts.1)
+  where
+    stays : (b : Bool) → item_has_sendings x ≡ false → goes_with limit b x ≡ false
+    stays true is = ap (λ t. t && is_ahead limit (deadline_of (Some x.timer))) is
+    stays false is = ap (λ t. t && not (is_ahead limit (deadline_of (Some x.timer)))) is
+
+-- so those of a part go, outside of which there is none that has a sending to go
+pub going_between : {K : Type 0} (number : K → ℕ) (limit : ℕ) (flag : Bool) (row : List (Source K)) (first end : ℕ) → PassesBetween item_has_sendings first end row → going_with number limit flag (slice_range row first end) ≡ going_with number limit flag row
+going_between {K = K} number limit flag row first end between =
+    let goes : Source K → Bool = goes_with limit flag in
+    let part : List (Source K) = slice_range row first end in
+    let behind : drop (end - first) (drop first row) ≡ drop end row = drop-drop (end - first) first row ∙ ap (λ n. drop n row) (omega (arith, between.ordered)) in
+    let split : take first row ++ (part ++ drop end row) ≡ row = ap (λ ys. take first row ++ (part ++ ys)) (sym behind) ∙ ap (λ ys. take first row ++ ys) (take-append-drop (end - first) (drop first row)) ∙ take-append-drop first row in
+    let apart : filter goes (take first row ++ (part ++ drop end row)) ≡ filter goes part =
+    filter-append goes (take first row) (part ++ drop end row)
+    ∙ ap (λ ys. ys ++ filter goes (part ++ drop end row)) (none_goes limit flag (take first row) between.none_before)
+    ∙ filter-append goes part (drop end row)
+    ∙ ap (λ ys. filter goes part ++ ys) (none_goes limit flag (drop end row) between.none_behind)
+    ∙ append-nil (filter goes part) in
+    ap (list_map (number_in number)) (sym apart ∙ ap (filter goes) split)
 
 -- The sources of a group that go with either flag are those of its list that do.
 module _ {K : Type 0} (number : K → ℕ) (timing : Timing) (now : ℕ) (g : GroupState) (row : List (Source K)) (up : IsAscending (number_in number) row) (is : timers_in number row ≡ g.sources) where

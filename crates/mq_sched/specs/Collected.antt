@@ -2,8 +2,8 @@
 use Rattle.std.specs.Prelude.{ℕ, Bool, true, false, ◌&&◌, not, List, map, filter, Some}
 use Rattle.mq_table.specs.declared.sources.Source.{Source}
 use Rattle.mq_table.specs.Group.{is_ahead, deadline_of}
+use Rattle.mq_table.specs.SendingPlaces.{item_has_sendings}
 use Rattle.mq_table.specs.Stored.{number_in}
-use Rattle.mq_sched.specs.StoredSchedule.{item_has_sendings}
 
 -- whether a source has a sending to go, and goes with S set, so above the limit, or with S clear
 abbrev pub goes_with : {K : Type 0} → (limit : ℕ) → (s : Bool) → Source K → Bool

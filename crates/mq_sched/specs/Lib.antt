@@ -1,7 +1,6 @@
 pub mod DeadlineTree
 pub mod Deadlines
 pub mod Schedule
-pub mod StoredSchedule
 pub mod LeafPlaces
 pub mod NumberedMoments
 pub mod PlaceMoves

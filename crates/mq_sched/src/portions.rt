@@ -7,7 +7,6 @@ ghost use Rattle.mq_sched.specs.Sending.{SourcesQuery, sources_queries};
 ghost use Rattle.mq_sched.specs.Sink.{Sends, SendsOn};
 ghost use Rattle.mq_sched.specs.Collected.{goes_with, going_with};
 
-use crate::schedules::source_has_sendings;
 use crate::sinks::{QueryParts, Sink};
 use arrayvec::ArrayVec;
 use mq_count::{Key, Meter, Moment};
@@ -91,7 +90,7 @@ fn goes<K: Key>(source: &Source<K>, s: bool, limit: Moment, m: &mut Meter) -> bo
     ensures answer { result ≡ goes_with limit s source.now }
     ensures spent { Spends 0 1 m.old m.new }
 {
-    source_has_sendings(source) && runs_on(source.timer.deadline(), limit, m) == s
+    source.timer.has_sendings() && runs_on(source.timer.deadline(), limit, m) == s
 }
 
 /// Sends the queries for those of a group's sources that go with an S flag. At most one comparison

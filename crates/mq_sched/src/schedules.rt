@@ -6,14 +6,14 @@ ghost use Rattle.mq_sets.specs.Ascending.{IsAscending, set_of};
 ghost use Rattle.mq_table.specs.Group.{timer_at};
 ghost use Rattle.mq_table.specs.Stored.{size_of};
 ghost use Rattle.mq_table.specs.Sendings.{some_source, has_sendings};
+ghost use Rattle.mq_table.specs.SendingPlaces.{item_has_sendings};
 ghost use Rattle.mq_sched.specs.Schedule.{ScheduledGroup, no_schedule, settled, cleared};
-ghost use Rattle.mq_sched.specs.StoredSchedule.{item_has_sendings};
 ghost use Rattle.std.specs.List.{list_any};
 ghost use Rattle.mq_sched.specs.Sending.{group_asked, sources_asked};
 
 use crate::queries::QuerySchedule;
 use mq_count::{Key, Meter, Moment};
-use mq_table::{FilterMode, Group, Source, SourceTimer, Timing};
+use mq_table::{FilterMode, Group, Source, Timing};
 use std::alloc::Allocator;
 use std::marker::Model;
 
@@ -143,25 +143,15 @@ impl Schedule {
     }
 }
 
-/// Whether a source has a sending to go.
-pub(crate) fn source_has_sendings<K: Key>(source: &Source<K>) -> bool
-    ensures { result ≡ item_has_sendings source.now }
-{
-    match source.timer {
-        SourceTimer::Running(_, sendings) => 0 < sendings,
-        SourceTimer::Stopped => false,
-    }
-}
-
 /// Whether some source of the list has a sending to go.
 fn any_has_sendings<K: Key>(row: &[Source<K>]) -> bool
     ensures { result ≡ list_any item_has_sendings row.now }
 {
-    row.iter().any(|x| source_has_sendings(x))
+    row.iter().any(|x| x.timer.has_sendings())
 }
 
 /// Whether some source of the group has a sending to go.
-pub(crate) fn has_sendings<K: Key, A: Allocator>(group: &Group<K, A>) -> bool
+fn has_sendings<K: Key, A: Allocator>(group: &Group<K, A>) -> bool
     ensures { result ≡ some_source (has_sendings group.now.state) group.now.state }
 {
     any_has_sendings(group.sources())

@@ -1,6 +1,6 @@
 //! What is sent for a group at one moment.
 
-ghost use Rattle.std.specs.Prelude.{◌≡◌, ◌+◌, ◌-◌, ◌*◌, ◌^◌, ◌<◌, ◌≤◌, if◌then◌else◌, nat_lt};
+ghost use Rattle.std.specs.Prelude.{◌≡◌, ◌+◌, ◌-◌, ◌*◌, ◌^◌, ◌<◌, ◌≤◌, if◌then◌else◌, nat_lt, length, slice_range};
 ghost use Rattle.mq_count.specs.Spending.{Spends};
 ghost use Rattle.mq_table.specs.Sendings.{sendings_counted};
 ghost use Rattle.mq_table.specs.Stored.{size_of};
@@ -10,10 +10,10 @@ ghost use Rattle.mq_sched.specs.Sink.{Sends};
 
 use crate::portions::send_sources;
 use crate::queries::QuerySchedule;
-use crate::schedules::{Schedule, has_sendings};
+use crate::schedules::Schedule;
 use crate::sinks::{QueryParts, Sink};
 use mq_count::{Key, Meter, Moment};
-use mq_table::{Group, Timing, runs_on};
+use mq_table::{Group, SendingPlaces, Source, Timing, runs_on};
 use std::alloc::Allocator;
 
 /// A query that was sent at `now`, if it is to go once more.
@@ -31,6 +31,15 @@ fn counted(query: &QuerySchedule, now: Moment, timing: &Timing) -> Option<QueryS
     } else {
         None
     }
+}
+
+/// The sources of a list at some places.
+fn part_of<K: Key>(row: &[Source<K>], places: SendingPlaces) -> &[Source<K>]
+    requires ordered { places.first ≤ places.end }
+    requires within { places.end ≤ length row.now }
+    ensures { result.now ≡ slice_range row.now places.first places.end }
+{
+    &row[places.first..places.end]
 }
 
 impl Schedule {
@@ -90,10 +99,11 @@ impl Schedule {
         if let Some(due) = self.sources_due {
             if m.reached(due, now) {
                 let limit = now.after(timing.last_member_time());
-                send_sources(address, true, group.sources(), limit, per_query, m, sink);
-                send_sources(address, false, group.sources(), limit, per_query, m, sink);
-                group.count_sendings();
-                self.sources_due = if has_sendings(group) {
+                let places = group.sending_places();
+                let row = part_of(group.sources(), places);
+                send_sources(address, true, row, limit, per_query, m, sink);
+                send_sources(address, false, row, limit, per_query, m, sink);
+                self.sources_due = if group.count_sendings_between(places) {
                     Some(now.after(timing.last_member_interval()))
                 } else {
                     None

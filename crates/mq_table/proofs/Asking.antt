@@ -13,7 +13,7 @@ use Rattle.mq_table.proofs.InOrder.{found_in_order, are_asked, one_on}
 use Rattle.mq_table.proofs.MadeLists.{as_they_were, passed_some, rest_after_some, made_of_all}
 
 -- a timer that is asked for
-above_is_lowered : (limit count : ℕ) (t : SourceTimer) → source_asked limit count t ≡ cond (is_ahead limit (deadline_of (Some t))) (Running limit count) t
+pub above_is_lowered : (limit count : ℕ) (t : SourceTimer) → source_asked limit count t ≡ cond (is_ahead limit (deadline_of (Some t))) (Running limit count) t
 above_is_lowered limit count Stopped = refl
 above_is_lowered limit count (Running d n) = refl
 

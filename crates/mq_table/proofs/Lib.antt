@@ -13,7 +13,9 @@ pub mod Pushed
 pub mod Runs
 pub mod Changed
 pub mod MadeLists
+pub mod Places
 pub mod Asking
+pub mod AskingOne
 pub mod Ended
 pub mod EndedFilters
 pub mod EndedRuns

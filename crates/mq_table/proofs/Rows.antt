@@ -1,5 +1,5 @@
 -- What a group holds, by the list of its sources.
-use Rattle.std.proofs.Common.{◌≡◌, ℕ, ◌<◌, Bool, true, false, cond, ◌||◌, List, [], ◌∷◌, filter, Option, None, Some, is_some, IsSome, refl, sym, ap, ◌∙◌, subst}
+use Rattle.std.proofs.Common.{◌≡◌, ℕ, ◌<◌, Bool, true, false, cond, ◌||◌, List, [], ◌∷◌, take, drop, filter, Option, None, Some, is_some, IsSome, refl, sym, ap, ◌∙◌, subst}
 use lib.Dec.{T}
 use Rattle.std.proofs.lemmas.Bool.{lt-ltb}
 use Rattle.std.specs.Prelude.{map as list_map}
@@ -9,7 +9,8 @@ use Rattle.std.specs.FinMap as map
 use Rattle.std.specs.FinMap.{is_sorted}
 use Rattle.std.specs.FinMap.Entries.{below_all}
 use Rattle.std.proofs.lemmas.Simd.{map-map}
-use Rattle.std.proofs.lemmas.List.Elements.{All-head, All-tail}
+use Rattle.std.proofs.lemmas.List.{take-map, drop-map}
+use Rattle.std.proofs.lemmas.List.Elements.{All-head, All-tail, All-take, All-drop}
 use Rattle.std.specs.Option.{option_map}
 use Rattle.mq_sets.specs.Ascending.{IsAscending, set_of, item_with}
 use Rattle.mq_sets.proofs.Found.{found_where_member}
@@ -74,6 +75,17 @@ module _ {K : Type 0} (number : K → ℕ) where
   any_in_row p xs up =
       ap (list_any (λ s. p s (map.get (timers_in number xs) s))) (keys-timers_in xs up)
       ∙ any_mapped (number_in number) (λ s. p s (map.get (timers_in number xs) s)) (λ x. p (number x.address) (Some x.timer)) xs (each_found p xs up)
+
+  -- the same before a place and from it on
+  pub any_before : (p : ℕ → Option SourceTimer → Bool) (n : ℕ) (xs : List (Source K)) → IsAscending (number_in number) xs → list_any (λ s. p s (map.get (timers_in number xs) s)) (take n (map.keys (timers_in number xs))) ≡ list_any (λ (x : Source K). p (number x.address) (Some x.timer)) (take n xs)
+  any_before p n xs up =
+      ap (list_any (λ s. p s (map.get (timers_in number xs) s))) (ap (take n) (keys-timers_in xs up) ∙ take-map (number_in number) n xs)
+      ∙ any_mapped (number_in number) (λ s. p s (map.get (timers_in number xs) s)) (λ x. p (number x.address) (Some x.timer)) (take n xs) (All-take (λ x. p (number_in number x) (map.get (timers_in number xs) (number_in number x)) ≡ p (number_in number x) (Some x.timer)) n xs (each_found p xs up))
+
+  pub any_behind : (p : ℕ → Option SourceTimer → Bool) (n : ℕ) (xs : List (Source K)) → IsAscending (number_in number) xs → list_any (λ s. p s (map.get (timers_in number xs) s)) (drop n (map.keys (timers_in number xs))) ≡ list_any (λ (x : Source K). p (number x.address) (Some x.timer)) (drop n xs)
+  any_behind p n xs up =
+      ap (list_any (λ s. p s (map.get (timers_in number xs) s))) (ap (drop n) (keys-timers_in xs up) ∙ drop-map (number_in number) n xs)
+      ∙ any_mapped (number_in number) (λ s. p s (map.get (timers_in number xs) s)) (λ x. p (number x.address) (Some x.timer)) (drop n xs) (All-drop (λ x. p (number_in number x) (map.get (timers_in number xs) (number_in number x)) ≡ p (number_in number x) (Some x.timer)) n xs (each_found p xs up))
 
   pub filter_in_row : (p : ℕ → Option SourceTimer → Bool) (xs : List (Source K)) → IsAscending (number_in number) xs → filter (λ s. p s (map.get (timers_in number xs) s)) (map.keys (timers_in number xs)) ≡ list_map (number_in number) (filter (λ (x : Source K). p (number x.address) (Some x.timer)) xs)
   filter_in_row p xs up =

@@ -12,6 +12,7 @@ pub mod Expiry
 pub mod Filter
 pub mod Lowering
 pub mod Sendings
+pub mod SendingPlaces
 pub mod AskedSources
 pub mod MadeSources
 pub mod Examples

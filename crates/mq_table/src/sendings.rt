@@ -1,21 +1,25 @@
 //! Sendings of group-and-source-specific queries, which stand with the timers of the sources.
 
-ghost use Rattle.std.specs.Prelude.{◌≡◌, ℕ, ◌-◌, ◌*◌, ◌^◌, ◌<◌, ◌≤◌, true, false, Some, IsSome, length, map, min, vec_capacity, drop};
+ghost use Rattle.std.specs.Prelude.{◌≡◌, ℕ, ◌+◌, ◌-◌, [], ◌∷◌, ◌*◌, ◌^◌, ◌<◌, ◌≤◌, true, false, Some, IsSome, length, map, min, vec_capacity, drop};
 ghost use Rattle.std.specs.List.{list_any};
 ghost use Rattle.mq_count.specs.Spending.{Spends};
 ghost use Rattle.mq_sets.specs.Ascending.{IsAscending, set_of};
+ghost use Rattle.mq_sets.specs.Search.{bitlen};
 ghost use Rattle.mq_table.specs.Sets.{◌∩◌};
 ghost use Rattle.mq_table.specs.Group.{timer_at};
-ghost use Rattle.mq_table.specs.Sendings.{some_source, above, source_counted, source_cleared, sendings_started, sendings_counted, sendings_cleared};
+ghost use Rattle.mq_table.specs.Sendings.{some_source, has_sendings, above, source_counted, source_cleared, sendings_started, sendings_counted, sendings_cleared};
 ghost use Rattle.mq_table.specs.AskedSources.{is_first, source_if_asked, is_asked_above};
+ghost use Rattle.mq_table.specs.SendingPlaces.{item_has_sendings, PassesBetween, SendsBetween};
 ghost use Rattle.mq_table.specs.MadeSources.{timer_recounted, source_recounted};
 ghost use Rattle.mq_table.specs.Stored.{number_in, size_of};
 
 use crate::group::Group;
+use crate::sending_places::{SendingPlaces, places_of_sendings};
 use crate::sources::Source;
 use crate::timers::{SourceTimer, runs_on};
 use crate::timing::Timing;
 use mq_count::{Key, Meter, Moment};
+use mq_sets::find;
 use std::alloc::Allocator;
 use std::cmp::Ordering;
 
@@ -74,6 +78,61 @@ fn ask_each<K: Key, A: Allocator>(
     some
 }
 
+/// Does what `ask_each` does where one source is asked for, which is looked for by halves.
+fn ask_one<K: Key, A: Allocator>(
+    sources: &mut Vec<Source<K>, A>,
+    asked: &K,
+    limit: Moment,
+    count: u32,
+    m: &mut Meter,
+) -> bool
+    requires { IsAscending (number_in K.number) sources.old.items }
+    ensures items { let made = source_if_asked K.number limit count (set_of K.number (asked.now ∷ [])) in
+        sources.new.items ≡ map made sources.old.items }
+    ensures some { let test = is_asked_above K.number limit (set_of K.number (asked.now ∷ [])) in
+        result ≡ list_any test sources.old.items }
+    ensures capacity { vec_capacity sources.new ≡ vec_capacity sources.old }
+    ensures spent { let size = length sources.old.items in Spends (min 1 size) (bitlen size + 1) m.old m.new }
+{
+    match find(sources.as_slice(), *asked, m) {
+        Ok(place) => {
+            let held = sources[place];
+            let is_above = runs_on(held.timer.deadline(), limit, m);
+            if is_above {
+                sources[place].timer = SourceTimer::Running(limit, count);
+            }
+            is_above
+        }
+        Err(_) => false,
+    }
+}
+
+/// Does what `ask_each` does, and looks for the source by halves where one is asked for.
+fn ask_among<K: Key, A: Allocator>(
+    sources: &mut Vec<Source<K>, A>,
+    asked: &[K],
+    limit: Moment,
+    count: u32,
+    m: &mut Meter,
+) -> bool
+    requires sources_ascend { IsAscending (number_in K.number) sources.old.items }
+    requires asked_ascend { IsAscending K.number asked.now }
+    requires held { (s : ℕ) → set_of K.number asked.now s ≡ true
+        → set_of (number_in K.number) sources.old.items s ≡ true }
+    ensures items { let made = source_if_asked K.number limit count (set_of K.number asked.now) in
+        sources.new.items ≡ map made sources.old.items }
+    ensures some { let test = is_asked_above K.number limit (set_of K.number asked.now) in
+        result ≡ list_any test sources.old.items }
+    ensures capacity { vec_capacity sources.new ≡ vec_capacity sources.old }
+    ensures spent { Spends (min 1 (length asked.now)) (2 * length sources.old.items) m.old m.new }
+{
+    if asked.len() == 1 {
+        ask_one(sources, &asked[0], limit, count, m)
+    } else {
+        ask_each(sources, asked, limit, count, m)
+    }
+}
+
 /// What becomes of the sendings of each source.
 #[derive(Clone, Copy)]
 enum Recount {
@@ -94,30 +153,31 @@ fn recounted(timer: &SourceTimer, recount: Recount) -> SourceTimer
     }
 }
 
-/// Whether a timer's sendings are to be counted anew.
-fn is_recounted(timer: &SourceTimer) -> bool
-    ensures { (recount : Recount) → result ≡ false → timer_recounted recount timer.now ≡ timer.now }
-{
-    match timer {
-        SourceTimer::Stopped => false,
-        SourceTimer::Running(_, sendings) => 0 < *sendings,
-    }
-}
-
-/// Counts the sendings of each source of a list anew.
-fn recount_each<K: Key, A: Allocator>(sources: &mut Vec<Source<K>, A>, recount: Recount)
+/// Counts the sendings of each source of a list anew. Outside of the places no source has any. Answers whether one has
+/// a sending left.
+fn recount_each<K: Key, A: Allocator>(
+    sources: &mut Vec<Source<K>, A>,
+    places: SendingPlaces,
+    recount: Recount,
+) -> bool
+    requires { PassesBetween item_has_sendings places.first places.end sources.old.items }
     ensures items { sources.new.items ≡ map (source_recounted recount) sources.old.items }
+    ensures left { result ≡ list_any item_has_sendings sources.new.items }
     ensures capacity { vec_capacity sources.new ≡ vec_capacity sources.old }
 {
-    for place in 0..sources.len() {
+    let mut left = false;
+    for place in places.first..places.end {
         let held = sources[place];
-        if is_recounted(&held.timer) {
+        if held.timer.has_sendings() {
+            let timer = recounted(&held.timer, recount);
+            left |= timer.has_sendings();
             sources[place] = Source {
                 address: held.address,
-                timer: recounted(&held.timer, recount),
+                timer,
             };
         }
     }
+    left
 }
 
 impl<K: Key, A: Allocator> Group<K, A> {
@@ -142,7 +202,7 @@ impl<K: Key, A: Allocator> Group<K, A> {
         ensures spent { Spends (min 1 (length asked.now)) (2 * size_of self.old.state) m.old m.new }
     {
         let limit = now.after(timing.last_member_time());
-        ask_each(
+        ask_among(
             &mut self.sources,
             asked,
             limit,
@@ -151,12 +211,41 @@ impl<K: Key, A: Allocator> Group<K, A> {
         )
     }
 
+    /// The places from the first source that has a sending to go up to the last, among the group's sources. No comparison.
+    pub fn sending_places(&self) -> SendingPlaces
+        ensures { SendsBetween result.first result.end self.now.state }
+    {
+        places_of_sendings(self.sources.as_slice())
+    }
+
+    /// All places of the group's sources.
+    fn all_places(&self) -> SendingPlaces
+        ensures { SendsBetween result.first result.end self.now.state }
+    {
+        SendingPlaces {
+            first: 0,
+            end: self.sources.len(),
+        }
+    }
+
     /// Leaves each source one sending fewer, where it has one. No comparison.
     pub fn count_sendings(&mut self)
         ensures state { self.new.state ≡ sendings_counted self.old.state }
         ensures room { self.new.room ≡ self.old.room }
     {
-        recount_each(&mut self.sources, Recount::OneFewer);
+        let places = self.all_places();
+        self.count_sendings_between(places);
+    }
+
+    /// Leaves each source one sending fewer, where it has one; outside of the places none has one. Answers whether a source has
+    /// one left. No comparison.
+    pub fn count_sendings_between(&mut self, places: SendingPlaces) -> bool
+        requires { SendsBetween places.first places.end self.old.state }
+        ensures state { self.new.state ≡ sendings_counted self.old.state }
+        ensures left { result ≡ some_source (has_sendings self.new.state) self.new.state }
+        ensures room { self.new.room ≡ self.old.room }
+    {
+        recount_each(&mut self.sources, places, Recount::OneFewer)
     }
 
     /// Leaves no source a sending. No comparison.
@@ -164,6 +253,7 @@ impl<K: Key, A: Allocator> Group<K, A> {
         ensures state { self.new.state ≡ sendings_cleared self.old.state }
         ensures room { self.new.room ≡ self.old.room }
     {
-        recount_each(&mut self.sources, Recount::NoneLeft);
+        let places = self.all_places();
+        recount_each(&mut self.sources, places, Recount::NoneLeft);
     }
 }

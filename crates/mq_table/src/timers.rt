@@ -1,10 +1,10 @@
 //! The filter mode of a group and the timers of its sources.
 
-ghost use Rattle.std.specs.Prelude.{◌≡◌, Some, not};
+ghost use Rattle.std.specs.Prelude.{◌≡◌, Some, not, nat_lt};
 ghost use Rattle.std.specs.Bool.{beq};
 ghost use Rattle.mq_count.specs.Spending.{Spends};
 ghost use Rattle.mq_table.specs.Filter.{names};
-ghost use Rattle.mq_table.specs.Group.{is_ahead, deadline_of, group_deadline, is_include, wants};
+ghost use Rattle.mq_table.specs.Group.{is_ahead, deadline_of, group_deadline, is_include, sendings_of, wants};
 
 use mq_count::{Meter, Moment};
 
@@ -86,6 +86,16 @@ impl SourceTimer {
         match self {
             SourceTimer::Stopped => None,
             SourceTimer::Running(deadline, _) => Some(*deadline),
+        }
+    }
+
+    /// Whether a sending is still to go for the source.
+    pub fn has_sendings(&self) -> bool
+        ensures { result ≡ nat_lt 0 (sendings_of (Some self.now)) }
+    {
+        match self {
+            SourceTimer::Stopped => false,
+            SourceTimer::Running(_, sendings) => 0 < *sendings,
         }
     }
 }

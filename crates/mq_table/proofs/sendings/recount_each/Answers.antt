@@ -1,11 +1,26 @@
-use Rattle.std.proofs.Common.{Option, Some, ◌≡◌, ◌+◌, ◌<◌, ◌∙◌, length, set, take, drop, refl, ap, sym, arith}
+use Rattle.std.proofs.Common.{Option, Some, ◌≡◌, ◌||◌, ◌+◌, ◌<◌, ◌∙◌, length, set, take, drop, refl, ap, sym, arith}
+use Rattle.std.specs.List.{list_any}
 use Rattle.std.proofs.lemmas.List.{set-get_or}
 use Rattle.std.proofs.Math.ListN.{length-set}
 use Rattle.mq_table.specs.declared.sources.Source.{Source}
 use Rattle.mq_table.specs.MadeSources.{source_recounted}
-use Rattle.mq_table.proofs.MadeLists.{passed_some, rest_after_some, all_made}
+use Rattle.mq_table.specs.SendingPlaces.{item_has_sendings}
+use Rattle.mq_table.proofs.MadeLists.{passed_some, rest_after_some}
+use Rattle.mq_table.proofs.Places.{source_stays, sources_stay, made_of_none, any_with_set, any_without}
+use Rattle.mq_table.proofs.Asking.{all_asked, some_asked}
 use Rattle.mq_table.proofs.sendings.recount_each.Goals as goal
-use Rattle.mq_table.proofs.sendings.recount_each.Goals.{then-is_recounted, else-is_recounted}
+use Rattle.mq_table.proofs.sendings.recount_each.Goals.{then-has_sendings, else-has_sendings}
+
+pub loop-place-init : goal.loop-place-init
+loop-place-init g c =
+    let front = take c.args.places.first c.args.sources.now.items in
+    record {
+      len = refl;
+      made = sym (made_of_none c.args.recount front c.requires.none_before);
+      rest = refl;
+      left = sym c.requires.none_before;
+      capacity = refl;
+    }
 
 pub loop-place-preserved : goal.loop-place-preserved
 loop-place-preserved g c =
@@ -15,25 +30,28 @@ loop-place-preserved g c =
     let place = c.loop-place.place in
     let held = c.index.result.now in
     let so_far = c.loop-place.invariant in
-    let within : place < length initial = omega (arith, so_far.len, c.loop-place-test.true, c.len-place-end.ensures, c.args.sources.now.ok.0) in
+    let within : place < length initial = omega (arith, c.loop-place-test.true, c.requires.within) in
+    let within_xs : place < length xs = omega (arith, so_far.len, within) in
     let y : Source g.row.K.Denot = source_recounted c.args.recount held in
     let made = passed_some rule initial xs place place held (omega arith) within so_far.len so_far.made so_far.rest c.index.ensures y refl in
     let rest = rest_after_some rule initial xs place place held (omega arith) within so_far.len so_far.made so_far.rest c.index.ensures y in
-    elim c.if-is_recounted.branch [
-      | then-is_recounted w ↦
-          rw (w.sources-is, w.recounted.ensures) (record {
+    elim c.if-has_sendings.branch [
+      | then-has_sendings w ↦
+          rw (w.sources-is, w.left-is, w.has_sendings-left.ensures, w.recounted-timer.ensures) (record {
             len = length-set xs place y ∙ so_far.len;
             made = made;
             rest = rest;
+            left = ap (λ b. b || item_has_sendings y) so_far.left ∙ sym (any_with_set item_has_sendings xs place y within_xs);
             capacity = so_far.capacity;
           })
-      | else-is_recounted w ↦
-          let stays : y ≡ held = ap (λ timer. record { address = held.address; timer = timer }) (c.is_recounted.ensures c.args.recount w.if-is_recounted.false) in
-          let same : set xs place y ≡ xs = ap (set xs place) (stays ∙ c.index.ensures) ∙ set-get_or xs place held in
-          rw w.sources-is (record {
+      | else-has_sendings w ↦
+          let none = sym c.has_sendings.ensures ∙ w.if-has_sendings.false in
+          let same : set xs place y ≡ xs = ap (set xs place) (source_stays c.args.recount held none ∙ c.index.ensures) ∙ set-get_or xs place held in
+          rw (w.sources-is, w.left-is) (record {
             len = so_far.len;
             made = ap (take (place + 1)) (sym same) ∙ made;
             rest = ap (drop (place + 1)) (sym same) ∙ rest;
+            left = so_far.left ∙ sym (any_without item_has_sendings xs place held within_xs c.index.ensures none);
             capacity = so_far.capacity;
           })
     ]
@@ -41,4 +59,15 @@ loop-place-preserved g c =
 pub returns-clause-items : goal.returns-clause-items
 returns-clause-items g c =
     let so_far = c.loop-place.invariant in
-    all_made (source_recounted c.args.recount) c.args.sources.now.items c.loop-place.sources.items c.loop-place.place (omega (arith, so_far.len, c.loop-place-test.false, c.len-place-end.ensures, c.args.sources.now.ok.0)) so_far.len so_far.made
+    let initial = c.args.sources.now.items in
+    let over : c.loop-place.place ≡ c.args.places.end = omega (arith, c.requires.ordered) in
+    let none = rw (← over) at c.requires.none_behind in
+    all_asked (source_recounted c.args.recount) initial c.loop-place.sources.items c.loop-place.place so_far.made so_far.rest (sources_stay c.args.recount (drop c.loop-place.place initial) none)
+
+pub returns-clause-left : goal.returns-clause-left
+returns-clause-left g c =
+    let so_far = c.loop-place.invariant in
+    let initial = c.args.sources.now.items in
+    let over : c.loop-place.place ≡ c.args.places.end = omega (arith, c.requires.ordered) in
+    let none = rw (← over) at c.requires.none_behind in
+    so_far.left ∙ some_asked item_has_sendings c.loop-place.sources.items c.loop-place.place (ap (list_any item_has_sendings) so_far.rest ∙ none)

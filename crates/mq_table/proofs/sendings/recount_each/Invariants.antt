@@ -1,6 +1,7 @@
 use Rattle.std.proofs.Common.{◌≡◌, Some, length, take, drop, vec_capacity}
-use Rattle.std.specs.List.{filter_map}
+use Rattle.std.specs.List.{filter_map, list_any}
 use Rattle.mq_table.specs.MadeSources.{source_recounted}
+use Rattle.mq_table.specs.SendingPlaces.{item_has_sendings}
 use Rattle.mq_table.proofs.sendings.recount_each.Given as goal
 
 -- the places passed have what is made of their sources; those ahead are as they were
@@ -9,5 +10,6 @@ invariant-loop-place g l = record {
   len : length l.sources.items ≡ length l.initial.sources.items;
   made : take l.place l.sources.items ≡ filter_map (λ x. Some (source_recounted l.fn.recount x)) (take l.place l.initial.sources.items);
   rest : drop l.place l.sources.items ≡ drop l.place l.initial.sources.items;
+  left : l.left ≡ list_any item_has_sendings (take l.place l.sources.items);
   capacity : vec_capacity l.sources ≡ vec_capacity l.initial.sources;
 }

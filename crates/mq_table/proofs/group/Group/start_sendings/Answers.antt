@@ -11,21 +11,21 @@ use Rattle.mq_table.proofs.SourceLists.{len-timers_in}
 use Rattle.mq_table.proofs.Rows.{held_in_row, any_in_row, replaced_state}
 use Rattle.mq_table.proofs.group.Group.start_sendings.Goals as goal
 
-pub ask_each-requires-clause-held : goal.ask_each-requires-clause-held
-ask_each-requires-clause-held g c s asked =
+pub ask_among-requires-clause-held : goal.ask_among-requires-clause-held
+ask_among-requires-clause-held g c s asked =
     held_in_row g.K.Key.number c.self.inside.sources.items s (rw (← c.self.view_is) at (c.requires.held s asked))
 
 pub invariant_of-self : goal.invariant_of-self
 invariant_of-self g c =
     let made = source_if_asked g.K.Key.number c.after-limit.result c.last_member_count.result (set_of g.K.Key.number c.args.asked.now) in
-    rw c.ask_each.ensures.items (IsAscending-map (number_in g.K.Key.number) made c.self.inside.sources.items c.self.invariant)
+    rw c.ask_among.ensures.items (IsAscending-map (number_in g.K.Key.number) made c.self.inside.sources.items c.self.invariant)
 
 pub returns-clause-state : goal.returns-clause-state
 returns-clause-state g c =
     let limit : c.after-limit.result ≡ lowered_to c.args.timing.now c.args.now = c.after-limit.ensures.later ∙ ap (λ n. c.args.now + n) c.last_member_time.ensures in
     let asked = set_of g.K.Key.number c.args.asked.now in
     let after = replaced_state g.K.Key.number (λ s timer. cond (asked s) (source_asked c.after-limit.result c.last_member_count.result timer) timer) (source_if_asked g.K.Key.number c.after-limit.result c.last_member_count.result asked) (λ x. refl)
-    c.self.inside.mode c.self.inside.v1 c.self.inside.v2 c.self.inside.sources.items c.ask_each.new.sources.items c.args.self.now.state (ap (λ s. s.state) c.self.view_is) c.ask_each.ensures.items in
+    c.self.inside.mode c.self.inside.v1 c.self.inside.v2 c.self.inside.sources.items c.ask_among.new.sources.items c.args.self.now.state (ap (λ s. s.state) c.self.view_is) c.ask_among.ensures.items in
     rw (← limit, ← c.last_member_count.ensures) after
 
 pub returns-clause-some : goal.returns-clause-some
@@ -33,10 +33,10 @@ returns-clause-some g c =
     let limit : c.after-limit.result ≡ lowered_to c.args.timing.now c.args.now = c.after-limit.ensures.later ∙ ap (λ n. c.args.now + n) c.last_member_time.ensures in
     let asked = set_of g.K.Key.number c.args.asked.now in
     rw (← c.self.view_is)
-    (c.ask_each.ensures.some
+    (c.ask_among.ensures.some
     ∙ ap (λ n. list_any (is_asked_above g.K.Key.number n asked) c.self.inside.sources.items) limit
     ∙ sym (any_in_row g.K.Key.number (λ s timer. asked s && is_ahead (lowered_to c.args.timing.now c.args.now) (deadline_of timer)) c.self.inside.sources.items c.self.invariant))
 
 pub returns-clause-spent : goal.returns-clause-spent
 returns-clause-spent g c =
-    rw (← c.self.view_is, len-timers_in g.K.Key.number c.self.inside.sources.items c.self.invariant) c.ask_each.ensures.spent
+    rw (← c.self.view_is, len-timers_in g.K.Key.number c.self.inside.sources.items c.self.invariant) c.ask_among.ensures.spent

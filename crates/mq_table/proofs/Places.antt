@@ -1,0 +1,80 @@
+-- Sources that have no sending to go, and the places outside of which there are no others.
+use Rattle.std.proofs.Common.{◌≡◌, ℕ, ◌+◌, ◌-◌, ◌<◌, Bool, true, false, ltb, ◌||◌, List, [], ◌∷◌, length, take, drop, set, get_or, Some, refl, sym, ap, ◌∙◌, arith}
+use Rattle.std.specs.Prelude.{map as list_map}
+use Rattle.std.specs.FinMap as map
+use Rattle.std.specs.List.{filter_map, list_any}
+use Rattle.mq_sets.specs.Ascending.{IsAscending}
+use Rattle.mq_table.specs.Sendings.{has_sendings}
+use Rattle.std.proofs.lemmas.Bool.{true≢false, ltb-false}
+use Rattle.std.proofs.Math.Bool.{or-false}
+use Rattle.std.proofs.lemmas.List.{drop_all, length-map, take_more_set}
+use Rattle.std.proofs.lemmas.List.Folds.{list_any-append, list_any_more}
+use Rattle.mq_table.specs.declared.sources.Source.{Source}
+use Rattle.mq_table.specs.declared.sendings.Recount.{Recount}
+use Rattle.mq_table.specs.declared.sendings.Recount.TheVariants.{OneFewer, NoneLeft}
+use Rattle.mq_table.specs.Group.{GroupState, SourceTimer, Stopped, Running, sendings_of}
+use Rattle.mq_table.specs.SendingPlaces.{item_has_sendings, PassesBetween, SendsBetween}
+use Rattle.mq_table.specs.Stored.{number_in, timers_in}
+use Rattle.mq_table.specs.MadeSources.{timer_recounted, source_recounted}
+use Rattle.mq_table.proofs.Rows.{keys-timers_in, any_before, any_behind}
+use Rattle.mq_table.proofs.MadeLists.{made_of_all}
+
+-- without a sending, a timer stays as its sendings are counted anew
+timer_stays : (recount : Recount) (t : SourceTimer) → ltb 0 (sendings_of (Some t)) ≡ false → timer_recounted recount t ≡ t
+timer_stays OneFewer Stopped none = refl
+timer_stays NoneLeft Stopped none = refl
+timer_stays OneFewer (Running d n) none = let same : n - 1 ≡ n = omega (arith, ltb-false 0 n none) in ap (λ k. Running d k) same
+timer_stays NoneLeft (Running d n) none = let same : 0 ≡ n = omega (arith, ltb-false 0 n none) in ap (λ k. Running d k) same
+
+pub source_stays : {K : Type 0} (recount : Recount) (x : Source K) → item_has_sendings x ≡ false → source_recounted recount x ≡ x
+source_stays recount x none = ap (λ t. record { address = x.address; timer = t }) (timer_stays recount x.timer none)
+
+pub or_none : (a b : Bool) → (a || b) ≡ false → (a ≡ false) × (b ≡ false)
+or_none true b none = absurd (true≢false none)
+or_none false b none = (refl, none)
+
+-- and so do all sources of a list
+pub sources_stay : {K : Type 0} (recount : Recount) (xs : List (Source K)) → list_any item_has_sendings xs ≡ false → list_map (source_recounted recount) xs ≡ xs
+sources_stay recount [] none = refl
+sources_stay recount (x ∷ xs) none =
+    let parts = or_none (item_has_sendings x) (list_any item_has_sendings xs) none in
+    let first : source_recounted recount x ≡ x = source_stays recount x parts.0 in
+    let rest = sources_stay recount xs parts.1 in
+    λ i. first i ∷ rest i
+
+pub made_of_none : {K : Type 0} (recount : Recount) (xs : List (Source K)) → list_any item_has_sendings xs ≡ false → filter_map (λ x. Some (source_recounted recount x)) xs ≡ xs
+made_of_none recount xs none = made_of_all (source_recounted recount) xs ∙ sources_stay recount xs none
+
+-- whether an item passes a test, one place on: where it is another item then, and where it stays
+pub any_with_set : {X : Type 0} (p : X → Bool) (xs : List X) (place : ℕ) (y : X) → place < length xs → list_any p (take (place + 1) (set xs place y)) ≡ (list_any p (take place xs) || p y)
+any_with_set p xs place y within =
+    ap (list_any p) (take_more_set xs place y within)
+    ∙ list_any-append p (take place xs) (y ∷ [])
+    ∙ ap (λ b. list_any p (take place xs) || b) (or-false (p y))
+
+pub any_without : {X : Type 0} (p : X → Bool) (xs : List X) (place : ℕ) (held : X) → place < length xs → held ≡ get_or xs place held → p held ≡ false → list_any p (take (place + 1) xs) ≡ list_any p (take place xs)
+any_without p xs place held within is none =
+    list_any_more p xs place held within
+    ∙ ap (λ b. list_any p (take place xs) || b) (ap p (sym is) ∙ none)
+    ∙ or-false (list_any p (take place xs))
+
+-- The places of a list of sources are those of the group that has them.
+module _ {K : Type 0} (number : K → ℕ) (g : GroupState) (xs : List (Source K)) (up : IsAscending (number_in number) xs) (is : timers_in number xs ≡ g.sources) (first end : ℕ) where
+  size : length (map.keys g.sources) ≡ length xs
+  size = ap (λ m. length (map.keys m)) (sym is) ∙ ap length (keys-timers_in number xs up) ∙ length-map xs (number_in number)
+
+  before : list_any (has_sendings g) (take first (map.keys g.sources)) ≡ list_any item_has_sendings (take first xs)
+  before = ap (λ m. list_any (λ s. ltb 0 (sendings_of (map.get m s))) (take first (map.keys m))) (sym is) ∙ any_before number (λ s timer. ltb 0 (sendings_of timer)) first xs up
+
+  behind : list_any (has_sendings g) (drop end (map.keys g.sources)) ≡ list_any item_has_sendings (drop end xs)
+  behind = ap (λ m. list_any (λ s. ltb 0 (sendings_of (map.get m s))) (drop end (map.keys m))) (sym is) ∙ any_behind number (λ s timer. ltb 0 (sendings_of timer)) end xs up
+
+  pub between_in_group : PassesBetween item_has_sendings first end xs → SendsBetween first end g
+  between_in_group h = record { ordered = h.ordered; within = omega (arith, h.within, size); none_before = before ∙ h.none_before; none_behind = behind ∙ h.none_behind }
+
+  pub between_in_row : SendsBetween first end g → PassesBetween item_has_sendings first end xs
+  between_in_row h = record { ordered = h.ordered; within = omega (arith, h.within, size); none_before = sym before ∙ h.none_before; none_behind = sym behind ∙ h.none_behind }
+
+-- all places of a list
+pub all_between : {X : Type 0} (test : X → Bool) (xs : List X) (count : ℕ) → count ≡ length xs → PassesBetween test 0 count xs
+all_between test xs count is = record { ordered = omega arith; within = omega (arith, is); none_before = refl; none_behind = ap (list_any test) (drop_all count xs (omega (arith, is))) }
