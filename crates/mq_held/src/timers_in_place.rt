@@ -40,7 +40,7 @@ fn restarted<K: Key>(before: Source<K>, deadline: Moment) -> Source<K>
 /// Whether a timer runs out after a moment, or doesn't run. At most one comparison.
 fn is_later(timer: SourceTimer, moment: Moment, m: &mut Meter) -> bool
     ensures later { IsTrue result ↔ IfSome (deadline_of (Some timer)) (λ deadline. moment < deadline) }
-    ensures spent { Spends 0 1 m.old m.new }
+    ensures spent { Spends (if result then 0 else 1) 1 m.old m.new }
 {
     match timer.deadline() {
         None => true,
@@ -132,7 +132,7 @@ impl<K: Key, A: Allocator> HeldGroups<K, A> {
         ensures spent { (address : ℕ) → HasNumber self.old address number →
             let size = sources_of (group_at self.old.groups address) in
             let others = running_in self.old.groups - 1 in
-            Spends (min 1 size) (bitlen size + size + 5 + bitlen others) m.old m.new }
+            MatchOption result (Spends (min 1 size) (bitlen size) m.old m.new) (λ _. Spends 2 (bitlen size + size + 5 + bitlen others) m.old m.new) }
         ensures moved { let others = running_in self.old.groups - 1 in
             MatchOption result (moves.new ≡ moves.old) (λ _. Spends 1 (2 + bitlen others) moves.old moves.new) }
     {

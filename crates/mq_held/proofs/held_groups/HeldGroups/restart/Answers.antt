@@ -1,4 +1,4 @@
-use Rattle.std.proofs.Common.{◌≡◌, ◌+◌, ◌-◌, ◌<◌, ◌∙◌, min, Some, IfSome, [], length, length-set, get_or, set, List, arith, ap, sym, subst}
+use Rattle.std.proofs.Common.{◌≡◌, ℕ, Bool, true, false, if◌then◌else◌, refl, ◌+◌, ◌-◌, ◌<◌, ◌∙◌, min, Some, IfSome, [], length, length-set, get_or, set, List, arith, ap, sym, subst}
 use Rattle.std.proofs.lemmas.List.{get_or-set_same}
 use Rattle.std.specs.Option.{unwrap_or}
 use Rattle.mq_count.proofs.Spent.{Spends-join, Spends-join_within, Spends-within}
@@ -192,6 +192,11 @@ returns-clause-groups g c address has =
     let state : List ScheduledHead → HeldState = λ (hs : List ScheduledHead). record { groups = groups_by number c.self.inside.order.items hs (set c.self.inside.sources.rows n (set row place y)); order = c.self.inside.order; source_room = c.self.inside.source_room; ahead = c.self.inside.sources.ahead } in
     rw c.set.ensures.rows (ap state (sym (set-same c.self.inside.heads.items n h in_heads c.index.ensures)) ∙ all)
 
+-- one comparison tells whether the timer was later, or whether the deadline is
+one_of : (b : Bool) → (if b then 0 else 1) + (if b then 1 else 0) ≡ 1
+one_of true = refl
+one_of false = refl
+
 pub returns-clause-spent : goal.returns-clause-spent
 returns-clause-spent g c address has =
     let number = g.K.Key.number in
@@ -208,7 +213,9 @@ returns-clause-spent g c address has =
     let others = ap (λ k. bitlen (k - 1)) (running-held number known was) in
     let looked = Spends-join c.find.ensures.spent c.is_later-was_later.ensures.spent in
     let told = Spends-join looked c.earliest_then-due.ensures.spent in
-    Spends-join_within _ _ told c.change_moment.ensures.spent (omega (arith, size)) (omega (arith, size_then, digits, others))
+    let two = one_of c.is_later-was_later.result in
+    let some = c.in-Ok.ensures.found_in in
+    Spends-join_within _ _ told c.change_moment.ensures.spent (omega (arith, some, two)) (omega (arith, size_then, digits, others))
 
 pub returns-clause-moved : goal.returns-clause-moved
 returns-clause-moved g c =
