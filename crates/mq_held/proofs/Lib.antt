@@ -22,3 +22,4 @@ pub mod DueInOrder
 pub mod TakenItems
 pub mod TakenGroups
 mod HeldInOrder
+mod RestartedTimers

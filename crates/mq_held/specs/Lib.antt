@@ -5,3 +5,4 @@ pub mod Held
 pub mod Stored
 pub mod Listed
 pub mod Sizes
+pub mod Restarted

@@ -41,7 +41,7 @@ fn group_due(query: Option<QuerySchedule>) -> Option<Moment>
 
 /// The earliest of the moments of a group without its sources, and of its schedule. At most four
 /// comparisons.
-fn earliest_of_head(
+pub(crate) fn earliest_of_head(
     mode: FilterMode,
     v1: Option<Moment>,
     v2: Option<Moment>,
@@ -60,7 +60,7 @@ fn earliest_of_head(
 
 /// The earliest of a moment, if there is one, and of the deadlines of some sources. At most one
 /// comparison for each source.
-fn earliest_with_row<K: Key>(
+pub(crate) fn earliest_with_row<K: Key>(
     first: Option<Moment>,
     row: &[Source<K>],
     m: &mut Meter,

@@ -23,6 +23,7 @@ pub mod held_entries;
 pub mod held_group;
 pub mod held_groups;
 mod scheduled_head;
+mod timers_in_place;
 mod vacant_groups;
 
 pub use earliest::count_schedules;

@@ -50,6 +50,7 @@ pub mod TranslatedRecords
 pub mod ChangedSizes
 pub mod ChangedRecords
 pub mod StatedSteps
+pub mod RefreshedGroups
 pub mod RecordsRead
 pub mod LinkReceived
 pub mod EventsRun

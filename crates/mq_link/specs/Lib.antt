@@ -34,3 +34,4 @@ pub mod Router
 pub mod LinkCode
 pub mod Sound
 pub mod Events
+pub mod Refreshed

@@ -1,6 +1,6 @@
 //! Which groups are due: an index of their earliest moments, by the numbers of the groups.
 
-ghost use Rattle.std.specs.Prelude.{◌≡◌, ℕ, ◌+◌, ◌-◌, ◌*◌, ◌^◌, ◌<◌, ◌≤◌, min, length, take, drop, true, false, if◌then◌else◌, IfOk, MatchOption, is_ok};
+ghost use Rattle.std.specs.Prelude.{◌≡◌, ℕ, ◌+◌, ◌-◌, ◌*◌, ◌^◌, ◌<◌, ◌≤◌, min, length, take, drop, true, false, if◌then◌else◌, IfOk, MatchOption, Some, is_ok};
 ghost use Rattle.std.specs.FinMap as map;
 ghost use Rattle.std.specs.List.{All};
 ghost use Rattle.mq_arena.specs.Vectors.{IsSize, Takes};
@@ -160,6 +160,15 @@ impl<A: Allocator> NumberedMoments<A> {
     {
         let leaf = self.leaves[number as usize] as usize;
         self.tree.change(leaf, due, m, moves);
+    }
+
+    /// The moment of a number. No comparison.
+    pub fn moment(&self, number: u16) -> Moment
+        requires there { map.contains_key self.now.moments number ≡ true }
+        ensures { map.get self.now.moments number ≡ Some result }
+    {
+        let leaf = self.leaves[number as usize] as usize;
+        self.tree.moment(leaf)
     }
 
     /// Whether a number has a moment at or before `now`. At most one comparison.

@@ -15,6 +15,7 @@ pub mod NumberedItems
 pub mod NumbersGiven
 pub mod NumbersKept
 pub mod NumbersTaken
+pub mod OneCell
 pub mod PackedRows
 pub mod PageSizes
 pub mod PagedNumbers

@@ -122,6 +122,19 @@ impl<T: Copy, A: Allocator> NumberedRows<T, A> {
         self.used -= before.length as usize;
     }
 
+    /// Puts a cell in the place of one of a number's row. One move.
+    pub fn set(&mut self, number: u16, place: usize, cell: T, moves: &mut Moves)
+        requires number { number < length self.old.rows }
+        requires place { place < size_at self.old number }
+        ensures rows { let row = slice_index_or self.old.rows number [] in
+            self.new ≡ record self.old { rows = slice_set self.old.rows number (slice_set row place cell) } }
+        ensures moves { Spends 1 1 moves.old moves.new }
+    {
+        let start = self.extents[number as usize].start as usize;
+        self.cells[start + place] = cell;
+        moves.count(1);
+    }
+
     /// Puts the cells of `row` in the place of those that a number's row has. `in_use` names the rows that have cells. The moves
     /// are the cells that are written and, where the rows are packed, the rows that are looked at.
     pub fn replace(&mut self, number: u16, row: &[T], in_use: &[u16], moves: &mut Moves)

@@ -1,0 +1,246 @@
+-- A group of which one source is heard of again, by its row.
+use Rattle.std.proofs.Common.{◌≡◌, ℕ, zero, suc, ◌+◌, ◌-◌, ◌<◌, min, Bool, true, false, not, cond, if◌then◌else◌, refl, List, [], ◌∷◌, ◌++◌, append_assoc, length, get_or, set, Option, None, Some, IfSome, sym, ap, ◌∙◌, subst, arith, ⊎_elim}
+use Rattle.std.specs.Option.{option_to_list}
+use Rattle.std.specs.List.{flat_map}
+use Rattle.std.specs.Ordering.{nat_cmp, eq_by_cmp}
+use Rattle.std.specs.Cmp.{nat_cmp_total}
+use Rattle.std.specs.FinMap as map
+use Rattle.std.specs.FinMap.{FinMap}
+use Rattle.std.proofs.lemmas.Bool.{cases_eq, eq-eqb}
+use Rattle.std.proofs.lemmas.List.{length-set, get_or-set_same, get_or-set_other, get_or_read}
+use Rattle.mq_sets.specs.Ascending.{IsAscending, set_of}
+use Rattle.mq_sets.specs.NumberedKeys.{NumberedKey}
+use Rattle.mq_sets.proofs.OneCell.{set-same}
+use Rattle.mq_table.specs.declared.sources.Source.{Source}
+use Rattle.mq_table.specs.declared.timers.SourceTimer.{SourceTimer}
+use Rattle.mq_table.specs.declared.timers.SourceTimer.TheVariants.{Stopped, Running}
+use Rattle.mq_table.specs.Group.{IsWellFormed, is_vacant, deadline_of, group_deadline, is_running, is_stopped, sendings_of, timer_at}
+use Rattle.mq_table.specs.Stored.{number_in, timers_in}
+use Rattle.mq_table.proofs.SourceLists.{get-found}
+use Rattle.mq_sched.specs.Schedule.{ScheduledGroup}
+use Rattle.mq_sched.specs.Sending.{group_due}
+use Rattle.mq_held.specs.declared.scheduled_head.ScheduledHead.{ScheduledHead}
+use Rattle.mq_held.specs.Groups.{schedules_of, unheld}
+use Rattle.mq_held.specs.Moments.{those_of, moments_of}
+use Rattle.mq_held.specs.Restarted.{restarted}
+use Rattle.mq_held.specs.Stored.{IsStored, earliest_of, group_by, group_of, no_head, timer_moments}
+use Rattle.mq_held.proofs.HeldMoments.{deadlines-row}
+use Rattle.mq_held.proofs.LeastMoments.{earliest-join, earliest-join_right}
+use Rattle.mq_held.proofs.OrderedAmounts.{has-moment}
+use Rattle.mq_held.proofs.OrderedItems.{number_of}
+use Rattle.mq_held.proofs.Sorted.{ties, untied}
+use Rattle.mq_held.proofs.StoredEdits.{IsStored-written, row-none, schedules_part}
+
+-- what is put again where it is changes nothing
+pub insert-same : {X : Type 0} (m : FinMap nat_cmp X) (n : ℕ) (v : X) → map.get m n ≡ Some v → map.insert m n v ≡ m
+insert-same m n v is =
+    map.same_map nat_cmp_total map.nat_cmp-IsAntisymmetric (map.insert m n v) m (λ q.
+    map.get-insert nat_cmp_total m n v q
+    ∙ ⊎_elim
+    (λ (same : q ≡ n). ap (λ b. cond b (Some v) (map.get m q)) (ties q n same) ∙ sym (ap (map.get m) same ∙ is))
+    (λ (differs : q ≡ n → ⊥). ap (λ b. cond b (Some v) (map.get m q)) (untied q n differs))
+    (cases_eq q n))
+
+-- a row in which a source stands in the place of another of its number ascends as before
+module _ {X : Type 0} (number : X → ℕ) where
+  pub IsAscending-same : (xs : List X) (i : ℕ) (y x : X) → i < length xs → x ≡ get_or xs i x → number y ≡ number x → IsAscending number xs → IsAscending number (set xs i y)
+  IsAscending-same xs i y x within here same up j k d before in_list =
+      let size = length-set xs i y in
+      let step = up j k d before (omega (arith, in_list, size)) in
+      let at_j = read j d (omega (arith, before, in_list, size)) in
+      let at_k = read k d (omega (arith, in_list, size)) in
+      omega (arith, step, at_j, at_k)
+    where
+      read : (j : ℕ) (d : X) → j < length xs → number (get_or (set xs i y) j d) ≡ number (get_or xs j d)
+      read j d in_list =
+          ⊎_elim
+          (λ (equal : j ≡ i).
+          ap (λ k. number (get_or (set xs i y) k d)) equal ∙ ap number (get_or-set_same xs i y d within) ∙ same ∙ ap number here
+          ∙ ap number (one xs i x d within) ∙ ap (λ k. number (get_or xs k d)) (sym equal))
+          (λ (differs : j ≡ i → ⊥). ap number (get_or-set_other xs i j y d differs))
+          (cases_eq j i)
+        where
+          one : (xs : List X) (i : ℕ) (x d : X) → i < length xs → get_or xs i x ≡ get_or xs i d
+          one [] i x d below = absurd (omega arith)
+          one (z ∷ xs) zero x d below = refl
+          one (z ∷ xs) (suc i) x d below = one xs i x d (omega arith)
+
+module _ {K : Type 0} (number : K → ℕ) where
+  -- the timers of the others
+  get-others : (row : List (Source K)) (i : ℕ) (y x : Source K) (q : ℕ) → i < length row → x ≡ get_or row i x → number y.address ≡ number x.address → (q ≡ number y.address → ⊥) → map.get (timers_in number (set row i y)) q ≡ map.get (timers_in number row) q
+  get-others [] i y x q within here same differs = absurd (omega arith)
+  get-others (z ∷ row) zero y x q within here same differs =
+      let other : q ≡ number z.address → ⊥ = λ e. differs (e ∙ ap (λ (s : Source K). number s.address) (sym here) ∙ sym same) in
+      map.get-insert nat_cmp_total (timers_in number row) (number y.address) y.timer q
+      ∙ ap (λ b. cond b (Some y.timer) (map.get (timers_in number row) q)) (untied q (number y.address) differs)
+      ∙ sym (map.get-insert nat_cmp_total (timers_in number row) (number z.address) z.timer q ∙ ap (λ b. cond b (Some z.timer) (map.get (timers_in number row) q)) (untied q (number z.address) other))
+  get-others (z ∷ row) (suc i) y x q within here same differs =
+      map.get-insert nat_cmp_total (timers_in number (set row i y)) (number z.address) z.timer q
+      ∙ ap (λ (o : Option SourceTimer). cond (eq_by_cmp nat_cmp q (number z.address)) (Some z.timer) o) (get-others row i y x q (omega arith) here same differs)
+      ∙ sym (map.get-insert nat_cmp_total (timers_in number row) (number z.address) z.timer q)
+
+  -- the timers, once that of one source is another
+  pub timers-set : (row : List (Source K)) (i : ℕ) (y x : Source K) → i < length row → x ≡ get_or row i x → number y.address ≡ number x.address → IsAscending (number_in number) row → timers_in number (set row i y) ≡ map.insert (timers_in number row) (number y.address) y.timer
+  timers-set row i y x within here same up =
+      map.same_map nat_cmp_total map.nat_cmp-IsAntisymmetric (timers_in number (set row i y)) (map.insert (timers_in number row) (number y.address) y.timer) (λ q.
+      ⊎_elim
+      (λ (equal : q ≡ number y.address).
+      let at = get_or-set_same row i y y within in
+      get-found number (set row i y) i y q (IsAscending-same (number_in number) row i y x within here same up) (omega (arith, within, length-set row i y)) (ap (λ (s : Source K). number s.address) at ∙ sym equal)
+      ∙ ap (λ (s : Source K). Some s.timer) at
+      ∙ sym (map.get-insert nat_cmp_total (timers_in number row) (number y.address) y.timer q ∙ ap (λ b. cond b (Some y.timer) (map.get (timers_in number row) q)) (ties q (number y.address) equal)))
+      (λ (differs : q ≡ number y.address → ⊥).
+      get-others row i y x q within here same differs
+      ∙ sym (map.get-insert nat_cmp_total (timers_in number row) (number y.address) y.timer q ∙ ap (λ b. cond b (Some y.timer) (map.get (timers_in number row) q)) (untied q (number y.address) differs)))
+      (cases_eq q (number y.address)))
+
+  -- the group, once the source at a place is heard of again
+  pub group-restarted : (h : ScheduledHead) (row : List (Source K)) (i : ℕ) (y x : Source K) (deadline source : ℕ) → i < length row → x ≡ get_or row i x → number x.address ≡ source → y ≡ record { address = x.address; timer = Running deadline (sendings_of (Some x.timer)) } → IsAscending (number_in number) row
+      → group_of number h (set row i y) ≡ restarted deadline source (group_of number h row)
+  group-restarted h row i y x deadline source within here is y_is up =
+      let same : number y.address ≡ number x.address = ap (λ (s : Source K). number s.address) y_is in
+      let at : map.get (timers_in number row) source ≡ Some x.timer = get-found number row i x source up within (ap (λ (s : Source K). number s.address) (sym here) ∙ is) ∙ ap (λ (s : Source K). Some s.timer) (sym here) in
+      let timer : y.timer ≡ Running deadline (sendings_of (map.get (timers_in number row) source)) = ap (λ (s : Source K). s.timer) y_is ∙ ap (λ t. Running deadline (sendings_of t)) (sym at) in
+      ap (λ (m : FinMap nat_cmp SourceTimer). let e : ScheduledGroup = record { group = record { mode = h.head.mode; sources = m; v1 = h.head.v1; v2 = h.head.v2 }; schedule = h.schedule } in e)
+      (timers-set row i y x within here same up ∙ (λ j. map.insert (timers_in number row) ((same ∙ is) j) (timer j)))
+
+-- a group that is held stays one
+pub IsWellFormed-restarted : (deadline source : ℕ) (timer : SourceTimer) (e : ScheduledGroup) → timer_at e.group source ≡ Some timer → IsWellFormed e.group → IsWellFormed (restarted deadline source e).group
+IsWellFormed-restarted deadline source timer e there held = record {
+  has_source = λ include. (source, ap is_running (at source (ties source source refl)));
+  none_stopped = λ include q.
+      ⊎_elim
+      (λ (same : q ≡ source). ap is_stopped (at q (ties q source same)))
+      (λ (differs : q ≡ source → ⊥). ap is_stopped (other q (untied q source differs)) ∙ held.none_stopped include q)
+      (cases_eq q source);
+}
+  where
+    next : SourceTimer
+    next = Running deadline (sendings_of (timer_at e.group source))
+
+    at : (q : ℕ) → eq_by_cmp nat_cmp q source ≡ true → map.get (map.insert e.group.sources source next) q ≡ Some next
+    at q same = map.get-insert nat_cmp_total e.group.sources source next q ∙ ap (λ b. cond b (Some next) (map.get e.group.sources q)) same
+
+    other : (q : ℕ) → eq_by_cmp nat_cmp q source ≡ false → map.get (map.insert e.group.sources source next) q ≡ map.get e.group.sources q
+    other q differs = map.get-insert nat_cmp_total e.group.sources source next q ∙ ap (λ b. cond b (Some next) (map.get e.group.sources q)) differs
+
+-- the earliest of some moments, one of which was later than it and is another
+earliest-later : (xs ys : List ℕ) (was : Option ℕ) (deadline earliest : ℕ) → earliest_of (xs ++ (option_to_list was ++ ys)) ≡ Some earliest → IfSome was (λ d. earliest < d) → earliest_of (xs ++ (deadline ∷ ys)) ≡ Some (min earliest deadline)
+earliest-later xs ys was deadline earliest is later =
+    sym (earliest-join xs (deadline ∷ ys))
+    ∙ sym (turn (option_to_list (earliest_of xs)) (deadline ∷ []))
+    ∙ by_cases (earliest_of xs) (earliest_of ys) was (turn (option_to_list (earliest_of xs)) (option_to_list was) ∙ earliest-join xs (option_to_list was ++ ys) ∙ is) later
+  where
+    turn : (zs ws : List ℕ) → earliest_of (zs ++ (ws ++ option_to_list (earliest_of ys))) ≡ earliest_of (zs ++ (ws ++ ys))
+    turn zs ws = ap earliest_of (sym (append_assoc zs ws (option_to_list (earliest_of ys)))) ∙ earliest-join_right (zs ++ ws) ys ∙ ap earliest_of (append_assoc zs ws ys)
+
+    some : (a b : ℕ) → ◌≡◌ {A = Option ℕ} (Some a) (Some b) → a ≡ b
+    some a b is = cc
+
+    by_cases : (first last was : Option ℕ) → earliest_of (option_to_list first ++ (option_to_list was ++ option_to_list last)) ≡ Some earliest → IfSome was (λ d. earliest < d) → earliest_of (option_to_list first ++ (deadline ∷ option_to_list last)) ≡ Some (min earliest deadline)
+    by_cases None None None is later = cc
+    by_cases None None (Some d) is later = let e = some d earliest is in absurd (omega (arith, e, later))
+    by_cases None (Some b) None is later = let e = some b earliest is in ap Some (omega (arith, e))
+    by_cases None (Some b) (Some d) is later = let e = some (min b d) earliest is in ap Some (omega (arith, e, later))
+    by_cases (Some a) None None is later = let e = some a earliest is in ap Some (omega (arith, e))
+    by_cases (Some a) None (Some d) is later = let e = some (min d a) earliest is in ap Some (omega (arith, e, later))
+    by_cases (Some a) (Some b) None is later = let e = some (min b a) earliest is in ap Some (omega (arith, e))
+    by_cases (Some a) (Some b) (Some d) is later = let e = some (min d (min b a)) earliest is in ap Some (omega (arith, e, later))
+
+-- the moments of a row, with one of its sources apart
+record IsParted {K : Type 0} (row : List (Source K)) (i : ℕ) (y x : Source K) : Type 0 where
+  front : List ℕ
+  back : List ℕ
+  was : flat_map timer_moments row ≡ front ++ (timer_moments x ++ back)
+  is : flat_map timer_moments (set row i y) ≡ front ++ (timer_moments y ++ back)
+
+parted : {K : Type 0} (row : List (Source K)) (i : ℕ) (y x : Source K) → i < length row → x ≡ get_or row i x → IsParted row i y x
+parted [] i y x within here = absurd (omega arith)
+parted (z ∷ row) zero y x within here = record { front = []; back = flat_map timer_moments row; was = ap (λ s. timer_moments s ++ flat_map timer_moments row) (sym here); is = refl }
+parted (z ∷ row) (suc i) y x within here =
+    let rest = parted row i y x (omega arith) here in
+    record {
+      front = timer_moments z ++ rest.front;
+      back = rest.back;
+      was = ap (λ ms. timer_moments z ++ ms) rest.was ∙ sym (append_assoc (timer_moments z) rest.front (timer_moments x ++ rest.back));
+      is = ap (λ ms. timer_moments z ++ ms) rest.is ∙ sym (append_assoc (timer_moments z) rest.front (timer_moments y ++ rest.back));
+    }
+
+-- the earliest moment of a group, one timer of which was later than it and runs until a deadline
+pub earliest-restarted : {K : Type 0} (number : K → ℕ) (h : ScheduledHead) (row : List (Source K)) (i : ℕ) (y x : Source K) (deadline earliest : ℕ) → i < length row → x ≡ get_or row i x → deadline_of (Some y.timer) ≡ Some deadline → IsAscending (number_in number) row → IsAscending (number_in number) (set row i y)
+    → earliest_of (moments_of (group_of number h row)) ≡ Some earliest → IfSome (deadline_of (Some x.timer)) (λ d. earliest < d) → earliest_of (moments_of (group_of number h (set row i y))) ≡ Some (min earliest deadline)
+earliest-restarted number h row i y x deadline earliest within here runs up up_then is later =
+    let head = those_of (group_deadline h.head.mode ∷ h.head.v1 ∷ h.head.v2 ∷ group_due h.schedule.group_query ∷ h.schedule.sources_due ∷ []) in
+    let parts = parted row i y x within here in
+    let before : earliest_of ((head ++ parts.front) ++ (timer_moments x ++ parts.back)) ≡ Some earliest =
+    ap earliest_of (append_assoc head parts.front (timer_moments x ++ parts.back) ∙ ap (λ ms. head ++ ms) (sym (deadlines-row number row up ∙ parts.was))) ∙ is in
+    let after = earliest-later (head ++ parts.front) parts.back (deadline_of (Some x.timer)) deadline earliest before later in
+    ap (λ ms. earliest_of (head ++ ms)) (deadlines-row number (set row i y) up_then ∙ parts.is)
+    ∙ ap (λ o. earliest_of (head ++ (parts.front ++ (option_to_list o ++ parts.back)))) runs
+    ∙ ap earliest_of (sym (append_assoc head parts.front (deadline ∷ parts.back)))
+    ∙ after
+
+-- what is stored, once a source of the group of a number is heard of again
+module _ {K : Type 0} (number : K → ℕ) {items : List NumberedKey} {heads : List ScheduledHead} {rows : List (List (Source K))} {moments : FinMap nat_cmp ℕ} {schedules : ℕ} (known : IsStored number items heads rows moments schedules) (n : ℕ) (held : set_of number_of items n ≡ true) (rows_within : n < length rows) (i : ℕ) (x : Source K) (within : i < length (get_or rows n [])) (here : x ≡ get_or (get_or rows n []) i x) where
+  abbrev pub row_then : Source K → List (Source K)
+  row_then y = set (get_or rows n []) i y
+
+  abbrev pub group_then : ScheduledGroup
+  group_then = group_by number heads rows n
+
+  row_up : IsAscending (number_in number) (get_or rows n [])
+  row_up = known.rows_ascend n [] rows_within
+
+  -- a group that has a source isn't vacant
+  not_vacant : is_vacant group_then.group ≡ false
+  not_vacant = by_test (is_vacant group_then.group) refl
+    where
+      by_test : (b : Bool) → is_vacant group_then.group ≡ b → is_vacant group_then.group ≡ false
+      by_test true vacant =
+          let empty = row-none number (get_or heads n no_head) (get_or rows n []) row_up (known.vacant_are_unheld n held vacant) in
+          absurd (omega (arith, within, ap length empty))
+      by_test false other = other
+
+  -- so it has a moment, its earliest
+  pub moment-held : map.contains_key moments n ≡ true
+  moment-held = has-moment number known n held ∙ ap not not_vacant
+
+  pub earliest-held : (earliest : ℕ) → map.get moments n ≡ Some earliest → earliest_of (moments_of group_then) ≡ Some earliest
+  earliest-held earliest is = ap (λ b. if b then earliest_of (moments_of group_then) else None) (sym held) ∙ sym (known.moments_are n) ∙ is
+
+  -- its timer
+  pub timer-held : (source : ℕ) → number x.address ≡ source → timer_at group_then.group source ≡ Some x.timer
+  timer-held source is = get-found number (get_or rows n []) i x source row_up within (ap (λ (s : Source K). number s.address) (sym here) ∙ is) ∙ ap (λ (s : Source K). Some s.timer) (sym here)
+
+  module _ (h : ScheduledHead) (heads_within : n < length heads) (head_here : h ≡ get_or heads n h) (y : Source K) (deadline source : ℕ) (is : number x.address ≡ source) (y_is : y ≡ record { address = x.address; timer = Running deadline (sendings_of (Some x.timer)) }) where
+    head_is : get_or heads n no_head ≡ h
+    head_is = sym (get_or_read heads n h heads_within head_here no_head)
+
+    same : number y.address ≡ number x.address
+    same = ap (λ (s : Source K). number s.address) y_is
+
+    pub up_then : IsAscending (number_in number) (row_then y)
+    up_then = IsAscending-same (number_in number) (get_or rows n []) i y x within here same row_up
+
+    pub group-then : group_of number h (row_then y) ≡ restarted deadline source group_then
+    group-then =
+        group-restarted number h (get_or rows n []) i y x deadline source within here is y_is row_up
+        ∙ ap (λ g. restarted deadline source (group_of number g (get_or rows n []))) (sym head_is)
+
+    pub formed_then : IsWellFormed (group_of number h (row_then y)).group
+    formed_then = subst (λ (e : ScheduledGroup). IsWellFormed e.group) (sym group-then) (IsWellFormed-restarted deadline source x.timer group_then (timer-held source is) (known.others_are_held n held not_vacant))
+
+    pub later_then : (earliest : ℕ) → map.get moments n ≡ Some earliest → IfSome (deadline_of (Some x.timer)) (λ d. earliest < d) → earliest_of (moments_of (group_of number h (row_then y))) ≡ Some (min earliest deadline)
+    later_then earliest first later =
+        earliest-restarted number h (get_or rows n []) i y x deadline earliest within here (ap (λ (s : Source K). deadline_of (Some s.timer)) y_is) row_up up_then
+        (ap (λ g. earliest_of (moments_of (group_of number g (get_or rows n [])))) (sym head_is) ∙ earliest-held earliest first) later
+
+    -- all of it
+    pub IsStored-restarted : (due : ℕ) → earliest_of (moments_of (group_of number h (row_then y))) ≡ Some due → IsStored number items heads (set rows n (row_then y)) (map.insert moments n due) schedules
+    IsStored-restarted due first =
+        let stored = IsStored-written number known n h (row_then y) (group_of number h (row_then y)) due held heads_within rows_within up_then refl formed_then first in
+        let part = schedules_part number known n held in
+        let own : schedules_of group_then ≡ schedules_of (group_of number h (row_then y)) = ap (λ g. schedules_of (group_of number g (get_or rows n []))) head_is in
+        let total : schedules - schedules_of group_then + schedules_of (group_of number h (row_then y)) ≡ schedules = omega (arith, part, own) in
+        subst (λ (hs : List ScheduledHead). IsStored number items hs (set rows n (row_then y)) (map.insert moments n due) schedules) (set-same heads n h heads_within head_here)
+        (subst (IsStored number items (set heads n h) (set rows n (row_then y)) (map.insert moments n due)) total stored)

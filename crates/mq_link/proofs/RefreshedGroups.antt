@@ -1,0 +1,206 @@
+-- What a record leaves of a group whose sources it leaves as they are but for the timers of those that it names.
+use Rattle.std.proofs.Common.{◌≡◌, ℕ, ◌+◌, ◌-◌, ◌<◌, ◌≤◌, Bool, true, false, cond, not, ◌&&◌, ◌||◌, List, [], ◌∷◌, Option, None, Some, IfSome, is_some, refl, sym, ap, ◌∙◌, subst, arith, ltb, ⊎_elim}
+use Rattle.std.specs.Bool.{beq}
+use Rattle.std.specs.List.{list_any}
+use Rattle.std.specs.Ordering.{nat_cmp, eq_by_cmp}
+use Rattle.std.specs.Cmp.{nat_cmp_total}
+use Rattle.std.specs.FinMap as map
+use Rattle.std.specs.FinMap.{FinMap}
+use Rattle.std.specs.FinSet as set
+use Rattle.std.proofs.lemmas.Bool.{true≢false, le-ltb}
+use Rattle.mq_table.specs.declared.kind.Kind.{Kind}
+use Rattle.mq_table.specs.declared.kind.Kind.TheVariants.{IsIn, IsEx, ToIn, ToEx, Allow, Block}
+use Rattle.mq_table.specs.declared.timing.Timing.{Timing}
+use Rattle.mq_table.specs.Sets.{∅, Set}
+use Rattle.mq_table.specs.Group.{GroupState, FilterMode, Include, Exclude, SourceTimer, Stopped, Running, is_include, is_running, is_stopped, running, sendings_of, stopped, timer_at, IsWellFormed as IsHeld}
+use Rattle.mq_table.specs.Table.{NamedSources, TableRow, table_row, timer_by, table_row_met, change_of, GroupChange}
+use Rattle.mq_table.specs.Timing.{membership_interval}
+use Rattle.mq_table.specs.Filter.{names, changes_filter}
+use Rattle.mq_table.specs.Sendings.{some_source, has_sendings, above, sendings_started}
+use Rattle.mq_table.specs.Stored.{named_in}
+use Rattle.mq_table.proofs.Filters.{changes-same, changes-at}
+use Rattle.mq_table.proofs.Groups.{same_sources}
+use Rattle.mq_table.proofs.TableRows.{table_row_at, timer_then, each_case, both, at_source_of}
+use Rattle.mq_sched.specs.Schedule.{ScheduleState, ScheduledGroup, QuerySchedule, IsScheduleOf, settled}
+use Rattle.mq_sched.specs.Sending.{acted, after_change, sources_asked}
+use Rattle.mq_sched.proofs.Asked.{some_source-gives, timer_at-sources_asked}
+use Rattle.mq_sched.proofs.Fits.{sendings_before}
+use Rattle.mq_held.specs.Restarted.{restarted}
+use Rattle.mq_held.proofs.Sorted.{tied, ties}
+use Rattle.mq_link.specs.Record.{asking_nothing}
+use Rattle.mq_link.specs.Refreshed.{restarts}
+
+-- the group with other timers of its sources
+abbrev pub with_timers : GroupState → FinMap nat_cmp SourceTimer → GroupState
+with_timers g timers = record { mode = g.mode; sources = timers; v1 = g.v1; v2 = g.v2 }
+
+-- no record of these kinds changes the mode or asks for the group
+mode_kept : (gmi : ℕ) (mode : FilterMode) (kind : Kind) (X Y A : Set) → restarts kind ≡ true → (table_row gmi mode kind X Y A).mode ≡ mode
+mode_kept gmi Include IsIn X Y A is = refl
+mode_kept gmi Include Allow X Y A is = refl
+mode_kept gmi (Exclude d) IsIn X Y A is = refl
+mode_kept gmi (Exclude d) Allow X Y A is = refl
+mode_kept gmi mode IsEx X Y A is = absurd (true≢false (sym is))
+mode_kept gmi mode ToIn X Y A is = absurd (true≢false (sym is))
+mode_kept gmi mode ToEx X Y A is = absurd (true≢false (sym is))
+mode_kept gmi mode Block X Y A is = absurd (true≢false (sym is))
+
+group_unasked : (gmi : ℕ) (mode : FilterMode) (kind : Kind) (X Y A : Set) → restarts kind ≡ true → (table_row gmi mode kind X Y A).query_group ≡ false
+group_unasked gmi Include IsIn X Y A is = refl
+group_unasked gmi Include Allow X Y A is = refl
+group_unasked gmi (Exclude d) IsIn X Y A is = refl
+group_unasked gmi (Exclude d) Allow X Y A is = refl
+group_unasked gmi mode IsEx X Y A is = absurd (true≢false (sym is))
+group_unasked gmi mode ToIn X Y A is = absurd (true≢false (sym is))
+group_unasked gmi mode ToEx X Y A is = absurd (true≢false (sym is))
+group_unasked gmi mode Block X Y A is = absurd (true≢false (sym is))
+
+sources_unasked : (gmi : ℕ) (mode : FilterMode) (kind : Kind) (X Y A : Set) (s : ℕ) → restarts kind ≡ true → (table_row gmi mode kind X Y A).query s ≡ false
+sources_unasked gmi Include IsIn X Y A s is = refl
+sources_unasked gmi Include Allow X Y A s is = refl
+sources_unasked gmi (Exclude d) IsIn X Y A s is = refl
+sources_unasked gmi (Exclude d) Allow X Y A s is = refl
+sources_unasked gmi mode IsEx X Y A s is = absurd (true≢false (sym is))
+sources_unasked gmi mode ToIn X Y A s is = absurd (true≢false (sym is))
+sources_unasked gmi mode ToEx X Y A s is = absurd (true≢false (sym is))
+sources_unasked gmi mode Block X Y A s is = absurd (true≢false (sym is))
+
+-- the timer of a source that is named is set, any other stays
+abbrev TimerThen : ℕ → FilterMode → Kind → ℕ → Option SourceTimer → Bool → Type 0
+TimerThen gmi mode kind s t a = (is_include mode ≡ true → is_stopped t ≡ false) → timer_then gmi mode kind s t a ≡ cond a (Some (Running gmi (sendings_of t))) t
+
+timer_kept : (gmi : ℕ) (mode : FilterMode) (kind : Kind) (s : ℕ) (t : Option SourceTimer) (a : Bool) → restarts kind ≡ true → TimerThen gmi mode kind s t a
+timer_kept gmi Include IsIn s t a is = each_case (TimerThen gmi Include IsIn s) (both _ (λ _. refl) (λ _. refl)) (both _ (λ _. refl) (λ none. absurd (true≢false (none refl)))) (λ d n. both _ (λ _. refl) (λ _. refl)) t a
+timer_kept gmi Include Allow s t a is = each_case (TimerThen gmi Include Allow s) (both _ (λ _. refl) (λ _. refl)) (both _ (λ _. refl) (λ none. absurd (true≢false (none refl)))) (λ d n. both _ (λ _. refl) (λ _. refl)) t a
+timer_kept gmi (Exclude m) IsIn s t a is = each_case (TimerThen gmi (Exclude m) IsIn s) (both _ (λ _. refl) (λ _. refl)) (both _ (λ _. refl) (λ _. refl)) (λ d n. both _ (λ _. refl) (λ _. refl)) t a
+timer_kept gmi (Exclude m) Allow s t a is = each_case (TimerThen gmi (Exclude m) Allow s) (both _ (λ _. refl) (λ _. refl)) (both _ (λ _. refl) (λ _. refl)) (λ d n. both _ (λ _. refl) (λ _. refl)) t a
+timer_kept gmi mode IsEx s t a is = absurd (true≢false (sym is))
+timer_kept gmi mode ToIn s t a is = absurd (true≢false (sym is))
+timer_kept gmi mode ToEx s t a is = absurd (true≢false (sym is))
+timer_kept gmi mode Block s t a is = absurd (true≢false (sym is))
+
+include_is : (mode : FilterMode) → is_include mode ≡ true → mode ≡ Include
+include_is Include is = refl
+include_is (Exclude d) is = absurd (true≢false (sym is))
+
+-- What such a record changes.
+module _ (timing : Timing) (now : ℕ) (g : GroupState) (kind : Kind) (named : NamedSources) (is : restarts kind ≡ true) (none_stopped : g.mode ≡ Include → (s : ℕ) → stopped g s ≡ false) where
+  gmi : ℕ
+  gmi = now + membership_interval timing
+
+  timers_then : (s : ℕ) → timer_at (change_of timing now g kind named).group s ≡ cond (set.contains named s) (Some (Running gmi (sendings_of (timer_at g s)))) (timer_at g s)
+  timers_then s =
+      at_source_of (λ _ _ _ _ t. t ≡ cond (set.contains named s) (Some (Running gmi (sendings_of (timer_at g s)))) (timer_at g s)) timing now g kind named s
+      (timer_kept gmi g.mode kind s (timer_at g s) (set.contains named s) is (λ include. none_stopped (include_is g.mode include) s))
+
+  changes-to : (timers : FinMap nat_cmp SourceTimer) → ((s : ℕ) → cond (set.contains named s) (Some (Running gmi (sendings_of (timer_at g s)))) (timer_at g s) ≡ map.get timers s) → change_of timing now g kind named ≡ asking_nothing (with_timers g timers)
+  changes-to timers each =
+      let sources = same_sources (change_of timing now g kind named).group.sources timers (λ s. timers_then s ∙ each s) in
+      λ i. record {
+        group = record { mode = mode_kept gmi g.mode kind (running g) (stopped g) (set.contains named) is i; sources = sources i; v1 = g.v1; v2 = g.v2 };
+        query = λ s. sources_unasked gmi g.mode kind (running g) (stopped g) (set.contains named) s is i;
+        query_group = group_unasked gmi g.mode kind (running g) (stopped g) (set.contains named) is i;
+      }
+
+  -- nothing, where it names none
+  pub changes-nothing : ((s : ℕ) → set.contains named s ≡ false) → change_of timing now g kind named ≡ asking_nothing g
+  changes-nothing none = changes-to g.sources (λ s. ap (λ b. cond b (Some (Running gmi (sendings_of (timer_at g s)))) (timer_at g s)) (none s))
+
+  -- one timer, where it names one source
+  pub changes-one : (source : ℕ) → ((s : ℕ) → set.contains named s ≡ eq_by_cmp nat_cmp s source) → change_of timing now g kind named ≡ asking_nothing (with_timers g (map.insert g.sources source (Running gmi (sendings_of (timer_at g source)))))
+  changes-one source one =
+      changes-to (map.insert g.sources source (Running gmi (sendings_of (timer_at g source)))) (λ s.
+      ap (λ b. cond b (Some (Running gmi (sendings_of (timer_at g s)))) (timer_at g s)) (one s)
+      ∙ by_test s (eq_by_cmp nat_cmp s source) refl
+      ∙ sym (map.get-insert nat_cmp_total g.sources source (Running gmi (sendings_of (timer_at g source))) s))
+    where
+      by_test : (s : ℕ) (b : Bool) → eq_by_cmp nat_cmp s source ≡ b → cond b (Some (Running gmi (sendings_of (timer_at g s)))) (timer_at g s) ≡ cond b (Some (Running gmi (sendings_of (timer_at g source)))) (timer_at g s)
+      by_test s true same = ap (λ q. Some (Running gmi (sendings_of (timer_at g q)))) (tied s source same)
+      by_test s false differs = refl
+
+-- A change that asks for nothing leaves the schedule as it is, where the group has the mode and the sendings from before.
+module _ (timing : Timing) (now : ℕ) (old new : GroupState) (schedule : ScheduleState) (fits : IsScheduleOf old schedule) (mode : new.mode ≡ old.mode) (sendings : (s : ℕ) → has_sendings new s ≡ has_sendings old s) where
+  same_some : some_source (has_sendings new) new ≡ some_source (has_sendings old) old
+  same_some =
+      by_tests (some_source (has_sendings new) new) (some_source (has_sendings old) old)
+      (sendings_before old new (λ s some. sym (sendings s) ∙ some))
+      (sendings_before new old (λ s some. sendings s ∙ some))
+    where
+      by_tests : (a b : Bool) → (a ≡ true → b ≡ true) → (b ≡ true → a ≡ true) → a ≡ b
+      by_tests true b there back = sym (there refl)
+      by_tests false true there back = back refl
+      by_tests false false there back = refl
+
+  query_stays : (m : FilterMode) → new.mode ≡ m → cond (is_include m) None schedule.group_query ≡ schedule.group_query
+  query_stays Include is = sym (fits.exclude_only (sym mode ∙ is))
+  query_stays (Exclude d) is = refl
+
+  due_stays : cond (some_source (has_sendings new) new) schedule.sources_due None ≡ schedule.sources_due
+  due_stays = by_due (some_source (has_sendings new) new) schedule.sources_due (fits.sources_sendings ∙ sym same_some)
+    where
+      by_due : (b : Bool) (due : Option ℕ) → is_some due ≡ b → cond b due None ≡ due
+      by_due true due is = refl
+      by_due false None is = refl
+      by_due false (Some d) is = absurd (true≢false is)
+
+  settled_is : settled new schedule ≡ schedule
+  settled_is = λ i. record { group_query = query_stays new.mode refl i; sources_due = due_stays i }
+
+  unasked : (e : ScheduledGroup) → sources_asked timing now ∅ e ≡ e
+  unasked e = λ i. record {
+    group = record { mode = e.group.mode; sources = same_sources (sources_asked timing now ∅ e).group.sources e.group.sources (timer_at-sources_asked timing now ∅ e) i; v1 = e.group.v1; v2 = e.group.v2 };
+    schedule = record { group_query = e.schedule.group_query; sources_due = ap (λ b. cond b (Some now) e.schedule.sources_due) none i };
+  }
+    where
+      by_test : (b : Bool) → some_source (λ s. ∅ s && above timing now e.group s) e.group ≡ b → b ≡ false
+      by_test false is = refl
+      by_test true is = let found = some_source-gives (λ s. ∅ s && above timing now e.group s) e.group is in absurd (true≢false (sym found.2))
+
+      none : some_source (λ s. ∅ s && above timing now e.group s) e.group ≡ false
+      none = by_test (some_source (λ s. ∅ s && above timing now e.group s) e.group) refl
+
+  pub after-nothing : (is_querier : Bool) → after_change is_querier timing now (asking_nothing new) schedule ≡ record { group = new; schedule = schedule }
+  after-nothing false = λ i. record { group = new; schedule = settled_is i }
+  after-nothing true = unasked (record { group = new; schedule = settled new schedule }) ∙ (λ i. record { group = new; schedule = settled_is i })
+
+-- the sendings to go stay with a timer that is set anew
+pub restarted-sendings : (deadline source : ℕ) (e : ScheduledGroup) (s : ℕ) → has_sendings (restarted deadline source e).group s ≡ has_sendings e.group s
+restarted-sendings deadline source e s =
+    let timer = Running deadline (sendings_of (timer_at e.group source)) in
+    ap (λ t. ltb 0 (sendings_of t)) (map.get-insert nat_cmp_total e.group.sources source timer s) ∙ by_test (eq_by_cmp nat_cmp s source) refl
+  where
+    by_test : (b : Bool) → eq_by_cmp nat_cmp s source ≡ b → ltb 0 (sendings_of (cond b (Some (Running deadline (sendings_of (timer_at e.group source)))) (timer_at e.group s))) ≡ ltb 0 (sendings_of (timer_at e.group s))
+    by_test true same = ap (λ q. ltb 0 (sendings_of (timer_at e.group q))) (sym (tied s source same))
+    by_test false differs = refl
+
+-- Another filter is forwarded then exactly where the source was stopped.
+pub restarted-filter : (deadline source : ℕ) (timer : SourceTimer) (e : ScheduledGroup) → timer_at e.group source ≡ Some timer → (e.group.mode ≡ Include → is_stopped (timer_at e.group source) ≡ false)
+    → changes_filter e.group (restarted deadline source e).group ≡ is_stopped (Some timer)
+restarted-filter deadline source timer e there none = by_timer timer there
+  where
+    next : SourceTimer
+    next = Running deadline (sendings_of (timer_at e.group source))
+
+    at : (s : ℕ) (b : Bool) → eq_by_cmp nat_cmp s source ≡ b → timer_at (restarted deadline source e).group s ≡ cond b (Some next) (timer_at e.group s)
+    at s b is = map.get-insert nat_cmp_total e.group.sources source next s ∙ ap (λ b. cond b (Some next) (timer_at e.group s)) is
+
+    running_named : (mode : FilterMode) (d n : ℕ) → names mode (Some (Running d n)) ≡ names mode (Some next)
+    running_named Include d n = refl
+    running_named (Exclude m) d n = refl
+
+    turned : (mode : FilterMode) → e.group.mode ≡ mode → timer_at e.group source ≡ Some Stopped → not (beq (names mode (Some Stopped)) (names mode (Some next))) ≡ true
+    turned Include is here = absurd (true≢false (sym (ap is_stopped here) ∙ none is))
+    turned (Exclude m) is here = refl
+
+    by_timer : (timer : SourceTimer) → timer_at e.group source ≡ Some timer → changes_filter e.group (restarted deadline source e).group ≡ is_stopped (Some timer)
+    by_timer (Running d n) here =
+        changes-same e.group (restarted deadline source e).group refl (λ s. by_test s (eq_by_cmp nat_cmp s source) refl)
+      where
+        by_test : (s : ℕ) (b : Bool) → eq_by_cmp nat_cmp s source ≡ b → names e.group.mode (timer_at e.group s) ≡ names e.group.mode (timer_at (restarted deadline source e).group s)
+        by_test s true same =
+            ap (λ q. names e.group.mode (timer_at e.group q)) (tied s source same) ∙ ap (names e.group.mode) here ∙ running_named e.group.mode d n
+            ∙ ap (names e.group.mode) (sym (at s true same))
+        by_test s false differs = ap (names e.group.mode) (sym (at s false differs))
+    by_timer Stopped here =
+        changes-at e.group (restarted deadline source e).group source
+        ((λ i. not (beq (names e.group.mode (here i)) (names e.group.mode (at source true (ties source source refl) i)))) ∙ turned e.group.mode refl here)
