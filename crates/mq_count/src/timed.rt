@@ -48,19 +48,19 @@ impl Meter {
         ensures answer { result ≡ least first (moments_by T.moment_of items.now) }
         ensures spent { let count = length items.now in Spends count count self.old self.new }
     {
-        let mut earliest = first;
+        let mut least = first;
         for x in items {
             match x.moment() {
                 Some(moment) => {
-                    if moment.ms() < earliest.ms() {
-                        earliest = moment;
+                    if moment.ms() < least.ms() {
+                        least = moment;
                     }
                 }
                 None => unreachable!(),
             }
         }
         self.count_comparisons(items.len());
-        earliest
+        least
     }
 
     /// How many items, from the front on, have a moment after `now`. One comparison for each of these, and one for the next

@@ -12,11 +12,11 @@ loop-x-preserved g c =
     let more = moments-more f c.args.items.now c.loop-x.x-index c.x-item.result c.loop-x-test.true c.x-item.is in
     let all = more ∙ ap (λ o. so_far ++ option_to_list o) (sym c.moment.ensures ∙ c.in-Some.is) in
     let least_is = ap (least c.args.first) all ∙ least-more c.args.first c.in-Some.moment so_far in
-    let e = c.loop-x.invariant.earliest in
+    let e = c.loop-x.invariant.least in
     record {
-      earliest = elim c.if-ms.branch [
-        | then-ms w ↦ omega (arith, least_is, e, w.earliest-is, w.if-ms.true, c.ms.ensures, c.ms-in-Some.ensures)
-        | else-ms w ↦ omega (arith, least_is, e, w.earliest-is, w.if-ms.false, c.ms.ensures, c.ms-in-Some.ensures)
+      least = elim c.if-ms.branch [
+        | then-ms w ↦ omega (arith, least_is, e, w.least-is, w.if-ms.true, c.ms.ensures, c.ms-in-Some.ensures)
+        | else-ms w ↦ omega (arith, least_is, e, w.least-is, w.if-ms.false, c.ms.ensures, c.ms-in-Some.ensures)
       ];
       meter = c.loop-x.invariant.meter;
     }
