@@ -22,4 +22,4 @@ pub mod DueInOrder
 pub mod TakenItems
 pub mod TakenGroups
 mod HeldInOrder
-mod RestartedTimers
+pub mod RestartedTimers

@@ -51,6 +51,7 @@ pub mod ChangedSizes
 pub mod ChangedRecords
 pub mod StatedSteps
 pub mod RefreshedGroups
+pub mod RefreshedStates
 pub mod RecordsRead
 pub mod LinkReceived
 pub mod EventsRun

@@ -11,8 +11,12 @@ use Rattle.std.proofs.lemmas.Bool.{true≢false, le-ltb}
 use Rattle.mq_table.specs.declared.kind.Kind.{Kind}
 use Rattle.mq_table.specs.declared.kind.Kind.TheVariants.{IsIn, IsEx, ToIn, ToEx, Allow, Block}
 use Rattle.mq_table.specs.declared.timing.Timing.{Timing}
+use Rattle.mq_table.specs.declared.timers.FilterMode.{FilterMode}
+use Rattle.mq_table.specs.declared.timers.FilterMode.TheVariants.{Include, Exclude}
+use Rattle.mq_table.specs.declared.timers.SourceTimer.{SourceTimer}
+use Rattle.mq_table.specs.declared.timers.SourceTimer.TheVariants.{Stopped, Running}
 use Rattle.mq_table.specs.Sets.{∅, Set}
-use Rattle.mq_table.specs.Group.{GroupState, FilterMode, Include, Exclude, SourceTimer, Stopped, Running, is_include, is_running, is_stopped, running, sendings_of, stopped, timer_at, IsWellFormed as IsHeld}
+use Rattle.mq_table.specs.Group.{GroupState, is_include, is_running, is_stopped, running, sendings_of, stopped, timer_at, IsWellFormed as IsHeld}
 use Rattle.mq_table.specs.Table.{NamedSources, TableRow, table_row, timer_by, table_row_met, change_of, GroupChange}
 use Rattle.mq_table.specs.Timing.{membership_interval}
 use Rattle.mq_table.specs.Filter.{names, changes_filter}
@@ -21,7 +25,7 @@ use Rattle.mq_table.specs.Stored.{named_in}
 use Rattle.mq_table.proofs.Filters.{changes-same, changes-at}
 use Rattle.mq_table.proofs.Groups.{same_sources}
 use Rattle.mq_table.proofs.TableRows.{table_row_at, timer_then, each_case, both, at_source_of}
-use Rattle.mq_sched.specs.Schedule.{ScheduleState, ScheduledGroup, QuerySchedule, IsScheduleOf, settled}
+use Rattle.mq_sched.specs.Schedule.{ScheduleState, ScheduledGroup, IsScheduleOf, settled}
 use Rattle.mq_sched.specs.Sending.{acted, after_change, sources_asked}
 use Rattle.mq_sched.proofs.Asked.{some_source-gives, timer_at-sources_asked}
 use Rattle.mq_sched.proofs.Fits.{sendings_before}
@@ -85,7 +89,7 @@ include_is (Exclude d) is = absurd (true≢false (sym is))
 
 -- What such a record changes.
 module _ (timing : Timing) (now : ℕ) (g : GroupState) (kind : Kind) (named : NamedSources) (is : restarts kind ≡ true) (none_stopped : g.mode ≡ Include → (s : ℕ) → stopped g s ≡ false) where
-  gmi : ℕ
+  abbrev pub gmi : ℕ
   gmi = now + membership_interval timing
 
   timers_then : (s : ℕ) → timer_at (change_of timing now g kind named).group s ≡ cond (set.contains named s) (Some (Running gmi (sendings_of (timer_at g s)))) (timer_at g s)

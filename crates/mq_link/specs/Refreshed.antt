@@ -20,3 +20,7 @@ hosts_compared kind = if restarts kind then 0 else 2
 -- how many merge a group of so many sources with one such record at most
 abbrev pub most_merged : (sources named : ℕ) → ℕ
 most_merged sources named = if named == 1 then bitlen sources else sources + named
+
+-- how many look at most for the one source that is named
+abbrev pub most_looked : (sources named : ℕ) → ℕ
+most_looked sources named = if named == 1 then bitlen sources else 0

@@ -28,6 +28,7 @@ pub mod dropping;
 pub mod events;
 pub mod family;
 pub mod igmp;
+mod in_place;
 mod limits;
 pub mod link;
 mod met;
