@@ -6,14 +6,12 @@ ghost use Rattle.mq_sets.specs.Ascending.{IsAscending, set_of};
 ghost use Rattle.mq_table.specs.Group.{timer_at};
 ghost use Rattle.mq_table.specs.Stored.{size_of};
 ghost use Rattle.mq_table.specs.Sendings.{some_source, has_sendings};
-ghost use Rattle.mq_table.specs.SendingPlaces.{item_has_sendings};
 ghost use Rattle.mq_sched.specs.Schedule.{ScheduledGroup, no_schedule, settled, cleared};
-ghost use Rattle.std.specs.List.{list_any};
 ghost use Rattle.mq_sched.specs.Sending.{group_asked, sources_asked};
 
 use crate::queries::QuerySchedule;
 use mq_count::{Key, Meter, Moment};
-use mq_table::{FilterMode, Group, Source, Timing};
+use mq_table::{FilterMode, Group, Timing, any_has_sendings};
 use std::alloc::Allocator;
 use std::marker::Model;
 
@@ -141,13 +139,6 @@ impl Schedule {
         group.clear_sendings();
         *self = Schedule::none();
     }
-}
-
-/// Whether some source of the list has a sending to go.
-fn any_has_sendings<K: Key>(row: &[Source<K>]) -> bool
-    ensures { result ≡ list_any item_has_sendings row.now }
-{
-    row.iter().any(|x| x.timer.has_sendings())
 }
 
 /// Whether some source of the group has a sending to go.

@@ -1,5 +1,5 @@
 -- Sources that have no sending to go, and the places outside of which there are no others.
-use Rattle.std.proofs.Common.{◌≡◌, ℕ, ◌+◌, ◌-◌, ◌<◌, Bool, true, false, ltb, ◌||◌, List, [], ◌∷◌, length, take, drop, set, get_or, Some, refl, sym, ap, ◌∙◌, arith}
+use Rattle.std.proofs.Common.{◌≡◌, ◌++◌, ℕ, ◌+◌, ◌-◌, ◌<◌, Bool, true, false, ltb, ◌||◌, List, [], ◌∷◌, length, take, drop, set, get_or, Some, refl, sym, ap, ◌∙◌, arith}
 use Rattle.std.specs.Prelude.{map as list_map}
 use Rattle.std.specs.FinMap as map
 use Rattle.std.specs.List.{filter_map, list_any}
@@ -7,7 +7,8 @@ use Rattle.mq_sets.specs.Ascending.{IsAscending}
 use Rattle.mq_table.specs.Sendings.{has_sendings}
 use Rattle.std.proofs.lemmas.Bool.{true≢false, ltb-false}
 use Rattle.std.proofs.Math.Bool.{or-false}
-use Rattle.std.proofs.lemmas.List.{drop_all, length-map, take_more_set}
+use Rattle.std.proofs.lemmas.List.{drop_all, drop-drop, length-map, take-append-drop, take_more_set}
+use Rattle.std.proofs.Math.Seq.{take-add}
 use Rattle.std.proofs.lemmas.List.Folds.{list_any-append, list_any_more}
 use Rattle.mq_table.specs.declared.sources.Source.{Source}
 use Rattle.mq_table.specs.declared.sendings.Recount.{Recount}
@@ -78,3 +79,16 @@ module _ {K : Type 0} (number : K → ℕ) (g : GroupState) (xs : List (Source K
 -- all places of a list
 pub all_between : {X : Type 0} (test : X → Bool) (xs : List X) (count : ℕ) → count ≡ length xs → PassesBetween test 0 count xs
 all_between test xs count is = record { ordered = omega arith; within = omega (arith, is); none_before = refl; none_behind = ap (list_any test) (drop_all count xs (omega (arith, is))) }
+
+-- a list in which none passes a test, and a part of it more in front or behind
+pub none_in_front : {X : Type 0} (p : X → Bool) (xs : List X) (n k : ℕ) → list_any p (take n xs) ≡ false → list_any p (take k (drop n xs)) ≡ false → list_any p (take (n + k) xs) ≡ false
+none_in_front p xs n k none more =
+    ap (list_any p) (take-add n k xs)
+    ∙ list_any-append p (take n xs) (take k (drop n xs))
+    ∙ (λ i. none i || more i)
+
+pub none_behind_more : {X : Type 0} (p : X → Bool) (xs : List X) (start k : ℕ) → list_any p (drop (start + k) xs) ≡ false → list_any p (take k (drop start xs)) ≡ false → list_any p (drop start xs) ≡ false
+none_behind_more p xs start k none more =
+    ap (list_any p) (sym (take-append-drop k (drop start xs)) ∙ ap (λ ys. take k (drop start xs) ++ ys) (drop-drop k start xs))
+    ∙ list_any-append p (take k (drop start xs)) (drop (start + k) xs)
+    ∙ (λ i. more i || none i)

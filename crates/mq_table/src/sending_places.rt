@@ -1,6 +1,6 @@
 //! Where among the sources of a group those stand that have sendings to go.
 
-ghost use Rattle.std.specs.Prelude.{◌≡◌, ◌≤◌, false, length, take, drop};
+ghost use Rattle.std.specs.Prelude.{◌≡◌, ◌≤◌, ◌<◌, true, false, length, take, drop};
 ghost use Rattle.std.specs.List.{list_any};
 ghost use Rattle.mq_table.specs.SendingPlaces.{item_has_sendings, PassesBetween};
 
@@ -14,13 +14,33 @@ pub struct SendingPlaces {
     pub end: usize,
 }
 
+/// How many sources are looked at together, without a branch for each.
+const BLOCK: usize = 16;
+
+/// Whether some source of a list has a sending to go. It looks at all of them, since that takes fewer instructions for each than
+/// to end at the first.
+fn any_in_block<K: Key>(row: &[Source<K>]) -> bool
+    ensures { result ≡ list_any item_has_sendings row.now }
+{
+    let mut some = false;
+    for source in row {
+        let timer = source.timer;
+        some |= timer.has_sendings();
+    }
+    some
+}
+
 /// How many sources, from the front on, have no sending to go.
 fn without_in_front<K: Key>(row: &[Source<K>]) -> usize
     ensures within { result ≤ length row.now }
     ensures none { list_any item_has_sendings (take result row.now) ≡ false }
+    ensures next { result < length row.now → list_any item_has_sendings row.now ≡ true }
 {
     let mut place = 0;
-    while place < row.len() && !row[place].timer.has_sendings() {
+    'by_block: while place + BLOCK <= row.len() && !any_in_block(&row[place..place + BLOCK]) {
+        place += BLOCK;
+    }
+    'by_source: while place < row.len() && !row[place].timer.has_sendings() {
         place += 1;
     }
     place
@@ -34,10 +54,20 @@ fn end_of_sendings<K: Key>(row: &[Source<K>], first: usize) -> usize
     ensures none { list_any item_has_sendings (drop result row.now) ≡ false }
 {
     let mut end = row.len();
-    while first < end && !row[end - 1].timer.has_sendings() {
+    'by_block: while first + BLOCK <= end && !any_in_block(&row[end - BLOCK..end]) {
+        end -= BLOCK;
+    }
+    'by_source: while first < end && !row[end - 1].timer.has_sendings() {
         end -= 1;
     }
     end
+}
+
+/// Whether some source of a list has a sending to go.
+pub fn any_has_sendings<K: Key>(row: &[Source<K>]) -> bool
+    ensures { result ≡ list_any item_has_sendings row.now }
+{
+    without_in_front(row) < row.len()
 }
 
 /// The places from the first source that has a sending to go up to the last. No comparison.

@@ -3,12 +3,23 @@ use Rattle.std.specs.List.{list_any}
 use Rattle.mq_table.specs.SendingPlaces.{item_has_sendings}
 use Rattle.mq_table.proofs.sending_places.end_of_sendings.Given as goal
 
-abbrev pub invariant-loop-end : goal.invariant-loop-end
-invariant-loop-end g l = record {
+-- no source from the end on has a sending
+abbrev pub invariant-by_block : goal.invariant-by_block
+invariant-by_block g l = record {
   ordered : l.fn.first ≤ l.end;
   within : l.end ≤ length l.row;
   none : list_any item_has_sendings (drop l.end l.row) ≡ false;
 }
 
-abbrev pub decreases-loop-end : goal.decreases-loop-end
-decreases-loop-end g l = l.end
+abbrev pub decreases-by_block : goal.decreases-by_block
+decreases-by_block g l = l.end
+
+abbrev pub invariant-by_source : goal.invariant-by_source
+invariant-by_source g l = record {
+  ordered : l.fn.first ≤ l.end;
+  within : l.end ≤ length l.row;
+  none : list_any item_has_sendings (drop l.end l.row) ≡ false;
+}
+
+abbrev pub decreases-by_source : goal.decreases-by_source
+decreases-by_source g l = l.end

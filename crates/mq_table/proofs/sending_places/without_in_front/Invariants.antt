@@ -3,11 +3,21 @@ use Rattle.std.specs.List.{list_any}
 use Rattle.mq_table.specs.SendingPlaces.{item_has_sendings}
 use Rattle.mq_table.proofs.sending_places.without_in_front.Given as goal
 
-abbrev pub invariant-loop-place : goal.invariant-loop-place
-invariant-loop-place g l = record {
+-- no source passed has a sending
+abbrev pub invariant-by_block : goal.invariant-by_block
+invariant-by_block g l = record {
   within : l.place ≤ length l.row;
   none : list_any item_has_sendings (take l.place l.row) ≡ false;
 }
 
-abbrev pub decreases-loop-place : goal.decreases-loop-place
-decreases-loop-place g l = length l.row - l.place
+abbrev pub decreases-by_block : goal.decreases-by_block
+decreases-by_block g l = length l.row - l.place
+
+abbrev pub invariant-by_source : goal.invariant-by_source
+invariant-by_source g l = record {
+  within : l.place ≤ length l.row;
+  none : list_any item_has_sendings (take l.place l.row) ≡ false;
+}
+
+abbrev pub decreases-by_source : goal.decreases-by_source
+decreases-by_source g l = length l.row - l.place

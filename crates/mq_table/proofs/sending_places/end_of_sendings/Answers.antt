@@ -1,0 +1,20 @@
+use Rattle.std.proofs.Common.{◌≡◌, ◌+◌, ◌-◌, take, drop, ap, sym, ◌∙◌, arith}
+use Rattle.std.specs.List.{list_any}
+use Rattle.mq_table.specs.SendingPlaces.{item_has_sendings}
+use Rattle.mq_table.proofs.Places.{none_behind_more}
+use Rattle.mq_table.proofs.sending_places.end_of_sendings.Goals as goal
+
+pub by_block-preserved : goal.by_block-preserved
+by_block-preserved g c =
+    let row = c.args.row.now in
+    let end = c.by_block.end in
+    let start = end - 16 in
+    let test = c.by_block-test.true in
+    let count : end - start ≡ 16 = omega (arith, test) in
+    let back : end ≡ start + 16 = omega (arith, test) in
+    let block = ap (λ n. list_any item_has_sendings (take n (drop start row))) (sym count) ∙ sym c.any_in_block.ensures ∙ c.if-not-any_in_block.true in
+    record {
+      ordered = omega (arith, test);
+      within = omega (arith, c.by_block.invariant.within);
+      none = none_behind_more item_has_sendings row start 16 (ap (λ n. list_any item_has_sendings (drop n row)) (sym back) ∙ c.by_block.invariant.none) block;
+    }
