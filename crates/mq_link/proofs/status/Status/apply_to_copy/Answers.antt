@@ -38,9 +38,9 @@ use Rattle.mq_link.proofs.Moved.{paid_none, paid_within}
 use Rattle.mq_link.proofs.MadeEntries.{round_keeps_size}
 use Rattle.mq_link.proofs.Rooms.{room_on, rooms_on}
 use Rattle.mq_link.proofs.StatedSteps.{AreFew, IsChanged, stated_ignored, stated_judged, kept_is_held, kept_stays, left_has_place, left_has_room, made_few}
-use Rattle.mq_link.proofs.status.Status.apply.Given.{Over}
-use Rattle.mq_link.proofs.status.Status.apply.Goals as goal
-use Rattle.mq_link.proofs.status.Status.apply.Goals.{After-change, After-ask, After-refusal, After-round, After-lemma_is_numbered-2}
+use Rattle.mq_link.proofs.status.Status.apply_to_copy.Given.{Over}
+use Rattle.mq_link.proofs.status.Status.apply_to_copy.Goals as goal
+use Rattle.mq_link.proofs.status.Status.apply_to_copy.Goals.{After-change, After-ask, After-refusal, After-round, After-lemma_is_numbered-2}
 
 abbrev stored_as : {K : Type 0} → (K → ℕ) → HeldGroup K → ScheduledGroup
 stored_as number stored = record { group = group_stored number stored; schedule = stored.schedule }
