@@ -1,8 +1,9 @@
 -- What is spent for a record that is heard from hosts that still want the sources that it names.
-use Rattle.std.proofs.Common.{◌≡◌, ℕ, zero, suc, ◌+◌, ◌*◌, ◌^◌, ◌/◌, ◌<◌, ◌≤◌, ◌==◌, Bool, true, false, cond, not, ◌&&◌, ◌||◌, List, [], ◌∷◌, length, get_or, min, Option, None, Some, refl, sym, ap, ◌∙◌, subst, arith, ⊎_elim}
+use Rattle.std.proofs.Common.{◌≡◌, ℕ, zero, suc, ◌+◌, ◌*◌, ◌^◌, ◌/◌, ◌<◌, ◌≤◌, ◌==◌, Bool, true, false, cond, not, ◌&&◌, ◌||◌, List, [], ◌∷◌, length, get_or, min, Option, None, Some, IfSome, refl, sym, ap, ◌∙◌, subst, arith, add-one}
 use Rattle.std.specs.List.{list_any}
 use Rattle.std.specs.FinMap as map
-use Rattle.std.proofs.lemmas.Bool.{true≢false, cases_eq, eq-eqb, ne_eqb}
+use Rattle.std.proofs.Math.Nat.{pow-succ'}
+use Rattle.std.proofs.lemmas.Bool.{true≢false, eqb-true}
 use Rattle.mq_count.specs.Spending.{Spends}
 use Rattle.mq_count.proofs.Spent.{Spends-join_within, Spends-within}
 use Rattle.mq_sets.specs.Ascending.{IsAscending}
@@ -35,6 +36,12 @@ restart_as mutes false hosts IsEx named is = absurd (true≢false (sym is))
 restart_as mutes false hosts ToIn named is = absurd (true≢false (sym is))
 restart_as mutes false hosts ToEx named is = absurd (true≢false (sym is))
 restart_as mutes false hosts Block named is = absurd (true≢false (sym is))
+
+pub kept_unless : (muted : Bool) (kind : Kind) (acts : Option (Kind × Bool)) → acts ≡ cond muted None (Some (kind, false)) → IfSome acts (λ (a : Kind × Bool). ◌≡◌ {A = Kind × Bool} a (kind, false))
+kept_unless true kind None is = tt
+kept_unless true kind (Some a) is = cc
+kept_unless false kind None is = cc
+kept_unless false kind (Some a) is = cc
 
 -- it leaves the sources alone that it doesn't name, where none of INCLUDE is stopped
 pub restart_keeps : {K : Type 0} (kind : Kind) (mode : FilterMode) (row : List (Source K)) → restarts kind ≡ true → (is_include mode ≡ true → list_any item_is_stopped row ≡ false) → keeps_unnamed kind mode row ≡ true
@@ -91,7 +98,7 @@ merge_by number sources said kind is_emptied before left acts old between new ac
         let kept = same emptied in
         let restarts_it = ap (λ (p : Kind × Bool). restarts p.0) (so refl) ∙ is in
         let least = all (Spends-within 0 2 spent (omega arith) (omega arith)) in
-        let most = by_count (length before == 1) refl (λ one. halves restarts_it (ap length kept ∙ Rattle.std.proofs.lemmas.Bool.eqb-true (length before) 1 one)) kept spent in
+        let most = by_count (length before == 1) refl (λ one. halves restarts_it (ap length kept ∙ eqb-true (length before) 1 one)) kept spent in
         record { at_least = least.at_least; at_most = most.at_most }
 
     by_said : (said : StatementKind) → ActsSo said kind is_emptied → Spends 0 (most_hosts said) old between → Spends (least_merge sources acts) (most_changed said sources (length before)) old new
@@ -123,19 +130,22 @@ twice_bitlen n =
     let most = bitlen-le (half + 1) n (below half n (omega arith)) in
     omega (arith, most)
   where
+    double : (m : ℕ) → 2 ^ (suc m) ≡ 2 * 2 ^ m
+    double m = pow-succ' 2 m
+
     above : (m : ℕ) → m + 1 ≤ 2 ^ m
     above zero = omega arith
-    above (suc m) = let rest = above m in let twice : 2 ^ (suc m) ≡ 2 * 2 ^ m = refl in omega (arith, rest, twice)
+    above (suc m) = let rest = above m in let twice : 2 ^ (suc m) ≡ 2 * 2 ^ m = double m in omega (arith, rest, twice)
 
     below : (m n : ℕ) → n < 2 * m + 2 → n < 2 ^ (m + 1)
-    below m n few = let rest = above m in let twice : 2 ^ (m + 1) ≡ 2 * 2 ^ m = rw Rattle.std.proofs.Common.add-one refl in omega (arith, rest, few, twice)
+    below m n few = let rest = above m in let twice : 2 ^ (m + 1) ≡ 2 * 2 ^ m = ap (λ k. 2 ^ k) (add-one m) ∙ double m in omega (arith, rest, few, twice)
 
 -- What was tried where the group stands, and is done on a copy then, is no more than six for each source, and so on.
 pub tried_and_copied : (said : StatementKind) (sources named groups : ℕ) → most_tried said sources named + most_copied said sources named groups ≤ 6 * (sources + named) + 12 + bitlen groups
 tried_and_copied said sources named groups = by_test (is_restart said)
   where
     by_count : (b : Bool) → (named == 1) ≡ b → 2 + cond b (bitlen sources) 0 + (cond b (bitlen sources) (sources + named) + 0 + 5 * (sources + named) + 9 + bitlen groups) ≤ 6 * (sources + named) + 12 + bitlen groups
-    by_count true one = let n = Rattle.std.proofs.lemmas.Bool.eqb-true named 1 one in let few = twice_bitlen sources in omega (arith, n, few)
+    by_count true one = let n = eqb-true named 1 one in let few = twice_bitlen sources in omega (arith, n, few)
     by_count false other = omega arith
 
     by_test : (b : Bool) → cond b (2 + most_looked sources named) 0 + (cond b (most_merged sources named) (sources + named + 2) + cond b 0 1 + 5 * (sources + named) + 9 + bitlen groups) ≤ 6 * (sources + named) + 12 + bitlen groups

@@ -1,11 +1,10 @@
-use Rattle.std.proofs.Common.{◌∙◌, false, ap, sym, subst, cond, Bool}
+use Rattle.std.proofs.Common.{◌∙◌, ap, sym}
 use Rattle.std.proofs.lemmas.Bool.{true≢false}
 use Rattle.std.specs.FinMap as map
-use Rattle.mq_count.specs.Spending.{Spends}
 use Rattle.mq_table.specs.OlderHosts.{hosts_of, with_sources}
 use Rattle.mq_table.specs.Stored.{state_of}
 use Rattle.mq_link.specs.Refreshed.{is_restart}
-use Rattle.mq_link.proofs.RefreshedCosts.{restart_as}
+use Rattle.mq_link.proofs.RefreshedCosts.{kept_unless, restart_as}
 use Rattle.mq_link.proofs.statement.record_as.Goals as goal
 
 pub returns-in-Some-clause-acts : goal.returns-in-Some-clause-acts
@@ -14,10 +13,7 @@ returns-in-Some-clause-acts c named =
     ∙ ap (with_sources named) (sym c.unless_muted.ensures)
 
 pub returns-in-Some-clause-restarts : goal.returns-in-Some-clause-restarts
-returns-in-Some-clause-restarts c is = rw c.unless_muted.ensures (by_test c.args.muting.is_muted)
-  where
-    by_test : (b : Bool) → _
-    by_test b = ?
+returns-in-Some-clause-restarts c is = kept_unless c.args.muting.is_muted c.args.kind c.unless_muted.result c.unless_muted.ensures
 
 pub returns-in-None-clause-acts : goal.returns-in-None-clause-acts
 returns-in-None-clause-acts c named = rw (← c.compat-hosts.ensures.hosts map.empty) (c.translate.ensures named)

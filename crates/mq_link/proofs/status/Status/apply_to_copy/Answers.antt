@@ -27,6 +27,7 @@ use Rattle.mq_link.specs.LeastCost.{least_merge, least_work}
 use Rattle.mq_link.specs.Moved.{IsPaid, moved_by_edit}
 use Rattle.mq_link.specs.Record.{change_stated, is_muted, limit_passed, stated, unless_passed, after_sending, sent_at_once}
 use Rattle.mq_link.specs.Forwarding.{changes}
+use Rattle.mq_link.specs.Refreshed.{most_asked, most_changed}
 use Rattle.mq_link.specs.Seen.{AreMarked, KeepsNumbers, met_in}
 use Rattle.mq_link.specs.Storage.{group_stored, IsSought, KeepsRoom, KeepsRooms, put_by_rows}
 use Rattle.mq_link.proofs.ChangedRecords.{changed_then, length-by, marked_by, marked_still, met_in-by}
@@ -36,6 +37,8 @@ use Rattle.mq_link.proofs.LeastCosts.{worked}
 use Rattle.mq_link.proofs.MetNumbers.{AreNumbered}
 use Rattle.mq_link.proofs.Moved.{paid_none, paid_within}
 use Rattle.mq_link.proofs.MadeEntries.{round_keeps_size}
+use Rattle.mq_link.proofs.RefreshedCosts.{none_stopped_in}
+use Rattle.mq_link.proofs.RefreshedStates.{none_is_stopped}
 use Rattle.mq_link.proofs.Rooms.{room_on, rooms_on}
 use Rattle.mq_link.proofs.StatedSteps.{AreFew, IsChanged, stated_ignored, stated_judged, kept_is_held, kept_stays, left_has_place, left_has_room, made_few}
 use Rattle.mq_link.proofs.status.Status.apply_to_copy.Given.{Over}
@@ -68,7 +71,7 @@ written g c =
 
 -- what the change has spent is at least the work on the group
 spent_changing : (g : Over) (c : After-change g) → (let number = g.F.Address.Key.number in let members = c.args.work.now.named.members in
-    Spends (least_work c.args.self.now (number c.args.sought.address) (statement_of c.args.said (named_in number members)) c.args.storage.now.held.groups) (size_of (group_stored number c.look-stored.result) + length members + 2) c.args.storage.now.meter c.change.new.m)
+    Spends (least_work c.args.self.now (number c.args.sought.address) (statement_of c.args.said (named_in number members)) c.args.storage.now.held.groups) (most_changed c.args.said (size_of (group_stored number c.look-stored.result)) (length members)) c.args.storage.now.meter c.change.new.m)
 spent_changing g c =
     let number = g.F.Address.Key.number in
     let members = c.args.work.now.named.members in
@@ -76,7 +79,7 @@ spent_changing g c =
     let before = stored_as number c.look-stored.result in
     let mutes = c.V1_MUTES_LEAVE.ensures ∙ g.met.F.Family.v1_mutes_leave ∙ ap v1_mutes_leave (sym c.lemma_is_sound.ensures.family) in
     let moment = ap (λ (f : InForce). f.moment) c.in_force-at.ensures.in_force in
-    let so_far = subst (λ n. Spends (least_merge (size_of before.group) (acts_as c.V1_MUTES_LEAVE.result c.is_muted.result (hosts_of before.group n) st)) (size_of before.group + length members + 2) c.args.storage.now.meter c.change.new.m) moment c.change.ensures.spent in
+    let so_far = subst (λ n. Spends (least_merge (size_of before.group) (acts_as c.V1_MUTES_LEAVE.result c.is_muted.result (hosts_of before.group n) st)) (most_changed c.args.said (size_of before.group) (length members)) c.args.storage.now.meter c.change.new.m) moment c.change.ensures.spent in
     worked c.args.self.now (number c.args.sought.address) st c.args.storage.now.held.groups before c.V1_MUTES_LEAVE.result c.is_muted.result _ _ _ mutes (c.is_muted.ensures (named_in number members)) c.look-stored.ensures.group so_far
 
 -- what is asked for is that of the change
@@ -129,7 +132,8 @@ returns-in_default-clause-outcome g c =
 pub returns-in_default-clause-spent : goal.returns-in_default-clause-spent
 returns-in_default-clause-spent g c =
     let size_before = ap (λ (e : ScheduledGroup). size_of e.group) c.look-stored.ensures.group in
-    Spends-within _ _ (spent_changing g c.before) (omega arith) (omega (arith, size_before))
+    let most = ap (λ n. most_changed c.args.said n (length c.args.work.now.named.members)) size_before in
+    Spends-within _ _ (spent_changing g c.before) (omega arith) (omega (arith, most))
 
 pub returns-in_default-clause-rooms : goal.returns-in_default-clause-rooms
 returns-in_default-clause-rooms g c = record { groups = refl; sources = refl }
@@ -142,6 +146,14 @@ change-requires-clause-room g c =
     let asked = c.requires.room.asked in
     let len = c.look-stored.ensures.len in
     record { group = omega arith; asked = omega arith }
+
+-- no source of a group of INCLUDE is stopped
+pub change-requires-clause-running : goal.change-requires-clause-running
+change-requires-clause-running g c include =
+    let number = g.F.Address.Key.number in
+    let row = c.look-stored.result.sources.now in
+    none_stopped_in number row c.look-stored.ensures.ascending (λ s.
+    none_is_stopped c.args.self.now (number c.args.sought.address) c.args.storage.now.held.groups (stored_as number c.look-stored.result) c.look-stored.ensures.group c.requires.sound include s)
 
 pub ask-requires-clause-ascending : goal.ask-requires-clause-ascending
 ask-requires-clause-ascending g c = rw c.in-Some.is at c.change.ensures.ascending
@@ -203,19 +215,22 @@ returns-in-Some-refusal-clause-outcome g c =
 
 -- what it has spent until it is judged
 spent_judging : (g : Over) (c : After-refusal g) → (let number = g.F.Address.Key.number in let members = c.args.work.now.named.members in
-    Spends (least_work c.args.self.now (number c.args.sought.address) (statement_of c.args.said (named_in number members)) c.args.storage.now.held.groups) (3 * (size_of (group_stored number c.look-stored.result) + length members) + 5) c.args.storage.now.meter c.refusal.new.self.meter)
+    Spends (least_work c.args.self.now (number c.args.sought.address) (statement_of c.args.said (named_in number members)) c.args.storage.now.held.groups) (most_changed c.args.said (size_of (group_stored number c.look-stored.result)) (length members) + most_asked c.args.said + 2 * (size_of (group_stored number c.look-stored.result) + length members) + 2) c.args.storage.now.meter c.refusal.new.self.meter)
 spent_judging g c =
     let number = g.F.Address.Key.number in
     let a = (few_so g c.before.before.before.before.before.before.before.before.before).changed in
     let sizes = size_of (group_stored number c.look-stored.result) + length c.args.work.now.named.members in
     let work = least_work c.args.self.now (number c.args.sought.address) (statement_of c.args.said (named_in number c.args.work.now.named.members)) c.args.storage.now.held.groups in
-    let changing = Spends-join_within work (3 * sizes + 3) (spent_changing g c.before.before.before.before.before.before.before.before.before.before.before.before.before.before.before.before) c.ask.ensures.spent (omega arith) (omega (arith, a)) in
+    let change = most_changed c.args.said (size_of (group_stored number c.look-stored.result)) (length c.args.work.now.named.members) in
+    let asks = rw c.in-Some.is at c.change.ensures.asks in
+    let changing = Spends-join_within work (change + most_asked c.args.said + 2 * sizes) (spent_changing g c.before.before.before.before.before.before.before.before.before.before.before.before.before.before.before.before) c.ask.ensures.spent (omega arith) (omega (arith, a, asks)) in
     Spends-join_within work _ changing c.refusal.ensures.spent (omega arith) (omega arith)
 
 pub returns-in-Some-refusal-clause-spent : goal.returns-in-Some-refusal-clause-spent
 returns-in-Some-refusal-clause-spent g c =
     let size_before = ap (λ (e : ScheduledGroup). size_of e.group) c.look-stored.ensures.group in
-    Spends-within _ _ (spent_judging g c.before) (omega arith) (omega (arith, size_before))
+    let most = ap (λ n. most_changed c.args.said n (length c.args.work.now.named.members)) size_before in
+    Spends-within _ _ (spent_judging g c.before) (omega arith) (omega (arith, size_before, most))
 
 pub keep-kept-requires-clause-sought : goal.keep-kept-requires-clause-sought
 keep-kept-requires-clause-sought g c =
@@ -283,10 +298,12 @@ returns-clause-spent g c =
     let size_before = ap (λ (e : ScheduledGroup). size_of e.group) c.look-stored.ensures.group in
     let sizes = size_of (group_stored number c.look-stored.result) + length c.args.work.now.named.members in
     let work = least_work at (number c.args.sought.address) (statement_of c.args.said (named_in number c.args.work.now.named.members)) c.args.storage.now.held.groups in
-    let round = Spends-join_within work (5 * sizes + 8) (spent_judging g c.before.before.before.before.before.before.before.before.before.before.before.before.before.before.before.before.before) c.round.ensures.spent (omega arith) (omega (arith, a, b)) in
+    let change = most_changed c.args.said (size_of (group_stored number c.look-stored.result)) (length c.args.work.now.named.members) in
+    let round = Spends-join_within work (change + most_asked c.args.said + 4 * sizes + 5) (spent_judging g c.before.before.before.before.before.before.before.before.before.before.before.before.before.before.before.before.before) c.round.ensures.spent (omega arith) (omega (arith, a, b)) in
     let size_left = ap (λ (e : ScheduledGroup). size_of e.group) (left_is g c.before.before.before.before.before.before.before) ∙ round_keeps_size at.election.timing at.now (asked_as c.ask.new.self c.ask.new.schedule) in
     let digits = ap (λ (s : Storage _ _). bitlen (map.len s.held.groups)) c.refusal.ensures.left in
-    Spends-join_within work _ round c.keep-kept.ensures.spent (omega arith) (omega (arith, a, b, size_before, size_left, digits))
+    let most = ap (λ n. most_changed c.args.said n (length c.args.work.now.named.members)) size_before in
+    Spends-join_within work _ round c.keep-kept.ensures.spent (omega arith) (omega (arith, a, b, size_before, size_left, digits, most))
 
 -- each group that was held keeps its number
 pub returns-in_default-clause-numbers : goal.returns-in_default-clause-numbers
