@@ -2,6 +2,10 @@
 use Rattle.std.proofs.Common.{◌≡◌, ℕ, zero, suc, ◌+◌, ◌*◌, ◌^◌, ◌/◌, ◌<◌, ◌≤◌, ◌==◌, Bool, true, false, cond, not, ◌&&◌, ◌||◌, List, [], ◌∷◌, length, get_or, min, Option, None, Some, IfSome, refl, sym, ap, ◌∙◌, subst, arith, add-one}
 use Rattle.std.specs.List.{list_any}
 use Rattle.std.specs.FinMap as map
+use Rattle.std.specs.FinSet as set
+use Rattle.std.specs.Ordering.{nat_cmp}
+use Rattle.std.specs.Prelude.{map as list_map}
+use Rattle.std.proofs.lemmas.List.{length-map}
 use Rattle.std.proofs.Math.Nat.{pow-succ'}
 use Rattle.std.proofs.lemmas.Bool.{true≢false, eqb-true}
 use Rattle.mq_count.specs.Spending.{Spends}
@@ -16,16 +20,20 @@ use Rattle.mq_table.specs.declared.sources.Source.{Source}
 use Rattle.mq_table.specs.declared.timers.FilterMode.{FilterMode}
 use Rattle.mq_table.specs.Group.{is_include, is_stopped}
 use Rattle.mq_table.specs.MergedRecord.{LooksByHalves, item_is_stopped, keeps_unnamed}
-use Rattle.mq_table.specs.OlderHosts.{translated, with_sources}
+use Rattle.mq_table.specs.OlderHosts.{hosts_of, translated, with_sources}
 use Rattle.mq_table.specs.Stored.{named_in, number_in, timers_in}
 use Rattle.mq_table.specs.Table.{NamedSources}
 use Rattle.mq_table.proofs.SourceLists.{get-found}
 use Rattle.mq_held.specs.Groups.{one_if}
 use Rattle.mq_link.specs.declared.statement.StatementKind.{StatementKind}
 use Rattle.mq_link.specs.declared.statement.StatementKind.TheVariants.{Record, OlderJoin, OlderLeave}
-use Rattle.mq_link.specs.LeastCost.{least_merge}
+use Rattle.mq_link.specs.Changing.{statement_of}
+use Rattle.mq_link.specs.Family.{v1_mutes_leave}
+use Rattle.mq_link.specs.LeastCost.{least_merge, least_work}
+use Rattle.mq_link.specs.Record.{RecordOf, Setting, is_muted, OlderJoin as StatesJoin, OlderLeave as StatesLeave}
+use Rattle.mq_link.specs.State.{Groups, group_at, sources_of}
 use Rattle.mq_link.specs.Refreshed.{is_restart, most_asked, most_changed, most_copied, most_hosts, most_looked, most_merged, most_tried, restarts}
-use Rattle.mq_link.proofs.LeastCosts.{merge_spends}
+use Rattle.mq_link.proofs.LeastCosts.{few_members, merge_spends}
 
 -- no older host mutes such a record
 pub restart_as : (mutes muted : Bool) (hosts : Hosts) (kind : Kind) (named : NamedSources) → restarts kind ≡ true → translated mutes muted hosts kind named ≡ with_sources named (cond muted None (Some (kind, false)))
@@ -151,3 +159,43 @@ tried_and_copied said sources named groups = by_test (is_restart said)
     by_test : (b : Bool) → cond b (2 + most_looked sources named) 0 + (cond b (most_merged sources named) (sources + named + 2) + cond b 0 1 + 5 * (sources + named) + 9 + bitlen groups) ≤ 6 * (sources + named) + 12 + bitlen groups
     by_test true = by_count (named == 1) refl
     by_test false = omega arith
+
+-- What a statement spends at least for its merge is no more than how many sources it names.
+least_translated : (sources n : ℕ) (mutes muted : Bool) (hosts : Hosts) (kind : Kind) (named : NamedSources) → set.len named ≤ n → least_merge sources (translated mutes muted hosts kind named) ≤ min sources n
+least_translated sources n mutes true hosts kind named few = omega arith
+least_translated sources n mutes false hosts IsIn named few = omega (arith, few)
+least_translated sources n mutes false hosts IsEx named few = omega (arith, few)
+least_translated sources n mutes false hosts Allow named few = omega (arith, few)
+least_translated sources n mutes false hosts Block named few = by_test (hosts.v1 || hosts.v2)
+  where
+    by_test : (b : Bool) → least_merge sources (cond b None (Some (Block, named))) ≤ min sources n
+    by_test true = omega arith
+    by_test false = omega (arith, few)
+least_translated sources n mutes false hosts ToEx named few = by_test (hosts.v1 || hosts.v2)
+  where
+    by_test : (b : Bool) → least_merge sources (cond b (Some (ToEx, set.empty)) (Some (ToEx, named))) ≤ min sources n
+    by_test true = let none = set.len-empty nat_cmp in omega (arith, none)
+    by_test false = omega (arith, few)
+least_translated sources n mutes false hosts ToIn named few = by_test (mutes && hosts.v1)
+  where
+    by_test : (b : Bool) → least_merge sources (cond b None (Some (ToIn, named))) ≤ min sources n
+    by_test true = omega arith
+    by_test false = omega (arith, few)
+
+pub least_named : {K : Type 0} (number : K → ℕ) (at : Setting) (group : ℕ) (said : StatementKind) (members : List K) (groups : Groups) → least_work at group (statement_of said (named_in number members)) groups ≤ min (sources_of (group_at groups group)) (length members)
+least_named number at group said members groups = by_said said
+  where
+    none : set.len (set.empty {R = nat_cmp}) ≤ length members
+    none = let n = set.len-empty nat_cmp in omega (arith, n)
+
+    few : set.len (named_in number members) ≤ length members
+    few = let n = few_members (list_map number members) in let m = length-map members number in omega (arith, n, m)
+
+    by_said : (said : StatementKind) → least_work at group (statement_of said (named_in number members)) groups ≤ min (sources_of (group_at groups group)) (length members)
+    by_said (Record kind) = least_translated (sources_of (group_at groups group)) (length members) (v1_mutes_leave at.config.family) (is_muted at.config group (RecordOf kind (named_in number members))) (hosts_of (group_at groups group).group at.now) kind (named_in number members) few
+    by_said (OlderJoin version) = by_test (is_muted at.config group (StatesJoin version))
+      where
+        by_test : (b : Bool) → least_merge (sources_of (group_at groups group)) (cond b None (Some (IsEx, set.empty))) ≤ min (sources_of (group_at groups group)) (length members)
+        by_test true = omega arith
+        by_test false = let n = set.len-empty nat_cmp in omega (arith, n)
+    by_said OlderLeave = least_translated (sources_of (group_at groups group)) (length members) (v1_mutes_leave at.config.family) (is_muted at.config group StatesLeave) (hosts_of (group_at groups group).group at.now) ToIn set.empty none

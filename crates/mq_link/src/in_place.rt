@@ -1,7 +1,7 @@
 //! What a record does to its group where that stands, without a copy of its row: where it leaves the sources as they are but for
 //! the timer of at most one, and asks for nothing.
 
-ghost use Rattle.std.specs.Prelude.{◌≡◌, ℕ, ◌+◌, ◌*◌, ◌≤◌, [], false, true, length, min, IfSome, MatchOption, OnSome, None, Some};
+ghost use Rattle.std.specs.Prelude.{◌≡◌, ℕ, ◌+◌, ◌*◌, ◌≤◌, [], false, true, is_ok, length, min, IfSome, MatchOption, OnSome, None, Some};
 ghost use Rattle.std.specs.FinMap as map;
 ghost use Rattle.mq_count.specs.Spending.{Spends};
 ghost use Rattle.mq_sets.specs.Search.{bitlen};
@@ -80,6 +80,7 @@ impl<F: Family> Status<F> {
         requires sought { IsSought F.Address.number storage.old.held sought }
         ensures outcome { let said_so = statement_of said (named_in F.Address.number named.now) in
             OnSome result (stated self.now (F.Address.number sought.address) said_so storage.old.held.groups ≡ record { verdict = counters.Applied; groups = storage.new.held.groups; queries = [] }) }
+        ensures held { OnSome result (is_ok sought.found ≡ true) }
         ensures left { OnSome result ((e : ScheduledGroup) × (storage.new.held.groups ≡ with_group storage.old.held.groups (F.Address.number sought.address) e)) }
         ensures changes { IfSome result (λ changes_it. changes_it ≡ changes storage.old.held.groups storage.new.held.groups (F.Address.number sought.address)) }
         ensures kept { storage.new.held ≡ record storage.old.held { groups = storage.new.held.groups } }

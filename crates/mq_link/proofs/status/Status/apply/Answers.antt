@@ -1,76 +1,163 @@
-use Rattle.std.proofs.Common.{◌≡◌, ◌+◌, ◌*◌, ◌<◌, ◌≤◌, ℕ, Bool, ◌||◌, None, Some, IfSome, MatchOption, length, refl, sym, ap, ◌∙◌, subst, arith}
+use Rattle.std.proofs.Common.{◌≡◌, ◌+◌, ◌*◌, ◌<◌, ◌≤◌, ℕ, Bool, true, ◌||◌, Option, None, Some, IfSome, MatchOption, Result, Ok, Err, MatchResult, length, refl, sym, ap, ◌∙◌, subst, arith}
 use Rattle.std.specs.FinMap as map
-use Rattle.std.proofs.lemmas.List.{length-map}
+use Rattle.std.specs.Result.{is_ok, result_ok}
+use Rattle.std.proofs.lemmas.Bool.{true≢false}
+use Rattle.mq_count.specs.Spending.{Spends}
 use Rattle.mq_count.proofs.Spent.{Spends-join_within, Spends-within}
+use Rattle.mq_sets.specs.NumberedKeys.{IsSpotFor}
+use Rattle.mq_sets.specs.declared.spots.Spot.{Spot}
 use Rattle.mq_sets.specs.Search.{bitlen}
+use Rattle.mq_sets.proofs.Bitlen.{bitlen-few}
 use Rattle.mq_table.specs.Stored.{named_in}
 use Rattle.mq_held.specs.Groups.{group_at, sources_of, with_group}
 use Rattle.mq_held.specs.Held.{HeldState, HasNumber}
 use Rattle.mq_link.specs.declared.storage.Storage.{Storage}
-use Rattle.mq_link.specs.declared.storage.Scratch.{Scratch}
 use Rattle.mq_link.specs.Changing.{statement_of}
 use Rattle.mq_link.specs.Forwarding.{changes}
+use Rattle.mq_link.specs.Judging.{verdict_of}
 use Rattle.mq_link.specs.LeastCost.{least_work}
-use Rattle.mq_link.specs.Moved.{MovesWithin, moved_by_edit}
+use Rattle.mq_link.specs.Moved.{IsPaid, moved_by_edit}
 use Rattle.mq_link.specs.Record.{stated}
-use Rattle.mq_link.specs.Refreshed.{most_copied, most_tried}
+use Rattle.mq_link.specs.Refreshed.{most_copied}
 use Rattle.mq_link.specs.Router.{HasOutcome}
 use Rattle.mq_link.specs.Seen.{AreMarked, KeepsNumbers, met_in}
 use Rattle.mq_link.specs.Sound.{AreSound}
-use Rattle.mq_link.specs.Storage.{IsSought, KeepsRooms}
+use Rattle.mq_link.specs.Storage.{IsSought, KeepsRooms, has_counted, put_by_rows}
 use Rattle.mq_link.proofs.ChangedRecords.{length-by, marked_by, met_in-by}
 use Rattle.mq_link.proofs.MetNumbers.{AreNumbered}
 use Rattle.mq_link.proofs.Moved.{paid_within}
-use Rattle.mq_link.proofs.RefreshedCosts.{tried_and_copied}
+use Rattle.mq_link.proofs.RefreshedCosts.{least_named, tried_and_copied}
+use Rattle.mq_link.proofs.status.Status.apply.Given.{Over}
 use Rattle.mq_link.proofs.status.Status.apply.Goals as goal
+use Rattle.mq_link.proofs.status.Status.apply.Goals.{After-ok}
+
+-- the number of the group, which is held
+within_so : (g : Over) (c : After-ok g) → IfSome c.ok.result (λ n. n < length c.args.work.now.changed)
+within_so g c = subst (λ o. IfSome o (λ n. n < length c.args.work.now.changed)) (sym c.ok.ensures.value) (by_found c.args.sought.found c.requires.sought)
+  where
+    by_found : (found : Result ℕ Spot) → MatchResult found (HasNumber c.args.storage.now.held (g.F.Address.Key.number c.args.sought.address)) (IsSpotFor c.args.storage.now.held.order.items c.args.storage.now.held.order.pages (g.F.Address.Key.number c.args.sought.address)) → IfSome (result_ok found) (λ n. n < length c.args.work.now.changed)
+    by_found (Ok n) has = let below = c.lemma_is_numbered.ensures.within _ n has in omega (arith, below, c.requires.group_room, c.requires.room.changed)
+    by_found (Err spot) is = tt
+
+keeps_so : (g : Over) (c : After-ok g) → KeepsNumbers c.args.storage.now.held c.refresh.new.storage.held
+keeps_so g c = subst (KeepsNumbers c.args.storage.now.held) (sym c.in-Some.ensures.kept) (λ a n has. record { is = has.is })
+
+numbered_so : (g : Over) (c : After-ok g) → MatchOption c.ok.result (map.contains_key c.refresh.new.storage.held.groups (g.F.Address.Key.number c.args.sought.address) ≡ Rattle.std.proofs.Common.false) (HasNumber c.refresh.new.storage.held (g.F.Address.Key.number c.args.sought.address))
+numbered_so g c = subst (λ o. MatchOption o (map.contains_key c.refresh.new.storage.held.groups a ≡ Rattle.std.proofs.Common.false) (HasNumber c.refresh.new.storage.held a)) (sym c.ok.ensures.value) (by_found c.args.sought.found c.requires.sought c.in-Some.ensures.held)
+  where
+    a : ℕ
+    a = g.F.Address.Key.number c.args.sought.address
+
+    by_found : (found : Result ℕ Spot) → MatchResult found (HasNumber c.args.storage.now.held (g.F.Address.Key.number c.args.sought.address)) (IsSpotFor c.args.storage.now.held.order.items c.args.storage.now.held.order.pages (g.F.Address.Key.number c.args.sought.address)) → is_ok found ≡ true → MatchOption (result_ok found) (map.contains_key c.refresh.new.storage.held.groups (g.F.Address.Key.number c.args.sought.address) ≡ Rattle.std.proofs.Common.false) (HasNumber c.refresh.new.storage.held (g.F.Address.Key.number c.args.sought.address))
+    by_found (Ok n) has is = keeps_so g c _ n has
+    by_found (Err spot) at is = absurd (true≢false (sym is))
 
 pub returns-in-Some-clause-outcome : goal.returns-in-Some-clause-outcome
-returns-in-Some-clause-outcome g c = ?
+returns-in-Some-clause-outcome g c =
+    let told = rw c.as_slice.ensures.members at c.in-Some.ensures.outcome in
+    rw told (record { verdict_is = refl; groups_are = refl; sent = refl })
 
 pub returns-in-Some-clause-numbers : goal.returns-in-Some-clause-numbers
-returns-in-Some-clause-numbers g c = ?
+returns-in-Some-clause-numbers g c = keeps_so g c.before
 
 pub returns-in-Some-clause-rooms : goal.returns-in-Some-clause-rooms
-returns-in-Some-clause-rooms g c = ?
+returns-in-Some-clause-rooms g c = record {
+  groups = ap (λ (s : HeldState). s.order.room) c.in-Some.ensures.kept;
+  sources = ap (λ (s : HeldState). s.source_room) c.in-Some.ensures.kept;
+}
 
 pub returns-in-Some-clause-room : goal.returns-in-Some-clause-room
-returns-in-Some-clause-room g c = ?
-
-pub returns-in-Some-clause-met : goal.returns-in-Some-clause-met
-returns-in-Some-clause-met g c = refl
-
-pub returns-in-Some-clause-changed : goal.returns-in-Some-clause-changed
-returns-in-Some-clause-changed g c before marked = ?
-
-pub returns-in-Some-clause-one_changed : goal.returns-in-Some-clause-one_changed
-returns-in-Some-clause-one_changed g c = ?
-
-pub returns-in-Some-clause-spent : goal.returns-in-Some-clause-spent
-returns-in-Some-clause-spent g c = ?
-
-pub returns-in-Some-clause-moved : goal.returns-in-Some-clause-moved
-returns-in-Some-clause-moved g c = ?
+returns-in-Some-clause-room g c = record {
+  group = omega arith;
+  named = refl;
+  asked = omega arith;
+  met = refl;
+  changed = ap length c.count_changed.ensures ∙ length-by c.args.work.now.changed c.in-Some.changes c.ok.result;
+}
 
 pub count_changed-requires : goal.count_changed-requires
-count_changed-requires g c = ?
+count_changed-requires g c = record { number = within_so g c }
 
-pub returns-in-None-clause-outcome : goal.returns-in-None-clause-outcome
-returns-in-None-clause-outcome g c = ?
+pub returns-in-Some-clause-changed : goal.returns-in-Some-clause-changed
+returns-in-Some-clause-changed g c before marked =
+    let storage = c.args.storage.now in
+    let next = c.refresh.new.storage in
+    let was = c.lemma_is_numbered.ensures in
+    let is = c.lemma_is_numbered-in-Some.ensures in
+    let numbered : AreNumbered storage.held = record { held = was.held; of_one = was.of_one; same = was.same; one = was.one } in
+    let numbered_next : AreNumbered next.held = record { held = is.held; of_one = is.of_one; same = is.same; one = is.one } in
+    let left = c.in-Some.ensures.left in
+    subst (λ counts. AreMarked next.held counts (λ other. before other || changes storage.held.groups next.held.groups other)) (sym c.count_changed.ensures)
+    (marked_by storage.held next.held numbered numbered_next (keeps_so g c.before) (g.F.Address.Key.number c.args.sought.address) left.0 left.1 c.args.work.now.changed before marked c.in-Some.changes c.ok.result c.in-Some.ensures.changes (numbered_so g c.before) (within_so g c.before))
 
-pub returns-in-None-clause-numbers : goal.returns-in-None-clause-numbers
-returns-in-None-clause-numbers g c = ?
+pub returns-in-Some-clause-one_changed : goal.returns-in-Some-clause-one_changed
+returns-in-Some-clause-one_changed g c =
+    let most = met_in-by c.args.work.now.changed c.in-Some.changes c.ok.result (within_so g c.before) in
+    let counted = ap met_in c.count_changed.ensures in
+    omega (arith, most, counted)
 
-pub returns-in-None-clause-rooms : goal.returns-in-None-clause-rooms
-returns-in-None-clause-rooms g c = ?
+pub returns-in-Some-clause-spent : goal.returns-in-Some-clause-spent
+returns-in-Some-clause-spent g c =
+    let number = g.F.Address.Key.number in
+    let groups = c.args.storage.now.held.groups in
+    let least = least_named number c.args.self.now (number c.args.sought.address) c.args.said c.args.work.now.named.members groups in
+    let size = sources_of (group_at groups (number c.args.sought.address)) in
+    let few = bitlen-few size in
+    let same = ap length c.as_slice.ensures.members in
+    Spends-within _ _ c.in-Some.ensures.spent (omega (arith, least, same)) (omega (arith, few))
 
-pub returns-in-None-clause-changed : goal.returns-in-None-clause-changed
-returns-in-None-clause-changed g c before marked = ?
+pub returns-in-Some-clause-moved : goal.returns-in-Some-clause-moved
+returns-in-Some-clause-moved g c = paid_within _ c.in-Some.ensures.moved (omega arith)
 
-pub returns-in-None-clause-spent : goal.returns-in-None-clause-spent
-returns-in-None-clause-spent g c = ?
-
-pub returns-in-None-clause-moved : goal.returns-in-None-clause-moved
-returns-in-None-clause-moved g c = ?
+-- what was tried has only counted
+same_so : (g : Over) (c : goal.In-None g) → c.refresh.new.storage ≡ has_counted c.args.storage.now c.refresh.new.storage.meter
+same_so g c = c.refresh.ensures.none c.in-None.is
 
 pub apply_to_copy-requires : goal.apply_to_copy-requires
-apply_to_copy-requires g c = ?
+apply_to_copy-requires g c =
+    let same = sym (same_so g c) in
+    record {
+      admitted = c.requires.admitted;
+      sound = subst (λ (s : Storage _ _). AreSound c.args.self.now s.held.groups) same c.requires.sound;
+      sought = subst (λ (s : Storage _ _). IsSought g.F.Address.Key.number s.held c.args.sought) same c.requires.sought;
+      room = c.requires.room;
+      named = c.requires.named;
+      group_room = subst (λ (s : Storage _ _). s.held.order.room ≡ c.args.self.now.config.limits.groups) same c.requires.group_room;
+      source_room = subst (λ (s : Storage _ _). s.held.source_room ≡ c.args.self.now.config.limits.sources) same c.requires.source_room;
+    }
+
+pub returns-in-None-clause-outcome : goal.returns-in-None-clause-outcome
+returns-in-None-clause-outcome g c =
+    let number = g.F.Address.Key.number in
+    subst (λ (s : Storage _ _). HasOutcome g.S.Sink.takes (stated c.args.self.now (number c.args.sought.address) (statement_of c.args.said (named_in number c.args.work.now.named.members)) s.held.groups) (verdict_of c.apply_to_copy.result) c.apply_to_copy.new.storage.held.groups c.args.sink.now c.apply_to_copy.new.sink)
+    (same_so g c.before) c.apply_to_copy.ensures.outcome
+
+pub returns-in-None-clause-numbers : goal.returns-in-None-clause-numbers
+returns-in-None-clause-numbers g c = subst (λ (s : Storage _ _). KeepsNumbers s.held c.apply_to_copy.new.storage.held) (same_so g c.before) c.apply_to_copy.ensures.numbers
+
+pub returns-in-None-clause-rooms : goal.returns-in-None-clause-rooms
+returns-in-None-clause-rooms g c = subst (λ (s : Storage _ _). KeepsRooms s c.apply_to_copy.new.storage) (same_so g c.before) c.apply_to_copy.ensures.rooms
+
+pub returns-in-None-clause-changed : goal.returns-in-None-clause-changed
+returns-in-None-clause-changed g c before =
+    subst (λ (s : Storage _ _). AreMarked s.held c.args.work.now.changed before → AreMarked c.apply_to_copy.new.storage.held c.apply_to_copy.new.work.changed (λ address. before address || changes s.held.groups c.apply_to_copy.new.storage.held.groups address))
+    (same_so g c.before) (c.apply_to_copy.ensures.changed before)
+
+pub returns-in-None-clause-spent : goal.returns-in-None-clause-spent
+returns-in-None-clause-spent g c =
+    let number = g.F.Address.Key.number in
+    let a = number c.args.sought.address in
+    let groups = c.args.storage.now.held.groups in
+    let size = sources_of (group_at groups a) in
+    let copied = subst (λ (s : Storage _ _). Spends (least_work c.args.self.now a (statement_of c.args.said (named_in number c.args.work.now.named.members)) s.held.groups) (most_copied c.args.said (sources_of (group_at s.held.groups a)) (length c.args.work.now.named.members) (map.len s.held.groups)) s.meter c.apply_to_copy.new.storage.meter)
+    (same_so g c.before) c.apply_to_copy.ensures.spent in
+    let tried = rw c.as_slice.ensures.members at c.in-None.ensures.spent in
+    let most = tried_and_copied c.args.said size (length c.args.work.now.named.members) (map.len groups) in
+    Spends-join_within _ _ tried copied (omega arith) (omega (arith, most))
+
+pub returns-in-None-clause-moved : goal.returns-in-None-clause-moved
+returns-in-None-clause-moved g c =
+    let number = g.F.Address.Key.number in
+    let a = number c.args.sought.address in
+    subst (λ (s : Storage _ _). IsPaid (5 * (sources_of (group_at s.held.groups a) + length c.args.work.now.named.members) + moved_by_edit) (put_by_rows s.held) (put_by_rows c.apply_to_copy.new.storage.held) s.moves c.apply_to_copy.new.storage.moves)
+    (same_so g c.before) c.apply_to_copy.ensures.moved

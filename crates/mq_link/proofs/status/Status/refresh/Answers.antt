@@ -2,6 +2,7 @@ use Rattle.std.proofs.Common.{◌≡◌, ℕ, ◌+◌, ◌-◌, ◌≤◌, [], �
 use Rattle.std.proofs.lemmas.Bool.{eq-eqb, eqb-true}
 use Rattle.std.proofs.lemmas.List.{nil_from_length}
 use Rattle.std.specs.FinMap as map
+use Rattle.std.specs.Result.{is_ok}
 use Rattle.mq_count.specs.Spending.{Spends}
 use Rattle.mq_count.proofs.Spent.{Spends-join_within, Spends-within}
 use Rattle.mq_sets.specs.Search.{bitlen}
@@ -251,3 +252,9 @@ returns-in-None-clause-moved g c =
     let left = rw c.in-None.is at c.restart-before.ensures.groups a has in
     let unmoved = rw c.in-None.is at c.restart-before.ensures.moved in
     rw (left, unmoved) (paid_within moved_by_edit (paid_none _ _) (omega arith))
+
+pub returns-then-is_empty-clause-held : goal.returns-then-is_empty-clause-held
+returns-then-is_empty-clause-held g c = ap is_ok c.in-Ok.is
+
+pub returns-in-Some-clause-held : goal.returns-in-Some-clause-held
+returns-in-Some-clause-held g c = ap is_ok c.in-Ok.is

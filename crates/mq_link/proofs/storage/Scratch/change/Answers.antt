@@ -48,11 +48,11 @@ returns-in_default-clause-spent g c = merged g c.before
 -- a record that is heard again asks for no group
 pub returns-in-OlderJoin-clause-asks : goal.returns-in-OlderJoin-clause-asks
 returns-in-OlderJoin-clause-asks g c =
-    asks_by c.args.said c.in_ok-kind.kind c.in_ok-kind.is_emptied c.load_changed-loaded.result.asks_group c.in_ok-kind.ensures.restarts (λ is. c.load_changed-loaded.ensures.query_group ∙ restarts-unasked _ _ _ c.in_ok-kind.kind _ is)
+    asks_by c.args.said c.in_ok-kind.kind c.in_ok-kind.is_emptied c.load_changed-loaded.result.asks_group c.in_ok-kind.ensures.restarts (λ is. c.load_changed-loaded.ensures.query_group ∙ restarts-unasked c.args.at.now.timing c.args.at.now.moment (group_stored g.K.Key.number c.args.stored.now) c.in_ok-kind.kind (named_in g.K.Key.number c.if-is_emptied.self.named.members) is)
 
 pub returns-in_default-clause-asks : goal.returns-in_default-clause-asks
 returns-in_default-clause-asks g c =
-    asks_by c.args.said c.in_ok-kind.kind c.in_ok-kind.is_emptied c.load_changed-loaded.result.asks_group c.in_ok-kind.ensures.restarts (λ is. c.load_changed-loaded.ensures.query_group ∙ restarts-unasked _ _ _ c.in_ok-kind.kind _ is)
+    asks_by c.args.said c.in_ok-kind.kind c.in_ok-kind.is_emptied c.load_changed-loaded.result.asks_group c.in_ok-kind.ensures.restarts (λ is. c.load_changed-loaded.ensures.query_group ∙ restarts-unasked c.args.at.now.timing c.args.at.now.moment (group_stored g.K.Key.number c.args.stored.now) c.in_ok-kind.kind (named_in g.K.Key.number c.if-is_emptied.self.named.members) is)
 
 -- older hosts have no part in what is forwarded
 pub returns-in-OlderJoin-clause-changes_filter : goal.returns-in-OlderJoin-clause-changes_filter
