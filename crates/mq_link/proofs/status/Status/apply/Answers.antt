@@ -1,4 +1,4 @@
-use Rattle.std.proofs.Common.{◌≡◌, ◌+◌, ◌*◌, ◌<◌, ◌≤◌, ℕ, Bool, true, ◌||◌, Option, None, Some, IfSome, MatchOption, Result, Ok, Err, MatchResult, length, refl, sym, ap, ◌∙◌, subst, arith}
+use Rattle.std.proofs.Common.{◌≡◌, ◌+◌, ◌*◌, ◌<◌, ◌≤◌, ℕ, Bool, true, false, ◌||◌, Option, None, Some, IfSome, MatchOption, Result, Ok, Err, MatchResult, length, refl, sym, ap, ◌∙◌, subst, arith}
 use Rattle.std.specs.FinMap as map
 use Rattle.std.specs.Result.{is_ok, result_ok}
 use Rattle.std.proofs.lemmas.Bool.{true≢false}
@@ -42,13 +42,13 @@ within_so g c = subst (λ o. IfSome o (λ n. n < length c.args.work.now.changed)
 keeps_so : (g : Over) (c : After-ok g) → KeepsNumbers c.args.storage.now.held c.refresh.new.storage.held
 keeps_so g c = subst (KeepsNumbers c.args.storage.now.held) (sym c.in-Some.ensures.kept) (λ a n has. record { is = has.is })
 
-numbered_so : (g : Over) (c : After-ok g) → MatchOption c.ok.result (map.contains_key c.refresh.new.storage.held.groups (g.F.Address.Key.number c.args.sought.address) ≡ Rattle.std.proofs.Common.false) (HasNumber c.refresh.new.storage.held (g.F.Address.Key.number c.args.sought.address))
-numbered_so g c = subst (λ o. MatchOption o (map.contains_key c.refresh.new.storage.held.groups a ≡ Rattle.std.proofs.Common.false) (HasNumber c.refresh.new.storage.held a)) (sym c.ok.ensures.value) (by_found c.args.sought.found c.requires.sought c.in-Some.ensures.held)
+numbered_so : (g : Over) (c : After-ok g) → MatchOption c.ok.result (map.contains_key c.refresh.new.storage.held.groups (g.F.Address.Key.number c.args.sought.address) ≡ false) (HasNumber c.refresh.new.storage.held (g.F.Address.Key.number c.args.sought.address))
+numbered_so g c = subst (λ o. MatchOption o (map.contains_key c.refresh.new.storage.held.groups a ≡ false) (HasNumber c.refresh.new.storage.held a)) (sym c.ok.ensures.value) (by_found c.args.sought.found c.requires.sought c.in-Some.ensures.held)
   where
     a : ℕ
     a = g.F.Address.Key.number c.args.sought.address
 
-    by_found : (found : Result ℕ Spot) → MatchResult found (HasNumber c.args.storage.now.held (g.F.Address.Key.number c.args.sought.address)) (IsSpotFor c.args.storage.now.held.order.items c.args.storage.now.held.order.pages (g.F.Address.Key.number c.args.sought.address)) → is_ok found ≡ true → MatchOption (result_ok found) (map.contains_key c.refresh.new.storage.held.groups (g.F.Address.Key.number c.args.sought.address) ≡ Rattle.std.proofs.Common.false) (HasNumber c.refresh.new.storage.held (g.F.Address.Key.number c.args.sought.address))
+    by_found : (found : Result ℕ Spot) → MatchResult found (HasNumber c.args.storage.now.held (g.F.Address.Key.number c.args.sought.address)) (IsSpotFor c.args.storage.now.held.order.items c.args.storage.now.held.order.pages (g.F.Address.Key.number c.args.sought.address)) → is_ok found ≡ true → MatchOption (result_ok found) (map.contains_key c.refresh.new.storage.held.groups (g.F.Address.Key.number c.args.sought.address) ≡ false) (HasNumber c.refresh.new.storage.held (g.F.Address.Key.number c.args.sought.address))
     by_found (Ok n) has is = keeps_so g c _ n has
     by_found (Err spot) at is = absurd (true≢false (sym is))
 
@@ -109,13 +109,9 @@ returns-in-Some-clause-spent g c =
 pub returns-in-Some-clause-moved : goal.returns-in-Some-clause-moved
 returns-in-Some-clause-moved g c = paid_within _ c.in-Some.ensures.moved (omega arith)
 
--- what was tried has only counted
-same_so : (g : Over) (c : goal.In-None g) → c.refresh.new.storage ≡ has_counted c.args.storage.now c.refresh.new.storage.meter
-same_so g c = c.refresh.ensures.none c.in-None.is
-
 pub apply_to_copy-requires : goal.apply_to_copy-requires
 apply_to_copy-requires g c =
-    let same = sym (same_so g c) in
+    let same = sym (c.refresh.ensures.none c.in-None.is) in
     record {
       admitted = c.requires.admitted;
       sound = subst (λ (s : Storage _ _). AreSound c.args.self.now s.held.groups) same c.requires.sound;
@@ -130,18 +126,20 @@ pub returns-in-None-clause-outcome : goal.returns-in-None-clause-outcome
 returns-in-None-clause-outcome g c =
     let number = g.F.Address.Key.number in
     subst (λ (s : Storage _ _). HasOutcome g.S.Sink.takes (stated c.args.self.now (number c.args.sought.address) (statement_of c.args.said (named_in number c.args.work.now.named.members)) s.held.groups) (verdict_of c.apply_to_copy.result) c.apply_to_copy.new.storage.held.groups c.args.sink.now c.apply_to_copy.new.sink)
-    (same_so g c.before) c.apply_to_copy.ensures.outcome
+    (c.refresh.ensures.none c.in-None.is) c.apply_to_copy.ensures.outcome
 
 pub returns-in-None-clause-numbers : goal.returns-in-None-clause-numbers
-returns-in-None-clause-numbers g c = subst (λ (s : Storage _ _). KeepsNumbers s.held c.apply_to_copy.new.storage.held) (same_so g c.before) c.apply_to_copy.ensures.numbers
+returns-in-None-clause-numbers g c = subst (λ (s : Storage _ _). KeepsNumbers s.held c.apply_to_copy.new.storage.held) (c.refresh.ensures.none c.in-None.is) c.apply_to_copy.ensures.numbers
 
 pub returns-in-None-clause-rooms : goal.returns-in-None-clause-rooms
-returns-in-None-clause-rooms g c = subst (λ (s : Storage _ _). KeepsRooms s c.apply_to_copy.new.storage) (same_so g c.before) c.apply_to_copy.ensures.rooms
+returns-in-None-clause-rooms g c =
+    let rooms = subst (λ (s : Storage _ _). KeepsRooms s c.apply_to_copy.new.storage) (c.refresh.ensures.none c.in-None.is) c.apply_to_copy.ensures.rooms in
+    record { groups = rooms.groups; sources = rooms.sources }
 
 pub returns-in-None-clause-changed : goal.returns-in-None-clause-changed
 returns-in-None-clause-changed g c before =
     subst (λ (s : Storage _ _). AreMarked s.held c.args.work.now.changed before → AreMarked c.apply_to_copy.new.storage.held c.apply_to_copy.new.work.changed (λ address. before address || changes s.held.groups c.apply_to_copy.new.storage.held.groups address))
-    (same_so g c.before) (c.apply_to_copy.ensures.changed before)
+    (c.refresh.ensures.none c.in-None.is) (c.apply_to_copy.ensures.changed before)
 
 pub returns-in-None-clause-spent : goal.returns-in-None-clause-spent
 returns-in-None-clause-spent g c =
@@ -150,7 +148,7 @@ returns-in-None-clause-spent g c =
     let groups = c.args.storage.now.held.groups in
     let size = sources_of (group_at groups a) in
     let copied = subst (λ (s : Storage _ _). Spends (least_work c.args.self.now a (statement_of c.args.said (named_in number c.args.work.now.named.members)) s.held.groups) (most_copied c.args.said (sources_of (group_at s.held.groups a)) (length c.args.work.now.named.members) (map.len s.held.groups)) s.meter c.apply_to_copy.new.storage.meter)
-    (same_so g c.before) c.apply_to_copy.ensures.spent in
+    (c.refresh.ensures.none c.in-None.is) c.apply_to_copy.ensures.spent in
     let tried = rw c.as_slice.ensures.members at c.in-None.ensures.spent in
     let most = tried_and_copied c.args.said size (length c.args.work.now.named.members) (map.len groups) in
     Spends-join_within _ _ tried copied (omega arith) (omega (arith, most))
@@ -160,4 +158,4 @@ returns-in-None-clause-moved g c =
     let number = g.F.Address.Key.number in
     let a = number c.args.sought.address in
     subst (λ (s : Storage _ _). IsPaid (5 * (sources_of (group_at s.held.groups a) + length c.args.work.now.named.members) + moved_by_edit) (put_by_rows s.held) (put_by_rows c.apply_to_copy.new.storage.held) s.moves c.apply_to_copy.new.storage.moves)
-    (same_so g c.before) c.apply_to_copy.ensures.moved
+    (c.refresh.ensures.none c.in-None.is) c.apply_to_copy.ensures.moved
