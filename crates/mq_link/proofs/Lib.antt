@@ -52,6 +52,7 @@ pub mod ChangedRecords
 pub mod StatedSteps
 pub mod RefreshedGroups
 pub mod RefreshedStates
+pub mod RefreshedCosts
 pub mod RecordsRead
 pub mod LinkReceived
 pub mod EventsRun

@@ -69,6 +69,9 @@ sources_unasked gmi mode ToIn X Y A s is = absurd (true≢false (sym is))
 sources_unasked gmi mode ToEx X Y A s is = absurd (true≢false (sym is))
 sources_unasked gmi mode Block X Y A s is = absurd (true≢false (sym is))
 
+pub restarts-unasked : (timing : Timing) (now : ℕ) (g : GroupState) (kind : Kind) (named : NamedSources) → restarts kind ≡ true → (change_of timing now g kind named).query_group ≡ false
+restarts-unasked timing now g kind named = group_unasked (now + membership_interval timing) g.mode kind (running g) (stopped g) (set.contains named)
+
 -- the timer of a source that is named is set, any other stays
 abbrev TimerThen : ℕ → FilterMode → Kind → ℕ → Option SourceTimer → Bool → Type 0
 TimerThen gmi mode kind s t a = (is_include mode ≡ true → is_stopped t ≡ false) → timer_then gmi mode kind s t a ≡ cond a (Some (Running gmi (sendings_of t))) t

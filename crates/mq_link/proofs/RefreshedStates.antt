@@ -11,10 +11,11 @@ use Rattle.std.proofs.lemmas.Bool.{true≢false, le-ltb}
 use Rattle.mq_table.specs.declared.kind.Kind.{Kind}
 use Rattle.mq_table.specs.declared.kind.Kind.TheVariants.{IsIn, IsEx, ToIn, ToEx, Allow, Block}
 use Rattle.mq_table.specs.declared.timing.Timing.{Timing}
-use Rattle.mq_table.specs.declared.timers.FilterMode.TheVariants.{Include}
+use Rattle.mq_table.specs.declared.timers.FilterMode.{FilterMode}
+use Rattle.mq_table.specs.declared.timers.FilterMode.TheVariants.{Include, Exclude}
 use Rattle.mq_table.specs.declared.timers.SourceTimer.{SourceTimer}
 use Rattle.mq_table.specs.declared.timers.SourceTimer.TheVariants.{Running}
-use Rattle.mq_table.specs.Group.{GroupState, is_vacant, is_stopped, sendings_of, timer_at, IsWellFormed as IsHeld}
+use Rattle.mq_table.specs.Group.{GroupState, is_include, is_vacant, is_stopped, sendings_of, timer_at, IsWellFormed as IsHeld}
 use Rattle.mq_table.specs.OlderHosts.{translated_change}
 use Rattle.mq_table.specs.Sendings.{has_sendings}
 use Rattle.mq_table.specs.Stored.{named_in, size_of}
@@ -190,3 +191,21 @@ put_by_same s after a e is size formed was =
     let total : sources_in (map.insert s.groups a e) ≡ sources_in s.groups = omega (arith, sources, size) in
     let moments : running_in (map.insert s.groups a e) ≡ running_in s.groups = omega (arith, running, now_runs, did_run) in
     ap put_by_rows is ∙ (λ i. min (4 * ((s.source_room / 4 + s.order.room) - s.ahead)) (total i + moments i))
+
+-- no source of a group of INCLUDE is stopped, whether the group is held or not
+pub none_is_stopped : (at : Setting) (a : ℕ) (groups : Groups) (e : ScheduledGroup) → e ≡ group_at groups a → AreSound at groups → is_include e.group.mode ≡ true → (s : ℕ) → is_stopped (timer_at e.group s) ≡ false
+none_is_stopped at a groups e is sound include s = by_found (map.get groups a) refl
+  where
+    include_is : (mode : FilterMode) → is_include mode ≡ true → mode ≡ Include
+    include_is Include is = refl
+    include_is (Exclude d) is = absurd (true≢false (sym is))
+
+    by_found : (x : Option ScheduledGroup) → map.get groups a ≡ x → is_stopped (timer_at e.group s) ≡ false
+    by_found None none =
+        ap (λ (e : ScheduledGroup). is_stopped (timer_at e.group s)) (is ∙ ap (λ (x : Option ScheduledGroup). unwrap_or x unheld) none)
+        ∙ ap is_stopped (map.get-empty nat_cmp s)
+    by_found (Some x) found =
+        let same : e ≡ x = is ∙ ap (λ (x : Option ScheduledGroup). unwrap_or x unheld) found in
+        let h = sound.all a x found in
+        let formed = h.held in
+        ap (λ (e : ScheduledGroup). is_stopped (timer_at e.group s)) same ∙ formed.none_stopped (include_is x.group.mode (sym (ap (λ (e : ScheduledGroup). is_include e.group.mode) same) ∙ include)) s

@@ -1,19 +1,21 @@
 //! What a statement for a group does: it is ignored, refused, or applied.
 
-ghost use Rattle.std.specs.Prelude.{◌≡◌, ℕ, ◌+◌, ◌*◌, ◌^◌, ◌<◌, ◌≤◌, ◌||◌, Bool, if◌then◌else◌, true, length, IfSome, IsSome, OnSome, vec_capacity};
+ghost use Rattle.std.specs.Prelude.{◌≡◌, ℕ, ◌+◌, ◌*◌, ◌^◌, ◌<◌, ◌≤◌, ◌||◌, Bool, if◌then◌else◌, false, true, length, IfSome, IsSome, None, OnSome, Some, vec_capacity};
 ghost use Rattle.std.specs.FinMap as map;
+ghost use Rattle.std.specs.List.{list_any};
 ghost use Rattle.std.specs.Option.{option_map, option_map_or};
 ghost use Rattle.mq_count.specs.Spending.{Spends};
 ghost use Rattle.mq_sets.specs.Ascending.{IsAscending, set_of};
 ghost use Rattle.mq_sets.specs.Search.{bitlen};
 ghost use Rattle.mq_table.specs.Filter.{changes_filter};
-ghost use Rattle.mq_table.specs.Group.{timer_at};
-ghost use Rattle.mq_table.specs.OlderHosts.{hosts_of, with_sources};
+ghost use Rattle.mq_table.specs.Group.{is_include, timer_at};
+ghost use Rattle.mq_table.specs.MergedRecord.{item_is_stopped};
+ghost use Rattle.mq_table.specs.OlderHosts.{hosts_of, translated, with_sources};
 ghost use Rattle.mq_table.specs.Stored.{named_in, number_in, size_of, state_of};
 ghost use Rattle.mq_table.specs.Table.{GroupChange, NamedSources};
 ghost use Rattle.mq_sched.specs.Schedule.{ScheduledGroup};
 ghost use Rattle.mq_sched.specs.Sending.{after_change};
-ghost use Rattle.mq_held.specs.Groups.{group_at, sources_of};
+ghost use Rattle.mq_held.specs.Groups.{group_at, one_if, sources_of};
 ghost use Rattle.mq_link.specs.Changing.{statement_of, acts_as, change_written};
 ghost use Rattle.mq_link.specs.Family.{is_admitted};
 ghost use Rattle.mq_link.specs.Forwarding.{changes};
@@ -22,6 +24,7 @@ ghost use Rattle.mq_link.specs.LeastCost.{least_merge, least_work};
 ghost use Rattle.mq_link.specs.Record as record_spec;
 ghost use Rattle.mq_link.specs.Record.{change_stated, stated};
 ghost use Rattle.mq_link.specs.Moved.{MovesWithin, moved_by_edit};
+ghost use Rattle.mq_link.specs.Refreshed.{most_asked, most_changed, most_copied, most_hosts, restarts};
 ghost use Rattle.mq_link.specs.Router.{HasOutcome};
 ghost use Rattle.mq_link.specs.Seen.{AreMarked, KeepsNumbers, counted_again, met_in};
 ghost use Rattle.mq_link.specs.Sound.{AreSound};
@@ -29,6 +32,7 @@ ghost use Rattle.mq_link.specs.Storage.{HasRoom, HasRoomFor, group_stored, IsSou
 
 use crate::answers::Refusal;
 use crate::family::Family;
+use crate::in_place::restarting;
 use crate::limits::Change;
 use crate::met::MetGroups;
 use crate::status::{InForce, Status};
@@ -79,6 +83,35 @@ fn leave_as(hosts: Hosts, muting: MutingRules) -> Option<(Kind, bool)>
     }
 }
 
+/// A record with the sources that it names, unless it is muted.
+fn unless_muted(kind: Kind, is_muted: bool) -> Option<(Kind, bool)>
+    ensures { result ≡ (if is_muted then None else Some (kind, false)) }
+{
+    if is_muted { None } else { Some((kind, false)) }
+}
+
+/// As which record a record acts in its group. At most two comparisons; none, where it is heard from hosts that still want the
+/// sources that it names, for no older host mutes that.
+fn record_as(
+    head: &Head,
+    kind: Kind,
+    muting: MutingRules,
+    now: Moment,
+    m: &mut Meter,
+) -> Option<(Kind, bool)>
+    ensures acts { (named : NamedSources) → translated muting.v1_mutes_leave muting.is_muted (hosts_of (state_of head.now map.empty) now) kind named ≡ with_sources named result }
+    ensures restarts { restarts kind ≡ true → IfSome result (λ acts. acts ≡ (kind, false)) }
+    ensures spent { Spends 0 (if restarts kind then 0 else 2) m.old m.new }
+{
+    match restarting(StatementKind::Record(kind)) {
+        Some(_kind) => unless_muted(kind, muting.is_muted),
+        None => {
+            let hosts = head.compat(now, m);
+            translate(kind, hosts, muting.v1_mutes_leave, muting.is_muted)
+        }
+    }
+}
+
 /// As which record a statement acts in its group, and whether without the sources that are named; None where it is
 /// ignored. At most two comparisons.
 fn acted_as(
@@ -89,13 +122,11 @@ fn acted_as(
     m: &mut Meter,
 ) -> Option<(Kind, bool)>
     ensures acts { (named : NamedSources) → acts_as muting.v1_mutes_leave muting.is_muted (hosts_of (state_of head.now map.empty) now) (statement_of said named) ≡ with_sources named result }
-    ensures spent { Spends 0 2 m.old m.new }
+    ensures restarts { (kind : Kind) → said ≡ StatementKind.Record kind → restarts kind ≡ true → IfSome result (λ acts. acts ≡ (kind, false)) }
+    ensures spent { Spends 0 (most_hosts said) m.old m.new }
 {
     match said {
-        StatementKind::Record(kind) => {
-            let hosts = head.compat(now, m);
-            translate(kind, hosts, muting.v1_mutes_leave, muting.is_muted)
-        }
+        StatementKind::Record(kind) => record_as(head, kind, muting, now, m),
         StatementKind::OlderJoin(_) => {
             if muting.is_muted {
                 None
@@ -123,6 +154,7 @@ impl<K: Key, A: Allocator> Scratch<K, A> {
         requires in_range { at.now.moment ≤ 2 ^ 53 }
         requires ascending { IsAscending (number_in K.number) stored.now.sources.now }
         requires room { HasRoomFor (length stored.now.sources.now + length self.old.named.members) self.old }
+        requires running { is_include stored.now.mode ≡ true → list_any item_is_stopped stored.now.sources.now ≡ false }
 
         ensures changes { let before = group_stored K.number stored.now in
             change_stated muting.v1_mutes_leave muting.is_muted at.now.timing at.now.moment (statement_of said (named_in K.number self.old.named.members)) before ≡ change_written K.number self.new.group.state self.new.asked.items (option_map (λ loaded. loaded.asks_group) result) }
@@ -134,12 +166,13 @@ impl<K: Key, A: Allocator> Scratch<K, A> {
         ensures met { self.new.met ≡ self.old.met }
         ensures changed { self.new.changed ≡ self.old.changed }
 
-        // At most two comparisons, and one for each source of the group and of the statement; at least one for each of
-        // those that are fewer, the sources of the group or those that count.
+        // At most two comparisons, and one for each source of the group and of the statement; where it is a record of IS_IN or ALLOW
+        // that names one source, one for each binary digit of how many the group has; at least one for each of those that are
+        // fewer, the sources of the group or those that count.
         ensures spent { let before = group_stored K.number stored.now in
             let acts = acts_as muting.v1_mutes_leave muting.is_muted (hosts_of before at.now.moment) (statement_of said (named_in K.number self.old.named.members)) in
-            let sizes = size_of before + length self.old.named.members in
-            Spends (least_merge (size_of before) acts) (sizes + 2) m.old m.new }
+            Spends (least_merge (size_of before) acts) (most_changed said (size_of before) (length self.old.named.members)) m.old m.new }
+        ensures asks { IfSome result (λ loaded. one_if loaded.asks_group ≤ most_asked said) }
     {
         let head = Head {
             mode: stored.mode,
@@ -180,7 +213,7 @@ impl<K: Key, A: Allocator> Scratch<K, A> {
         ensures kept { KeepsRoom self.old self.new }
         ensures met { self.new.met ≡ self.old.met }
         ensures changed { self.new.changed ≡ self.old.changed }
-        ensures spent { Spends 0 (2 * size_of self.old.group.state + 1) m.old m.new }
+        ensures spent { Spends 0 (2 * size_of self.old.group.state + one_if asks_group) m.old m.new }
     {
         schedule.settle(&self.group);
         if at.is_querier {
@@ -257,6 +290,51 @@ impl<F: Family> Status<F> {
         ensures spent { let said_so = statement_of said (named_in F.Address.number work.old.named.members) in
             let sizes = sources_of (group_at storage.old.held.groups (F.Address.number sought.address)) + length work.old.named.members in
             Spends (least_work self.now (F.Address.number sought.address) said_so storage.old.held.groups) (6 * sizes + 12 + bitlen (map.len storage.old.held.groups)) storage.old.meter storage.new.meter }
+        ensures moved { let sizes = sources_of (group_at storage.old.held.groups (F.Address.number sought.address)) + length work.old.named.members in
+            MovesWithin (5 * sizes + moved_by_edit) storage.old storage.new }
+    {
+        self.lemma_is_sound();
+        storage.held.lemma_is_numbered();
+        match self.refresh(storage, work.named.as_slice(), sought, said) {
+            Some(changes) => {
+                storage.held.lemma_is_numbered();
+                count_changed(&mut work.changed, sought.found.ok(), changes);
+                Verdict::Applied
+            }
+            None => self.apply_to_copy(storage, work, sought, said, sink),
+        }
+    }
+
+    /// The same on a copy of the group's row: it is changed there, looked over for the earliest of its moments, and put back.
+    fn apply_to_copy<A: Allocator, B: Allocator, S: Sink<F::Address>>(
+        &self,
+        storage: &mut Storage<F::Address, A>,
+        work: &mut Scratch<F::Address, B>,
+        sought: Sought<F::Address>,
+        said: StatementKind,
+        sink: &mut S,
+    ) -> Verdict
+        requires admitted { is_admitted self.now.config.family (F.Address.number sought.address) ≡ true }
+        requires sound { AreSound self.now storage.old.held.groups }
+        requires sought { IsSought F.Address.number storage.old.held sought }
+        requires room { HasRoom self.now.config.limits.groups self.now.config.limits.group_sources work.old }
+        requires named { length work.old.named.members ≤ self.now.config.limits.group_sources }
+        requires group_room { storage.old.held.order.room ≡ self.now.config.limits.groups }
+        requires source_room { storage.old.held.source_room ≡ self.now.config.limits.sources }
+
+        ensures outcome { let said_so = statement_of said (named_in F.Address.number work.old.named.members) in
+            let outcome = stated self.now (F.Address.number sought.address) said_so storage.old.held.groups in
+            HasOutcome S.takes outcome (verdict_of result) storage.new.held.groups sink.old sink.new }
+        ensures numbers { KeepsNumbers storage.old.held storage.new.held }
+        ensures rooms { KeepsRooms storage.old storage.new }
+        ensures room { KeepsRoom work.old work.new }
+        ensures met { work.new.met ≡ work.old.met }
+        ensures changed { (before : ℕ → Bool) → AreMarked storage.old.held work.old.changed before →
+            AreMarked storage.new.held work.new.changed (λ address. before address || changes storage.old.held.groups storage.new.held.groups address) }
+        ensures one_changed { met_in work.new.changed ≤ met_in work.old.changed + 1 }
+        ensures spent { let said_so = statement_of said (named_in F.Address.number work.old.named.members) in
+            let size = sources_of (group_at storage.old.held.groups (F.Address.number sought.address)) in
+            Spends (least_work self.now (F.Address.number sought.address) said_so storage.old.held.groups) (most_copied said size (length work.old.named.members) (map.len storage.old.held.groups)) storage.old.meter storage.new.meter }
         ensures moved { let sizes = sources_of (group_at storage.old.held.groups (F.Address.number sought.address)) + length work.old.named.members in
             MovesWithin (5 * sizes + moved_by_edit) storage.old storage.new }
     {

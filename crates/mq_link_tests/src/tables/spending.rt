@@ -11,7 +11,25 @@
 use crate::playing::expect_rows;
 use mq_link::{Igmp, Mld};
 
-static OF_IGMP: [&str; 8] = [
+static OF_IGMP: [&str; 9] = [
+    "a source of a group of 366 that is heard again: one source is written, and at the second time none is looked over
+    link
+    until 1000
+    sends 0 general
+    comes 1000 22009c2500000001,0500016ee8010101+1+366 taken 1 0
+    comes 2000 2200e5f800000001,05000001e80101010a000002 taken 1 0
+    moves 2 2
+    spends 366 400
+    comes 3000 2200e5f800000001,05000001e80101010a000002 taken 1 0
+    moves 1 1
+    spends 4 20
+    until 261000
+    forwards 232.1.1.1 10.0.0.2
+    blocks 232.1.1.1 10.0.0.1
+    until 262999
+    number 1
+    until 263000
+    number 0",
     "as many records as a datagram has room for, for one group that has as many sources as it may
     link
     until 1000

@@ -2,6 +2,7 @@ use Rattle.std.proofs.Common.{◌≡◌, ℕ, ◌+◌, ◌-◌, ◌≤◌, [], �
 use Rattle.std.proofs.lemmas.Bool.{eq-eqb, eqb-true}
 use Rattle.std.proofs.lemmas.List.{nil_from_length}
 use Rattle.std.specs.FinMap as map
+use Rattle.std.specs.Result.{is_ok}
 use Rattle.mq_count.specs.Spending.{Spends}
 use Rattle.mq_count.proofs.Spent.{Spends-join_within, Spends-within}
 use Rattle.mq_sets.specs.Search.{bitlen}
@@ -19,7 +20,9 @@ use Rattle.mq_link.specs.declared.storage.Storage.{Storage}
 use Rattle.mq_link.specs.Counters.{Applied}
 use Rattle.mq_link.specs.Forwarding.{changes}
 use Rattle.mq_link.specs.Moved.{moved_by_edit}
-use Rattle.mq_link.specs.Record.{Outcome}
+use Rattle.mq_link.specs.Changing.{statement_of}
+use Rattle.mq_link.specs.Record.{Outcome, stated}
+use Rattle.mq_link.specs.Refreshed.{is_restart}
 use Rattle.mq_link.proofs.Faultless.{few_groups}
 use Rattle.mq_link.proofs.KeptFilters.{unchanged}
 use Rattle.mq_link.proofs.KeptGroups.{is_number}
@@ -41,8 +44,9 @@ returns-then-is_empty-clause-outcome g c =
     let entry = c.entry_of.ensures.group a has in
     let quiet : IsQuietAt at.now (group_at groups a).schedule = subst (λ (p : ℕ × ScheduledGroup). IsQuietAt p.0 p.1.schedule) (λ i. (moment i, entry i)) (c.is_due.ensures.due c.if-is_due.false) in
     let none = nil_from_length c.args.named.now (eqb-true (length c.args.named.now) 0 (sym c.is_empty.ensures ∙ c.if-is_empty.true)) in
-    let formed = let h = held_as at a c.args.kind (named_in number c.args.named.now) groups c.requires.kind c.requires.sound held quiet in h.held in
-    stated-nothing at a c.args.kind (named_in number c.args.named.now) groups c.requires.kind c.requires.sound held quiet (names-none number c.args.named.now none)
+    let formed = let h = held_as at a c.in_ok-_kind._kind (named_in number c.args.named.now) groups c.in_ok-_kind.ensures.1 c.requires.sound held quiet in h.held in
+    ap (λ said. stated at a (statement_of said (named_in number c.args.named.now)) groups) c.in_ok-_kind.ensures.0
+    ∙ stated-nothing at a c.in_ok-_kind._kind (named_in number c.args.named.now) groups c.in_ok-_kind.ensures.1 c.requires.sound held quiet (names-none number c.args.named.now none)
     ∙ ap (λ gs. let o : Outcome = record { verdict = Applied; groups = gs; queries = [] } in o) (put_same groups a held formed)
 
 pub returns-then-is_empty-clause-left : goal.returns-then-is_empty-clause-left
@@ -56,7 +60,7 @@ returns-then-is_empty-clause-left g c =
     let moment = ap (λ (f : InForce). f.moment) c.in_force-at.ensures.in_force in
     let entry = c.entry_of.ensures.group a has in
     let quiet : IsQuietAt at.now (group_at groups a).schedule = subst (λ (p : ℕ × ScheduledGroup). IsQuietAt p.0 p.1.schedule) (λ i. (moment i, entry i)) (c.is_due.ensures.due c.if-is_due.false) in
-    let formed = let h = held_as at a c.args.kind (named_in number c.args.named.now) groups c.requires.kind c.requires.sound held quiet in h.held in
+    let formed = let h = held_as at a c.in_ok-_kind._kind (named_in number c.args.named.now) groups c.in_ok-_kind.ensures.1 c.requires.sound held quiet in h.held in
     (group_at groups a, sym (put_same groups a held formed))
 
 pub returns-then-is_empty-clause-changes : goal.returns-then-is_empty-clause-changes
@@ -84,7 +88,7 @@ returns-in-Some-clause-outcome g c =
     let timer = c.in-Some.timer in
     let there = sym (c.restart-before.ensures.before a has) ∙ c.in-Some.is in
     let before = group_at groups a in
-    let formed = let h = held_as at a c.args.kind (named_in number c.args.named.now) groups c.requires.kind c.requires.sound held quiet in h.held in
+    let formed = let h = held_as at a c.in_ok-_kind._kind (named_in number c.args.named.now) groups c.in_ok-_kind.ensures.1 c.requires.sound held quiet in h.held in
     let after = restarted c.after-deadline.result source before in
     let after_formed = IsWellFormed-restarted c.after-deadline.result source timer before there formed in
     let left : c.restart-before.new.self ≡ record c.args.storage.now.held { groups = map.insert groups a after } = rw c.in-Some.is at c.restart-before.ensures.groups a has in
@@ -92,7 +96,8 @@ returns-in-Some-clause-outcome g c =
     let in_force = c.in_force-at.ensures.in_force in
     let deadline : c.after-deadline.result ≡ at.now + Rattle.mq_table.specs.Timing.membership_interval at.election.timing = c.after-deadline.ensures.later ∙ (λ i. (in_force i).moment + c.membership_interval.ensures i) ∙ (λ i. at.now + Rattle.mq_table.specs.Timing.membership_interval (in_force i).timing) in
     let names = names-one number c.args.named.now x (one_item c.args.named.now x c.if-named-ne1.false c.index-named-0.is) in
-    stated-one at a c.args.kind (named_in number c.args.named.now) groups c.requires.kind c.requires.sound held quiet source timer names there
+    ap (λ said. stated at a (statement_of said (named_in number c.args.named.now)) groups) c.in_ok-_kind.ensures.0
+    ∙ stated-one at a c.in_ok-_kind._kind (named_in number c.args.named.now) groups c.in_ok-_kind.ensures.1 c.requires.sound held quiet source timer names there
     ∙ (λ i. let o : Outcome = record { verdict = Applied; groups = with_group groups a (restarted (sym deadline i) source before); queries = [] } in o)
     ∙ (λ i. let o : Outcome = record { verdict = Applied; groups = (put_is groups a after after_formed ∙ sym left_groups) i; queries = [] } in o)
 
@@ -112,7 +117,7 @@ returns-in-Some-clause-left g c =
     let timer = c.in-Some.timer in
     let there = sym (c.restart-before.ensures.before a has) ∙ c.in-Some.is in
     let before = group_at groups a in
-    let formed = let h = held_as at a c.args.kind (named_in number c.args.named.now) groups c.requires.kind c.requires.sound held quiet in h.held in
+    let formed = let h = held_as at a c.in_ok-_kind._kind (named_in number c.args.named.now) groups c.in_ok-_kind.ensures.1 c.requires.sound held quiet in h.held in
     let after = restarted c.after-deadline.result source before in
     let after_formed = IsWellFormed-restarted c.after-deadline.result source timer before there formed in
     let left : c.restart-before.new.self ≡ record c.args.storage.now.held { groups = map.insert groups a after } = rw c.in-Some.is at c.restart-before.ensures.groups a has in
@@ -135,13 +140,13 @@ returns-in-Some-clause-changes g c =
     let timer = c.in-Some.timer in
     let there = sym (c.restart-before.ensures.before a has) ∙ c.in-Some.is in
     let before = group_at groups a in
-    let formed = let h = held_as at a c.args.kind (named_in number c.args.named.now) groups c.requires.kind c.requires.sound held quiet in h.held in
+    let formed = let h = held_as at a c.in_ok-_kind._kind (named_in number c.args.named.now) groups c.in_ok-_kind.ensures.1 c.requires.sound held quiet in h.held in
     let after = restarted c.after-deadline.result source before in
     let after_formed = IsWellFormed-restarted c.after-deadline.result source timer before there formed in
     let left : c.restart-before.new.self ≡ record c.args.storage.now.held { groups = map.insert groups a after } = rw c.in-Some.is at c.restart-before.ensures.groups a has in
     let left_groups : c.restart-before.new.self.groups ≡ map.insert groups a after = ap (λ (s : HeldState). s.groups) left in
     c.is_stopped.ensures
-    ∙ sym (restarted-filter c.after-deadline.result source timer before there (λ include. no_stopped at a c.args.kind (named_in number c.args.named.now) groups c.requires.kind c.requires.sound held quiet include source))
+    ∙ sym (restarted-filter c.after-deadline.result source timer before there (λ include. no_stopped at a c.in_ok-_kind._kind (named_in number c.args.named.now) groups c.in_ok-_kind.ensures.1 c.requires.sound held quiet include source))
     ∙ (λ i. Rattle.mq_table.specs.Filter.changes_filter before.group (sym (group_put groups a after) i).group)
     ∙ (λ i. changes groups (sym left_groups i) a)
 
@@ -185,7 +190,7 @@ returns-in-Some-clause-moved g c =
     let timer = c.in-Some.timer in
     let there = sym (c.restart-before.ensures.before a has) ∙ c.in-Some.is in
     let before = group_at groups a in
-    let formed = let h = held_as at a c.args.kind (named_in number c.args.named.now) groups c.requires.kind c.requires.sound held quiet in h.held in
+    let formed = let h = held_as at a c.in_ok-_kind._kind (named_in number c.args.named.now) groups c.in_ok-_kind.ensures.1 c.requires.sound held quiet in h.held in
     let after = restarted c.after-deadline.result source before in
     let after_formed = IsWellFormed-restarted c.after-deadline.result source timer before there formed in
     let left : c.restart-before.new.self ≡ record c.args.storage.now.held { groups = map.insert groups a after } = rw c.in-Some.is at c.restart-before.ensures.groups a has in
@@ -233,7 +238,8 @@ returns-in-None-clause-spent g c =
     let spent = rw c.in-None.is at c.restart-before.ensures.spent a has in
     let size = sources_of (group_at groups a) in
     let looked = ap (λ b. cond b (bitlen size) 0) (eq-eqb (length c.args.named.now) 1 c.if-named-ne1.false) in
-    Spends-join_within _ _ c.is_due.ensures.spent spent (omega arith) (omega (arith, looked))
+    let tried = ap (λ b. cond b (2 + cond (length c.args.named.now == 1) (bitlen size) 0) 0) (ap is_restart c.in_ok-_kind.ensures.0 ∙ c.in_ok-_kind.ensures.1) in
+    Spends-join_within _ _ c.is_due.ensures.spent spent (omega arith) (omega (arith, looked, tried))
 
 pub returns-in-None-clause-moved : goal.returns-in-None-clause-moved
 returns-in-None-clause-moved g c =
@@ -246,3 +252,9 @@ returns-in-None-clause-moved g c =
     let left = rw c.in-None.is at c.restart-before.ensures.groups a has in
     let unmoved = rw c.in-None.is at c.restart-before.ensures.moved in
     rw (left, unmoved) (paid_within moved_by_edit (paid_none _ _) (omega arith))
+
+pub returns-then-is_empty-clause-held : goal.returns-then-is_empty-clause-held
+returns-then-is_empty-clause-held g c = ap is_ok c.in-Ok.is
+
+pub returns-in-Some-clause-held : goal.returns-in-Some-clause-held
+returns-in-Some-clause-held g c = ap is_ok c.in-Ok.is

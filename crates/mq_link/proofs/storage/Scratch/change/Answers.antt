@@ -1,6 +1,8 @@
-use Rattle.std.proofs.Common.{◌≡◌, ◌+◌, ◌≤◌, false, min, length, sym, ap, subst, arith}
+use Rattle.std.proofs.Common.{◌≡◌, ◌+◌, ◌≤◌, false, min, length, sym, ap, ◌∙◌, subst, arith}
 use Rattle.mq_count.specs.Spending.{Spends}
+use Rattle.mq_sets.specs.Search.{bitlen}
 use Rattle.mq_sets.specs.SourceSets.{SetState}
+use Rattle.mq_table.specs.MergedRecord.{LooksByHalves}
 use Rattle.mq_table.specs.OlderHosts.{hosts_of}
 use Rattle.mq_table.specs.Stored.{named_in, size_of}
 use Rattle.mq_table.proofs.SourceLists.{len-timers_in}
@@ -9,16 +11,20 @@ use Rattle.mq_link.specs.declared.storage.Scratch.{Scratch}
 use Rattle.mq_link.specs.Storage.{group_stored}
 use Rattle.mq_link.specs.LeastCost.{least_merge}
 use Rattle.mq_link.proofs.ChangedRecords.{changed_by_older}
-use Rattle.mq_link.proofs.LeastCosts.{merge_spends}
+use Rattle.mq_link.specs.Refreshed.{most_changed}
+use Rattle.mq_link.proofs.RefreshedCosts.{asks_by, merge_by, restart_keeps}
+use Rattle.mq_link.proofs.RefreshedGroups.{restarts-unasked}
 use Rattle.mq_link.proofs.storage.Scratch.change.Given.{Over}
 use Rattle.mq_link.proofs.storage.Scratch.change.Goals as goal
 use Rattle.mq_link.proofs.storage.Scratch.change.Goals.{After-load_changed-loaded, then-is_emptied, else-is_emptied}
 
 -- what the change has spent, whatever it does for an older host
 merged : (g : Over) (c : After-load_changed-loaded g) → (let acts = acts_as c.args.muting.v1_mutes_leave c.args.muting.is_muted (hosts_of (group_stored g.K.Key.number c.args.stored.now) c.args.at.now.moment) (statement_of c.args.said (named_in g.K.Key.number c.args.self.now.named.members)) in
-    Spends (least_merge (size_of (group_stored g.K.Key.number c.args.stored.now)) acts) (size_of (group_stored g.K.Key.number c.args.stored.now) + length c.args.self.now.named.members + 2) c.args.m.now c.load_changed-loaded.new.m)
+    Spends (least_merge (size_of (group_stored g.K.Key.number c.args.stored.now)) acts) (most_changed c.args.said (size_of (group_stored g.K.Key.number c.args.stored.now)) (length c.args.self.now.named.members)) c.args.m.now c.load_changed-loaded.new.m)
+unfolding LooksByHalves
 merged g c =
-    let size = len-timers_in g.K.Key.number c.args.stored.now.sources.now c.requires.ascending in
+    let row = c.args.stored.now.sources.now in
+    let size = len-timers_in g.K.Key.number row c.requires.ascending in
     let same : c.in_ok-kind.is_emptied ≡ false → c.if-is_emptied.self.named.members ≡ c.args.self.now.named.members = elim c.if-is_emptied.branch [
       | then-is_emptied w ↦ λ kept. cc
       | else-is_emptied w ↦ λ kept. ap (λ (s : Scratch _ _). s.named.members) w.self-is
@@ -27,16 +33,26 @@ merged g c =
       | then-is_emptied w ↦ omega (arith, ap (λ (s : Scratch _ _). length s.named.members) w.self-is, ap (λ (s : SetState _). length s.members) w.clear.ensures)
       | else-is_emptied w ↦ omega (arith, ap (λ (s : Scratch _ _). length s.named.members) w.self-is)
     ] in
-    merge_spends g.K.Key.number (size_of (group_stored g.K.Key.number c.args.stored.now)) c.in_ok-kind.kind c.in_ok-kind.is_emptied c.args.self.now.named.members c.if-is_emptied.self.named.members
+    merge_by g.K.Key.number (size_of (group_stored g.K.Key.number c.args.stored.now)) c.args.said c.in_ok-kind.kind c.in_ok-kind.is_emptied c.args.self.now.named.members c.if-is_emptied.self.named.members
     (acts_as c.args.muting.v1_mutes_leave c.args.muting.is_muted (hosts_of (group_stored g.K.Key.number c.args.stored.now) c.args.at.now.moment) (statement_of c.args.said (named_in g.K.Key.number c.args.self.now.named.members))) c.args.m.now c.acted_as.new.m c.load_changed-loaded.new.m
-    (c.in_ok-kind.ensures.acts (named_in g.K.Key.number c.args.self.now.named.members)) same fewer c.acted_as.ensures.spent
+    (c.in_ok-kind.ensures.acts (named_in g.K.Key.number c.args.self.now.named.members)) same fewer c.in_ok-kind.ensures.restarts c.acted_as.ensures.spent
     (subst (λ n. Spends (min n (length c.if-is_emptied.self.named.members)) (n + length c.if-is_emptied.self.named.members) c.acted_as.new.m c.load_changed-loaded.new.m) (sym size) c.load_changed-loaded.ensures.spent)
+    (λ restarts_it one. subst (λ n. Spends 0 (bitlen n) c.acted_as.new.m c.load_changed-loaded.new.m) (sym size) (c.load_changed-loaded.ensures.by_halves one (restart_keeps c.in_ok-kind.kind c.args.stored.now.mode row restarts_it c.requires.running)))
 
 pub returns-in-OlderJoin-clause-spent : goal.returns-in-OlderJoin-clause-spent
 returns-in-OlderJoin-clause-spent g c = merged g c.before.before.before.before
 
 pub returns-in_default-clause-spent : goal.returns-in_default-clause-spent
 returns-in_default-clause-spent g c = merged g c.before
+
+-- a record that is heard again asks for no group
+pub returns-in-OlderJoin-clause-asks : goal.returns-in-OlderJoin-clause-asks
+returns-in-OlderJoin-clause-asks g c =
+    asks_by c.args.said c.in_ok-kind.kind c.in_ok-kind.is_emptied c.load_changed-loaded.result.asks_group c.in_ok-kind.ensures.restarts (λ is. c.load_changed-loaded.ensures.query_group ∙ restarts-unasked c.args.at.now.timing c.args.at.now.moment (group_stored g.K.Key.number c.args.stored.now) c.in_ok-kind.kind (named_in g.K.Key.number c.if-is_emptied.self.named.members) is)
+
+pub returns-in_default-clause-asks : goal.returns-in_default-clause-asks
+returns-in_default-clause-asks g c =
+    asks_by c.args.said c.in_ok-kind.kind c.in_ok-kind.is_emptied c.load_changed-loaded.result.asks_group c.in_ok-kind.ensures.restarts (λ is. c.load_changed-loaded.ensures.query_group ∙ restarts-unasked c.args.at.now.timing c.args.at.now.moment (group_stored g.K.Key.number c.args.stored.now) c.in_ok-kind.kind (named_in g.K.Key.number c.if-is_emptied.self.named.members) is)
 
 -- older hosts have no part in what is forwarded
 pub returns-in-OlderJoin-clause-changes_filter : goal.returns-in-OlderJoin-clause-changes_filter
