@@ -101,11 +101,11 @@ passes_none limits groups a e within held other size schedules =
     let d = within.scheduled in
     let g = within.group_count in
     λ i. first_named (
-      (TooManyGroups, le-ltb limits.groups (map.len (with_group groups a e)) (omega (arith, one, g)) i)
-      ∷ (GroupSources, le-ltb limits.group_sources (sources_of e) (omega (arith, own, size)) i)
-      ∷ (Sources, le-ltb limits.sources (sources_in (with_group groups a e)) (omega (arith, sources, size, c)) i)
-      ∷ (Scheduled, le-ltb limits.scheduled (schedules_in (with_group groups a e)) (omega (arith, due, left, schedules, d)) i)
-      ∷ [])
+    (TooManyGroups, le-ltb limits.groups (map.len (with_group groups a e)) (omega (arith, one, g)) i)
+    ∷ (GroupSources, le-ltb limits.group_sources (sources_of e) (omega (arith, own, size)) i)
+    ∷ (Sources, le-ltb limits.sources (sources_in (with_group groups a e)) (omega (arith, sources, size, c)) i)
+    ∷ (Scheduled, le-ltb limits.scheduled (schedules_in (with_group groups a e)) (omega (arith, due, left, schedules, d)) i)
+    ∷ [])
 
 -- the size of a group stays
 pub restarted-size : (deadline source : ℕ) (timer : SourceTimer) (e : ScheduledGroup) → timer_at e.group source ≡ Some timer → sources_of (restarted deadline source e) ≡ sources_of e
