@@ -6,8 +6,8 @@ ghost use Rattle.mq_count.specs.Spending.{Spends, SpendingAddsUp, SpendingIsANum
 use crate::moments::Moment;
 use std::marker::Model;
 
-/// How many comparisons have been made: those of `Key::order`, `Meter::reached`, `Meter::earlier`, `Meter::earliest_with`,
-/// `Meter::earliest_of_all` and `Meter::count_ahead`, and nothing else. A contract sees it as that number, which stays at the
+/// How many comparisons have been made: those of `Key::order`, `Meter::reached`, `Meter::earlier`,
+/// `Meter::earliest_with` and `Meter::count_ahead`, and nothing else. A contract sees it as that number, which stays at the
 /// greatest u64 once it is there.
 #[derive(Drop)]
 pub struct Meter {

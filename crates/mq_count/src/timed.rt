@@ -1,7 +1,7 @@
 //! What has a moment, and comparisons of many of these, which are counted in one step.
 
-ghost use Rattle.std.specs.Prelude.{◌≡◌, ◌+◌, ◌≤◌, ℕ, Option, IsSome, length, min, true, false};
-ghost use Rattle.std.specs.List.{All, AllWithin};
+ghost use Rattle.std.specs.Prelude.{◌≡◌, ◌+◌, ◌≤◌, ℕ, Option, length, min, true, false};
+ghost use Rattle.std.specs.List.{AllWithin};
 ghost use Rattle.mq_count.specs.Spending.{Spends};
 ghost use Rattle.mq_count.specs.Timed.{compared_at, least, lies_ahead, moments_by};
 
@@ -39,28 +39,6 @@ impl Meter {
         }
         self.count_comparisons(items.len() - without);
         earliest
-    }
-
-    /// The earliest of a moment and of those of some items, each of which has one: without a test of whether it has, a step takes
-    /// about half as many instructions. One comparison for each item.
-    pub fn earliest_of_all<T: Timed>(&mut self, first: Moment, items: &[T]) -> Moment
-        requires { All (λ x. IsSome (T.moment_of x)) items.now }
-        ensures answer { result ≡ least first (moments_by T.moment_of items.now) }
-        ensures spent { let count = length items.now in Spends count count self.old self.new }
-    {
-        let mut least = first;
-        for x in items {
-            match x.moment() {
-                Some(moment) => {
-                    if moment.ms() < least.ms() {
-                        least = moment;
-                    }
-                }
-                None => unreachable!(),
-            }
-        }
-        self.count_comparisons(items.len());
-        least
     }
 
     /// How many items, from the front on, have a moment after `now`. One comparison for each of these, and one for the next

@@ -1,9 +1,9 @@
 -- The moments of a group, by the row of its sources.
-use Rattle.std.proofs.Common.{◌≡◌, ℕ, Bool, true, false, cond, refl, List, [], ◌∷◌, ◌++◌, Option, Some, IsSome, is_some, get_or, length, ◌<◌, ◌≤◌, arith, sym, ap, ◌∙◌, append_assoc, append-nil}
+use Rattle.std.proofs.Common.{◌≡◌, ℕ, Bool, true, false, cond, refl, List, [], ◌∷◌, ◌++◌, Option, Some, is_some, sym, ap, ◌∙◌, append_assoc, append-nil}
 use Rattle.std.specs.Prelude.{map as list_map}
 use lib.Dec.{T}
 use Rattle.std.specs.Option.{option_to_list}
-use Rattle.std.specs.List.{All, flat_map}
+use Rattle.std.specs.List.{flat_map}
 use Rattle.std.specs.Ordering.{nat_cmp, eq_by_cmp}
 use Rattle.std.specs.Cmp.{nat_cmp_total}
 use Rattle.std.proofs.lemmas.Bool.{true≢false}
@@ -16,12 +16,11 @@ use Rattle.mq_table.specs.declared.timers.FilterMode.{FilterMode}
 use Rattle.mq_table.specs.declared.timers.FilterMode.TheVariants.{Include, Exclude}
 use Rattle.mq_table.specs.declared.timers.SourceTimer.{SourceTimer}
 use Rattle.mq_table.specs.declared.timers.SourceTimer.TheVariants.{Stopped, Running}
-use Rattle.mq_table.specs.Group.{GroupState, is_running, is_stopped, stopped, deadline_of, group_deadline, IsWellFormed}
+use Rattle.mq_table.specs.Group.{GroupState, is_running, deadline_of, group_deadline, IsWellFormed}
 use Rattle.mq_table.specs.Stored.{number_in, timers_in}
-use Rattle.mq_table.proofs.SourceLists.{get-found}
 use Rattle.mq_sched.specs.Schedule.{ScheduleState}
 use Rattle.mq_sched.specs.Sending.{group_due}
-use Rattle.mq_held.specs.Moments.{least, those_of, moments_of}
+use Rattle.mq_held.specs.Moments.{those_of, moments_of}
 use Rattle.mq_held.specs.Stored.{earliest_of, timer_moments}
 use Rattle.mq_held.proofs.Sorted.{key_of, sorted-ascending}
 use Rattle.mq_held.proofs.LeastMoments.{earliest-join, earliest-join_right}
@@ -101,26 +100,3 @@ earliest-group number g schedule row first up timers is =
     ap (λ o. earliest_of (option_to_list o ++ flat_map timer_moments row)) is
     ∙ earliest-join head (flat_map timer_moments row)
     ∙ ap (λ ms. earliest_of (head ++ ms)) (sym (deadlines-row number row up) ∙ ap (λ (m : FinMap nat_cmp SourceTimer). flat_map (λ timer. option_to_list (deadline_of (Some timer))) (map.values m)) timers)
-
--- where no source of a group is stopped, each of its list runs
-pub all_running : {K : Type 0} (number : K → ℕ) (g : GroupState) (row : List (Source K)) → IsAscending (number_in number) row → timers_in number row ≡ g.sources → ((s : ℕ) → stopped g s ≡ false) → All (λ x. IsSome (deadline_of (Some x.timer))) row
-all_running number g row up is none k d within =
-    let x = get_or row k d in
-    runs x.timer (ap is_stopped (sym (get-found number row k d (number x.address) up within refl)) ∙ ap (λ m. is_stopped (map.get m (number x.address))) is ∙ none (number x.address))
-  where
-    runs : (t : SourceTimer) → is_stopped (Some t) ≡ false → IsSome (deadline_of (Some t))
-    runs Stopped is = absurd (true≢false is)
-    runs (Running d n) is = refl
-
-least_low : (n : ℕ) (ms : List ℕ) → least n ms ≤ n
-least_low n [] = omega arith
-least_low n (m ∷ ms) = let rest = least_low n ms in omega (arith, rest)
-
--- where the first of some sources runs, its deadline and those of all are as early as those of all
-pub first_again : {K : Type 0} (row : List (Source K)) (d : ℕ) (x : Source K) → 0 < length row → x ≡ get_or row 0 x → deadline_of (Some x.timer) ≡ Some d → Some (least d (flat_map timer_moments row)) ≡ earliest_of (flat_map timer_moments row)
-first_again [] d x some is runs = absurd (omega arith)
-first_again (y ∷ row) d x some is runs =
-    let first : timer_moments y ≡ d ∷ [] = ap timer_moments (sym is) ∙ ap option_to_list runs in
-    let low = least_low d (flat_map timer_moments row) in
-    let same : least d (d ∷ flat_map timer_moments row) ≡ least d (flat_map timer_moments row) = omega (arith, low) in
-    ap (λ ms. Some (least d (ms ++ flat_map timer_moments row))) first ∙ ap Some same ∙ ap (λ ms. earliest_of (ms ++ flat_map timer_moments row)) (sym first)

@@ -1,11 +1,10 @@
 //! The earliest moment of a group.
 
-ghost use Rattle.std.specs.Prelude.{◌≡◌, ℕ, ◌+◌, [], ◌∷◌, ◌++◌, length, Some, IsSome, is_some};
-ghost use Rattle.std.specs.List.{All, flat_map};
+ghost use Rattle.std.specs.Prelude.{◌≡◌, ℕ, ◌+◌, [], ◌∷◌, ◌++◌, length, Some, is_some};
+ghost use Rattle.std.specs.List.{flat_map};
 ghost use Rattle.std.specs.Option.{option_to_list};
 ghost use Rattle.mq_count.specs.Spending.{Spends};
 ghost use Rattle.mq_table.specs.Group as group_of;
-ghost use Rattle.mq_table.specs.Group.{deadline_of};
 ghost use Rattle.mq_table.specs.Stored.{size_of};
 ghost use Rattle.mq_sched.specs.Schedule.{ScheduledGroup};
 ghost use Rattle.mq_sched.specs.Sending as sending;
@@ -81,45 +80,6 @@ pub(crate) fn earliest_with_row<K: Key>(
     }
 }
 
-/// The earliest of a moment, if there is one, and of the deadlines of some sources, all of which run. At most one comparison for
-/// each source.
-fn earliest_with_running<K: Key>(
-    first: Option<Moment>,
-    row: &[Source<K>],
-    m: &mut Meter,
-) -> Option<Moment>
-    requires { All (λ x. IsSome (deadline_of (Some x.timer))) row.now }
-    ensures earliest { result ≡ earliest_of (option_to_list first ++ flat_map timer_moments row.now) }
-    ensures spent { Spends 0 (length row.now) m.old m.new }
-{
-    if row.is_empty() {
-        return first;
-    }
-    let start = match first {
-        Some(start) => start,
-        None => row[0].moment().unwrap(),
-    };
-    Some(m.earliest_of_all(start, row))
-}
-
-/// The earliest of a moment, if there is one, and of the deadlines of the sources of a group of this mode. At most one comparison
-/// for each source.
-fn earliest_with_sources<K: Key>(
-    mode: FilterMode,
-    first: Option<Moment>,
-    row: &[Source<K>],
-    m: &mut Meter,
-) -> Option<Moment>
-    requires { mode ≡ FilterMode.Include → All (λ x. IsSome (deadline_of (Some x.timer))) row.now }
-    ensures earliest { result ≡ earliest_of (option_to_list first ++ flat_map timer_moments row.now) }
-    ensures spent { Spends 0 (length row.now) m.old m.new }
-{
-    match mode {
-        FilterMode::Include => earliest_with_running(first, row, m),
-        FilterMode::Exclude(_) => earliest_with_row(first, row, m),
-    }
-}
-
 /// The earliest of all moments of a group and its schedule. A group that is held has one. At
 /// most one comparison for each source, and four more.
 pub(crate) fn earliest_moment<K: Key, A: Allocator>(
@@ -133,7 +93,7 @@ pub(crate) fn earliest_moment<K: Key, A: Allocator>(
     ensures spent { Spends 0 (size_of group.now.state + 4) m.old m.new }
 {
     let first = earliest_of_head(group.mode(), group.v1(), group.v2(), schedule, m);
-    let earliest = earliest_with_sources(group.mode(), first, group.sources(), m);
+    let earliest = earliest_with_row(first, group.sources(), m);
     earliest.unwrap()
 }
 
