@@ -6,21 +6,21 @@ use Rattle.std.specs.Ordering.{nat_cmp, eq_by_cmp}
 use Rattle.std.specs.Cmp.{nat_cmp_total}
 use Rattle.std.specs.FinMap as map
 use Rattle.std.specs.FinMap.{FinMap}
-use Rattle.std.proofs.lemmas.Bool.{cases_eq, eq-eqb}
+use Rattle.std.proofs.lemmas.Bool.{cases_eq}
 use Rattle.std.proofs.lemmas.List.{length-set, get_or-set_same, get_or-set_other, get_or_read}
 use Rattle.mq_sets.specs.Ascending.{IsAscending, set_of}
 use Rattle.mq_sets.specs.NumberedKeys.{NumberedKey}
 use Rattle.mq_sets.proofs.OneCell.{set-same}
 use Rattle.mq_table.specs.declared.sources.Source.{Source}
 use Rattle.mq_table.specs.declared.timers.SourceTimer.{SourceTimer}
-use Rattle.mq_table.specs.declared.timers.SourceTimer.TheVariants.{Stopped, Running}
+use Rattle.mq_table.specs.declared.timers.SourceTimer.TheVariants.{Running}
 use Rattle.mq_table.specs.Group.{IsWellFormed, is_vacant, deadline_of, group_deadline, is_running, is_stopped, sendings_of, timer_at}
 use Rattle.mq_table.specs.Stored.{number_in, timers_in}
 use Rattle.mq_table.proofs.SourceLists.{get-found}
 use Rattle.mq_sched.specs.Schedule.{ScheduledGroup}
 use Rattle.mq_sched.specs.Sending.{group_due}
 use Rattle.mq_held.specs.declared.scheduled_head.ScheduledHead.{ScheduledHead}
-use Rattle.mq_held.specs.Groups.{schedules_of, unheld}
+use Rattle.mq_held.specs.Groups.{schedules_of}
 use Rattle.mq_held.specs.Moments.{those_of, moments_of}
 use Rattle.mq_held.specs.Restarted.{restarted}
 use Rattle.mq_held.specs.Stored.{IsStored, earliest_of, group_by, group_of, no_head, timer_moments}

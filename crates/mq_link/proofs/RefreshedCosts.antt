@@ -1,5 +1,5 @@
 -- What is spent for a record that is heard from hosts that still want the sources that it names.
-use Rattle.std.proofs.Common.{◌≡◌, ℕ, zero, suc, ◌+◌, ◌*◌, ◌^◌, ◌/◌, ◌<◌, ◌≤◌, ◌==◌, Bool, true, false, cond, not, ◌&&◌, ◌||◌, List, [], ◌∷◌, length, get_or, min, Option, None, Some, IfSome, refl, sym, ap, ◌∙◌, subst, arith, add-one}
+use Rattle.std.proofs.Common.{◌≡◌, ℕ, zero, suc, ◌+◌, ◌*◌, ◌^◌, ◌/◌, ◌<◌, ◌≤◌, ◌==◌, Bool, true, false, cond, not, ◌&&◌, ◌||◌, List, [], ◌∷◌, length, get_or, min, Option, None, Some, IfSome, refl, sym, ap, ◌∙◌, arith, add-one}
 use Rattle.std.specs.List.{list_any}
 use Rattle.std.specs.FinMap as map
 use Rattle.std.specs.FinSet as set
@@ -19,7 +19,7 @@ use Rattle.mq_table.specs.declared.older_hosts.Hosts.{Hosts}
 use Rattle.mq_table.specs.declared.sources.Source.{Source}
 use Rattle.mq_table.specs.declared.timers.FilterMode.{FilterMode}
 use Rattle.mq_table.specs.Group.{is_include, is_stopped}
-use Rattle.mq_table.specs.MergedRecord.{LooksByHalves, item_is_stopped, keeps_unnamed}
+use Rattle.mq_table.specs.MergedRecord.{item_is_stopped, keeps_unnamed}
 use Rattle.mq_table.specs.OlderHosts.{hosts_of, translated, with_sources}
 use Rattle.mq_table.specs.Stored.{named_in, number_in, timers_in}
 use Rattle.mq_table.specs.Table.{NamedSources}

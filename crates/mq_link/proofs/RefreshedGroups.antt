@@ -1,13 +1,12 @@
 -- What a record leaves of a group whose sources it leaves as they are but for the timers of those that it names.
-use Rattle.std.proofs.Common.{◌≡◌, ℕ, ◌+◌, ◌-◌, ◌<◌, ◌≤◌, Bool, true, false, cond, not, ◌&&◌, ◌||◌, List, [], ◌∷◌, Option, None, Some, IfSome, is_some, refl, sym, ap, ◌∙◌, subst, arith, ltb, ⊎_elim}
+use Rattle.std.proofs.Common.{◌≡◌, ℕ, ◌+◌, Bool, true, false, cond, not, ◌&&◌, Option, None, Some, is_some, refl, sym, ap, ◌∙◌, ltb}
 use Rattle.std.specs.Bool.{beq}
-use Rattle.std.specs.List.{list_any}
 use Rattle.std.specs.Ordering.{nat_cmp, eq_by_cmp}
 use Rattle.std.specs.Cmp.{nat_cmp_total}
 use Rattle.std.specs.FinMap as map
 use Rattle.std.specs.FinMap.{FinMap}
 use Rattle.std.specs.FinSet as set
-use Rattle.std.proofs.lemmas.Bool.{true≢false, le-ltb}
+use Rattle.std.proofs.lemmas.Bool.{true≢false}
 use Rattle.mq_table.specs.declared.kind.Kind.{Kind}
 use Rattle.mq_table.specs.declared.kind.Kind.TheVariants.{IsIn, IsEx, ToIn, ToEx, Allow, Block}
 use Rattle.mq_table.specs.declared.timing.Timing.{Timing}
@@ -16,17 +15,16 @@ use Rattle.mq_table.specs.declared.timers.FilterMode.TheVariants.{Include, Exclu
 use Rattle.mq_table.specs.declared.timers.SourceTimer.{SourceTimer}
 use Rattle.mq_table.specs.declared.timers.SourceTimer.TheVariants.{Stopped, Running}
 use Rattle.mq_table.specs.Sets.{∅, Set}
-use Rattle.mq_table.specs.Group.{GroupState, is_include, is_running, is_stopped, running, sendings_of, stopped, timer_at, IsWellFormed as IsHeld}
-use Rattle.mq_table.specs.Table.{NamedSources, TableRow, table_row, timer_by, table_row_met, change_of, GroupChange}
+use Rattle.mq_table.specs.Group.{GroupState, is_include, is_stopped, running, sendings_of, stopped, timer_at}
+use Rattle.mq_table.specs.Table.{NamedSources, table_row, change_of}
 use Rattle.mq_table.specs.Timing.{membership_interval}
 use Rattle.mq_table.specs.Filter.{names, changes_filter}
-use Rattle.mq_table.specs.Sendings.{some_source, has_sendings, above, sendings_started}
-use Rattle.mq_table.specs.Stored.{named_in}
+use Rattle.mq_table.specs.Sendings.{some_source, has_sendings, above}
 use Rattle.mq_table.proofs.Filters.{changes-same, changes-at}
 use Rattle.mq_table.proofs.Groups.{same_sources}
-use Rattle.mq_table.proofs.TableRows.{table_row_at, timer_then, each_case, both, at_source_of}
+use Rattle.mq_table.proofs.TableRows.{timer_then, each_case, both, at_source_of}
 use Rattle.mq_sched.specs.Schedule.{ScheduleState, ScheduledGroup, IsScheduleOf, settled}
-use Rattle.mq_sched.specs.Sending.{acted, after_change, sources_asked}
+use Rattle.mq_sched.specs.Sending.{after_change, sources_asked}
 use Rattle.mq_sched.proofs.Asked.{some_source-gives, timer_at-sources_asked}
 use Rattle.mq_sched.proofs.Fits.{sendings_before}
 use Rattle.mq_held.specs.Restarted.{restarted}

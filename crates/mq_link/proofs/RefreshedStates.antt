@@ -1,11 +1,8 @@
 -- What a record comes to that is heard again of a group for which nothing is due.
-use Rattle.std.proofs.Common.{◌≡◌, ℕ, ◌+◌, ◌-◌, ◌*◌, ◌/◌, ◌≤◌, get_or, suc, Bool, true, false, cond, ◌&&◌, not, ◌||◌, List, [], ◌∷◌, length, Option, None, Some, is_some, refl, sym, ap, ◌∙◌, subst, arith}
-use Rattle.std.specs.Prelude.{map as list_map}
-use Rattle.std.specs.Option.{option_map}
+use Rattle.std.proofs.Common.{◌≡◌, ℕ, ◌+◌, ◌-◌, ◌*◌, ◌/◌, get_or, Bool, true, false, cond, ◌&&◌, not, ◌||◌, List, [], ◌∷◌, length, Option, None, Some, is_some, refl, sym, ap, ◌∙◌, subst, arith}
 use Rattle.std.specs.Ordering.{nat_cmp, eq_by_cmp}
 use Rattle.std.specs.Cmp.{nat_cmp_total}
 use Rattle.std.specs.FinMap as map
-use Rattle.std.specs.FinMap.{FinMap}
 use Rattle.std.specs.FinSet as set
 use Rattle.std.proofs.lemmas.Bool.{true≢false, le-ltb}
 use Rattle.mq_table.specs.declared.kind.Kind.{Kind}
@@ -24,7 +21,7 @@ use Rattle.mq_table.specs.Timing.{membership_interval}
 use Rattle.mq_sched.specs.Rounds.{IsQuietAt}
 use Rattle.mq_sched.specs.Schedule.{ScheduleState, ScheduledGroup}
 use Rattle.mq_sched.specs.Election.{is_querier}
-use Rattle.mq_sched.specs.Sending.{after_round, messages_due}
+use Rattle.mq_sched.specs.Sending.{after_round}
 use Rattle.mq_sched.proofs.Rounds.{quiet_is_silent}
 use Rattle.mq_held.specs.Restarted.{restarted}
 use Rattle.mq_held.proofs.Amounts.{len-with_group, schedules-with_group, sources-with_group}
@@ -35,7 +32,7 @@ use Rattle.mq_link.specs.declared.configuration.Limits.{Limits}
 use Rattle.mq_link.specs.Configuration.{Configuration}
 use Rattle.mq_link.specs.Counters.{Applied}
 use Rattle.mq_link.specs.Family.{per_query, v1_mutes_leave}
-use Rattle.mq_link.specs.Record.{RecordOf, Setting, Outcome, after_sending, asking_nothing, change_stated, is_muted, limit_passed, sent_at_once, stated, unless_passed}
+use Rattle.mq_link.specs.Record.{RecordOf, Setting, Outcome, asking_nothing, is_muted, limit_passed, stated}
 use Rattle.mq_link.specs.Refreshed.{restarts}
 use Rattle.mq_link.specs.Sound.{AreSound}
 use Rattle.mq_link.specs.State.{AreWithin, Groups, IsHeldAs, group_at, is_source_specific, schedules_in, schedules_of, sources_in, sources_of, with_group}

@@ -11,7 +11,7 @@
 use crate::playing::expect_rows;
 use mq_link::{Igmp, Mld};
 
-static OF_IGMP: [&str; 9] = [
+static OF_IGMP: [&str; 10] = [
     "a source of a group of 366 that is heard again: one source is written, and at the second time none is looked over
     link
     until 1000
@@ -23,13 +23,24 @@ static OF_IGMP: [&str; 9] = [
     comes 3000 2200e5f800000001,05000001e80101010a000002 taken 1 0
     moves 1 1
     spends 4 20
-    until 261000
+    quiet
     forwards 232.1.1.1 10.0.0.2
-    blocks 232.1.1.1 10.0.0.1
-    until 262999
-    number 1
-    until 263000
-    number 0",
+    number 1",
+    "a source of two that is heard again runs a group membership interval from then on, and its group's earliest moment is the other's
+    link
+    until 1000
+    sends 0 general
+    comes 1000 2200dbf60000000105000002e8010101+1+2 taken 1 0
+    comes 2000 2200e5f900000001,05000001e80101010a000001 taken 1 0
+    moves 2 2
+    holds 232.1.1.1 include 10.0.0.1=262000 10.0.0.2=261000
+    comes 3000 2200e5f900000001,05000001e80101010a000001 taken 1 0
+    moves 1 1
+    holds 232.1.1.1 include 10.0.0.1=263000 10.0.0.2=261000
+    comes 4000 2200e5f800000001,05000001e80101010a000002 taken 1 0
+    moves 2 2
+    holds 232.1.1.1 include 10.0.0.1=263000 10.0.0.2=264000
+    quiet",
     "as many records as a datagram has room for, for one group that has as many sources as it may
     link
     until 1000

@@ -1,7 +1,5 @@
-use Rattle.std.proofs.Common.{◌≡◌, ◌∙◌, ap, cond, sym}
+use Rattle.std.proofs.Common.{◌≡◌, sym}
 use Rattle.std.specs.FinMap as map
-use Rattle.mq_count.specs.Spending.{Spends}
-use Rattle.mq_link.specs.Refreshed.{is_restart}
 use Rattle.mq_link.proofs.statement.acted_as.Goals as goal
 
 pub returns-in-Record-clause-acts : goal.returns-in-Record-clause-acts

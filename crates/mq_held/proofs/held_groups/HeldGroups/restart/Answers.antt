@@ -1,4 +1,4 @@
-use Rattle.std.proofs.Common.{◌≡◌, ℕ, Bool, true, false, if◌then◌else◌, refl, ◌+◌, ◌-◌, ◌<◌, ◌∙◌, min, Some, IfSome, [], length, length-set, get_or, set, List, arith, ap, sym, subst}
+use Rattle.std.proofs.Common.{◌≡◌, Bool, true, false, if◌then◌else◌, refl, ◌+◌, ◌-◌, ◌<◌, ◌∙◌, [], length, length-set, get_or, set, List, arith, ap, sym, subst}
 use Rattle.std.proofs.lemmas.List.{get_or-set_same}
 use Rattle.std.specs.Option.{unwrap_or}
 use Rattle.mq_count.proofs.Spent.{Spends-join, Spends-join_within, Spends-within}
@@ -11,7 +11,7 @@ use Rattle.mq_table.specs.Stored.{number_in}
 use Rattle.mq_table.proofs.SourceLists.{get-absent}
 use Rattle.mq_sched.specs.Schedule.{ScheduledGroup}
 use Rattle.mq_held.specs.declared.scheduled_head.ScheduledHead.{ScheduledHead}
-use Rattle.mq_held.specs.Groups.{group_at, sources_of}
+use Rattle.mq_held.specs.Groups.{group_at}
 use Rattle.mq_held.specs.Held.{HeldState}
 use Rattle.mq_held.specs.Moments.{moments_of}
 use Rattle.mq_held.specs.Restarted.{restarted}

@@ -1,4 +1,4 @@
-use Rattle.std.proofs.Common.{◌≡◌, ◌+◌, ◌*◌, ◌<◌, ◌≤◌, ℕ, Bool, true, false, ◌||◌, Option, None, Some, IfSome, MatchOption, Result, Ok, Err, MatchResult, length, refl, sym, ap, ◌∙◌, subst, arith}
+use Rattle.std.proofs.Common.{◌≡◌, ◌+◌, ◌*◌, ◌<◌, ℕ, true, false, ◌||◌, IfSome, MatchOption, Result, Ok, Err, MatchResult, length, refl, sym, ap, ◌∙◌, subst, arith}
 use Rattle.std.specs.FinMap as map
 use Rattle.std.specs.Result.{is_ok, result_ok}
 use Rattle.std.proofs.lemmas.Bool.{true≢false}
@@ -6,10 +6,9 @@ use Rattle.mq_count.specs.Spending.{Spends}
 use Rattle.mq_count.proofs.Spent.{Spends-join_within, Spends-within}
 use Rattle.mq_sets.specs.NumberedKeys.{IsSpotFor}
 use Rattle.mq_sets.specs.declared.spots.Spot.{Spot}
-use Rattle.mq_sets.specs.Search.{bitlen}
 use Rattle.mq_sets.proofs.Bitlen.{bitlen-few}
 use Rattle.mq_table.specs.Stored.{named_in}
-use Rattle.mq_held.specs.Groups.{group_at, sources_of, with_group}
+use Rattle.mq_held.specs.Groups.{group_at, sources_of}
 use Rattle.mq_held.specs.Held.{HeldState, HasNumber}
 use Rattle.mq_link.specs.declared.storage.Storage.{Storage}
 use Rattle.mq_link.specs.Changing.{statement_of}
@@ -22,7 +21,7 @@ use Rattle.mq_link.specs.Refreshed.{most_copied}
 use Rattle.mq_link.specs.Router.{HasOutcome}
 use Rattle.mq_link.specs.Seen.{AreMarked, KeepsNumbers, met_in}
 use Rattle.mq_link.specs.Sound.{AreSound}
-use Rattle.mq_link.specs.Storage.{IsSought, KeepsRooms, has_counted, put_by_rows}
+use Rattle.mq_link.specs.Storage.{IsSought, KeepsRooms, put_by_rows}
 use Rattle.mq_link.proofs.ChangedRecords.{length-by, marked_by, met_in-by}
 use Rattle.mq_link.proofs.MetNumbers.{AreNumbered}
 use Rattle.mq_link.proofs.Moved.{paid_within}

@@ -1,13 +1,11 @@
-use Rattle.std.proofs.Common.{◌≡◌, ℕ, ◌+◌, ◌-◌, ◌≤◌, [], ◌∷◌, ◌==◌, false, true, cond, length, List, Some, sym, ap, ◌∙◌, subst, arith, refl}
+use Rattle.std.proofs.Common.{◌≡◌, ℕ, ◌+◌, ◌-◌, [], ◌==◌, cond, length, sym, ap, ◌∙◌, subst, arith}
 use Rattle.std.proofs.lemmas.Bool.{eq-eqb, eqb-true}
 use Rattle.std.proofs.lemmas.List.{nil_from_length}
 use Rattle.std.specs.FinMap as map
 use Rattle.std.specs.Result.{is_ok}
-use Rattle.mq_count.specs.Spending.{Spends}
-use Rattle.mq_count.proofs.Spent.{Spends-join_within, Spends-within}
+use Rattle.mq_count.proofs.Spent.{Spends-join_within}
 use Rattle.mq_sets.specs.Search.{bitlen}
 use Rattle.mq_sets.proofs.Bitlen.{bitlen-mono}
-use Rattle.mq_table.specs.Group.{is_stopped}
 use Rattle.mq_table.specs.Stored.{named_in}
 use Rattle.mq_sched.specs.Rounds.{IsQuietAt}
 use Rattle.mq_sched.specs.Schedule.{ScheduledGroup}
@@ -16,7 +14,6 @@ use Rattle.mq_held.specs.Held.{HeldState}
 use Rattle.mq_held.specs.Restarted.{restarted}
 use Rattle.mq_held.proofs.RestartedTimers.{IsWellFormed-restarted}
 use Rattle.mq_link.specs.declared.status.InForce.{InForce}
-use Rattle.mq_link.specs.declared.storage.Storage.{Storage}
 use Rattle.mq_link.specs.Counters.{Applied}
 use Rattle.mq_link.specs.Forwarding.{changes}
 use Rattle.mq_link.specs.Moved.{moved_by_edit}

@@ -1,6 +1,6 @@
-use Rattle.std.proofs.Common.{◌<◌, ◌≡◌, ◌+◌, ◌∙◌, ap, arith, length, set, get_or, []}
+use Rattle.std.proofs.Common.{◌<◌, ◌+◌, ◌∙◌, ap, arith, length, set, get_or, []}
 use Rattle.std.proofs.lemmas.List.{length-map, length-set}
-use Rattle.mq_sets.specs.Pools.{cells_of, rows_of}
+use Rattle.mq_sets.specs.Pools.{cells_of}
 use Rattle.mq_sets.specs.NumberedRows.{NumberedRowsState}
 use Rattle.mq_sets.proofs.OneCell.{rows-one_cell}
 use Rattle.mq_sets.proofs.RowEdits.{with_parts}
