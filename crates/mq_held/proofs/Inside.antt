@@ -1,6 +1,7 @@
 -- What is stored says of the groups that a contract sees.
-use Rattle.std.proofs.Common.{◌≡◌, ◌==◌, ◌&&◌, Bool, not, ℕ, ◌<◌, true, refl, List, [], length, get_or, set, sym, ap, ◌∙◌, subst, arith}
+use Rattle.std.proofs.Common.{◌≡◌, ◌==◌, ◌&&◌, Bool, not, ℕ, ◌<◌, true, true≢false, refl, List, [], length, get_or, set, Option, None, Some, is_some, sym, ap, ◌∙◌, subst, arith}
 use Rattle.std.specs.List.{Contains}
+use Rattle.std.specs.Option.{unwrap_or}
 use Rattle.std.specs.Ordering.{nat_cmp}
 use Rattle.std.specs.FinMap as map
 use Rattle.std.specs.FinMap.{FinMap}
@@ -15,7 +16,7 @@ use Rattle.mq_table.specs.Stored.{number_in}
 use Rattle.mq_table.proofs.SourceLists.{len-timers_in}
 use Rattle.mq_sched.specs.Schedule.{ScheduledGroup}
 use Rattle.mq_held.specs.declared.scheduled_head.ScheduledHead.{ScheduledHead}
-use Rattle.mq_held.specs.Groups.{group_at, sources_of, sources_in, schedules_in, running_in}
+use Rattle.mq_held.specs.Groups.{Groups, group_at, sources_of, sources_in, schedules_in, running_in, unheld}
 use Rattle.mq_held.specs.Held.{HeldState, HasNumber, IsNumber, ahead_with}
 use Rattle.mq_held.specs.Stored.{group_of, group_by, no_head, groups_by, IsStored}
 use Rattle.mq_held.proofs.OrderedItems.{item, number_of, key_of, one-key, one-number, has-key, has-number, key-in, number-in, number-within, key-of_number}
@@ -140,6 +141,14 @@ module _ {K : Type 0} (number : K → ℕ) {order : NumberedKeysState} {heads : 
       (get-groups number order.items (set heads n h) (set rows n row) known.ascending) in
       let groups = changed ∙ ap (λ groups. map.insert groups a e) groups_are in
       λ i. record { groups = groups i; order = (was i).order; source_room = (was i).source_room; ahead = left_is i }
+
+-- a group that is held is there
+pub group_found : (groups : Groups) (address : ℕ) → map.contains_key groups address ≡ true → map.get groups address ≡ Some (group_at groups address)
+group_found groups address held = by_found (map.get groups address) held
+  where
+    by_found : (e : Option ScheduledGroup) → is_some e ≡ true → e ≡ Some (unwrap_or e unheld)
+    by_found None is = absurd (true≢false (sym is))
+    by_found (Some e) is = refl
 
 -- a number has an address
 pub some-address : (state : HeldState) (n : ℕ) → IsNumber state n → (a : ℕ) × HasNumber state a n

@@ -22,4 +22,9 @@ pub mod DueInOrder
 pub mod TakenItems
 pub mod TakenGroups
 mod HeldInOrder
+mod HeldRows
 pub mod RestartedTimers
+pub mod RestartedEach
+mod RestartedRows
+mod NamedWalks
+pub mod AskedInPlace

@@ -1,5 +1,5 @@
 -- A group of which one source is heard of again, by its row.
-use Rattle.std.proofs.Common.{◌≡◌, ℕ, zero, suc, ◌+◌, ◌-◌, ◌<◌, min, Bool, true, false, not, cond, if◌then◌else◌, refl, List, [], ◌∷◌, ◌++◌, append_assoc, length, get_or, set, Option, None, Some, IfSome, sym, ap, ◌∙◌, subst, arith, ⊎_elim}
+use Rattle.std.proofs.Common.{◌≡◌, ℕ, zero, suc, ◌+◌, ◌-◌, ◌<◌, min, true, false, cond, refl, List, [], ◌∷◌, ◌++◌, append_assoc, length, get_or, set, Option, None, Some, IfSome, sym, ap, ◌∙◌, subst, arith, ⊎_elim}
 use Rattle.std.specs.Option.{option_to_list}
 use Rattle.std.specs.List.{flat_map}
 use Rattle.std.specs.Ordering.{nat_cmp, eq_by_cmp}
@@ -25,11 +25,11 @@ use Rattle.mq_held.specs.Moments.{those_of, moments_of}
 use Rattle.mq_held.specs.Restarted.{restarted}
 use Rattle.mq_held.specs.Stored.{IsStored, earliest_of, group_by, group_of, no_head, timer_moments}
 use Rattle.mq_held.proofs.HeldMoments.{deadlines-row}
+use Rattle.mq_held.proofs.HeldRows.{earliest-by_row, moment-by_row, not_vacant-by_row}
 use Rattle.mq_held.proofs.LeastMoments.{earliest-join, earliest-join_right}
-use Rattle.mq_held.proofs.OrderedAmounts.{has-moment}
 use Rattle.mq_held.proofs.OrderedItems.{number_of}
 use Rattle.mq_held.proofs.Sorted.{ties, untied}
-use Rattle.mq_held.proofs.StoredEdits.{IsStored-written, row-none, schedules_part}
+use Rattle.mq_held.proofs.StoredEdits.{IsStored-written, schedules_part}
 
 -- what is put again where it is changes nothing
 pub insert-same : {X : Type 0} (m : FinMap nat_cmp X) (n : ℕ) (v : X) → map.get m n ≡ Some v → map.insert m n v ≡ m
@@ -191,22 +191,16 @@ module _ {K : Type 0} (number : K → ℕ) {items : List NumberedKey} {heads : L
   row_up : IsAscending (number_in number) (get_or rows n [])
   row_up = known.rows_ascend n [] rows_within
 
-  -- a group that has a source isn't vacant
-  not_vacant : is_vacant group_then.group ≡ false
-  not_vacant = by_test (is_vacant group_then.group) refl
-    where
-      by_test : (b : Bool) → is_vacant group_then.group ≡ b → is_vacant group_then.group ≡ false
-      by_test true vacant =
-          let empty = row-none number (get_or heads n no_head) (get_or rows n []) row_up (known.vacant_are_unheld n held vacant) in
-          absurd (omega (arith, within, ap length empty))
-      by_test false other = other
+  -- it isn't vacant
+  pub not_vacant : is_vacant group_then.group ≡ false
+  not_vacant = not_vacant-by_row number known n held rows_within (omega (arith, within))
 
   -- so it has a moment, its earliest
   pub moment-held : map.contains_key moments n ≡ true
-  moment-held = has-moment number known n held ∙ ap not not_vacant
+  moment-held = moment-by_row number known n held rows_within (omega (arith, within))
 
   pub earliest-held : (earliest : ℕ) → map.get moments n ≡ Some earliest → earliest_of (moments_of group_then) ≡ Some earliest
-  earliest-held earliest is = ap (λ b. if b then earliest_of (moments_of group_then) else None) (sym held) ∙ sym (known.moments_are n) ∙ is
+  earliest-held = earliest-by_row number known n held rows_within
 
   -- its timer
   pub timer-held : (source : ℕ) → number x.address ≡ source → timer_at group_then.group source ≡ Some x.timer

@@ -6,3 +6,4 @@ pub mod Stored
 pub mod Listed
 pub mod Sizes
 pub mod Restarted
+pub mod Asked

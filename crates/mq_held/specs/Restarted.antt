@@ -1,8 +1,10 @@
--- A source that is heard of again.
-use Rattle.std.specs.Prelude.{ℕ}
+-- Sources that are heard of again.
+use Rattle.std.specs.Prelude.{◌≡◌, ℕ, ◌+◌, ◌*◌, ◌<◌, ◌≤◌, ◌==◌, Bool, if◌then◌else◌, List, [], ◌∷◌, length}
 use Rattle.std.specs.FinMap as map
+use Rattle.std.specs.List.{HoldsAt, list_all, list_any}
+use Rattle.mq_sets.specs.Search.{bitlen}
 use Rattle.mq_table.specs.declared.timers.SourceTimer.TheVariants.{Running}
-use Rattle.mq_table.specs.Group.{sendings_of, timer_at}
+use Rattle.mq_table.specs.Group.{is_stopped, sendings_of, timer_at}
 use Rattle.mq_sched.specs.Schedule.{ScheduledGroup}
 
 -- a group of which the timer of one source runs until another moment, with as many sendings to go as before
@@ -11,3 +13,32 @@ restarted deadline source e =
     let g = e.group in
     let timer = Running deadline (sendings_of (timer_at g source)) in
     record e { group = record g { sources = map.insert g.sources source timer } }
+
+-- one of which the timers of some sources do
+abbrev pub restarted_each : (deadline : ℕ) → List ℕ → ScheduledGroup → ScheduledGroup
+restarted_each deadline [] e = e
+restarted_each deadline (source ∷ sources) e = restarted_each deadline sources (restarted deadline source e)
+
+-- whether a group has each of some sources
+abbrev pub has_each : List ℕ → ScheduledGroup → Bool
+has_each sources e = list_all (λ s. map.contains_key e.group.sources s) sources
+
+-- whether the timer of one of them is stopped
+abbrev pub some_stopped : List ℕ → ScheduledGroup → Bool
+some_stopped sources e = list_any (λ s. is_stopped (timer_at e.group s)) sources
+
+-- How many comparisons tell at most whether a group of so many sources has each of those that are named: the first is looked for
+-- by halves, and from there the sources are walked over for the others.
+abbrev pub most_looked : (sources named : ℕ) → ℕ
+most_looked sources named = if named == 1 then bitlen sources else sources + bitlen sources
+
+-- How many set the timers of those that are named at most, with the digits of how many other groups there are.
+abbrev pub most_set : (sources named digits : ℕ) → ℕ
+most_set sources named digits = if named == 1 then bitlen sources + sources + 5 + digits else 3 * sources + bitlen sources + named + 4 + digits
+
+-- an item of a number stands at `from` or behind it
+pub record StandsFrom {X : Type 0} (number_of : X → ℕ) (xs : List X) (number from : ℕ) : Type 0 where
+  pub place : ℕ
+  pub behind : from ≤ place
+  pub within : place < length xs
+  pub is : HoldsAt (λ x. number_of x ≡ number) xs place

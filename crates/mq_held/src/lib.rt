@@ -12,7 +12,8 @@
 //! ```
 //!
 //! - `HeldGroups`: the finite map from address to group with its schedule, and what may be asked of it. What changes one group is in
-//!   `group_edits`, what takes out those that are vacant in `vacant_groups`, and which are due in `due_groups`.
+//!   `group_edits`; what does it where its row stands in `timers_in_place`, `several_in_place` and `queries_in_place`; what takes
+//!   out those that are vacant in `vacant_groups`, and which are due in `due_groups`.
 //! - `HeldGroup`: one of them, as it stands there; `HeldEntries`: all, one after the other.
 #![tactic(auto)]
 
@@ -22,7 +23,9 @@ mod group_edits;
 pub mod held_entries;
 pub mod held_group;
 pub mod held_groups;
+mod queries_in_place;
 mod scheduled_head;
+mod several_in_place;
 mod timers_in_place;
 mod vacant_groups;
 

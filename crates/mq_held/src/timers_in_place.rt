@@ -24,7 +24,7 @@ use mq_table::{Source, SourceTimer};
 use std::alloc::Allocator;
 
 /// A source whose timer runs until another moment, with as many sendings to go as before.
-fn restarted<K: Key>(before: Source<K>, deadline: Moment) -> Source<K>
+pub(crate) fn restarted<K: Key>(before: Source<K>, deadline: Moment) -> Source<K>
     ensures { result ≡ record { address = before.address; timer = SourceTimer.Running deadline (sendings_of (Some before.timer)) } }
 {
     let sendings = match before.timer {
@@ -38,7 +38,7 @@ fn restarted<K: Key>(before: Source<K>, deadline: Moment) -> Source<K>
 }
 
 /// Whether a timer runs out after a moment, or doesn't run. At most one comparison.
-fn is_later(timer: SourceTimer, moment: Moment, m: &mut Meter) -> bool
+pub(crate) fn is_later(timer: SourceTimer, moment: Moment, m: &mut Meter) -> bool
     ensures later { IsTrue result ↔ IfSome (deadline_of (Some timer)) (λ deadline. moment < deadline) }
     ensures spent { Spends (if result then 0 else 1) 1 m.old m.new }
 {
@@ -50,7 +50,11 @@ fn is_later(timer: SourceTimer, moment: Moment, m: &mut Meter) -> bool
 
 /// The earliest of all moments of a group that is held, and of its schedule, as it stands in the storage. At most one
 /// comparison for each source, and four more.
-fn earliest_stored<K: Key>(item: &ScheduledHead, row: &[Source<K>], m: &mut Meter) -> Moment
+pub(crate) fn earliest_stored<K: Key>(
+    item: &ScheduledHead,
+    row: &[Source<K>],
+    m: &mut Meter,
+) -> Moment
     requires ascending { IsAscending (number_in K.number) row.now }
     requires held { IsWellFormed (group_of K.number item.now row.now).group }
     ensures earliest { earliest_of (moments_of (group_of K.number item.now row.now)) ≡ Some result }
@@ -62,10 +66,10 @@ fn earliest_stored<K: Key>(item: &ScheduledHead, row: &[Source<K>], m: &mut Mete
     earliest.unwrap()
 }
 
-/// The earliest of all moments of a group, where the timer of one of its sources has been set to a deadline, and it was
-/// `earliest` before; or None, where it stays. Where the timer ran out later than that it is the earlier of the two. At most one
+/// The earliest of all moments of a group, where timers of its sources have been set to a deadline, and it was `earliest` before;
+/// or None, where it stays. Where each of these timers ran out later than that it is the earlier of the two. At most one
 /// comparison, or one for each source and four more.
-fn earliest_then<K: Key>(
+pub(crate) fn earliest_then<K: Key>(
     item: &ScheduledHead,
     row: &[Source<K>],
     was_later: bool,
@@ -90,7 +94,7 @@ fn earliest_then<K: Key>(
 }
 
 /// A number has another moment, where there is one.
-fn change_moment<A: Allocator>(
+pub(crate) fn change_moment<A: Allocator>(
     moments: &mut NumberedMoments<A>,
     number: u16,
     due: Option<Moment>,

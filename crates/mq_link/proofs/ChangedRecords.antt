@@ -104,7 +104,7 @@ module _ (s next : HeldState) (numbered : AreNumbered s) (numbered_next : AreNum
       ap (λ (x : ScheduledGroup). changes_filter (group_at s.groups other).group x.group) (ap (λ groups. group_at groups other) left ∙ other_then s.groups address e other differs)
       ∙ unchanged (group_at s.groups other).group
 
-  marked_none : changes s.groups next.groups address ≡ false → AreMarked next counts (λ other. test other || changes s.groups next.groups other)
+  pub marked_none : changes s.groups next.groups address ≡ false → AreMarked next counts (λ other. test other || changes s.groups next.groups other)
   marked_none none = record {
     seen = marked.seen;
     are_met = still;

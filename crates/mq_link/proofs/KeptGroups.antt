@@ -14,6 +14,7 @@ use Rattle.mq_table.proofs.Groups.{same_sources}
 use Rattle.mq_sched.specs.Schedule.{ScheduledGroup}
 use Rattle.mq_held.specs.Groups.{Groups, group_at, kept_as, with_group, sources_of, unheld}
 use Rattle.mq_held.specs.Held.{HeldState, HasNumber, IsNumber}
+pub use Rattle.mq_held.proofs.Inside.{group_found}
 use Rattle.mq_held.proofs.Sorted.{tied}
 use Rattle.mq_link.proofs.Bounds.{no_sources}
 use Rattle.mq_link.proofs.Quiet.{not_vacant}
@@ -23,14 +24,6 @@ pub is_number : (s : HeldState) (address n : ℕ) → HasNumber s address n → 
 is_number s address n has =
     list_any_at (λ (x : NumberedKey). x.number == n) s.order.items has.is.0 (record { number = n; key = address }) has.is.1
     (eq-eqb _ n (ap (λ (x : NumberedKey). x.number) has.is.2))
-
--- a group that is held is there
-pub group_found : (groups : Groups) (address : ℕ) → map.contains_key groups address ≡ true → map.get groups address ≡ Some (group_at groups address)
-group_found groups address held = by_found (map.get groups address) held
-  where
-    by_found : (e : Option ScheduledGroup) → is_some e ≡ true → e ≡ Some (unwrap_or e unheld)
-    by_found None is = absurd (true≢false (sym is))
-    by_found (Some e) is = refl
 
 pub group_absent : (groups : Groups) (address : ℕ) → map.contains_key groups address ≡ false → map.get groups address ≡ None
 group_absent groups address absent = by_found (map.get groups address) absent

@@ -51,8 +51,12 @@ pub mod ChangedSizes
 pub mod ChangedRecords
 pub mod StatedSteps
 pub mod RefreshedGroups
+pub mod RefreshedEach
 pub mod RefreshedStates
+pub mod OneNamed
 pub mod RefreshedCosts
+pub mod UnpassedLimits
+pub mod BlockedStates
 pub mod RecordsRead
 pub mod LinkReceived
 pub mod EventsRun

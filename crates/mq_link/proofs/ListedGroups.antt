@@ -1,22 +1,14 @@
 -- What lists of the addresses of groups that a call changed are lent, and leave.
-use Rattle.std.proofs.Common.{◌≡◌, ℕ, zero, suc, ◌+◌, ◌*◌, ◌/◌, ◌≤◌, min, Bool, false, ◌||◌, true, List, length, refl, sym, ap, ◌∙◌, subst, arith, ltb}
+use Rattle.std.proofs.Common.{◌≡◌, ℕ, zero, suc, ◌+◌, ◌*◌, ◌/◌, ◌≤◌, min, Bool, false, ◌||◌, true, List, length, refl, ap, ◌∙◌, arith}
 use Rattle.std.specs.Prelude.{map as list_map, slice_index}
 use Rattle.std.proofs.lemmas.List.{length-map}
-use Rattle.std.specs.Option.{unwrap_or}
-use Rattle.std.specs.Ordering.{nat_cmp}
-use Rattle.std.specs.FinMap as map
 use Rattle.mq_held.specs.Held.{HeldState, IsNumber}
-use Rattle.mq_link.specs.declared.configuration.Limits.{Limits}
 use Rattle.mq_link.specs.declared.storage.Lists.{Lists}
-use Rattle.mq_link.specs.declared.storage.Scratch.{Scratch}
 use Rattle.mq_link.specs.Forwarding.{AreThose}
-use Rattle.mq_link.specs.Moved.{IsPaid}
-use Rattle.mq_link.specs.Seen.{AreMarked, AreNone}
-use Rattle.mq_link.specs.Storage.{HasRoom, HasSpace}
-use Rattle.mq_link.specs.Workspace.{WorkspaceState, IsWorkspace, suffices}
+use Rattle.mq_link.specs.Seen.{AreMarked}
+use Rattle.mq_link.specs.Workspace.{WorkspaceState}
 use Rattle.mq_link.proofs.KeptGroups.{is_number}
 use Rattle.mq_link.proofs.PaidEdits.{some_of}
-use Rattle.mq_link.proofs.Rooms.{enough_groups}
 
 -- the numbers of marked groups are those of groups
 pub numbers_marked : (s : HeldState) (counts : List ℕ) (test : ℕ → Bool) → AreMarked s counts test → (number : ℕ) → 1 ≤ slice_index counts number → IsNumber s number

@@ -1,5 +1,5 @@
 -- A tick before the next moment does nothing, and after a tick the next moment is later.
-use Rattle.std.proofs.Common.{◌≡◌, ℕ, ◌+◌, ◌-◌, ◌<◌, Bool, true, false, cond, ◌&&◌, refl, List, [], ◌∷◌, ◌++◌, Option, None, Some, IfSome, sym, ap, ◌∙◌, subst, arith, eqb, ltb}
+use Rattle.std.proofs.Common.{◌≡◌, ℕ, ◌<◌, Bool, true, false, cond, ◌&&◌, refl, List, [], ◌∷◌, ◌++◌, Option, None, Some, IfSome, sym, ap, ◌∙◌, subst, arith, eqb}
 use Rattle.std.specs.Prelude.{map as list_map}
 use Rattle.std.proofs.lemmas.Bool.{true≢false, lt-ltb}
 use Rattle.std.specs.List.{flat_map}
@@ -18,13 +18,13 @@ use Rattle.mq_table.specs.Expiry.{AllAhead}
 use Rattle.mq_table.proofs.Maps.{get-kept}
 use Rattle.mq_table.proofs.Groups.{same_sources}
 use Rattle.mq_table.proofs.Held.{get_of_empty}
-use Rattle.mq_table.specs.Sendings.{some_source, has_sendings, sendings_counted}
+use Rattle.mq_table.specs.Sendings.{some_source, has_sendings}
 use Rattle.mq_sched.specs.declared.queries.QuerySchedule.{QuerySchedule}
 use Rattle.mq_sched.specs.Schedule.{ScheduleState, ScheduledGroup, settled, IsScheduleOf}
-use Rattle.mq_sched.specs.Sending.{GeneralQuery, is_due, group_due, sources_due_next, group_counted, messages_due, after_round}
+use Rattle.mq_sched.specs.Sending.{GeneralQuery, group_due, messages_due, after_round}
 use Rattle.mq_sched.specs.Election.{Role, Querier, Other, ElectionState, deadline_ended, returned, general_is_due, after_general, ticked, general_messages, next_moment}
 use Rattle.mq_sched.specs.Rounds.{IsQuietAt}
-use Rattle.mq_sched.proofs.Rounds.{quiet_is_silent}
+use Rattle.mq_sched.proofs.Rounds.{quiet_is_silent, same_round}
 use Rattle.mq_link.specs.Family.{per_query}
 use Rattle.mq_link.specs.Configuration.{Configuration}
 use Rattle.mq_link.specs.State.{Groups, LinkState, IsWellFormed}
@@ -162,7 +162,7 @@ same_expired m g held h = ap held_or_vacant same ∙ ap (λ b. cond b vacant g) 
     same : ◌≡◌ {A = GroupState} (record { mode = mode_expired m g.mode; sources = kept (λ s. source_expired (mode_expired m g.mode) m) g.sources; v1 = option_and_then (ahead m) g.v1; v2 = option_and_then (ahead m) g.v2 }) g
     same = λ i. record { mode = mode_is i; sources = sources_are i; v1 = same_ahead m g.v1 h.v1 i; v2 = same_ahead m g.v2 h.v2 i }
 
-same_settled : (g : GroupState) (schedule : ScheduleState) → IsScheduleOf g schedule → settled g schedule ≡ schedule
+pub same_settled : (g : GroupState) (schedule : ScheduleState) → IsScheduleOf g schedule → settled g schedule ≡ schedule
 same_settled g schedule h = λ i. record { group_query = by_mode g.mode refl i; sources_due = by_due schedule.sources_due (some_source (has_sendings g) g) h.sources_sendings i }
   where
     by_mode : (mode : FilterMode) → g.mode ≡ mode → cond (is_include mode) None schedule.group_query ≡ schedule.group_query
@@ -182,23 +182,6 @@ same_group m e held fits h =
     ap (λ g. if_held (record { group = g; schedule = settled g e.schedule })) (same_expired m e.group held h.timers)
     ∙ ap (λ s. if_held (record { group = e.group; schedule = s })) (same_settled e.group e.schedule fits)
     ∙ ap (λ b. cond b None (Some e)) (not_vacant e.group held)
-
-not_due : (m : ℕ) (due : Option ℕ) → IfSome due (λ d. m < d) → is_due m due ≡ false
-not_due m None h = refl
-not_due m (Some d) h = not_reached m d h
-
-same_count : (timing : Timing) (m : ℕ) (q : Option QuerySchedule) → IfSome q (λ q. m < q.due) → group_counted timing m q ≡ q
-same_count timing m None h = refl
-same_count timing m (Some q) h = ap (λ b. cond b (cond (ltb 1 q.sendings) (Some (record { sendings = q.sendings - 1; due = m + timing.last_member_interval })) None) (Some q)) (not_reached m q.due h)
-
-pub same_round : (timing : Timing) (m : ℕ) (e : ScheduledGroup) → IsQuietAt m e.schedule → after_round timing m e ≡ e
-same_round timing m e h = λ i. record {
-  group = cond (not_due m e.schedule.sources_due h.sources i) (sendings_counted e.group) e.group;
-  schedule = record {
-    group_query = same_count timing m e.schedule.group_query h.group i;
-    sources_due = cond (not_due m e.schedule.sources_due h.sources i) (sources_due_next timing m (cond (not_due m e.schedule.sources_due h.sources i) (sendings_counted e.group) e.group)) e.schedule.sources_due;
-  };
-}
 
 -- a map whose values stay
 same_kept : (f : ℕ → ScheduledGroup → Option ScheduledGroup) (groups : Groups) → All (λ k e. f k e ≡ Some e) groups → kept f groups ≡ groups

@@ -141,7 +141,7 @@ report_within (r ∷ rs) =
     omega (arith, rest, sum_by-cons own_cost r rs, sum_by-cons (λ (r : RecordView ℕ). 8 + 4 * length r.sources) r rs)
 
 pub statement_within : (groups : Groups) (group listed least from m : ℕ) → map.len groups ≤ 65535
-    → Spends least (6 * sources_of (group_at groups group) + 21 + 2 * bitlen (map.len groups) + listed) from m
+    → Spends least (6 * sources_of (group_at groups group) + 26 + 2 * bitlen (map.len groups) + listed) from m
     → Spends least (24 * sources_in groups + max (20 * map.len groups) listed + 64 * 8) from m
 statement_within groups group listed least from m few spent =
     let most = le-max_right (20 * map.len groups) listed in

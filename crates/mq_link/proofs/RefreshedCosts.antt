@@ -12,19 +12,22 @@ use Rattle.mq_count.specs.Spending.{Spends}
 use Rattle.mq_count.proofs.Spent.{Spends-join_within, Spends-within}
 use Rattle.mq_sets.specs.Ascending.{IsAscending}
 use Rattle.mq_sets.specs.Search.{bitlen}
-use Rattle.mq_sets.proofs.Bitlen.{bitlen-le}
+use Rattle.mq_sets.proofs.Bitlen.{bitlen-few, bitlen-le}
 use Rattle.mq_table.specs.declared.kind.Kind.{Kind}
 use Rattle.mq_table.specs.declared.kind.Kind.TheVariants.{IsIn, IsEx, ToIn, ToEx, Allow, Block}
 use Rattle.mq_table.specs.declared.older_hosts.Hosts.{Hosts}
 use Rattle.mq_table.specs.declared.sources.Source.{Source}
 use Rattle.mq_table.specs.declared.timers.FilterMode.{FilterMode}
 use Rattle.mq_table.specs.Group.{is_include, is_stopped}
-use Rattle.mq_table.specs.MergedRecord.{item_is_stopped, keeps_unnamed}
+use Rattle.mq_table.specs.MergedRecord.{item_is_stopped, keeps_unnamed, takes_none_away}
 use Rattle.mq_table.specs.OlderHosts.{hosts_of, translated, with_sources}
 use Rattle.mq_table.specs.Stored.{named_in, number_in, timers_in}
 use Rattle.mq_table.specs.Table.{NamedSources}
 use Rattle.mq_table.proofs.SourceLists.{get-found}
 use Rattle.mq_held.specs.Groups.{one_if}
+use Rattle.mq_held.specs.Restarted.{most_set}
+use Rattle.mq_held.proofs.Sorted.{ties}
+use Rattle.mq_link.specs.Blocked.{blocks}
 use Rattle.mq_link.specs.declared.statement.StatementKind.{StatementKind}
 use Rattle.mq_link.specs.declared.statement.StatementKind.TheVariants.{Record, OlderJoin, OlderLeave}
 use Rattle.mq_link.specs.Changing.{statement_of}
@@ -32,8 +35,9 @@ use Rattle.mq_link.specs.Family.{v1_mutes_leave}
 use Rattle.mq_link.specs.LeastCost.{least_merge, least_work}
 use Rattle.mq_link.specs.Record.{RecordOf, Setting, is_muted, OlderJoin as StatesJoin, OlderLeave as StatesLeave}
 use Rattle.mq_link.specs.State.{Groups, group_at, sources_of}
-use Rattle.mq_link.specs.Refreshed.{is_restart, most_asked, most_changed, most_copied, most_hosts, most_looked, most_merged, most_tried, restarts}
+use Rattle.mq_link.specs.Refreshed.{is_restart, most_asked, most_blocked, most_changed, most_copied, most_hosts, most_merged, most_started, most_tried, restarts}
 use Rattle.mq_link.proofs.LeastCosts.{few_members, merge_spends}
+use Rattle.mq_link.proofs.OneNamed.{names-one}
 
 -- no older host mutes such a record
 pub restart_as : (mutes muted : Bool) (hosts : Hosts) (kind : Kind) (named : NamedSources) → restarts kind ≡ true → translated mutes muted hosts kind named ≡ with_sources named (cond muted None (Some (kind, false)))
@@ -51,22 +55,41 @@ kept_unless true kind (Some a) is = cc
 kept_unless false kind None is = cc
 kept_unless false kind (Some a) is = cc
 
--- it leaves the sources alone that it doesn't name, where none of INCLUDE is stopped
-pub restart_keeps : {K : Type 0} (kind : Kind) (mode : FilterMode) (row : List (Source K)) → restarts kind ≡ true → (is_include mode ≡ true → list_any item_is_stopped row ≡ false) → keeps_unnamed kind mode row ≡ true
-restart_keeps kind mode row is none = by_kind kind is
+-- a record that takes no source away leaves those alone that it doesn't name, where none of INCLUDE is stopped
+pub restarts_keep : (kind : Kind) → restarts kind ≡ true → takes_none_away kind ≡ true
+restarts_keep IsIn is = refl
+restarts_keep Allow is = refl
+restarts_keep IsEx is = absurd (true≢false (sym is))
+restarts_keep ToIn is = absurd (true≢false (sym is))
+restarts_keep ToEx is = absurd (true≢false (sym is))
+restarts_keep Block is = absurd (true≢false (sym is))
+
+pub blocks_is : (kind : Kind) → blocks kind ≡ true → kind ≡ Block
+blocks_is Block is = refl
+blocks_is IsIn is = absurd (true≢false (sym is))
+blocks_is Allow is = absurd (true≢false (sym is))
+blocks_is IsEx is = absurd (true≢false (sym is))
+blocks_is ToIn is = absurd (true≢false (sym is))
+blocks_is ToEx is = absurd (true≢false (sym is))
+
+pub none_taken_keeps : {K : Type 0} (kind : Kind) (mode : FilterMode) (row : List (Source K)) → takes_none_away kind ≡ true → (is_include mode ≡ true → list_any item_is_stopped row ≡ false) → keeps_unnamed kind mode row ≡ true
+none_taken_keeps kind mode row is none = ap (λ b. b && (not (is_include mode) || not (list_any item_is_stopped row))) is ∙ by_mode (is_include mode) (list_any item_is_stopped row) none
   where
     by_mode : (b s : Bool) → (b ≡ true → s ≡ false) → (not b || not s) ≡ true
     by_mode true true none = absurd (true≢false (none refl))
     by_mode true false none = refl
     by_mode false s none = refl
 
-    by_kind : (kind : Kind) → restarts kind ≡ true → keeps_unnamed kind mode row ≡ true
-    by_kind IsIn is = by_mode (is_include mode) (list_any item_is_stopped row) none
-    by_kind Allow is = by_mode (is_include mode) (list_any item_is_stopped row) none
-    by_kind IsEx is = absurd (true≢false (sym is))
-    by_kind ToIn is = absurd (true≢false (sym is))
-    by_kind ToEx is = absurd (true≢false (sym is))
-    by_kind Block is = absurd (true≢false (sym is))
+-- a BLOCK that isn't muted acts as one, of all sources that it names
+pub block_acts : (mutes muted : Bool) (hosts : Hosts) (named : NamedSources) (kind : Kind) (is_emptied : Bool) → translated mutes muted hosts Block named ≡ with_sources named (Some (kind, is_emptied)) → (kind ≡ Block) × (cond is_emptied set.empty named ≡ named)
+block_acts mutes true hosts named kind is_emptied is = cc
+block_acts mutes false hosts named kind is_emptied is = by_test (hosts.v1 || hosts.v2) is
+  where
+    by_test : (b : Bool) → cond b None (Some (Block, named)) ≡ with_sources named (Some (kind, is_emptied)) → (kind ≡ Block) × (cond is_emptied set.empty named ≡ named)
+    by_test true is = cc
+    by_test false is =
+        let same : ◌≡◌ {A = Kind × NamedSources} (Block, named) (kind, cond is_emptied set.empty named) = cc in
+        (sym (ap (λ (p : Kind × NamedSources). p.0) same), sym (ap (λ (p : Kind × NamedSources). p.1) same))
 
 -- no source of a row is stopped, where no timer is
 none_any : {X : Type 0} (p : X → Bool) (xs : List X) → ((k : ℕ) (d : X) → k < length xs → p (get_or xs k d) ≡ false) → list_any p xs ≡ false
@@ -83,14 +106,23 @@ none_stopped_in number row up none =
 abbrev pub ActsSo : StatementKind → Kind → Bool → Type 0
 ActsSo said kind is_emptied = (k : Kind) → said ≡ Record k → restarts k ≡ true → ◌≡◌ {A = Kind × Bool} (kind, is_emptied) (k, false)
 
+abbrev pub BlocksSo : StatementKind → Kind → Bool → NamedSources → Type 0
+BlocksSo said kind is_emptied named = (k : Kind) → said ≡ Record k → blocks k ≡ true → (kind ≡ Block) × (cond is_emptied set.empty named ≡ named)
+
+-- a list of one names a source
+one_names : {K : Type 0} (number : K → ℕ) (xs : List K) → length xs ≡ 1 → set.empty ≡ named_in number xs → ⊥
+one_names number [] one is = absurd (omega (arith, one))
+one_names number (x ∷ []) one is = true≢false (sym (names-one number (x ∷ []) x refl (number x) ∙ ties (number x) (number x) refl) ∙ ap (λ named. set.contains named (number x)) (sym is) ∙ set.contains-empty nat_cmp (number x))
+one_names number (x ∷ y ∷ xs) one is = absurd (omega (arith, one))
+
 -- the merge of a group with the sources that are left of those that are named
 pub merge_by : {K : Type 0} (number : K → ℕ) (sources : ℕ) (said : StatementKind) (kind : Kind) (is_emptied : Bool) (before left : List K) (acts : Option (Kind × NamedSources)) (old between new : ℕ)
     → acts ≡ with_sources (named_in number before) (Some (kind, is_emptied))
-    → (is_emptied ≡ false → left ≡ before) → length left ≤ length before → ActsSo said kind is_emptied
+    → (is_emptied ≡ false → left ≡ before) → length left ≤ length before → ActsSo said kind is_emptied → BlocksSo said kind is_emptied (named_in number before)
     → Spends 0 (most_hosts said) old between → Spends (min sources (length left)) (sources + length left) between new
-    → (restarts kind ≡ true → length left ≡ 1 → Spends 0 (bitlen sources) between new)
+    → (takes_none_away kind ≡ true → length left ≡ 1 → Spends 0 (bitlen sources) between new)
     → Spends (least_merge sources acts) (most_changed said sources (length before)) old new
-merge_by number sources said kind is_emptied before left acts old between new acts_is same fewer so first merge halves = by_said said so first
+merge_by number sources said kind is_emptied before left acts old between new acts_is same fewer so blocks_so first merge halves = by_said said so blocks_so first
   where
     all : Spends 0 2 old between → Spends (least_merge sources acts) (sources + length before + 2) old new
     all spent = merge_spends number sources kind is_emptied before left acts old between new acts_is same fewer spent merge
@@ -99,37 +131,63 @@ merge_by number sources said kind is_emptied before left acts old between new ac
     by_count true one few is none = Spends-join_within 0 (bitlen sources) none (few refl) (omega arith) (omega arith)
     by_count false other few is none = Spends-join_within 0 (sources + length before) none merge (omega arith) (let n = ap length is in omega (arith, n))
 
-    by_restart : (k : Kind) (b : Bool) → restarts k ≡ b → (b ≡ true → ◌≡◌ {A = Kind × Bool} (kind, is_emptied) (k, false)) → Spends 0 (cond b 0 2) old between → Spends (least_merge sources acts) (cond b (most_merged sources (length before)) (sources + length before + 2)) old new
-    by_restart k false other so spent = all spent
-    by_restart k true is so spent =
+    -- of a BLOCK one source that is named is left
+    by_one : (b : Bool) → (length before == 1) ≡ b → kind ≡ Block → cond is_emptied set.empty (named_in number before) ≡ named_in number before → Spends 0 2 old between → Spends 0 (cond b (bitlen sources) (sources + length before) + 2) old new
+    by_one false other is whole spent = let most = all spent in Spends-within 0 (sources + length before + 2) most (omega arith) (omega arith)
+    by_one true one is whole spent = by_emptied is_emptied refl whole
+      where
+        by_emptied : (e : Bool) → is_emptied ≡ e → cond e set.empty (named_in number before) ≡ named_in number before → Spends 0 (bitlen sources + 2) old new
+        by_emptied true e_is gone = absurd (one_names number before (eqb-true (length before) 1 one) gone)
+        by_emptied false e_is kept = Spends-join_within 0 (bitlen sources + 2) spent (halves (ap takes_none_away is) (ap length (same e_is) ∙ eqb-true (length before) 1 one)) (omega arith) (omega arith)
+
+    by_block : (k : Kind) (b : Bool) → blocks k ≡ b → (b ≡ true → (kind ≡ Block) × (cond is_emptied set.empty (named_in number before) ≡ named_in number before)) → Spends 0 2 old between → Spends (least_merge sources acts) (cond b (most_merged sources (length before) + 2) (sources + length before + 2)) old new
+    by_block k false other so spent = all spent
+    by_block k true is so spent =
+        let least = all spent in
+        let most = by_one (length before == 1) refl (so refl).0 (so refl).1 spent in
+        record { at_least = least.at_least; at_most = most.at_most }
+
+    by_restart : (k : Kind) (b : Bool) → restarts k ≡ b → (b ≡ true → ◌≡◌ {A = Kind × Bool} (kind, is_emptied) (k, false)) → (blocks k ≡ true → (kind ≡ Block) × (cond is_emptied set.empty (named_in number before) ≡ named_in number before)) → Spends 0 (cond b 0 2) old between → Spends (least_merge sources acts) (cond b (most_merged sources (length before)) (cond (blocks k) (most_merged sources (length before) + 2) (sources + length before + 2))) old new
+    by_restart k false other so blocks_it spent = by_block k (blocks k) refl blocks_it spent
+    by_restart k true is so blocks_it spent =
         let emptied = ap (λ (p : Kind × Bool). p.1) (so refl) in
         let kept = same emptied in
-        let restarts_it = ap (λ (p : Kind × Bool). restarts p.0) (so refl) ∙ is in
+        let restarts_it = restarts_keep kind (ap (λ (p : Kind × Bool). restarts p.0) (so refl) ∙ is) in
         let least = all (Spends-within 0 2 spent (omega arith) (omega arith)) in
         let most = by_count (length before == 1) refl (λ one. halves restarts_it (ap length kept ∙ eqb-true (length before) 1 one)) kept spent in
         record { at_least = least.at_least; at_most = most.at_most }
 
-    by_said : (said : StatementKind) → ActsSo said kind is_emptied → Spends 0 (most_hosts said) old between → Spends (least_merge sources acts) (most_changed said sources (length before)) old new
-    by_said (Record k) so spent = by_restart k (restarts k) refl (so k refl) spent
-    by_said (OlderJoin version) so spent = all spent
-    by_said OlderLeave so spent = all spent
+    by_said : (said : StatementKind) → ActsSo said kind is_emptied → BlocksSo said kind is_emptied (named_in number before) → Spends 0 (most_hosts said) old between → Spends (least_merge sources acts) (most_changed said sources (length before)) old new
+    by_said (Record k) so blocks_it spent = by_restart k (restarts k) refl (so k refl) (blocks_it k refl) spent
+    by_said (OlderJoin version) so blocks_it spent = all spent
+    by_said OlderLeave so blocks_it spent = all spent
 
--- it asks for no group
-pub asks_by : (said : StatementKind) (kind : Kind) (is_emptied asks : Bool) → ActsSo said kind is_emptied → (restarts kind ≡ true → asks ≡ false) → one_if asks ≤ most_asked said
-asks_by said kind is_emptied asks so none = by_said said so
+-- it asks for nothing, as what it acts as does
+pub asks_by : (said : StatementKind) (kind : Kind) (is_emptied : Bool) {P : Type 0} → ActsSo said kind is_emptied → (restarts kind ≡ true → P) → is_restart said ≡ true → P
+asks_by (Record k) kind is_emptied so nothing is = nothing (ap (λ (p : Kind × Bool). restarts p.0) (so k refl is) ∙ is)
+asks_by (OlderJoin version) kind is_emptied so nothing is = absurd (true≢false (sym is))
+asks_by OlderLeave kind is_emptied so nothing is = absurd (true≢false (sym is))
+
+-- so what is asked for spends nothing
+pub asks_most : {K : Type 0} (said : StatementKind) (asks : Bool) (asked : List K) (size sources named : ℕ) → (is_restart said ≡ true → (asks ≡ false) × (asked ≡ [])) → size ≤ sources + named
+    → most_started (length asked) size + one_if asks ≤ most_asked said sources named
+asks_most said asks asked size sources named none few = by_test (is_restart said) refl
   where
     one : (b : Bool) → one_if b ≤ 1
     one true = omega arith
     one false = omega arith
 
-    by_restart : (k : Kind) (b : Bool) → restarts k ≡ b → (b ≡ true → ◌≡◌ {A = Kind × Bool} (kind, is_emptied) (k, false)) → one_if asks ≤ cond b 0 1
-    by_restart k false other so = one asks
-    by_restart k true is so = let n = ap one_if (none (ap (λ (p : Kind × Bool). restarts p.0) (so refl) ∙ is)) in omega (arith, n)
+    started : (b : Bool) → cond b 0 (2 * size) ≤ 2 * size
+    started true = omega arith
+    started false = omega arith
 
-    by_said : (said : StatementKind) → ActsSo said kind is_emptied → one_if asks ≤ most_asked said
-    by_said (Record k) so = by_restart k (restarts k) refl (so k refl)
-    by_said (OlderJoin version) so = one asks
-    by_said OlderLeave so = one asks
+    by_test : (b : Bool) → is_restart said ≡ b → most_started (length asked) size + one_if asks ≤ cond b 0 (2 * (sources + named) + 1)
+    by_test true is =
+        let parts = none is in
+        let first = ap (λ (xs : List _). most_started (length xs) size) parts.1 in
+        let second = ap one_if parts.0 in
+        omega (arith, first, second)
+    by_test false is = omega (arith, one asks, started (length asked == 0), few)
 
 -- Twice the binary digits of a number are no more than it and two.
 twice_bitlen : (n : ℕ) → 2 * bitlen n ≤ n + 2
@@ -149,16 +207,67 @@ twice_bitlen n =
     below m n few = let rest = above m in let twice : 2 ^ (m + 1) ≡ 2 * 2 ^ m = ap (λ k. 2 ^ k) (add-one m) ∙ double m in omega (arith, rest, few, twice)
 
 -- What was tried where the group stands, and is done on a copy then, is no more than six for each source, and so on.
-pub tried_and_copied : (said : StatementKind) (sources named groups : ℕ) → most_tried said sources named + most_copied said sources named groups ≤ 6 * (sources + named) + 12 + bitlen groups
-tried_and_copied said sources named groups = by_test (is_restart said)
+pub tried_and_copied : (said : StatementKind) (sources named groups : ℕ) → most_tried said sources named + (most_blocked said sources named + most_copied said sources named groups) ≤ 6 * (sources + named) + 17 + bitlen groups
+tried_and_copied said sources named groups = by_said said
   where
-    by_count : (b : Bool) → (named == 1) ≡ b → 2 + cond b (bitlen sources) 0 + (cond b (bitlen sources) (sources + named) + 0 + 5 * (sources + named) + 9 + bitlen groups) ≤ 6 * (sources + named) + 12 + bitlen groups
+    by_count : (b : Bool) → (named == 1) ≡ b → 2 + cond b (bitlen sources) (sources + bitlen sources) + (0 + (cond b (bitlen sources) (sources + named) + 0 + 3 * (sources + named) + 9 + bitlen groups)) ≤ 6 * (sources + named) + 17 + bitlen groups
     by_count true one = let n = eqb-true named 1 one in let few = twice_bitlen sources in omega (arith, n, few)
-    by_count false other = omega arith
+    by_count false other = let few = bitlen-few sources in omega (arith, few)
 
-    by_test : (b : Bool) → cond b (2 + most_looked sources named) 0 + (cond b (most_merged sources named) (sources + named + 2) + cond b 0 1 + 5 * (sources + named) + 9 + bitlen groups) ≤ 6 * (sources + named) + 12 + bitlen groups
-    by_test true = by_count (named == 1) refl
-    by_test false = omega arith
+    by_block : (b : Bool) → (named == 1) ≡ b → 0 + (4 + cond b (bitlen sources) 0 + (cond b (bitlen sources) (sources + named) + 2 + (2 * (sources + named) + 1) + 3 * (sources + named) + 9 + bitlen groups)) ≤ 6 * (sources + named) + 17 + bitlen groups
+    by_block true one = let n = eqb-true named 1 one in let few = twice_bitlen sources in omega (arith, n, few)
+    by_block false other = omega arith
+
+    others : 0 + (0 + (sources + named + 2 + (2 * (sources + named) + 1) + 3 * (sources + named) + 9 + bitlen groups)) ≤ 6 * (sources + named) + 17 + bitlen groups
+    others = omega arith
+
+    by_said : (said : StatementKind) → most_tried said sources named + (most_blocked said sources named + most_copied said sources named groups) ≤ 6 * (sources + named) + 17 + bitlen groups
+    by_said (Record IsIn) = by_count (named == 1) refl
+    by_said (Record Allow) = by_count (named == 1) refl
+    by_said (Record Block) = by_block (named == 1) refl
+    by_said (Record IsEx) = others
+    by_said (Record ToIn) = others
+    by_said (Record ToEx) = others
+    by_said (OlderJoin version) = others
+    by_said OlderLeave = others
+
+-- What a BLOCK spends that is done where its group stands is no more than that either.
+pub blocked_few : (said : StatementKind) (sources named groups : ℕ) → most_tried said sources named + (most_blocked said sources named + 3 * sources + 5 + bitlen groups) ≤ 6 * (sources + named) + 17 + bitlen groups
+blocked_few said sources named groups = by_said said
+  where
+    few : (b : Bool) → cond b (bitlen sources) (sources + bitlen sources) ≤ 2 * sources
+    few true = let n = bitlen-few sources in omega (arith, n)
+    few false = let n = bitlen-few sources in omega (arith, n)
+
+    halves : (b : Bool) → cond b (bitlen sources) 0 ≤ sources
+    halves true = bitlen-few sources
+    halves false = omega arith
+
+    by_said : (said : StatementKind) → most_tried said sources named + (most_blocked said sources named + 3 * sources + 5 + bitlen groups) ≤ 6 * (sources + named) + 17 + bitlen groups
+    by_said (Record IsIn) = omega (arith, few (named == 1))
+    by_said (Record Allow) = omega (arith, few (named == 1))
+    by_said (Record Block) = omega (arith, halves (named == 1))
+    by_said (Record IsEx) = omega arith
+    by_said (Record ToIn) = omega arith
+    by_said (Record ToEx) = omega arith
+    by_said (OlderJoin version) = omega arith
+    by_said OlderLeave = omega arith
+
+-- and more digits are no fewer comparisons
+pub set-mono : (sources named few digits : ℕ) → few ≤ digits → most_set sources named few ≤ most_set sources named digits
+set-mono sources named few digits less = by_count (named == 1)
+  where
+    by_count : (b : Bool) → cond b (bitlen sources + sources + 5 + few) (3 * sources + bitlen sources + named + 4 + few) ≤ cond b (bitlen sources + sources + 5 + digits) (3 * sources + bitlen sources + named + 4 + digits)
+    by_count true = omega (arith, less)
+    by_count false = omega (arith, less)
+
+-- Nor is what such a record spends there.
+pub set_few : (sources named groups : ℕ) → 2 + most_set sources named (bitlen groups) ≤ 6 * (sources + named) + 17 + bitlen groups
+set_few sources named groups = by_count (named == 1)
+  where
+    by_count : (b : Bool) → 2 + cond b (bitlen sources + sources + 5 + bitlen groups) (3 * sources + bitlen sources + named + 4 + bitlen groups) ≤ 6 * (sources + named) + 17 + bitlen groups
+    by_count true = let few = bitlen-few sources in omega (arith, few)
+    by_count false = let few = bitlen-few sources in omega (arith, few)
 
 -- What a statement spends at least for its merge is no more than how many sources it names.
 least_translated : (sources n : ℕ) (mutes muted : Bool) (hosts : Hosts) (kind : Kind) (named : NamedSources) → set.len named ≤ n → least_merge sources (translated mutes muted hosts kind named) ≤ min sources n

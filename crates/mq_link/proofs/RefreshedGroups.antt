@@ -1,34 +1,29 @@
 -- What a record leaves of a group whose sources it leaves as they are but for the timers of those that it names.
-use Rattle.std.proofs.Common.{◌≡◌, ℕ, ◌+◌, Bool, true, false, cond, not, ◌&&◌, Option, None, Some, is_some, refl, sym, ap, ◌∙◌, ltb}
-use Rattle.std.specs.Bool.{beq}
-use Rattle.std.specs.Ordering.{nat_cmp, eq_by_cmp}
-use Rattle.std.specs.Cmp.{nat_cmp_total}
+use Rattle.std.proofs.Common.{List, [], ◌∷◌, ◌≡◌, ℕ, ◌+◌, Bool, true, false, cond, ◌&&◌, Option, None, Some, is_some, refl, sym, ap, ◌∙◌}
+use Rattle.std.specs.Ordering.{nat_cmp}
 use Rattle.std.specs.FinMap as map
 use Rattle.std.specs.FinMap.{FinMap}
 use Rattle.std.specs.FinSet as set
-use Rattle.std.proofs.lemmas.Bool.{true≢false}
+use Rattle.std.proofs.lemmas.Bool.{eq-eqb, or_left, true≢false}
+use Rattle.mq_sets.specs.Ascending.{set_of}
 use Rattle.mq_table.specs.declared.kind.Kind.{Kind}
 use Rattle.mq_table.specs.declared.kind.Kind.TheVariants.{IsIn, IsEx, ToIn, ToEx, Allow, Block}
 use Rattle.mq_table.specs.declared.timing.Timing.{Timing}
 use Rattle.mq_table.specs.declared.timers.FilterMode.{FilterMode}
 use Rattle.mq_table.specs.declared.timers.FilterMode.TheVariants.{Include, Exclude}
 use Rattle.mq_table.specs.declared.timers.SourceTimer.{SourceTimer}
-use Rattle.mq_table.specs.declared.timers.SourceTimer.TheVariants.{Stopped, Running}
+use Rattle.mq_table.specs.declared.timers.SourceTimer.TheVariants.{Running}
 use Rattle.mq_table.specs.Sets.{∅, Set}
 use Rattle.mq_table.specs.Group.{GroupState, is_include, is_stopped, running, sendings_of, stopped, timer_at}
 use Rattle.mq_table.specs.Table.{NamedSources, table_row, change_of}
 use Rattle.mq_table.specs.Timing.{membership_interval}
-use Rattle.mq_table.specs.Filter.{names, changes_filter}
 use Rattle.mq_table.specs.Sendings.{some_source, has_sendings, above}
-use Rattle.mq_table.proofs.Filters.{changes-same, changes-at}
 use Rattle.mq_table.proofs.Groups.{same_sources}
 use Rattle.mq_table.proofs.TableRows.{timer_then, each_case, both, at_source_of}
 use Rattle.mq_sched.specs.Schedule.{ScheduleState, ScheduledGroup, IsScheduleOf, settled}
 use Rattle.mq_sched.specs.Sending.{after_change, sources_asked}
 use Rattle.mq_sched.proofs.Asked.{some_source-gives, timer_at-sources_asked}
 use Rattle.mq_sched.proofs.Fits.{sendings_before}
-use Rattle.mq_held.specs.Restarted.{restarted}
-use Rattle.mq_held.proofs.Sorted.{tied, ties}
 use Rattle.mq_link.specs.Record.{asking_nothing}
 use Rattle.mq_link.specs.Refreshed.{restarts}
 
@@ -70,6 +65,14 @@ sources_unasked gmi mode Block X Y A s is = absurd (true≢false (sym is))
 pub restarts-unasked : (timing : Timing) (now : ℕ) (g : GroupState) (kind : Kind) (named : NamedSources) → restarts kind ≡ true → (change_of timing now g kind named).query_group ≡ false
 restarts-unasked timing now g kind named = group_unasked (now + membership_interval timing) g.mode kind (running g) (stopped g) (set.contains named)
 
+pub restarts-unasked_sources : (timing : Timing) (now : ℕ) (g : GroupState) (kind : Kind) (named : NamedSources) (s : ℕ) → restarts kind ≡ true → (change_of timing now g kind named).query s ≡ false
+restarts-unasked_sources timing now g kind named s = sources_unasked (now + membership_interval timing) g.mode kind (running g) (stopped g) (set.contains named) s
+
+-- a list that has no number is empty
+pub none_listed : {X : Type 0} (number : X → ℕ) (xs : List X) → ((s : ℕ) → set_of number xs s ≡ false) → xs ≡ []
+none_listed number [] none = refl
+none_listed number (x ∷ xs) none = absurd (true≢false (sym (or_left _ _ (eq-eqb (number x) (number x) refl)) ∙ none (number x)))
+
 -- the timer of a source that is named is set, any other stays
 abbrev TimerThen : ℕ → FilterMode → Kind → ℕ → Option SourceTimer → Bool → Type 0
 TimerThen gmi mode kind s t a = (is_include mode ≡ true → is_stopped t ≡ false) → timer_then gmi mode kind s t a ≡ cond a (Some (Running gmi (sendings_of t))) t
@@ -98,7 +101,7 @@ module _ (timing : Timing) (now : ℕ) (g : GroupState) (kind : Kind) (named : N
       at_source_of (λ _ _ _ _ t. t ≡ cond (set.contains named s) (Some (Running gmi (sendings_of (timer_at g s)))) (timer_at g s)) timing now g kind named s
       (timer_kept gmi g.mode kind s (timer_at g s) (set.contains named s) is (λ include. none_stopped (include_is g.mode include) s))
 
-  changes-to : (timers : FinMap nat_cmp SourceTimer) → ((s : ℕ) → cond (set.contains named s) (Some (Running gmi (sendings_of (timer_at g s)))) (timer_at g s) ≡ map.get timers s) → change_of timing now g kind named ≡ asking_nothing (with_timers g timers)
+  pub changes-to : (timers : FinMap nat_cmp SourceTimer) → ((s : ℕ) → cond (set.contains named s) (Some (Running gmi (sendings_of (timer_at g s)))) (timer_at g s) ≡ map.get timers s) → change_of timing now g kind named ≡ asking_nothing (with_timers g timers)
   changes-to timers each =
       let sources = same_sources (change_of timing now g kind named).group.sources timers (λ s. timers_then s ∙ each s) in
       λ i. record {
@@ -107,21 +110,19 @@ module _ (timing : Timing) (now : ℕ) (g : GroupState) (kind : Kind) (named : N
         query_group = group_unasked gmi g.mode kind (running g) (stopped g) (set.contains named) is i;
       }
 
-  -- nothing, where it names none
-  pub changes-nothing : ((s : ℕ) → set.contains named s ≡ false) → change_of timing now g kind named ≡ asking_nothing g
-  changes-nothing none = changes-to g.sources (λ s. ap (λ b. cond b (Some (Running gmi (sendings_of (timer_at g s)))) (timer_at g s)) (none s))
+-- nothing changes where no source is to be asked for
+pub unasked : (timing : Timing) (now : ℕ) (e : ScheduledGroup) → sources_asked timing now ∅ e ≡ e
+unasked timing now e = λ i. record {
+  group = record { mode = e.group.mode; sources = same_sources (sources_asked timing now ∅ e).group.sources e.group.sources (timer_at-sources_asked timing now ∅ e) i; v1 = e.group.v1; v2 = e.group.v2 };
+  schedule = record { group_query = e.schedule.group_query; sources_due = ap (λ b. cond b (Some now) e.schedule.sources_due) none i };
+}
+  where
+    by_test : (b : Bool) → some_source (λ s. ∅ s && above timing now e.group s) e.group ≡ b → b ≡ false
+    by_test false is = refl
+    by_test true is = let found = some_source-gives (λ s. ∅ s && above timing now e.group s) e.group is in absurd (true≢false (sym found.2))
 
-  -- one timer, where it names one source
-  pub changes-one : (source : ℕ) → ((s : ℕ) → set.contains named s ≡ eq_by_cmp nat_cmp s source) → change_of timing now g kind named ≡ asking_nothing (with_timers g (map.insert g.sources source (Running gmi (sendings_of (timer_at g source)))))
-  changes-one source one =
-      changes-to (map.insert g.sources source (Running gmi (sendings_of (timer_at g source)))) (λ s.
-      ap (λ b. cond b (Some (Running gmi (sendings_of (timer_at g s)))) (timer_at g s)) (one s)
-      ∙ by_test s (eq_by_cmp nat_cmp s source) refl
-      ∙ sym (map.get-insert nat_cmp_total g.sources source (Running gmi (sendings_of (timer_at g source))) s))
-    where
-      by_test : (s : ℕ) (b : Bool) → eq_by_cmp nat_cmp s source ≡ b → cond b (Some (Running gmi (sendings_of (timer_at g s)))) (timer_at g s) ≡ cond b (Some (Running gmi (sendings_of (timer_at g source)))) (timer_at g s)
-      by_test s true same = ap (λ q. Some (Running gmi (sendings_of (timer_at g q)))) (tied s source same)
-      by_test s false differs = refl
+    none : some_source (λ s. ∅ s && above timing now e.group s) e.group ≡ false
+    none = by_test (some_source (λ s. ∅ s && above timing now e.group s) e.group) refl
 
 -- A change that asks for nothing leaves the schedule as it is, where the group has the mode and the sendings from before.
 module _ (timing : Timing) (now : ℕ) (old new : GroupState) (schedule : ScheduleState) (fits : IsScheduleOf old schedule) (mode : new.mode ≡ old.mode) (sendings : (s : ℕ) → has_sendings new s ≡ has_sendings old s) where
@@ -151,61 +152,6 @@ module _ (timing : Timing) (now : ℕ) (old new : GroupState) (schedule : Schedu
   settled_is : settled new schedule ≡ schedule
   settled_is = λ i. record { group_query = query_stays new.mode refl i; sources_due = due_stays i }
 
-  unasked : (e : ScheduledGroup) → sources_asked timing now ∅ e ≡ e
-  unasked e = λ i. record {
-    group = record { mode = e.group.mode; sources = same_sources (sources_asked timing now ∅ e).group.sources e.group.sources (timer_at-sources_asked timing now ∅ e) i; v1 = e.group.v1; v2 = e.group.v2 };
-    schedule = record { group_query = e.schedule.group_query; sources_due = ap (λ b. cond b (Some now) e.schedule.sources_due) none i };
-  }
-    where
-      by_test : (b : Bool) → some_source (λ s. ∅ s && above timing now e.group s) e.group ≡ b → b ≡ false
-      by_test false is = refl
-      by_test true is = let found = some_source-gives (λ s. ∅ s && above timing now e.group s) e.group is in absurd (true≢false (sym found.2))
-
-      none : some_source (λ s. ∅ s && above timing now e.group s) e.group ≡ false
-      none = by_test (some_source (λ s. ∅ s && above timing now e.group s) e.group) refl
-
   pub after-nothing : (is_querier : Bool) → after_change is_querier timing now (asking_nothing new) schedule ≡ record { group = new; schedule = schedule }
   after-nothing false = λ i. record { group = new; schedule = settled_is i }
-  after-nothing true = unasked (record { group = new; schedule = settled new schedule }) ∙ (λ i. record { group = new; schedule = settled_is i })
-
--- the sendings to go stay with a timer that is set anew
-pub restarted-sendings : (deadline source : ℕ) (e : ScheduledGroup) (s : ℕ) → has_sendings (restarted deadline source e).group s ≡ has_sendings e.group s
-restarted-sendings deadline source e s =
-    let timer = Running deadline (sendings_of (timer_at e.group source)) in
-    ap (λ t. ltb 0 (sendings_of t)) (map.get-insert nat_cmp_total e.group.sources source timer s) ∙ by_test (eq_by_cmp nat_cmp s source) refl
-  where
-    by_test : (b : Bool) → eq_by_cmp nat_cmp s source ≡ b → ltb 0 (sendings_of (cond b (Some (Running deadline (sendings_of (timer_at e.group source)))) (timer_at e.group s))) ≡ ltb 0 (sendings_of (timer_at e.group s))
-    by_test true same = ap (λ q. ltb 0 (sendings_of (timer_at e.group q))) (sym (tied s source same))
-    by_test false differs = refl
-
--- Another filter is forwarded then exactly where the source was stopped.
-pub restarted-filter : (deadline source : ℕ) (timer : SourceTimer) (e : ScheduledGroup) → timer_at e.group source ≡ Some timer → (e.group.mode ≡ Include → is_stopped (timer_at e.group source) ≡ false)
-    → changes_filter e.group (restarted deadline source e).group ≡ is_stopped (Some timer)
-restarted-filter deadline source timer e there none = by_timer timer there
-  where
-    next : SourceTimer
-    next = Running deadline (sendings_of (timer_at e.group source))
-
-    at : (s : ℕ) (b : Bool) → eq_by_cmp nat_cmp s source ≡ b → timer_at (restarted deadline source e).group s ≡ cond b (Some next) (timer_at e.group s)
-    at s b is = map.get-insert nat_cmp_total e.group.sources source next s ∙ ap (λ b. cond b (Some next) (timer_at e.group s)) is
-
-    running_named : (mode : FilterMode) (d n : ℕ) → names mode (Some (Running d n)) ≡ names mode (Some next)
-    running_named Include d n = refl
-    running_named (Exclude m) d n = refl
-
-    turned : (mode : FilterMode) → e.group.mode ≡ mode → timer_at e.group source ≡ Some Stopped → not (beq (names mode (Some Stopped)) (names mode (Some next))) ≡ true
-    turned Include is here = absurd (true≢false (sym (ap is_stopped here) ∙ none is))
-    turned (Exclude m) is here = refl
-
-    by_timer : (timer : SourceTimer) → timer_at e.group source ≡ Some timer → changes_filter e.group (restarted deadline source e).group ≡ is_stopped (Some timer)
-    by_timer (Running d n) here =
-        changes-same e.group (restarted deadline source e).group refl (λ s. by_test s (eq_by_cmp nat_cmp s source) refl)
-      where
-        by_test : (s : ℕ) (b : Bool) → eq_by_cmp nat_cmp s source ≡ b → names e.group.mode (timer_at e.group s) ≡ names e.group.mode (timer_at (restarted deadline source e).group s)
-        by_test s true same =
-            ap (λ q. names e.group.mode (timer_at e.group q)) (tied s source same) ∙ ap (names e.group.mode) here ∙ running_named e.group.mode d n
-            ∙ ap (names e.group.mode) (sym (at s true same))
-        by_test s false differs = ap (names e.group.mode) (sym (at s false differs))
-    by_timer Stopped here =
-        changes-at e.group (restarted deadline source e).group source
-        ((λ i. not (beq (names e.group.mode (here i)) (names e.group.mode (at source true (ties source source refl) i)))) ∙ turned e.group.mode refl here)
+  after-nothing true = unasked timing now (record { group = new; schedule = settled new schedule }) ∙ (λ i. record { group = new; schedule = settled_is i })

@@ -1,10 +1,11 @@
 -- What a record comes to that is heard again of a group for which nothing is due.
-use Rattle.std.proofs.Common.{◌≡◌, ℕ, ◌+◌, ◌-◌, ◌*◌, ◌/◌, get_or, Bool, true, false, cond, ◌&&◌, not, ◌||◌, List, [], ◌∷◌, length, Option, None, Some, is_some, refl, sym, ap, ◌∙◌, subst, arith}
+use Rattle.std.proofs.Common.{◌≡◌, ℕ, ◌+◌, ◌-◌, ◌*◌, ◌/◌, Bool, true, false, cond, ◌&&◌, not, List, [], Option, None, Some, is_some, refl, sym, ap, ◌∙◌, subst, arith}
 use Rattle.std.specs.Ordering.{nat_cmp, eq_by_cmp}
 use Rattle.std.specs.Cmp.{nat_cmp_total}
 use Rattle.std.specs.FinMap as map
+use Rattle.std.specs.List.{list_any}
 use Rattle.std.specs.FinSet as set
-use Rattle.std.proofs.lemmas.Bool.{true≢false, le-ltb}
+use Rattle.std.proofs.lemmas.Bool.{true≢false}
 use Rattle.mq_table.specs.declared.kind.Kind.{Kind}
 use Rattle.mq_table.specs.declared.kind.Kind.TheVariants.{IsIn, IsEx, ToIn, ToEx, Allow, Block}
 use Rattle.mq_table.specs.declared.timing.Timing.{Timing}
@@ -15,19 +16,16 @@ use Rattle.mq_table.specs.declared.timers.SourceTimer.TheVariants.{Running}
 use Rattle.mq_table.specs.Group.{GroupState, is_include, is_vacant, is_stopped, sendings_of, timer_at, IsWellFormed as IsHeld}
 use Rattle.mq_table.specs.OlderHosts.{translated_change}
 use Rattle.mq_table.specs.Sendings.{has_sendings}
-use Rattle.mq_table.specs.Stored.{named_in, size_of}
 use Rattle.mq_table.specs.Table.{NamedSources, change_of}
 use Rattle.mq_table.specs.Timing.{membership_interval}
 use Rattle.mq_sched.specs.Rounds.{IsQuietAt}
 use Rattle.mq_sched.specs.Schedule.{ScheduleState, ScheduledGroup}
 use Rattle.mq_sched.specs.Election.{is_querier}
 use Rattle.mq_sched.specs.Sending.{after_round}
-use Rattle.mq_sched.proofs.Rounds.{quiet_is_silent}
-use Rattle.mq_held.specs.Restarted.{restarted}
-use Rattle.mq_held.proofs.Amounts.{len-with_group, schedules-with_group, sources-with_group}
+use Rattle.mq_sched.proofs.Rounds.{quiet_is_silent, same_round}
+use Rattle.mq_held.specs.Restarted.{has_each, restarted_each}
 use Rattle.mq_held.proofs.Sorted.{ties}
-use Rattle.mq_held.proofs.RestartedTimers.{IsWellFormed-restarted, insert-same}
-use Rattle.mq_link.specs.declared.answers.Refusal.TheVariants.{Groups as TooManyGroups, GroupSources, Sources, Scheduled}
+use Rattle.mq_held.proofs.RestartedEach.{IsWellFormed-restarted_each, timer-restarted_each}
 use Rattle.mq_link.specs.declared.configuration.Limits.{Limits}
 use Rattle.mq_link.specs.Configuration.{Configuration}
 use Rattle.mq_link.specs.Counters.{Applied}
@@ -35,29 +33,19 @@ use Rattle.mq_link.specs.Family.{per_query, v1_mutes_leave}
 use Rattle.mq_link.specs.Record.{RecordOf, Setting, Outcome, asking_nothing, is_muted, limit_passed, stated}
 use Rattle.mq_link.specs.Refreshed.{restarts}
 use Rattle.mq_link.specs.Sound.{AreSound}
-use Rattle.mq_link.specs.State.{AreWithin, Groups, IsHeldAs, group_at, is_source_specific, schedules_in, schedules_of, sources_in, sources_of, with_group}
-use Rattle.mq_link.specs.Tests.{first_named}
+use Rattle.mq_link.specs.State.{AreWithin, Groups, IsHeldAs, group_at, is_source_specific, schedules_of, sources_in, sources_of, with_group}
 use Rattle.mq_link.proofs.KeptGroups.{group_found}
-use Rattle.mq_link.proofs.Quiet.{not_vacant, same_round}
-use Rattle.mq_link.proofs.RefreshedGroups.{after-nothing, changes-nothing, changes-one, restarted-sendings}
+use Rattle.mq_link.proofs.Quiet.{not_vacant}
+use Rattle.mq_link.proofs.RefreshedEach.{group-restarted_each, schedule-restarted_each, sendings-restarted_each, size-restarted_each}
+use Rattle.mq_link.proofs.RefreshedGroups.{after-nothing, changes-to}
 use Rattle.mq_link.proofs.StatedSteps.{IsChanged, stated_judged}
+use Rattle.mq_link.proofs.UnpassedLimits.{passes_none_by}
 use Rattle.mq_link.proofs.PaidEdits.{sources_set, running_set}
 use Rattle.mq_link.specs.Storage.{put_by_rows}
 use Rattle.mq_held.specs.Groups.{one_if, running_in, unheld}
 use Rattle.mq_held.specs.Held.{HeldState}
 use Rattle.std.specs.Option.{unwrap_or}
-use Rattle.std.specs.Prelude.{min}
-
--- the sources that a list of none names, and a list of one
-pub names-none : {K : Type 0} (number : K → ℕ) (xs : List K) → xs ≡ [] → (s : ℕ) → set.contains (named_in number xs) s ≡ false
-names-none number xs none s = ap (λ ys. set.contains (named_in number ys) s) none ∙ set.contains-from_list nat_cmp_total [] s
-
-pub names-one : {K : Type 0} (number : K → ℕ) (xs : List K) (x : K) → xs ≡ x ∷ [] → (s : ℕ) → set.contains (named_in number xs) s ≡ eq_by_cmp nat_cmp s (number x)
-names-one number xs x one s = ap (λ ys. set.contains (named_in number ys) s) one ∙ set.contains-from_list nat_cmp_total (number x ∷ []) s ∙ or_false (eq_by_cmp nat_cmp s (number x))
-  where
-    or_false : (b : Bool) → (b || false) ≡ b
-    or_false true = refl
-    or_false false = refl
+use Rattle.std.specs.Prelude.{min, IfSome, MatchOption, OnSome}
 
 -- such a record is muted nowhere
 unmuted : (config : Configuration) (group : ℕ) (kind : Kind) (named : NamedSources) → restarts kind ≡ true → is_muted config group (RecordOf kind named) ≡ false
@@ -87,27 +75,7 @@ untranslated mutes timing now g Block named is = absurd (true≢false (sym is))
 -- no limit is passed where no number grows
 pub passes_none : (limits : Limits) (groups : Groups) (a : ℕ) (e : ScheduledGroup) → AreWithin limits groups → map.contains_key groups a ≡ true → is_vacant e.group ≡ false → sources_of e ≡ sources_of (group_at groups a) → schedules_of e ≡ schedules_of (group_at groups a)
     → limit_passed limits (with_group groups a e) e ≡ None
-passes_none limits groups a e within held other size schedules =
-    let count = len-with_group groups a e in
-    let one : map.len (with_group groups a e) ≡ map.len groups = omega (arith, count, ap one_if held, ap (λ b. one_if (not b)) other) in
-    let own = within.group_sources a in
-    let sources = sources-with_group groups a e in
-    let due = schedules-with_group groups a e in
-    let left : cond (is_vacant e.group) 0 (schedules_of e) ≡ schedules_of e = ap (λ b. cond b 0 (schedules_of e)) other in
-    let c = within.sources in
-    let d = within.scheduled in
-    let g = within.group_count in
-    λ i. first_named (
-    (TooManyGroups, le-ltb limits.groups (map.len (with_group groups a e)) (omega (arith, one, g)) i)
-    ∷ (GroupSources, le-ltb limits.group_sources (sources_of e) (omega (arith, own, size)) i)
-    ∷ (Sources, le-ltb limits.sources (sources_in (with_group groups a e)) (omega (arith, sources, size, c)) i)
-    ∷ (Scheduled, le-ltb limits.scheduled (schedules_in (with_group groups a e)) (omega (arith, due, left, schedules, d)) i)
-    ∷ [])
-
--- the size of a group stays
-pub restarted-size : (deadline source : ℕ) (timer : SourceTimer) (e : ScheduledGroup) → timer_at e.group source ≡ Some timer → sources_of (restarted deadline source e) ≡ sources_of e
-restarted-size deadline source timer e there =
-    map.len-insert nat_cmp_total e.group.sources source (Running deadline (sendings_of (timer_at e.group source))) ∙ ap (λ (t : Option SourceTimer). cond (is_some t) (size_of e.group) (size_of e.group + 1)) there
+passes_none limits groups a e within held other size schedules = let d = within.scheduled in passes_none_by limits groups a e within held other size (omega (arith, schedules, d))
 
 -- A record of a group that is held and for which nothing is due, where the change leaves the mode, the sendings and the sizes.
 module _ (at : Setting) (a : ℕ) (kind : Kind) (named : NamedSources) (groups : Groups) (is : restarts kind ≡ true) (sound : AreSound at groups) (held : map.contains_key groups a ≡ true) (quiet : IsQuietAt at.now (group_at groups a).schedule) where
@@ -149,34 +117,26 @@ module _ (at : Setting) (a : ℕ) (kind : Kind) (named : NamedSources) (groups :
             ∙ (λ i. limit_passed at.config.limits (with_group groups a (sym round i)) (sym round i));
       }
 
-  -- with no source named
-  pub stated-nothing : ((s : ℕ) → set.contains named s ≡ false) → stated at a (RecordOf kind named) groups ≡ record { verdict = Applied; groups = with_group groups a before; queries = [] }
-  stated-nothing none = comes_to before (changes-nothing at.election.timing at.now before.group kind named is no_stopped none) refl refl (λ s. refl) refl held_as.held
-
-  -- with one, which the group has
-  pub stated-one : (source : ℕ) (timer : SourceTimer) → ((s : ℕ) → set.contains named s ≡ eq_by_cmp nat_cmp s source) → timer_at before.group source ≡ Some timer
-      → (let deadline = at.now + membership_interval at.election.timing in stated at a (RecordOf kind named) groups ≡ record { verdict = Applied; groups = with_group groups a (restarted deadline source before); queries = [] })
-  stated-one source timer one there =
+  -- where the group has each source that is named
+  pub stated-each : (sources : List ℕ) → ((s : ℕ) → set.contains named s ≡ list_any (eq_by_cmp nat_cmp s) sources) → has_each sources before ≡ true
+      → (let deadline = at.now + membership_interval at.election.timing in stated at a (RecordOf kind named) groups ≡ record { verdict = Applied; groups = with_group groups a (restarted_each deadline sources before); queries = [] })
+  stated-each sources names all =
       let deadline = at.now + membership_interval at.election.timing in
-      let formed = IsWellFormed-restarted deadline source timer before there held_as.held in
-      let size = restarted-size deadline source timer before there in
-      comes_to (restarted deadline source before) (changes-one at.election.timing at.now before.group kind named is no_stopped source one) refl refl (restarted-sendings deadline source before) size formed
+      let after = restarted_each deadline sources before in
+      let timer : ℕ → Option SourceTimer = λ s. Some (Running deadline (sendings_of (timer_at before.group s))) in
+      let group = group-restarted_each deadline sources before in
+      let change =
+      changes-to at.election.timing at.now before.group kind named is no_stopped after.group.sources (λ s. ap (λ b. cond b (timer s) (timer_at before.group s)) (names s) ∙ sym (timer-restarted_each deadline sources before s))
+      ∙ ap asking_nothing (sym group) in
+      comes_to after change (schedule-restarted_each deadline sources before) (ap (λ (g : GroupState). g.mode) group) (sendings-restarted_each deadline sources before) (size-restarted_each deadline sources before all)
+      (IsWellFormed-restarted_each deadline sources before all held_as.held)
 
--- a group that is put where it is held, and one that is held put where it is
+-- a group that is put where it is held
 pub put_is : (groups : Groups) (a : ℕ) (e : ScheduledGroup) → IsHeld e.group → with_group groups a e ≡ map.insert groups a e
 put_is groups a e formed = ap (λ b. cond b (map.remove groups a) (map.insert groups a e)) (not_vacant e.group formed)
 
-pub put_same : (groups : Groups) (a : ℕ) → map.contains_key groups a ≡ true → IsHeld (group_at groups a).group → with_group groups a (group_at groups a) ≡ groups
-put_same groups a held formed = put_is groups a (group_at groups a) formed ∙ insert-same groups a (group_at groups a) (group_found groups a held)
-
 pub group_put : (groups : Groups) (a : ℕ) (e : ScheduledGroup) → group_at (map.insert groups a e) a ≡ e
 group_put groups a e = ap (λ (x : Option ScheduledGroup). unwrap_or x unheld) (map.get-insert nat_cmp_total groups a e a ∙ ap (λ b. cond b (Some e) (map.get groups a)) (ties a a refl))
-
--- a list of one item is that
-pub one_item : {X : Type 0} (xs : List X) (x : X) → length xs ≡ 1 → x ≡ get_or xs 0 x → xs ≡ x ∷ []
-one_item [] x one is = absurd (omega (arith, one))
-one_item (y ∷ []) x one is = ap (λ z. z ∷ []) (sym is)
-one_item (y ∷ z ∷ xs) x one is = absurd (omega (arith, one))
 
 -- what is put by stays, where a group is put that is as large
 pub put_by_same : (s after : HeldState) (a : ℕ) (e : ScheduledGroup) → after ≡ record s { groups = map.insert s.groups a e } → sources_of e ≡ sources_of (group_at s.groups a) → IsHeld e.group → IsHeld (group_at s.groups a).group → put_by_rows after ≡ put_by_rows s
@@ -206,3 +166,20 @@ none_is_stopped at a groups e is sound include s = by_found (map.get groups a) r
         let h = sound.all a x found in
         let formed = h.held in
         ap (λ (e : ScheduledGroup). is_stopped (timer_at e.group s)) same ∙ formed.none_stopped (include_is x.group.mode (sym (ap (λ (e : ScheduledGroup). is_include e.group.mode) same) ∙ include)) s
+
+-- what holds by what an option is
+pub on_some : {X P : Type 0} (r : Option X) → (is_some r ≡ true → P) → OnSome r P
+on_some None there = tt
+on_some (Some x) there = there refl
+
+pub if_some : {X : Type 0} (P : X → Type 0) (r : Option X) → ((x : X) → r ≡ Some x → P x) → IfSome r P
+if_some P None each = tt
+if_some P (Some x) each = each x refl
+
+pub by_option : {X P : Type 0} (r : Option X) → (r ≡ None → P) → ((x : X) → r ≡ Some x → P) → P
+by_option None none some = none refl
+by_option (Some x) none some = some x refl
+
+pub match_option : {X P Q : Type 0} (r : Option X) → (r ≡ None → P) → ((x : X) → r ≡ Some x → Q) → MatchOption r P (λ _. Q)
+match_option None none some = none refl
+match_option (Some x) none some = some x refl

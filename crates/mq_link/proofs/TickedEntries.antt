@@ -15,13 +15,13 @@ use Rattle.mq_table.proofs.Maps.{get-kept}
 use Rattle.mq_table.proofs.Groups.{same_sources}
 use Rattle.mq_sched.specs.Schedule.{ScheduleState, ScheduledGroup, IsScheduleOf, no_schedule, settled}
 use Rattle.mq_sched.specs.Sending.{SentQuery, messages_due, after_round}
-use Rattle.mq_sched.proofs.Rounds.{quiet_is_silent}
+use Rattle.mq_sched.proofs.Rounds.{quiet_is_silent, same_round}
 use Rattle.mq_wire.specs.Family.{Family}
 use Rattle.mq_link.specs.Family.{per_query}
 use Rattle.mq_link.specs.State.{Groups}
 use Rattle.mq_link.specs.Tick.{group_expired, if_held, moments_of, groups_expired, groups_after_round, queries_due}
 use Rattle.mq_link.proofs.Entries.{filtered, entries-kept}
-use Rattle.mq_link.proofs.Quiet.{AllAbove, beyond, same_group, same_round}
+use Rattle.mq_link.proofs.Quiet.{AllAbove, beyond, same_group}
 use Rattle.mq_link.proofs.PassedEntries.{GroupEntries, IsPassed}
 
 -- what a tick makes of a group, and what it sends for it

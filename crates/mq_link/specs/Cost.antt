@@ -19,9 +19,9 @@ cost_of length held = 64 * (length + held) + 64
 abbrev pub search_cost : Groups → ℕ
 search_cost groups = 2 * bitlen (map.len groups) + 2
 
--- What the work on a record takes at most: six for each source of its group, 17 for each that it names, and twelve.
+-- What the work on a record takes at most: six for each source of its group, 17 for each that it names, and seventeen.
 abbrev pub work_cost : Groups → RecordView ℕ → ℕ
-work_cost groups r = 6 * sources_of (group_at groups r.group) + 17 * length r.sources + 12
+work_cost groups r = 6 * sources_of (group_at groups r.group) + 17 * length r.sources + 17
 
 -- What a record takes at most: nothing, where it ends before its group is looked for; the search alone, where four
 -- others of the datagram have met its group; else the work and the search.
@@ -37,7 +37,7 @@ record_cost config seen r groups = cost_by (entrance config r) seen r groups
 
 -- What a record takes at most beside the work on sources that were held before the datagram.
 abbrev pub own_cost : RecordView ℕ → ℕ
-own_cost r = 46 + 41 * length r.sources
+own_cost r = 51 + 41 * length r.sources
 
 -- No message like this is spelled by fewer bytes, in either family.
 abbrev pub least_length : Message ℕ → ℕ

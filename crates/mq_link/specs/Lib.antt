@@ -35,3 +35,4 @@ pub mod LinkCode
 pub mod Sound
 pub mod Events
 pub mod Refreshed
+pub mod Blocked

@@ -1,21 +1,25 @@
 //! What a record does to its group where that stands, without a copy of its row: where it leaves the sources as they are but for
-//! the timer of at most one, and asks for nothing.
+//! the timers of those that it names, and asks for nothing.
 
-ghost use Rattle.std.specs.Prelude.{◌≡◌, ℕ, ◌+◌, ◌*◌, ◌≤◌, [], false, true, is_ok, length, min, IfSome, MatchOption, OnSome, None, Some};
+ghost use Rattle.std.specs.Prelude.{◌≡◌, ℕ, ◌+◌, ◌*◌, ◌≤◌, ◌||◌, [], ◌∷◌, false, true, is_ok, is_some, length, map as list_map, min, IfSome, MatchOption, OnSome, None, Some};
 ghost use Rattle.std.specs.FinMap as map;
 ghost use Rattle.mq_count.specs.Spending.{Spends};
+ghost use Rattle.mq_sets.specs.Ascending.{IsAscending};
 ghost use Rattle.mq_sets.specs.Search.{bitlen};
-ghost use Rattle.mq_sched.specs.Rounds.{IsQuietAt};
 ghost use Rattle.mq_sched.specs.Schedule.{ScheduledGroup};
-ghost use Rattle.mq_table.specs.Group as group_of;
+ghost use Rattle.mq_table.specs.Group.{is_include, timer_at};
 ghost use Rattle.mq_table.specs.Stored.{named_in};
 ghost use Rattle.mq_held.specs.Groups.{group_at, sources_of, with_group};
+ghost use Rattle.mq_held.specs.Restarted.{most_set};
+ghost use Rattle.mq_link.specs.Blocked as blocked;
+ghost use Rattle.mq_link.specs.Blocked.{CanBlock};
 ghost use Rattle.mq_link.specs.Changing.{statement_of};
 ghost use Rattle.mq_link.specs.Counters as counters;
 ghost use Rattle.mq_link.specs.Forwarding.{changes};
 ghost use Rattle.mq_link.specs.Moved.{MovesWithin, moved_by_edit};
 ghost use Rattle.mq_link.specs.Record.{stated};
-ghost use Rattle.mq_link.specs.Refreshed.{is_restart, most_tried, restarts};
+ghost use Rattle.mq_link.specs.Refreshed.{IsHeardAgain, is_restart, most_blocked, most_tried, restarts};
+ghost use Rattle.mq_link.specs.Router.{HasOutcome};
 ghost use Rattle.mq_link.specs.Sound.{AreSound};
 ghost use Rattle.mq_link.specs.Storage.{IsSought, has_counted};
 
@@ -23,9 +27,9 @@ use crate::family::Family;
 use crate::statement::StatementKind;
 use crate::status::Status;
 use crate::storage::{Sought, Storage};
-use mq_count::{Key, Meter, Moment};
-use mq_sched::Schedule;
-use mq_table::{Kind, SourceTimer};
+use mq_count::Key;
+use mq_sched::Sink;
+use mq_table::Kind;
 use std::alloc::Allocator;
 
 /// The kind of a record that sets the timers of the sources that it names anew, leaves the others alone, and asks for nothing; None
@@ -42,33 +46,10 @@ pub(crate) fn restarting(said: StatementKind) -> Option<Kind>
     }
 }
 
-/// Whether something of a schedule is due at or before a moment. At most two comparisons.
-fn is_due(schedule: &Schedule, now: Moment, m: &mut Meter) -> bool
-    ensures due { result ≡ false → IsQuietAt now schedule.now }
-    ensures spent { Spends 0 2 m.old m.new }
-{
-    if let Some(query) = schedule.group_query() {
-        if m.reached(query.due, now) {
-            return true;
-        }
-    }
-    match schedule.sources_due() {
-        Some(due) => m.reached(due, now),
-        None => false,
-    }
-}
-
-/// Whether a timer is stopped.
-fn is_stopped(timer: SourceTimer) -> bool
-    ensures { result ≡ group_of.is_stopped (Some timer) }
-{
-    matches!(timer, SourceTimer::Stopped)
-}
-
 impl<F: Family> Status<F> {
-    /// What a record of IS_IN or ALLOW does to a group that is held and for which nothing is due, where it names no source, or one
-    /// that the group has: the timer of that one is set anew where it stands, and its sendings stay. Answers whether another filter
-    /// is forwarded of the group then; or None, where it is another statement or such a group isn't held, and then nothing changes.
+    /// What a record of IS_IN or ALLOW does to a group that is held and for which nothing is due, where the group has each source
+    /// that it names: their timers are set anew where they stand, and their sendings stay. Answers whether another filter is
+    /// forwarded of the group then; or None, where it is another statement or such a group isn't held, and then nothing changes.
     pub(crate) fn refresh<A: Allocator>(
         &self,
         storage: &mut Storage<F::Address, A>,
@@ -78,6 +59,7 @@ impl<F: Family> Status<F> {
     ) -> Option<bool>
         requires sound { AreSound self.now storage.old.held.groups }
         requires sought { IsSought F.Address.number storage.old.held sought }
+        requires named { IsAscending F.Address.number named.now }
         ensures outcome { let said_so = statement_of said (named_in F.Address.number named.now) in
             OnSome result (stated self.now (F.Address.number sought.address) said_so storage.old.held.groups ≡ record { verdict = counters.Applied; groups = storage.new.held.groups; queries = [] }) }
         ensures held { OnSome result (is_ok sought.found ≡ true) }
@@ -85,11 +67,14 @@ impl<F: Family> Status<F> {
         ensures changes { IfSome result (λ changes_it. changes_it ≡ changes storage.old.held.groups storage.new.held.groups (F.Address.number sought.address)) }
         ensures kept { storage.new.held ≡ record storage.old.held { groups = storage.new.held.groups } }
         ensures none { result ≡ None → storage.new ≡ has_counted storage.old storage.new.meter }
+        ensures done { IsHeardAgain self.now.now said (list_map F.Address.number named.now) storage.old.held.groups (F.Address.number sought.address) → is_some result ≡ true }
         ensures spent { let size = sources_of (group_at storage.old.held.groups (F.Address.number sought.address)) in
-            let most = size + 7 + bitlen size + bitlen (map.len storage.old.held.groups) in
-            MatchOption result (Spends 0 (most_tried said size (length named.now)) storage.old.meter storage.new.meter)
-            (λ _. Spends (min size (length named.now)) most storage.old.meter storage.new.meter) }
-        ensures moved { MovesWithin moved_by_edit storage.old storage.new }
+            let count = length named.now in
+            let most = 2 + most_set size count (bitlen (map.len storage.old.held.groups)) in
+            MatchOption result (Spends 0 (most_tried said size count) storage.old.meter storage.new.meter)
+            (λ _. Spends (min size count) most storage.old.meter storage.new.meter) }
+        ensures moved { MovesWithin (length named.now + moved_by_edit) storage.old storage.new }
+        ensures moves { OnSome result (Spends 0 (length named.now + 2 + bitlen (map.len storage.old.held.groups)) storage.old.moves storage.new.moves) }
     {
         let _kind = restarting(said)?;
         self.lemma_is_sound();
@@ -99,26 +84,67 @@ impl<F: Family> Status<F> {
             return None;
         };
         let schedule = storage.held.entry_of(number).schedule;
-        if is_due(&schedule, at.moment, &mut storage.meter) {
-            return None;
-        }
-        if named.is_empty() {
-            return Some(false);
-        }
-        if named.len() != 1 {
+        if schedule.is_due(at.moment, &mut storage.meter) {
             return None;
         }
         let deadline = at.moment.after(at.timing.membership_interval());
-        let before = storage.held.restart(
+        storage.held.restart_each(
             number,
-            named[0],
+            named,
             deadline,
             &mut storage.meter,
             &mut storage.moves,
-        );
-        match before {
-            Some(timer) => Some(is_stopped(timer)),
-            None => None,
+        )
+    }
+
+    /// What a statement does to its group where that stands, if it can be done there: by `refresh`, or by `block`. Answers whether
+    /// another filter is forwarded of the group then; or None, where it can't, and then nothing changes.
+    pub(crate) fn apply_in_place<A: Allocator, S: Sink<F::Address>>(
+        &self,
+        storage: &mut Storage<F::Address, A>,
+        named: &[F::Address],
+        sought: Sought<F::Address>,
+        said: StatementKind,
+        sink: &mut S,
+    ) -> Option<bool>
+        requires sound { AreSound self.now storage.old.held.groups }
+        requires sought { IsSought F.Address.number storage.old.held sought }
+        requires named { IsAscending F.Address.number named.now }
+        ensures outcome { let said_so = statement_of said (named_in F.Address.number named.now) in
+            let outcome = stated self.now (F.Address.number sought.address) said_so storage.old.held.groups in
+            OnSome result (HasOutcome S.takes outcome counters.Applied storage.new.held.groups sink.old sink.new) }
+        ensures held { OnSome result (is_ok sought.found ≡ true) }
+        ensures left { OnSome result ((e : ScheduledGroup) × (storage.new.held.groups ≡ with_group storage.old.held.groups (F.Address.number sought.address) e)) }
+        ensures changes { IfSome result (λ changes_it. changes_it ≡ changes storage.old.held.groups storage.new.held.groups (F.Address.number sought.address)) }
+        ensures kept { storage.new.held ≡ record storage.old.held { groups = storage.new.held.groups } }
+        ensures none { result ≡ None → storage.new ≡ has_counted storage.old storage.new.meter }
+        ensures unsent { result ≡ None → sink.new ≡ sink.old }
+        ensures again { IsHeardAgain self.now.now said (list_map F.Address.number named.now) storage.old.held.groups (F.Address.number sought.address) → is_some result ≡ true }
+        ensures blocked { let e = group_at storage.old.held.groups (F.Address.number sought.address) in
+            blocked.is_block said ≡ true → is_ok sought.found ≡ true → CanBlock self.now (F.Address.number sought.address) (length named.now) storage.old.held.groups
+            → ((source : F.Address) → named.now ≡ source ∷ [] → (is_include e.group.mode || is_some (timer_at e.group (F.Address.number source))) ≡ true) → is_some result ≡ true }
+        ensures spent { let size = sources_of (group_at storage.old.held.groups (F.Address.number sought.address)) in
+            let count = length named.now in
+            MatchOption result (Spends 0 (most_tried said size count + most_blocked said size count) storage.old.meter storage.new.meter)
+            (λ _. Spends (min size count) (6 * (size + count) + 17 + bitlen (map.len storage.old.held.groups)) storage.old.meter storage.new.meter) }
+        ensures moved { let size = sources_of (group_at storage.old.held.groups (F.Address.number sought.address)) in
+            MovesWithin (size + length named.now + moved_by_edit) storage.old storage.new }
+        // No source but those that are named is moved for what is heard again.
+        ensures moves { let size = sources_of (group_at storage.old.held.groups (F.Address.number sought.address)) in
+            let count = length named.now in
+            let digits = bitlen (map.len storage.old.held.groups) in
+            IsHeardAgain self.now.now said (list_map F.Address.number named.now) storage.old.held.groups (F.Address.number sought.address) →
+            Spends 0 (2 + most_set size count digits) storage.old.meter storage.new.meter × Spends 0 (count + 2 + digits) storage.old.moves storage.new.moves }
+    {
+        match self.refresh(storage, named, sought, said) {
+            Some(changes) => Some(changes),
+            None => {
+                if self.block(storage, named, sought, said, sink) {
+                    Some(false)
+                } else {
+                    None
+                }
+            }
         }
     }
 }

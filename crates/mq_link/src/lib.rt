@@ -19,6 +19,7 @@
 
 pub mod answers;
 pub mod bare_link;
+mod block_in_place;
 mod changed;
 pub mod config;
 pub mod configuration;

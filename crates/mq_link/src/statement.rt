@@ -1,6 +1,6 @@
 //! What a statement for a group does: it is ignored, refused, or applied.
 
-ghost use Rattle.std.specs.Prelude.{◌≡◌, ℕ, ◌+◌, ◌*◌, ◌^◌, ◌<◌, ◌≤◌, ◌||◌, Bool, if◌then◌else◌, false, true, length, IfSome, IsSome, None, OnSome, Some, vec_capacity};
+ghost use Rattle.std.specs.Prelude.{◌≡◌, ℕ, ◌+◌, ◌*◌, ◌^◌, ◌<◌, ◌≤◌, ◌||◌, Bool, [], if◌then◌else◌, false, true, length, map as list_map, IfSome, IsSome, None, OnSome, Some, vec_capacity};
 ghost use Rattle.std.specs.FinMap as map;
 ghost use Rattle.std.specs.List.{list_any};
 ghost use Rattle.std.specs.Option.{option_map, option_map_or};
@@ -16,6 +16,7 @@ ghost use Rattle.mq_table.specs.Table.{GroupChange, NamedSources};
 ghost use Rattle.mq_sched.specs.Schedule.{ScheduledGroup};
 ghost use Rattle.mq_sched.specs.Sending.{after_change};
 ghost use Rattle.mq_held.specs.Groups.{group_at, one_if, sources_of};
+ghost use Rattle.mq_held.specs.Restarted.{most_set};
 ghost use Rattle.mq_link.specs.Changing.{statement_of, acts_as, change_written};
 ghost use Rattle.mq_link.specs.Family.{is_admitted};
 ghost use Rattle.mq_link.specs.Forwarding.{changes};
@@ -24,7 +25,7 @@ ghost use Rattle.mq_link.specs.LeastCost.{least_merge, least_work};
 ghost use Rattle.mq_link.specs.Record as record_spec;
 ghost use Rattle.mq_link.specs.Record.{change_stated, stated};
 ghost use Rattle.mq_link.specs.Moved.{MovesWithin, moved_by_edit};
-ghost use Rattle.mq_link.specs.Refreshed.{most_asked, most_changed, most_copied, most_hosts, restarts};
+ghost use Rattle.mq_link.specs.Refreshed.{IsHeardAgain, is_restart, most_changed, most_copied, most_hosts, most_started, restarts};
 ghost use Rattle.mq_link.specs.Router.{HasOutcome};
 ghost use Rattle.mq_link.specs.Seen.{AreMarked, KeepsNumbers, counted_again, met_in};
 ghost use Rattle.mq_link.specs.Sound.{AreSound};
@@ -166,13 +167,14 @@ impl<K: Key, A: Allocator> Scratch<K, A> {
         ensures met { self.new.met ≡ self.old.met }
         ensures changed { self.new.changed ≡ self.old.changed }
 
-        // At most two comparisons, and one for each source of the group and of the statement; where it is a record of IS_IN or ALLOW
-        // that names one source, one for each binary digit of how many the group has; at least one for each of those that are
-        // fewer, the sources of the group or those that count.
+        // At most two comparisons, and one for each source of the group and of the statement; where it is a record of IS_IN, ALLOW
+        // or BLOCK that names one source, for them one for each binary digit of how many the group has; at least one for each of
+        // those that are fewer, the sources of the group or those that count.
         ensures spent { let before = group_stored K.number stored.now in
             let acts = acts_as muting.v1_mutes_leave muting.is_muted (hosts_of before at.now.moment) (statement_of said (named_in K.number self.old.named.members)) in
             Spends (least_merge (size_of before) acts) (most_changed said (size_of before) (length self.old.named.members)) m.old m.new }
-        ensures asks { IfSome result (λ loaded. one_if loaded.asks_group ≤ most_asked said) }
+        // A record of IS_IN or ALLOW asks for nothing.
+        ensures asks { IfSome result (λ loaded. is_restart said ≡ true → (loaded.asks_group ≡ false) × (self.new.asked.items ≡ [])) }
     {
         let head = Head {
             mode: stored.mode,
@@ -201,7 +203,7 @@ impl<K: Key, A: Allocator> Scratch<K, A> {
 
     /// Does to the group that has changed, and to its schedule, what the change asks for: what lost its ground is dropped,
     /// and the querier starts the queries for the group and for the sources to ask for, each of which the group has. At
-    /// most one comparison, and two for each source.
+    /// most one comparison where the group is asked for, and two for each of its sources where some are.
     fn ask(&mut self, schedule: &mut Schedule, asks_group: bool, at: &InForce, m: &mut Meter)
         requires in_range { at.now.moment ≤ 2 ^ 53 }
         requires ascending { IsAscending K.number self.old.asked.items }
@@ -213,13 +215,16 @@ impl<K: Key, A: Allocator> Scratch<K, A> {
         ensures kept { KeepsRoom self.old self.new }
         ensures met { self.new.met ≡ self.old.met }
         ensures changed { self.new.changed ≡ self.old.changed }
-        ensures spent { Spends 0 (2 * size_of self.old.group.state + one_if asks_group) m.old m.new }
+        ensures spent { Spends 0 (most_started (length self.old.asked.items) (size_of self.old.group.state) + one_if asks_group) m.old m.new }
     {
         schedule.settle(&self.group);
-        if at.is_querier {
-            if asks_group {
-                schedule.start_group(&mut self.group, at.moment, &at.timing, m);
-            }
+        if !at.is_querier {
+            return;
+        }
+        if asks_group {
+            schedule.start_group(&mut self.group, at.moment, &at.timing, m);
+        }
+        if !self.asked.is_empty() {
             schedule.start_sources(
                 &mut self.group,
                 self.asked.as_slice(),
@@ -259,7 +264,7 @@ impl<F: Family> Status<F> {
     /// source-specific range mute it; refused where what it would leave passes a limit, and then nothing is changed or sent;
     /// else applied, and what it asks for is sent at once. The sources that it names stand in `work`, where it is counted for
     /// a group of which another filter is forwarded then. At most six comparisons for each source of the group and each that
-    /// it names, twelve more, and one for each binary digit of how many groups there are; at least one for each of those that
+    /// it names, seventeen more, and one for each binary digit of how many groups there are; at least one for each of those that
     /// are fewer, the sources of the group or those that count.
     pub(crate) fn apply<A: Allocator, B: Allocator, S: Sink<F::Address>>(
         &self,
@@ -289,13 +294,19 @@ impl<F: Family> Status<F> {
         ensures one_changed { met_in work.new.changed ≤ met_in work.old.changed + 1 }
         ensures spent { let said_so = statement_of said (named_in F.Address.number work.old.named.members) in
             let sizes = sources_of (group_at storage.old.held.groups (F.Address.number sought.address)) + length work.old.named.members in
-            Spends (least_work self.now (F.Address.number sought.address) said_so storage.old.held.groups) (6 * sizes + 12 + bitlen (map.len storage.old.held.groups)) storage.old.meter storage.new.meter }
+            Spends (least_work self.now (F.Address.number sought.address) said_so storage.old.held.groups) (6 * sizes + 17 + bitlen (map.len storage.old.held.groups)) storage.old.meter storage.new.meter }
         ensures moved { let sizes = sources_of (group_at storage.old.held.groups (F.Address.number sought.address)) + length work.old.named.members in
             MovesWithin (5 * sizes + moved_by_edit) storage.old storage.new }
+        // What is heard again is done where the group stands: no source but those that are named is moved.
+        ensures in_place { let size = sources_of (group_at storage.old.held.groups (F.Address.number sought.address)) in
+            let count = length work.old.named.members in
+            let digits = bitlen (map.len storage.old.held.groups) in
+            IsHeardAgain self.now.now said (list_map F.Address.number work.old.named.members) storage.old.held.groups (F.Address.number sought.address) →
+            Spends 0 (2 + most_set size count digits) storage.old.meter storage.new.meter × Spends 0 (count + 2 + digits) storage.old.moves storage.new.moves }
     {
         self.lemma_is_sound();
         storage.held.lemma_is_numbered();
-        match self.refresh(storage, work.named.as_slice(), sought, said) {
+        match self.apply_in_place(storage, work.named.as_slice(), sought, said, sink) {
             Some(changes) => {
                 storage.held.lemma_is_numbered();
                 count_changed(&mut work.changed, sought.found.ok(), changes);

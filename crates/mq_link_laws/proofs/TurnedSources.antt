@@ -6,13 +6,14 @@ use Rattle.std.specs.Ordering.{nat_cmp, eq_by_cmp}
 use Rattle.std.specs.Cmp.{nat_cmp_total}
 use Rattle.std.specs.FinSet as set
 use Rattle.std.specs.FinSet.{FinSet}
-use Rattle.std.proofs.lemmas.Bool.{true≢false, and_parts, or_from, or_left, or_right}
+use Rattle.std.proofs.lemmas.Bool.{true≢false, or_from, or_left, or_right}
 use Rattle.std.proofs.lemmas.List.Sums.{sum_by-cons}
 use Rattle.std.proofs.lemmas.Bool.Decides.{nat_tests}
 use Rattle.mq_table.specs.Group.{GroupState, forwards_in}
 use Rattle.mq_table.specs.Filter.{Filter, filter_of, forwards_by, are_same, changes_filter}
 use Rattle.mq_table.proofs.Filters.{forwards_by-filter_of}
-use Rattle.mq_held.proofs.Sorted.{tied, ties}
+use Rattle.mq_held.proofs.RestartedEach.{each_passes}
+use Rattle.mq_held.proofs.Sorted.{ties}
 use Rattle.mq_link.proofs.KeptFilters.{alike_after, unchanged}
 use Rattle.mq_link_laws.proofs.Following.{same_unless_changed}
 
@@ -27,16 +28,6 @@ one_failing test (k ∷ ks) is = by_test (test k) refl (one_failing test ks) is
     by_test : (b : Bool) → test k ≡ b → (list_all test ks ≡ false → Failing ks) → (b && list_all test ks) ≡ false → Failing (k ∷ ks)
     by_test false fails rest is = (k, or_left _ _ (ties k k refl), fails)
     by_test true passes rest is = let found = rest is in (found.0, or_right (eq_by_cmp nat_cmp found.0 k) _ found.1, found.2)
-
-each_passes : (test : ℕ → Bool) (ks : List ℕ) (s : ℕ) → list_all test ks ≡ true → list_any (eq_by_cmp nat_cmp s) ks ≡ true → test s ≡ true
-each_passes test [] s all has = absurd (true≢false (sym has))
-each_passes test (k ∷ ks) s all has =
-    let parts = and_parts (test k) _ all in
-    by_tie (eq_by_cmp nat_cmp s k) refl parts.0 (each_passes test ks s parts.1) has
-  where
-    by_tie : (b : Bool) → eq_by_cmp nat_cmp s k ≡ b → test k ≡ true → (list_any (eq_by_cmp nat_cmp s) ks ≡ true → test s ≡ true) → (b || list_any (eq_by_cmp nat_cmp s) ks) ≡ true → test s ≡ true
-    by_tie true same passes rest has = ap test (tied s k same) ∙ passes
-    by_tie false other passes rest has = rest has
 
 in_one_alone : (a b : FinSet nat_cmp) → set.is_subset a b ≡ false → (s : ℕ) × (set.contains a s ≡ true) × (set.contains b s ≡ false)
 in_one_alone a b is = by_all (list_all (set.contains b) (set.items a)) refl

@@ -16,8 +16,7 @@ use Rattle.mq_table.specs.SendingPlaces.{item_has_sendings, PassesBetween}
 use Rattle.mq_table.specs.Stored.{number_in, timers_in}
 use Rattle.mq_table.proofs.Places.{or_none}
 use Rattle.mq_table.proofs.Rows.{filter_in_row}
-use Rattle.mq_sched.specs.Schedule.{ScheduledGroup}
-use Rattle.mq_sched.specs.Sending.{SentQuery, SourcesQuery, is_due, sources_where, sources_queries, source_messages}
+use Rattle.mq_sched.specs.Sending.{SentQuery, SourcesQuery, sources_where, sources_queries, waiting_messages}
 use Rattle.mq_sched.specs.Sink.{Sends, SendsOn}
 use Rattle.mq_sched.specs.Collected.{goes_with, going_with}
 use Rattle.mq_sched.proofs.InPortions.{first_portion}
@@ -103,18 +102,14 @@ module _ {K : Type 0} (number : K → ℕ) (timing : Timing) (now : ℕ) (g : Gr
       sym (filter_in_row number (λ s timer. ltb 0 (sendings_of timer) && not (is_ahead (lowered_to timing now) (deadline_of timer))) row up)
       ∙ ap (λ m. filter (λ s. ltb 0 (sendings_of (map.get m s)) && not (is_ahead (lowered_to timing now) (deadline_of (map.get m s)))) (map.keys m)) is
 
--- so what was sent for both is what is due
-pub sources_are_sent : {S K : Type 0} (takes : S → SentQuery → S → Type 0) (old between new : S) (number : K → ℕ) (n : ℕ) (timing : Timing) (now group : ℕ) (e : ScheduledGroup) (limit : ℕ) (row again : List (Source K))
-    → limit ≡ lowered_to timing now → is_due now e.schedule.sources_due ≡ true
-    → IsAscending (number_in number) row → timers_in number row ≡ e.group.sources → IsAscending (number_in number) again → timers_in number again ≡ e.group.sources
-    → Sends takes old (sources_queries n group true (going_with number limit true row)) between → Sends takes between (sources_queries n group false (going_with number limit false again)) new
-    → Sends takes old (source_messages n timing now group e) new
-sources_are_sent takes old between new number n timing now group e limit row again is_limit due up is up_again is_again first second =
-    let g = e.group in
+-- so what was sent for both is what waits
+pub waiting_are_sent : {S K : Type 0} (takes : S → SentQuery → S → Type 0) (old between new : S) (number : K → ℕ) (n : ℕ) (timing : Timing) (now group : ℕ) (g : GroupState) (limit : ℕ) (row : List (Source K))
+    → limit ≡ lowered_to timing now → IsAscending (number_in number) row → timers_in number row ≡ g.sources
+    → Sends takes old (sources_queries n group true (going_with number limit true row)) between → Sends takes between (sources_queries n group false (going_with number limit false row)) new
+    → Sends takes old (waiting_messages n timing now group g) new
+waiting_are_sent takes old between new number n timing now group g limit row is_limit up is first second =
     let set_first : going_with number limit true row ≡ sources_where (has_sendings g ∩ above timing now g) g = ap (λ l. going_with number l true row) is_limit ∙ set_of_row number timing now g row up is in
-    let then_clear : going_with number limit false again ≡ sources_where (has_sendings g ∖ above timing now g) g = ap (λ l. going_with number l false again) is_limit ∙ clear_of_row number timing now g again up_again is_again in
-    let queries : List SentQuery = sources_queries n group true (sources_where (has_sendings g ∩ above timing now g) g) ++ sources_queries n group false (sources_where (has_sendings g ∖ above timing now g) g) in
-    subst (λ b. Sends takes old (cond b queries []) new) (sym due)
-    (Sends-append takes old between new _ _
+    let then_clear : going_with number limit false row ≡ sources_where (has_sendings g ∖ above timing now g) g = ap (λ l. going_with number l false row) is_limit ∙ clear_of_row number timing now g row up is in
+    Sends-append takes old between new _ _
     (subst (λ xs. Sends takes old (sources_queries n group true xs) between) set_first first)
-    (subst (λ xs. Sends takes between (sources_queries n group false xs) new) then_clear second))
+    (subst (λ xs. Sends takes between (sources_queries n group false xs) new) then_clear second)

@@ -15,12 +15,13 @@ use Rattle.mq_table.specs.declared.timers.SourceTimer.TheVariants.{Stopped, Runn
 use Rattle.mq_table.specs.Group.{GroupState, timer_at, deadline_of, group_deadline, sendings_of, is_ahead}
 use Rattle.mq_table.specs.Lowering.{lowered_to}
 use Rattle.mq_table.proofs.Maps.{get-kept}
+use Rattle.mq_table.proofs.Places.{or_none}
 use Rattle.mq_table.specs.Sendings.{some_source, has_sendings, above, source_counted, sendings_counted}
-use Rattle.mq_sched.specs.Schedule.{QuerySchedule, query_sendings, ScheduledGroup, IsScheduleOf}
+use Rattle.mq_sched.specs.Schedule.{QuerySchedule, query_sendings, ScheduleState, ScheduledGroup, IsScheduleOf}
 use Rattle.mq_sched.specs.Sending.{SentQuery, GeneralQuery, GroupQuery, SourcesQuery, is_due, group_due, sources_where, sources_queries, group_messages, source_messages, messages_due, group_counted, sources_due_next, after_round}
 use Rattle.mq_sched.specs.Portions.{portions_of}
 use Rattle.mq_sched.proofs.InPortions.{together}
-use Rattle.mq_sched.specs.Rounds.{asked_in, asks_group, IsQuietAt}
+use Rattle.mq_sched.specs.Rounds.{asked_in, asks_group, is_due_at, IsQuietAt}
 
 or-false : (b : Bool) → (b || false) ≡ b
 or-false true = refl
@@ -233,19 +234,46 @@ quiet_after_round timing now e positive = record { group = of_group e.schedule.g
       | false ↦ λ h. leb-false due now h
     ] refl
 
--- and what is quiet sends nothing
+-- what is quiet isn't due
+pub group_not_due : (now : ℕ) (q : Option QuerySchedule) → IfSome q (λ q. now < q.due) → is_due now (group_due q) ≡ false
+group_not_due now None h = refl
+group_not_due now (Some q) h = lt-leb q.due now h
+
+not_due : (now : ℕ) (due : Option ℕ) → IfSome due (λ due. now < due) → is_due now due ≡ false
+not_due now None h = refl
+not_due now (Some due) h = lt-leb due now h
+
+-- so it sends nothing
 pub quiet_is_silent : (n : ℕ) (timing : Timing) (now group : ℕ) (e : ScheduledGroup) → IsQuietAt now e.schedule → messages_due n timing now group e ≡ []
 quiet_is_silent n timing now group e quiet =
-    (λ i. cond (no_group e.schedule.group_query quiet.group i) (GroupQuery group (is_ahead (lowered_to timing now) (group_deadline e.group.mode)) ∷ []) [] ++ source_messages n timing now group e)
-    ∙ silent (is_due now e.schedule.sources_due) _ (no_sources e.schedule.sources_due quiet.sources)
+    (λ i. cond (group_not_due now e.schedule.group_query quiet.group i) (GroupQuery group (is_ahead (lowered_to timing now) (group_deadline e.group.mode)) ∷ []) [] ++ source_messages n timing now group e)
+    ∙ silent (is_due now e.schedule.sources_due) _ (not_due now e.schedule.sources_due quiet.sources)
   where
-    no_group : (q : Option QuerySchedule) → IfSome q (λ q. now < q.due) → is_due now (group_due q) ≡ false
-    no_group None h = refl
-    no_group (Some q) h = lt-leb q.due now h
-
-    no_sources : (due : Option ℕ) → IfSome due (λ due. now < due) → is_due now due ≡ false
-    no_sources None h = refl
-    no_sources (Some due) h = lt-leb due now h
-
     silent : (b : Bool) (queries : List SentQuery) → b ≡ false → cond b queries [] ≡ []
     silent b queries e = ap (λ b. cond b queries []) e
+
+-- and stays as it is
+pub same_count : (timing : Timing) (now : ℕ) (q : Option QuerySchedule) → IfSome q (λ q. now < q.due) → group_counted timing now q ≡ q
+same_count timing now None h = refl
+same_count timing now (Some q) h = ap (λ b. cond b (cond (ltb 1 q.sendings) (Some (record { sendings = q.sendings - 1; due = now + timing.last_member_interval })) None) (Some q)) (lt-leb q.due now h)
+
+pub same_round : (timing : Timing) (now : ℕ) (e : ScheduledGroup) → IsQuietAt now e.schedule → after_round timing now e ≡ e
+same_round timing now e h = λ i. record {
+  group = cond (not_due now e.schedule.sources_due h.sources i) (sendings_counted e.group) e.group;
+  schedule = record {
+    group_query = same_count timing now e.schedule.group_query h.group i;
+    sources_due = cond (not_due now e.schedule.sources_due h.sources i) (sources_due_next timing now (cond (not_due now e.schedule.sources_due h.sources i) (sendings_counted e.group) e.group)) e.schedule.sources_due;
+  };
+}
+
+-- where nothing is due
+pub quiet_by : (now : ℕ) (schedule : ScheduleState) → is_due_at now schedule ≡ false → IsQuietAt now schedule
+quiet_by now schedule none = record { group = by_query schedule.group_query (or_none (is_due now (group_due schedule.group_query)) (is_due now schedule.sources_due) none).0; sources = by_due schedule.sources_due (or_none (is_due now (group_due schedule.group_query)) (is_due now schedule.sources_due) none).1 }
+  where
+    by_query : (q : Option QuerySchedule) → is_due now (group_due q) ≡ false → IfSome q (λ q. now < q.due)
+    by_query None is = tt
+    by_query (Some q) is = leb-false q.due now is
+
+    by_due : (due : Option ℕ) → is_due now due ≡ false → IfSome due (λ due. now < due)
+    by_due None is = tt
+    by_due (Some due) is = leb-false due now is

@@ -3,7 +3,7 @@ use Rattle.std.specs.Prelude.{ℕ, ◌<◌, ◌≤◌, length, Bool, true, false
 use Rattle.std.specs.List.{list_any}
 use Rattle.mq_table.specs.Sets.{Set}
 use Rattle.mq_sched.specs.Schedule.{ScheduleState}
-use Rattle.mq_sched.specs.Sending.{SentQuery, GeneralQuery, GroupQuery, SourcesQuery}
+use Rattle.mq_sched.specs.Sending.{SentQuery, GeneralQuery, GroupQuery, SourcesQuery, group_due, is_due}
 
 -- the sources that some query of a round asks for
 abbrev pub asked_in : List SentQuery → Set
@@ -24,6 +24,10 @@ asks_group (SourcesQuery group flag sources ∷ queries) = asks_group queries
 pub record IsQuietAt (now : ℕ) (schedule : ScheduleState) : Type 0 where
   pub group : IfSome schedule.group_query (λ q. now < q.due)
   pub sources : IfSome schedule.sources_due (λ due. now < due)
+
+-- whether something of a schedule is due at or before a moment
+abbrev pub is_due_at : ℕ → ScheduleState → Bool
+is_due_at now schedule = is_due now (group_due schedule.group_query) || is_due now schedule.sources_due
 
 -- no query has more sources than one message holds
 abbrev pub AllFit : (per_query : ℕ) → List SentQuery → Type 0

@@ -84,13 +84,16 @@ group_messages timing now group e =
     then GroupQuery group (is_ahead (lowered_to timing now) (group_deadline e.group.mode)) ∷ []
     else []
 
+-- the queries for the sources that have sendings to go, with S set those whose timer is above the last member query time, and
+-- then the others with S clear
+abbrev pub waiting_messages : (per_query : ℕ) → Timing → ℕ → ℕ → GroupState → List SentQuery
+waiting_messages per_query timing now group g =
+    sources_queries per_query group true (sources_where (has_sendings g ∩ above timing now g) g)
+    ++ sources_queries per_query group false (sources_where (has_sendings g ∖ above timing now g) g)
+
 abbrev pub source_messages : (per_query : ℕ) → Timing → ℕ → ℕ → ScheduledGroup → List SentQuery
 source_messages per_query timing now group e =
-    let g = e.group in
-    if is_due now e.schedule.sources_due
-    then sources_queries per_query group true (sources_where (has_sendings g ∩ above timing now g) g)
-    ++ sources_queries per_query group false (sources_where (has_sendings g ∖ above timing now g) g)
-    else []
+    if is_due now e.schedule.sources_due then waiting_messages per_query timing now group e.group else []
 
 -- What a group sends in one round, at or after the moment that is due: its group query, with S set
 -- where the group timer is above the last member query time; then the sources that have sendings to

@@ -22,7 +22,7 @@ mod portions;
 pub mod queries;
 pub mod roles;
 pub mod schedules;
-mod sending;
+pub mod sending;
 mod settling;
 pub mod sinks;
 
@@ -33,4 +33,5 @@ pub use numbered_moments::NumberedMoments;
 pub use queries::QuerySchedule;
 pub use roles::OtherQuerier;
 pub use schedules::Schedule;
+pub use sending::send_waiting;
 pub use sinks::{QueryParts, Sink};

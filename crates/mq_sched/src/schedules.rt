@@ -6,6 +6,7 @@ ghost use Rattle.mq_sets.specs.Ascending.{IsAscending, set_of};
 ghost use Rattle.mq_table.specs.Group.{timer_at};
 ghost use Rattle.mq_table.specs.Stored.{size_of};
 ghost use Rattle.mq_table.specs.Sendings.{some_source, has_sendings};
+ghost use Rattle.mq_sched.specs.Rounds.{is_due_at};
 ghost use Rattle.mq_sched.specs.Schedule.{ScheduledGroup, no_schedule, settled, cleared};
 ghost use Rattle.mq_sched.specs.Sending.{group_asked, sources_asked};
 
@@ -21,7 +22,7 @@ use std::marker::Model;
 ///
 /// What starts queries: `start_group` and `start_sources`, where a record asks for them. What time
 /// does: `round`. What is dropped: `settle`, after each change of the group, and `clear`, where the
-/// router is no longer querier. What may be asked: `group_query`, `sources_due`. All take the group
+/// router is no longer querier. What may be asked: `group_query`, `sources_due`, `is_due`. All take the group
 /// that the schedule is of. For a record the order is `settle`, `start_group`, `start_sources`,
 /// `round`; moments don't go back.
 #[derive(Clone, Copy)]
@@ -63,6 +64,22 @@ impl Schedule {
         ensures { result ≡ self.now.sources_due }
     {
         self.sources_due
+    }
+
+    /// Whether something is due at or before a moment. At most two comparisons.
+    pub fn is_due(&self, now: Moment, m: &mut Meter) -> bool
+        ensures due { result ≡ is_due_at now self.now }
+        ensures spent { Spends 0 2 m.old m.new }
+    {
+        if let Some(query) = &self.group_query {
+            if m.reached(query.due, now) {
+                return true;
+            }
+        }
+        match self.sources_due {
+            Some(due) => m.reached(due, now),
+            None => false,
+        }
     }
 
     /// Starts the group-specific query of a group: its timer is lowered to the last member query

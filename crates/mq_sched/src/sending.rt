@@ -2,10 +2,13 @@
 
 ghost use Rattle.std.specs.Prelude.{◌≡◌, ◌+◌, ◌-◌, ◌*◌, ◌^◌, ◌<◌, ◌≤◌, if◌then◌else◌, nat_lt, length, slice_range};
 ghost use Rattle.mq_count.specs.Spending.{Spends};
+ghost use Rattle.mq_sets.specs.Ascending.{IsAscending};
+ghost use Rattle.mq_table.specs.Group.{GroupState};
+ghost use Rattle.mq_table.specs.SendingPlaces.{PassesBetween, item_has_sendings};
 ghost use Rattle.mq_table.specs.Sendings.{sendings_counted};
-ghost use Rattle.mq_table.specs.Stored.{size_of};
+ghost use Rattle.mq_table.specs.Stored.{number_in, size_of, timers_in};
 ghost use Rattle.mq_sched.specs.Schedule.{ScheduledGroup};
-ghost use Rattle.mq_sched.specs.Sending.{is_due, group_messages, source_messages, messages_due, group_counted, sources_due_next, after_round};
+ghost use Rattle.mq_sched.specs.Sending.{is_due, group_messages, source_messages, messages_due, group_counted, sources_due_next, after_round, waiting_messages};
 ghost use Rattle.mq_sched.specs.Sink.{Sends};
 
 use crate::portions::send_sources;
@@ -13,7 +16,7 @@ use crate::queries::QuerySchedule;
 use crate::schedules::Schedule;
 use crate::sinks::{QueryParts, Sink};
 use mq_count::{Key, Meter, Moment};
-use mq_table::{Group, SendingPlaces, Source, Timing, runs_on};
+use mq_table::{Group, SendingPlaces, Source, Timing, places_of_sendings, runs_on};
 use std::alloc::Allocator;
 
 /// A query that was sent at `now`, if it is to go once more.
@@ -40,6 +43,35 @@ fn part_of<K: Key>(row: &[Source<K>], places: SendingPlaces) -> &[Source<K>]
     ensures { result.now ≡ slice_range row.now places.first places.end }
 {
     &row[places.first..places.end]
+}
+
+/// Sends the queries for the sources of a group that have sendings to go, whose row this is: those whose timers are above the last
+/// member query time with S set, and then the others with S clear (RFC 3376 section 6.6.3.2, RFC 3810 section 7.6.3.2). Answers
+/// from which place up to which they stand. At most two comparisons for each source.
+pub fn send_waiting<K: Key, S: Sink<K>>(
+    address: K,
+    row: &[Source<K>],
+    now: Moment,
+    timing: &Timing,
+    per_query: usize,
+    m: &mut Meter,
+    sink: &mut S,
+) -> SendingPlaces
+    requires in_range { now ≤ 2 ^ 53 }
+    requires holds_one { 0 < per_query }
+    requires most { per_query ≤ 366 }
+    requires ascending { IsAscending (number_in K.number) row.now }
+    ensures sent { (g : GroupState) → timers_in K.number row.now ≡ g.sources →
+        Sends S.takes sink.old (waiting_messages per_query timing.now now (K.number address) g) sink.new }
+    ensures places { PassesBetween item_has_sendings result.first result.end row.now }
+    ensures spent { Spends 0 (2 * length row.now) m.old m.new }
+{
+    let limit = now.after(timing.last_member_time());
+    let places = places_of_sendings(row);
+    let part = part_of(row, places);
+    send_sources(address, true, part, limit, per_query, m, sink);
+    send_sources(address, false, part, limit, per_query, m, sink);
+    places
 }
 
 impl Schedule {
@@ -98,18 +130,26 @@ impl Schedule {
     {
         if let Some(due) = self.sources_due {
             if m.reached(due, now) {
-                let limit = now.after(timing.last_member_time());
-                let places = group.sending_places();
-                let row = part_of(group.sources(), places);
-                send_sources(address, true, row, limit, per_query, m, sink);
-                send_sources(address, false, row, limit, per_query, m, sink);
-                self.sources_due = if group.count_sendings_between(places) {
-                    Some(now.after(timing.last_member_interval()))
-                } else {
-                    None
-                };
+                let row = group.sources();
+                let places = send_waiting(address, row, now, timing, per_query, m, sink);
+                let left = group.count_sendings_between(places);
+                self.count_sources(left, now, timing);
             }
         }
+    }
+
+    /// The sources that have sendings to go were sent at `now`, and counted: where one has a sending left, the next are due a last
+    /// member query interval later. No comparison.
+    pub fn count_sources(&mut self, some_left: bool, now: Moment, timing: &Timing)
+        requires in_range { now ≤ 2 ^ 53 }
+        ensures { let next = if some_left then Some (now + timing.now.last_member_interval) else None in
+            self.new ≡ record self.old { sources_due = next } }
+    {
+        self.sources_due = if some_left {
+            Some(now.after(timing.last_member_interval()))
+        } else {
+            None
+        };
     }
 
     /// Sends what is due for the group of this address, at or before `now`, once however late: the

@@ -1,5 +1,5 @@
 -- The end of timers changes a filter where a timer of a source runs out, or that of the group.
-use Rattle.std.proofs.Common.{◌≡◌, ℕ, ◌==◌, Bool, true, false, not, cond, ◌&&◌, ◌||◌, List, [], ◌∷◌, Option, None, Some, is_some, nat_lt, refl, sym, ap, ◌∙◌, arith}
+use Rattle.std.proofs.Common.{◌≡◌, ℕ, ◌==◌, Bool, true, false, not, cond, ◌||◌, List, [], ◌∷◌, Option, None, Some, is_some, nat_lt, refl, sym, ap, ◌∙◌, arith}
 use Rattle.std.specs.Bool.{beq}
 use Rattle.std.specs.List.{filter_map, cons_option, list_any}
 use Rattle.std.specs.Option.{option_map, option_and_then}
@@ -13,13 +13,12 @@ use Rattle.mq_sets.proofs.Rules.{item_with-filter_map}
 use Rattle.mq_table.specs.declared.sources.Source.{Source}
 use Rattle.mq_table.specs.Group.{GroupState, FilterMode, Include, Exclude, SourceTimer, Stopped, Running, is_include, timer_at, vacant, is_vacant}
 use Rattle.mq_table.specs.Filter.{filter_of, are_same, names, changes_filter}
-use Rattle.mq_table.specs.Maps.{kept}
 use Rattle.mq_table.specs.Expiry.{mode_expired, source_expired, held_or_vacant, expired}
 use Rattle.mq_table.specs.MadeSources.{runs_out, timer_runs_out}
 use Rattle.mq_table.specs.Stored.{number_in, timers_in}
 use Rattle.mq_table.proofs.Changed.{address-if, some-if}
 use Rattle.mq_table.proofs.Composed.{ended_at}
-use Rattle.mq_table.proofs.Filters.{changes-by, named_alike, not_unlike, same_filter}
+use Rattle.mq_table.proofs.Filters.{changes-by, not_unlike, same_filter}
 use Rattle.mq_table.proofs.Held.{get_of_empty}
 use Rattle.mq_table.proofs.Maps.{get-kept}
 use Rattle.mq_table.proofs.SourceLists.{get-timers_in}

@@ -7,7 +7,7 @@ use Rattle.std.specs.Ordering.{nat_cmp, eq_by_cmp}
 use Rattle.std.specs.Cmp.{nat_cmp_total}
 use Rattle.std.specs.FinMap as map
 use Rattle.std.specs.FinSet as set
-use Rattle.std.proofs.lemmas.Bool.{true≢false, and_parts, or_parts}
+use Rattle.std.proofs.lemmas.Bool.{true≢false, and_parts}
 use Rattle.mq_table.specs.Group.{GroupState, FilterMode, Include, Exclude, SourceTimer, Stopped, Running, is_include, timer_at, wants, forwards_in}
 use Rattle.mq_table.specs.Filter.{Filter, names, filter_of, forwards_by, are_same, changes_filter}
 use Rattle.mq_table.proofs.Maps.{tied}

@@ -16,7 +16,7 @@ use Rattle.mq_table.specs.declared.sendings.Recount.TheVariants.{OneFewer, NoneL
 use Rattle.mq_table.specs.Group.{GroupState, SourceTimer, Stopped, Running, sendings_of}
 use Rattle.mq_table.specs.SendingPlaces.{item_has_sendings, PassesBetween, SendsBetween}
 use Rattle.mq_table.specs.Stored.{number_in, timers_in}
-use Rattle.mq_table.specs.MadeSources.{timer_recounted, source_recounted}
+use Rattle.mq_table.specs.MadeSources.{item_counted, timer_recounted, source_recounted}
 use Rattle.mq_table.proofs.Rows.{keys-timers_in, any_before, any_behind}
 use Rattle.mq_table.proofs.MadeLists.{made_of_all}
 
@@ -92,3 +92,13 @@ none_behind_more p xs start k none more =
     ap (list_any p) (sym (take-append-drop k (drop start xs)) ∙ ap (λ ys. take k (drop start xs) ++ ys) (drop-drop k start xs))
     ∙ list_any-append p (take k (drop start xs)) (drop (start + k) xs)
     ∙ (λ i. more i || none i)
+
+-- the same where one sending is counted
+pub uncounted_stays : {K : Type 0} (x : Source K) → item_has_sendings x ≡ false → item_counted x ≡ x
+uncounted_stays = source_stays OneFewer
+
+pub uncounted_all : {K : Type 0} (xs : List (Source K)) → list_any item_has_sendings xs ≡ false → list_map item_counted xs ≡ xs
+uncounted_all = sources_stay OneFewer
+
+pub uncounted_made : {K : Type 0} (xs : List (Source K)) → list_any item_has_sendings xs ≡ false → filter_map (λ x. Some (item_counted x)) xs ≡ xs
+uncounted_made = made_of_none OneFewer

@@ -39,3 +39,7 @@ timer_recounted NoneLeft timer = source_cleared timer
 
 abbrev pub source_recounted : {K : Type 0} → Recount → Source K → Source K
 source_recounted recount x = record { address = x.address; timer = timer_recounted recount x.timer }
+
+-- a source with one sending fewer
+abbrev pub item_counted : {K : Type 0} → Source K → Source K
+item_counted x = record { address = x.address; timer = source_counted x.timer }

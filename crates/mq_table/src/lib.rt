@@ -25,7 +25,7 @@ pub use heads::Head;
 pub use kind::Kind;
 pub use mq_count::OlderVersion;
 pub use older_hosts::{Hosts, translate};
-pub use sending_places::{SendingPlaces, any_has_sendings};
+pub use sending_places::{SendingPlaces, any_has_sendings, places_of_sendings};
 pub use sources::{Source, timer_among};
 pub use timers::{FilterMode, SourceTimer, runs_on};
 pub use timing::Timing;

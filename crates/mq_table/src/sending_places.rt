@@ -70,8 +70,8 @@ pub fn any_has_sendings<K: Key>(row: &[Source<K>]) -> bool
     without_in_front(row) < row.len()
 }
 
-/// The places from the first source that has a sending to go up to the last. No comparison.
-pub(crate) fn places_of_sendings<K: Key>(row: &[Source<K>]) -> SendingPlaces
+/// The places from the first source of a list that has a sending to go up to the last. No comparison.
+pub fn places_of_sendings<K: Key>(row: &[Source<K>]) -> SendingPlaces
     ensures { PassesBetween item_has_sendings result.first result.end row.now }
 {
     let first = without_in_front(row);

@@ -141,14 +141,14 @@ enum Recount {
 }
 
 /// A source's timer with its sendings counted anew.
-fn recounted(timer: &SourceTimer, recount: Recount) -> SourceTimer
-    ensures { result ≡ timer_recounted recount timer.now }
+fn recounted(timer: SourceTimer, recount: Recount) -> SourceTimer
+    ensures { result ≡ timer_recounted recount timer }
 {
-    match timer {
-        SourceTimer::Stopped => SourceTimer::Stopped,
-        SourceTimer::Running(deadline, sendings) => match recount {
-            Recount::OneFewer => SourceTimer::Running(*deadline, sendings.saturating_sub(1)),
-            Recount::NoneLeft => SourceTimer::Running(*deadline, 0),
+    match recount {
+        Recount::OneFewer => timer.counted(),
+        Recount::NoneLeft => match timer {
+            SourceTimer::Stopped => SourceTimer::Stopped,
+            SourceTimer::Running(deadline, _) => SourceTimer::Running(deadline, 0),
         },
     }
 }
@@ -169,7 +169,7 @@ fn recount_each<K: Key, A: Allocator>(
     for place in places.first..places.end {
         let held = sources[place];
         if held.timer.has_sendings() {
-            let timer = recounted(&held.timer, recount);
+            let timer = recounted(held.timer, recount);
             left |= timer.has_sendings();
             sources[place] = Source {
                 address: held.address,

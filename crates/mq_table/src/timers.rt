@@ -5,6 +5,7 @@ ghost use Rattle.std.specs.Bool.{beq};
 ghost use Rattle.mq_count.specs.Spending.{Spends};
 ghost use Rattle.mq_table.specs.Filter.{names};
 ghost use Rattle.mq_table.specs.Group.{is_ahead, deadline_of, group_deadline, is_include, sendings_of, wants};
+ghost use Rattle.mq_table.specs.Sendings.{source_counted};
 
 use mq_count::{Meter, Moment};
 
@@ -96,6 +97,18 @@ impl SourceTimer {
         match self {
             SourceTimer::Stopped => false,
             SourceTimer::Running(_, sendings) => 0 < *sendings,
+        }
+    }
+
+    /// With one sending fewer, where it has one.
+    pub fn counted(self) -> SourceTimer
+        ensures { result ≡ source_counted self }
+    {
+        match self {
+            SourceTimer::Stopped => SourceTimer::Stopped,
+            SourceTimer::Running(deadline, sendings) => {
+                SourceTimer::Running(deadline, sendings.saturating_sub(1))
+            }
         }
     }
 }

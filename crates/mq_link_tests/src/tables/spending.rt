@@ -11,7 +11,7 @@
 use crate::playing::expect_rows;
 use mq_link::{Igmp, Mld};
 
-static OF_IGMP: [&str; 10] = [
+static OF_IGMP: [&str; 12] = [
     "a source of a group of 366 that is heard again: one source is written, and at the second time none is looked over
     link
     until 1000
@@ -25,6 +25,20 @@ static OF_IGMP: [&str; 10] = [
     spends 4 20
     quiet
     forwards 232.1.1.1 10.0.0.2
+    number 1",
+    "two sources of a group of 366 that are heard again: two are written, and at the second time none is looked over
+    link
+    until 1000
+    sends 0 general
+    comes 1000 22009c2500000001,0500016ee8010101+1+366 taken 1 0
+    comes 2000 2200dbf400000001,05000002e80101010a0000020a000003 taken 1 0
+    moves 3 3
+    spends 366 400
+    comes 3000 2200dbf400000001,05000002e80101010a0000020a000003 taken 1 0
+    moves 2 2
+    spends 6 30
+    quiet
+    forwards 232.1.1.1 10.0.0.3
     number 1",
     "a source of two that is heard again runs a group membership interval from then on, and its group's earliest moment is the other's
     link
@@ -41,6 +55,31 @@ static OF_IGMP: [&str; 10] = [
     moves 2 2
     holds 232.1.1.1 include 10.0.0.1=263000 10.0.0.2=264000
     quiet",
+    "a BLOCK of a source of a group of 366: that source is written, those that wait go with it, each with its flag, and no row is copied
+    link
+    until 1000
+    sends 0 general
+    comes 1000 22009c2500000001,0500016ee8010101+1+366 taken 1 0
+    comes 2000 2200e4f800000001,06000001e80101010a000002 taken 1 0
+    moves 3 3
+    sends 2000 232.1.1.1 110af972e8010101027d0001+2+1
+    quiet
+    comes 2400 2200e5f800000001,05000001e80101010a000002 taken 1 0
+    moves 1 1
+    comes 2500 2200e4f600000001,06000001e80101010a000004 taken 1 0
+    moves 4 4
+    spends 366 1200
+    sends 2500 232.1.1.1 110af172e80101010a7d0001+2+1
+    sends 2500 232.1.1.1 110af970e8010101027d0001+4+1
+    quiet
+    next 3500
+    until 3500
+    sends 3500 232.1.1.1 110af970e8010101027d0001+4+1
+    quiet
+    until 4500
+    blocks 232.1.1.1 10.0.0.4
+    forwards 232.1.1.1 10.0.0.2
+    number 1",
     "as many records as a datagram has room for, for one group that has as many sources as it may
     link
     until 1000
@@ -153,7 +192,21 @@ static OF_IGMP: [&str; 10] = [
     quiet",
 ];
 
-static OF_MLD: [&str; 8] = [
+static OF_MLD: [&str; 9] = [
+    "two sources of a group of 89 that are heard again: two are written, and at the second time none is looked over
+    link
+    until 1000
+    sends 0 general
+    comes 1000 8f0061da00000001,05000059ff0e0000000000000000000000001234+1+89 taken 1 0
+    comes 2000 8f00013000000001,05000002ff0e000000000000000000000000123420010db800000000000000000000000220010db8000000000000000000000003 taken 1 0
+    moves 3 3
+    spends 89 120
+    comes 3000 8f00013000000001,05000002ff0e000000000000000000000000123420010db800000000000000000000000220010db8000000000000000000000003 taken 1 0
+    moves 2 2
+    spends 6 30
+    quiet
+    forwards ff0e::1234 2001:db8::3
+    number 1",
     "as many records as a datagram has room for, for one group that has as many sources as it may
     link
     until 1000

@@ -1,5 +1,4 @@
-use Rattle.std.proofs.Common.{◌≡◌, length, ap, sym, ◌∙◌}
-use Rattle.mq_sched.specs.Schedule.{ScheduledGroup}
+use Rattle.std.proofs.Common.{ap, ◌∙◌}
 use Rattle.mq_held.specs.Groups.{group_at, sources_of}
 use Rattle.mq_link.specs.Link.{LinkValue}
 use Rattle.mq_link.proofs.KeptGroups.{is_number}

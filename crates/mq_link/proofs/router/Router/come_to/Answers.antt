@@ -12,7 +12,7 @@ use Rattle.mq_link.specs.Sender.{TakesQuery, begun}
 use Rattle.mq_link.specs.State.{LinkState, sources_in}
 use Rattle.mq_link.specs.Storage.{HasSpace, put_by_rows}
 use Rattle.mq_link.specs.Tick.{moment_of, next_of, tick_of}
-use Rattle.mq_link.specs.Workspace.{WorkspaceState, with_changed}
+use Rattle.mq_link.specs.Workspace.{with_changed}
 use Rattle.mq_link.proofs.Faultless.{timing_in_range}
 use Rattle.mq_link.proofs.LinkStored.{ready_in, stored_next, none_due}
 use Rattle.mq_link.proofs.LinkTicked.{HasDone, does_tick, sound_after_tick}

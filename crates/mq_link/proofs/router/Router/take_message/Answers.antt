@@ -1,4 +1,4 @@
-use Rattle.std.proofs.Common.{◌≡◌, ◌+◌, ◌*◌, ◌≤◌, length, refl, sym, subst, arith}
+use Rattle.std.proofs.Common.{◌≡◌, ◌*◌, ◌≤◌, length, refl, sym, subst, arith}
 use Rattle.std.specs.FinMap as map
 use Rattle.std.proofs.Math.Nat.{le-max_left, le-max_right}
 use Rattle.mq_count.proofs.Spent.{Spends-within}

@@ -1,4 +1,4 @@
-use Rattle.std.proofs.Common.{◌≡◌, ◌+◌, ◌*◌, ◌<◌, ℕ, true, false, ◌||◌, IfSome, MatchOption, Result, Ok, Err, MatchResult, length, refl, sym, ap, ◌∙◌, subst, arith}
+use Rattle.std.proofs.Common.{◌≡◌, ◌+◌, ◌*◌, ◌<◌, ℕ, true, false, ◌||◌, IfSome, MatchOption, Result, Ok, Err, MatchResult, is_some, length, refl, sym, ap, ◌∙◌, subst, arith}
 use Rattle.std.specs.FinMap as map
 use Rattle.std.specs.Result.{is_ok, result_ok}
 use Rattle.std.proofs.lemmas.Bool.{true≢false}
@@ -6,9 +6,8 @@ use Rattle.mq_count.specs.Spending.{Spends}
 use Rattle.mq_count.proofs.Spent.{Spends-join_within, Spends-within}
 use Rattle.mq_sets.specs.NumberedKeys.{IsSpotFor}
 use Rattle.mq_sets.specs.declared.spots.Spot.{Spot}
-use Rattle.mq_sets.proofs.Bitlen.{bitlen-few}
 use Rattle.mq_table.specs.Stored.{named_in}
-use Rattle.mq_held.specs.Groups.{group_at, sources_of}
+use Rattle.mq_held.specs.Groups.{Groups, group_at, sources_of}
 use Rattle.mq_held.specs.Held.{HeldState, HasNumber}
 use Rattle.mq_link.specs.declared.storage.Storage.{Storage}
 use Rattle.mq_link.specs.Changing.{statement_of}
@@ -16,7 +15,7 @@ use Rattle.mq_link.specs.Forwarding.{changes}
 use Rattle.mq_link.specs.Judging.{verdict_of}
 use Rattle.mq_link.specs.LeastCost.{least_work}
 use Rattle.mq_link.specs.Moved.{IsPaid, moved_by_edit}
-use Rattle.mq_link.specs.Record.{stated}
+use Rattle.mq_link.specs.Record.{Outcome, stated}
 use Rattle.mq_link.specs.Refreshed.{most_copied}
 use Rattle.mq_link.specs.Router.{HasOutcome}
 use Rattle.mq_link.specs.Seen.{AreMarked, KeepsNumbers, met_in}
@@ -38,23 +37,21 @@ within_so g c = subst (λ o. IfSome o (λ n. n < length c.args.work.now.changed)
     by_found (Ok n) has = let below = c.lemma_is_numbered.ensures.within _ n has in omega (arith, below, c.requires.group_room, c.requires.room.changed)
     by_found (Err spot) is = tt
 
-keeps_so : (g : Over) (c : After-ok g) → KeepsNumbers c.args.storage.now.held c.refresh.new.storage.held
+keeps_so : (g : Over) (c : After-ok g) → KeepsNumbers c.args.storage.now.held c.apply_in_place.new.storage.held
 keeps_so g c = subst (KeepsNumbers c.args.storage.now.held) (sym c.in-Some.ensures.kept) (λ a n has. record { is = has.is })
 
-numbered_so : (g : Over) (c : After-ok g) → MatchOption c.ok.result (map.contains_key c.refresh.new.storage.held.groups (g.F.Address.Key.number c.args.sought.address) ≡ false) (HasNumber c.refresh.new.storage.held (g.F.Address.Key.number c.args.sought.address))
-numbered_so g c = subst (λ o. MatchOption o (map.contains_key c.refresh.new.storage.held.groups a ≡ false) (HasNumber c.refresh.new.storage.held a)) (sym c.ok.ensures.value) (by_found c.args.sought.found c.requires.sought c.in-Some.ensures.held)
+numbered_so : (g : Over) (c : After-ok g) → MatchOption c.ok.result (map.contains_key c.apply_in_place.new.storage.held.groups (g.F.Address.Key.number c.args.sought.address) ≡ false) (HasNumber c.apply_in_place.new.storage.held (g.F.Address.Key.number c.args.sought.address))
+numbered_so g c = subst (λ o. MatchOption o (map.contains_key c.apply_in_place.new.storage.held.groups a ≡ false) (HasNumber c.apply_in_place.new.storage.held a)) (sym c.ok.ensures.value) (by_found c.args.sought.found c.requires.sought c.in-Some.ensures.held)
   where
     a : ℕ
     a = g.F.Address.Key.number c.args.sought.address
 
-    by_found : (found : Result ℕ Spot) → MatchResult found (HasNumber c.args.storage.now.held (g.F.Address.Key.number c.args.sought.address)) (IsSpotFor c.args.storage.now.held.order.items c.args.storage.now.held.order.pages (g.F.Address.Key.number c.args.sought.address)) → is_ok found ≡ true → MatchOption (result_ok found) (map.contains_key c.refresh.new.storage.held.groups (g.F.Address.Key.number c.args.sought.address) ≡ false) (HasNumber c.refresh.new.storage.held (g.F.Address.Key.number c.args.sought.address))
+    by_found : (found : Result ℕ Spot) → MatchResult found (HasNumber c.args.storage.now.held (g.F.Address.Key.number c.args.sought.address)) (IsSpotFor c.args.storage.now.held.order.items c.args.storage.now.held.order.pages (g.F.Address.Key.number c.args.sought.address)) → is_ok found ≡ true → MatchOption (result_ok found) (map.contains_key c.apply_in_place.new.storage.held.groups (g.F.Address.Key.number c.args.sought.address) ≡ false) (HasNumber c.apply_in_place.new.storage.held (g.F.Address.Key.number c.args.sought.address))
     by_found (Ok n) has is = keeps_so g c _ n has
     by_found (Err spot) at is = absurd (true≢false (sym is))
 
 pub returns-in-Some-clause-outcome : goal.returns-in-Some-clause-outcome
-returns-in-Some-clause-outcome g c =
-    let told = rw c.as_slice.ensures.members at c.in-Some.ensures.outcome in
-    rw told (record { verdict_is = refl; groups_are = refl; sent = refl })
+returns-in-Some-clause-outcome g c = rw c.as_slice.ensures.members at c.in-Some.ensures.outcome
 
 pub returns-in-Some-clause-numbers : goal.returns-in-Some-clause-numbers
 returns-in-Some-clause-numbers g c = keeps_so g c.before
@@ -80,7 +77,7 @@ count_changed-requires g c = record { number = within_so g c }
 pub returns-in-Some-clause-changed : goal.returns-in-Some-clause-changed
 returns-in-Some-clause-changed g c before marked =
     let storage = c.args.storage.now in
-    let next = c.refresh.new.storage in
+    let next = c.apply_in_place.new.storage in
     let was = c.lemma_is_numbered.ensures in
     let is = c.lemma_is_numbered-in-Some.ensures in
     let numbered : AreNumbered storage.held = record { held = was.held; of_one = was.of_one; same = was.same; one = was.one } in
@@ -99,18 +96,26 @@ pub returns-in-Some-clause-spent : goal.returns-in-Some-clause-spent
 returns-in-Some-clause-spent g c =
     let number = g.F.Address.Key.number in
     let groups = c.args.storage.now.held.groups in
-    let least = least_named number c.args.self.now (number c.args.sought.address) c.args.said c.args.work.now.named.members groups in
-    let size = sources_of (group_at groups (number c.args.sought.address)) in
-    let few = bitlen-few size in
-    let same = ap length c.as_slice.ensures.members in
-    Spends-within _ _ c.in-Some.ensures.spent (omega (arith, least, same)) (omega (arith, few))
+    let members = c.args.work.now.named.members in
+    let least = least_named number c.args.self.now (number c.args.sought.address) c.args.said members groups in
+    let spent = rw c.as_slice.ensures.members at c.in-Some.ensures.spent in
+    Spends-within _ _ spent (omega (arith, least)) (omega arith)
 
 pub returns-in-Some-clause-moved : goal.returns-in-Some-clause-moved
-returns-in-Some-clause-moved g c = paid_within _ c.in-Some.ensures.moved (omega arith)
+returns-in-Some-clause-moved g c = paid_within _ (rw c.as_slice.ensures.members at c.in-Some.ensures.moved) (omega arith)
+
+-- what is heard again is done where it stands
+pub returns-in-Some-clause-in_place : goal.returns-in-Some-clause-in_place
+returns-in-Some-clause-in_place g c heard = (rw c.as_slice.ensures.members at c.apply_in_place.ensures.moves) heard
+
+pub returns-in-None-clause-in_place : goal.returns-in-None-clause-in_place
+returns-in-None-clause-in_place g c heard =
+    let done = rw c.as_slice.ensures.members at c.apply_in_place.ensures.again in
+    absurd (true≢false (sym (done heard) ∙ ap is_some c.in-None.is))
 
 pub apply_to_copy-requires : goal.apply_to_copy-requires
 apply_to_copy-requires g c =
-    let same = sym (c.refresh.ensures.none c.in-None.is) in
+    let same = sym (c.apply_in_place.ensures.none c.in-None.is) in
     record {
       admitted = c.requires.admitted;
       sound = subst (λ (s : Storage _ _). AreSound c.args.self.now s.held.groups) same c.requires.sound;
@@ -124,21 +129,23 @@ apply_to_copy-requires g c =
 pub returns-in-None-clause-outcome : goal.returns-in-None-clause-outcome
 returns-in-None-clause-outcome g c =
     let number = g.F.Address.Key.number in
-    subst (λ (s : Storage _ _). HasOutcome g.S.Sink.takes (stated c.args.self.now (number c.args.sought.address) (statement_of c.args.said (named_in number c.args.work.now.named.members)) s.held.groups) (verdict_of c.apply_to_copy.result) c.apply_to_copy.new.storage.held.groups c.args.sink.now c.apply_to_copy.new.sink)
-    (c.refresh.ensures.none c.in-None.is) c.apply_to_copy.ensures.outcome
+    let outcome : Groups → Outcome = λ groups. stated c.args.self.now (number c.args.sought.address) (statement_of c.args.said (named_in number c.args.work.now.named.members)) groups in
+    let told = subst (λ (s : Storage _ _). HasOutcome g.S.Sink.takes (outcome s.held.groups) (verdict_of c.apply_to_copy.result) c.apply_to_copy.new.storage.held.groups c.apply_in_place.new.sink c.apply_to_copy.new.sink)
+    (c.apply_in_place.ensures.none c.in-None.is) c.apply_to_copy.ensures.outcome in
+    subst (λ sink. HasOutcome g.S.Sink.takes (outcome c.args.storage.now.held.groups) (verdict_of c.apply_to_copy.result) c.apply_to_copy.new.storage.held.groups sink c.apply_to_copy.new.sink) (c.apply_in_place.ensures.unsent c.in-None.is) told
 
 pub returns-in-None-clause-numbers : goal.returns-in-None-clause-numbers
-returns-in-None-clause-numbers g c = subst (λ (s : Storage _ _). KeepsNumbers s.held c.apply_to_copy.new.storage.held) (c.refresh.ensures.none c.in-None.is) c.apply_to_copy.ensures.numbers
+returns-in-None-clause-numbers g c = subst (λ (s : Storage _ _). KeepsNumbers s.held c.apply_to_copy.new.storage.held) (c.apply_in_place.ensures.none c.in-None.is) c.apply_to_copy.ensures.numbers
 
 pub returns-in-None-clause-rooms : goal.returns-in-None-clause-rooms
 returns-in-None-clause-rooms g c =
-    let rooms = subst (λ (s : Storage _ _). KeepsRooms s c.apply_to_copy.new.storage) (c.refresh.ensures.none c.in-None.is) c.apply_to_copy.ensures.rooms in
+    let rooms = subst (λ (s : Storage _ _). KeepsRooms s c.apply_to_copy.new.storage) (c.apply_in_place.ensures.none c.in-None.is) c.apply_to_copy.ensures.rooms in
     record { groups = rooms.groups; sources = rooms.sources }
 
 pub returns-in-None-clause-changed : goal.returns-in-None-clause-changed
 returns-in-None-clause-changed g c before =
     subst (λ (s : Storage _ _). AreMarked s.held c.args.work.now.changed before → AreMarked c.apply_to_copy.new.storage.held c.apply_to_copy.new.work.changed (λ address. before address || changes s.held.groups c.apply_to_copy.new.storage.held.groups address))
-    (c.refresh.ensures.none c.in-None.is) (c.apply_to_copy.ensures.changed before)
+    (c.apply_in_place.ensures.none c.in-None.is) (c.apply_to_copy.ensures.changed before)
 
 pub returns-in-None-clause-spent : goal.returns-in-None-clause-spent
 returns-in-None-clause-spent g c =
@@ -147,7 +154,7 @@ returns-in-None-clause-spent g c =
     let groups = c.args.storage.now.held.groups in
     let size = sources_of (group_at groups a) in
     let copied = subst (λ (s : Storage _ _). Spends (least_work c.args.self.now a (statement_of c.args.said (named_in number c.args.work.now.named.members)) s.held.groups) (most_copied c.args.said (sources_of (group_at s.held.groups a)) (length c.args.work.now.named.members) (map.len s.held.groups)) s.meter c.apply_to_copy.new.storage.meter)
-    (c.refresh.ensures.none c.in-None.is) c.apply_to_copy.ensures.spent in
+    (c.apply_in_place.ensures.none c.in-None.is) c.apply_to_copy.ensures.spent in
     let tried = rw c.as_slice.ensures.members at c.in-None.ensures.spent in
     let most = tried_and_copied c.args.said size (length c.args.work.now.named.members) (map.len groups) in
     Spends-join_within _ _ tried copied (omega arith) (omega (arith, most))
@@ -157,4 +164,4 @@ returns-in-None-clause-moved g c =
     let number = g.F.Address.Key.number in
     let a = number c.args.sought.address in
     subst (λ (s : Storage _ _). IsPaid (5 * (sources_of (group_at s.held.groups a) + length c.args.work.now.named.members) + moved_by_edit) (put_by_rows s.held) (put_by_rows c.apply_to_copy.new.storage.held) s.moves c.apply_to_copy.new.storage.moves)
-    (c.refresh.ensures.none c.in-None.is) c.apply_to_copy.ensures.moved
+    (c.apply_in_place.ensures.none c.in-None.is) c.apply_to_copy.ensures.moved

@@ -37,7 +37,7 @@ use Rattle.mq_link.proofs.LeastCosts.{worked}
 use Rattle.mq_link.proofs.MetNumbers.{AreNumbered}
 use Rattle.mq_link.proofs.Moved.{paid_none, paid_within}
 use Rattle.mq_link.proofs.MadeEntries.{round_keeps_size}
-use Rattle.mq_link.proofs.RefreshedCosts.{none_stopped_in}
+use Rattle.mq_link.proofs.RefreshedCosts.{asks_most, none_stopped_in}
 use Rattle.mq_link.proofs.RefreshedStates.{none_is_stopped}
 use Rattle.mq_link.proofs.Rooms.{room_on, rooms_on}
 use Rattle.mq_link.proofs.StatedSteps.{AreFew, IsChanged, stated_ignored, stated_judged, kept_is_held, kept_stays, left_has_place, left_has_room, made_few}
@@ -132,7 +132,7 @@ returns-in_default-clause-outcome g c =
 pub returns-in_default-clause-spent : goal.returns-in_default-clause-spent
 returns-in_default-clause-spent g c =
     let size_before = ap (λ (e : ScheduledGroup). size_of e.group) c.look-stored.ensures.group in
-    let most = ap (λ n. most_changed c.args.said n (length c.args.work.now.named.members)) size_before in
+    let most = ap (λ n. most_changed c.args.said n (length c.args.work.now.named.members) + most_asked c.args.said n (length c.args.work.now.named.members)) size_before in
     Spends-within _ _ (spent_changing g c.before) (omega arith) (omega (arith, most))
 
 pub returns-in_default-clause-rooms : goal.returns-in_default-clause-rooms
@@ -215,21 +215,23 @@ returns-in-Some-refusal-clause-outcome g c =
 
 -- what it has spent until it is judged
 spent_judging : (g : Over) (c : After-refusal g) → (let number = g.F.Address.Key.number in let members = c.args.work.now.named.members in
-    Spends (least_work c.args.self.now (number c.args.sought.address) (statement_of c.args.said (named_in number members)) c.args.storage.now.held.groups) (most_changed c.args.said (size_of (group_stored number c.look-stored.result)) (length members) + most_asked c.args.said + 2 * (size_of (group_stored number c.look-stored.result) + length members) + 2) c.args.storage.now.meter c.refusal.new.self.meter)
+    Spends (least_work c.args.self.now (number c.args.sought.address) (statement_of c.args.said (named_in number members)) c.args.storage.now.held.groups) (most_changed c.args.said (size_of (group_stored number c.look-stored.result)) (length members) + most_asked c.args.said (size_of (group_stored number c.look-stored.result)) (length members) + 2) c.args.storage.now.meter c.refusal.new.self.meter)
 spent_judging g c =
     let number = g.F.Address.Key.number in
     let a = (few_so g c.before.before.before.before.before.before.before.before.before).changed in
     let sizes = size_of (group_stored number c.look-stored.result) + length c.args.work.now.named.members in
     let work = least_work c.args.self.now (number c.args.sought.address) (statement_of c.args.said (named_in number c.args.work.now.named.members)) c.args.storage.now.held.groups in
     let change = most_changed c.args.said (size_of (group_stored number c.look-stored.result)) (length c.args.work.now.named.members) in
-    let asks = rw c.in-Some.is at c.change.ensures.asks in
-    let changing = Spends-join_within work (change + most_asked c.args.said + 2 * sizes) (spent_changing g c.before.before.before.before.before.before.before.before.before.before.before.before.before.before.before.before) c.ask.ensures.spent (omega arith) (omega (arith, a, asks)) in
+    let before = size_of (group_stored number c.look-stored.result) in
+    let members = length c.args.work.now.named.members in
+    let asks = asks_most c.args.said c.in-Some.loaded.asks_group c.change.new.self.asked.items (size_of c.change.new.self.group.state) before members (rw c.in-Some.is at c.change.ensures.asks) a in
+    let changing = Spends-join_within work (change + most_asked c.args.said before members) (spent_changing g c.before.before.before.before.before.before.before.before.before.before.before.before.before.before.before.before) c.ask.ensures.spent (omega arith) (omega (arith, a, asks)) in
     Spends-join_within work _ changing c.refusal.ensures.spent (omega arith) (omega arith)
 
 pub returns-in-Some-refusal-clause-spent : goal.returns-in-Some-refusal-clause-spent
 returns-in-Some-refusal-clause-spent g c =
     let size_before = ap (λ (e : ScheduledGroup). size_of e.group) c.look-stored.ensures.group in
-    let most = ap (λ n. most_changed c.args.said n (length c.args.work.now.named.members)) size_before in
+    let most = ap (λ n. most_changed c.args.said n (length c.args.work.now.named.members) + most_asked c.args.said n (length c.args.work.now.named.members)) size_before in
     Spends-within _ _ (spent_judging g c.before) (omega arith) (omega (arith, size_before, most))
 
 pub keep-kept-requires-clause-sought : goal.keep-kept-requires-clause-sought
@@ -299,10 +301,10 @@ returns-clause-spent g c =
     let sizes = size_of (group_stored number c.look-stored.result) + length c.args.work.now.named.members in
     let work = least_work at (number c.args.sought.address) (statement_of c.args.said (named_in number c.args.work.now.named.members)) c.args.storage.now.held.groups in
     let change = most_changed c.args.said (size_of (group_stored number c.look-stored.result)) (length c.args.work.now.named.members) in
-    let round = Spends-join_within work (change + most_asked c.args.said + 4 * sizes + 5) (spent_judging g c.before.before.before.before.before.before.before.before.before.before.before.before.before.before.before.before.before) c.round.ensures.spent (omega arith) (omega (arith, a, b)) in
+    let round = Spends-join_within work (change + most_asked c.args.said (size_of (group_stored number c.look-stored.result)) (length c.args.work.now.named.members) + 2 * sizes + 5) (spent_judging g c.before.before.before.before.before.before.before.before.before.before.before.before.before.before.before.before.before) c.round.ensures.spent (omega arith) (omega (arith, a, b)) in
     let size_left = ap (λ (e : ScheduledGroup). size_of e.group) (left_is g c.before.before.before.before.before.before.before) ∙ round_keeps_size at.election.timing at.now (asked_as c.ask.new.self c.ask.new.schedule) in
     let digits = ap (λ (s : Storage _ _). bitlen (map.len s.held.groups)) c.refusal.ensures.left in
-    let most = ap (λ n. most_changed c.args.said n (length c.args.work.now.named.members)) size_before in
+    let most = ap (λ n. most_changed c.args.said n (length c.args.work.now.named.members) + most_asked c.args.said n (length c.args.work.now.named.members)) size_before in
     Spends-join_within work _ round c.keep-kept.ensures.spent (omega arith) (omega (arith, a, b, size_before, size_left, digits, most))
 
 -- each group that was held keeps its number

@@ -1,10 +1,10 @@
 use Rattle.std.proofs.Common.{◌≡◌, ◌+◌, length, vec_capacity, IsSome, ap, refl, sym, subst, ◌∙◌, arith}
-use Rattle.std.specs.List.{filter_map, list_any}
+use Rattle.std.specs.List.{filter_map}
 use Rattle.mq_sets.specs.Ascending.{IsAscending}
 use Rattle.mq_sets.specs.Merging.{merged_lists}
 use Rattle.mq_table.specs.Timing.{membership_interval}
 use Rattle.mq_table.specs.Stored.{number_in, named_in, state_of, timers_in}
-use Rattle.mq_table.specs.MergedRecord.{source_made, source_asked, source_turned, LooksByHalves}
+use Rattle.mq_table.specs.MergedRecord.{source_made, source_asked, LooksByHalves}
 use Rattle.mq_table.specs.Group.{GroupState, timer_at}
 use Rattle.mq_table.proofs.TableRows.{asked_is_held}
 use Rattle.mq_table.proofs.Changed.{made_ascends, asked_ascends, recorded_group, recorded_query, recorded_query_group, recorded_filter}

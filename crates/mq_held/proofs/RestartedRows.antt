@@ -1,0 +1,230 @@
+-- A row of which the timers of several sources are set, one after another.
+use Rattle.std.proofs.Common.{◌≡◌, ℕ, ◌+◌, ◌-◌, ◌<◌, ◌≤◌, ◌==◌, min, Bool, true, false, if◌then◌else◌, ltb, ◌&&◌, ◌||◌, refl, List, [], ◌∷◌, ◌++◌, length, get_or, set, take, drop, Option, None, Some, IfSome, sym, ap, ◌∙◌, subst, arith, ⊎_elim}
+use Rattle.std.specs.Prelude.{map as list_map}
+use Rattle.std.specs.List.{list_all, list_any}
+use Rattle.std.specs.Ordering.{nat_cmp}
+use Rattle.std.specs.FinMap as map
+use Rattle.std.specs.FinMap.{FinMap}
+use Rattle.std.proofs.Math.Bool.{or-false}
+use Rattle.std.proofs.lemmas.Bool.{and_parts, cases_lt, eqb-true, lt-ltb, true≢false}
+use Rattle.std.proofs.lemmas.List.{drop-drop, drop-set-lt, get_or-drop, get_or_read, length-set, map-append, take_more}
+use Rattle.std.proofs.lemmas.List.Folds.{Any-from_list_any, list_all-map, list_any-append}
+use Rattle.std.proofs.lemmas.List.Sums.{AllPass-from_list_all}
+use Rattle.mq_sets.specs.Ascending.{IsAscending, set_of}
+use Rattle.mq_sets.specs.NumberedKeys.{NumberedKey}
+use Rattle.mq_sets.proofs.OneCell.{set-same}
+use Rattle.mq_table.specs.declared.sources.Source.{Source}
+use Rattle.mq_table.specs.declared.timers.SourceTimer.TheVariants.{Running}
+use Rattle.mq_table.specs.Group.{IsWellFormed, deadline_of, is_stopped, sendings_of}
+use Rattle.mq_table.specs.Stored.{number_in, timers_in}
+use Rattle.mq_table.proofs.SourceLists.{get-found}
+use Rattle.mq_sched.specs.Schedule.{ScheduledGroup}
+use Rattle.mq_held.specs.declared.scheduled_head.ScheduledHead.{ScheduledHead}
+use Rattle.mq_held.specs.Groups.{schedules_of}
+use Rattle.mq_held.specs.Moments.{moments_of}
+use Rattle.mq_held.specs.Restarted.{StandsFrom, has_each, restarted, restarted_each}
+use Rattle.mq_held.specs.Stored.{IsStored, earliest_of, group_by, group_of, no_head}
+use Rattle.mq_held.proofs.HeldRows.{not_vacant-by_row}
+use Rattle.mq_held.proofs.OrderedItems.{number_of}
+use Rattle.mq_held.proofs.RestartedEach.{IsWellFormed-restarted_each, restarted_each-more}
+use Rattle.mq_held.proofs.RestartedTimers.{IsAscending-same, earliest-restarted, group-restarted}
+use Rattle.mq_held.proofs.StoredEdits.{IsStored-written, schedules_part}
+
+-- the earliest moment, once so many timers that were later run until a deadline
+abbrev pub earliest_after : (earliest deadline count : ℕ) → ℕ
+earliest_after earliest deadline count = if ltb 0 count then min earliest deadline else earliest
+
+-- a place that a name has, from which a walk can start
+module _ {X : Type 0} (number : X → ℕ) where
+  stands : (xs : List X) (n : ℕ) → set_of number xs n ≡ true → StandsFrom number xs n 0
+  stands xs n is =
+      let found = Any-from_list_any (λ x. number x == n) xs is in
+      record {
+        place = found.0;
+        behind = omega arith;
+        within = found.2;
+        is = λ d. sym (ap number (get_or_read xs found.0 found.1 found.2 (sym found.3) d)) ∙ eqb-true (number found.1) n found.4;
+      }
+
+  pub each-stands : {K : Type 0} (key : K → ℕ) (xs : List X) (named : List K) → list_all (set_of number xs) (list_map key named) ≡ true → (k : ℕ) (d : K) → k < length named → StandsFrom number xs (key (get_or named k d)) 0
+  each-stands key xs named all k d inside =
+      stands xs (key (get_or named k d)) (AllPass-from_list_all (λ y. set_of number xs (key y)) named (sym (list_all-map (set_of number xs) key named) ∙ all) k d inside)
+
+-- a row that has some names has sources
+pub some_row : {X : Type 0} (number : X → ℕ) (row : List X) (names : List ℕ) → list_all (set_of number row) names ≡ true → 0 < length names → 0 < length row
+some_row number [] [] all some = absurd (omega (arith, some))
+some_row number [] (s ∷ names) all some = absurd (true≢false (sym all))
+some_row number (x ∷ row) names all some = omega arith
+
+module _ {K : Type 0} (number : K → ℕ) (deadline earliest : ℕ) (before : List (Source K)) (named : List K) where
+  -- how the row stands once the timers of so many names are set, up to a place
+  pub record IsRestarted (row : List (Source K)) (from count : ℕ) (were_stopped were_later : Bool) : Type 0 where
+    pub ascending : IsAscending (number_in number) row
+    pub size : length row ≡ length before
+    pub within : from ≤ length before
+    pub behind : drop from row ≡ drop from before
+    pub group : (h : ScheduledHead) → group_of number h row ≡ restarted_each deadline (list_map number (take count named)) (group_of number h before)
+    pub stopped : were_stopped ≡ list_any (λ s. is_stopped (map.get (timers_in number before) s)) (list_map number (take count named))
+    pub later : were_later ≡ true → (h : ScheduledHead) → earliest_of (moments_of (group_of number h before)) ≡ Some earliest → earliest_of (moments_of (group_of number h row)) ≡ Some (earliest_after earliest deadline count)
+    pub there : (k : ℕ) (d : K) → count ≤ k → k < length named → StandsFrom (number_in number) before (number (get_or named k d)) from
+
+  pub IsRestarted-none : IsAscending (number_in number) before → list_all (set_of (number_in number) before) (list_map number named) ≡ true → IsRestarted before 0 0 false true
+  IsRestarted-none up all = record {
+    ascending = up;
+    size = refl;
+    within = omega arith;
+    behind = refl;
+    group = λ h. refl;
+    stopped = refl;
+    later = λ later h is. is;
+    there = λ k d past inside. each-stands (number_in number) number before named all k d inside;
+  }
+
+  module _ (up : IsAscending (number_in number) before) (named_up : IsAscending number named) (row : List (Source K)) (from count : ℕ) (were_stopped were_later : Bool) (so_far : IsRestarted row from count were_stopped were_later) (name : K) (name_here : name ≡ get_or named count name) (more : count < length named) where
+    -- where the next name stands
+    pub next-stands : StandsFrom (number_in number) row (number name) from
+    next-stands =
+        let found = so_far.there count name (omega arith) more in
+        record {
+          place = found.place;
+          behind = found.behind;
+          within = omega (arith, found.within, so_far.size);
+          is = λ d. ap (number_in number) (alike found.place d found.behind) ∙ found.is d ∙ ap number (sym name_here);
+        }
+      where
+        alike : (place : ℕ) (d : Source K) → from ≤ place → get_or row place d ≡ get_or before place d
+        alike place d behind =
+            let at : from + (place - from) ≡ place = omega (arith, behind) in
+            ap (λ k. get_or row k d) (sym at)
+            ∙ sym (get_or-drop from row (place - from) d)
+            ∙ ap (λ xs. get_or xs (place - from) d) so_far.behind
+            ∙ get_or-drop from before (place - from) d
+            ∙ ap (λ k. get_or before k d) at
+
+    module _ (place : ℕ) (x y : Source K) (later : Bool) (start : from ≤ place) (inside : place < length row) (here : x ≡ get_or row place x) (is : number x.address ≡ number name) (y_is : y ≡ record { address = x.address; timer = Running deadline (sendings_of (Some x.timer)) }) (later_is : later ≡ true → IfSome (deadline_of (Some x.timer)) (λ d. earliest < d)) where
+      at_before : x ≡ get_or before place x
+      at_before =
+          let at : from + (place - from) ≡ place = omega (arith, start) in
+          here
+          ∙ ap (λ k. get_or row k x) (sym at)
+          ∙ sym (get_or-drop from row (place - from) x)
+          ∙ ap (λ xs. get_or xs (place - from) x) so_far.behind
+          ∙ get_or-drop from before (place - from) x
+          ∙ ap (λ k. get_or before k x) at
+
+      names_more : list_map number (take (count + 1) named) ≡ list_map number (take count named) ++ number name ∷ []
+      names_more =
+          ap (list_map number) (take_more named count name more)
+          ∙ map-append number (take count named) (get_or named count name ∷ [])
+          ∙ ap (λ z. list_map number (take count named) ++ number z ∷ []) (sym name_here)
+
+      same : number y.address ≡ number x.address
+      same = ap (λ (s : Source K). number s.address) y_is
+
+      up_then : IsAscending (number_in number) (set row place y)
+      up_then = IsAscending-same (number_in number) row place y x inside here same so_far.ascending
+
+      behind_then : drop (place + 1) (set row place y) ≡ drop (place + 1) before
+      behind_then =
+          let at : from + (place + 1 - from) ≡ place + 1 = omega (arith, start) in
+          drop-set-lt (place + 1) row place y (omega arith)
+          ∙ ap (λ k. drop k row) (sym at)
+          ∙ sym (drop-drop (place + 1 - from) from row)
+          ∙ ap (drop (place + 1 - from)) so_far.behind
+          ∙ drop-drop (place + 1 - from) from before
+          ∙ ap (λ k. drop k before) at
+
+      group_then : (h : ScheduledHead) → group_of number h (set row place y) ≡ restarted_each deadline (list_map number (take (count + 1) named)) (group_of number h before)
+      group_then h =
+          group-restarted number h row place y x deadline (number name) inside here is y_is so_far.ascending
+          ∙ ap (restarted deadline (number name)) (so_far.group h)
+          ∙ sym (restarted_each-more deadline (list_map number (take count named)) (number name) (group_of number h before))
+          ∙ ap (λ xs. restarted_each deadline xs (group_of number h before)) (sym names_more)
+
+      stopped_then : (were_stopped || is_stopped (Some x.timer)) ≡ list_any (λ s. is_stopped (map.get (timers_in number before) s)) (list_map number (take (count + 1) named))
+      stopped_then =
+          let p : ℕ → Bool = λ s. is_stopped (map.get (timers_in number before) s) in
+          let in_before : place < length before = omega (arith, inside, so_far.size) in
+          let found = get-found number before place x (number name) up in_before (ap (number_in number) (sym at_before) ∙ is) ∙ ap (λ (s : Source K). Some s.timer) (sym at_before) in
+          (λ i. so_far.stopped i || is_stopped (sym found i))
+          ∙ ap (λ b. list_any p (list_map number (take count named)) || b) (sym (or-false (p (number name))))
+          ∙ sym (list_any-append p (list_map number (take count named)) (number name ∷ []))
+          ∙ ap (list_any p) (sym names_more)
+
+      weaker : (o : Option ℕ) (least : ℕ) → least ≤ earliest → IfSome o (λ d. earliest < d) → IfSome o (λ d. least < d)
+      weaker None least below after = after
+      weaker (Some d) least below after = omega (arith, below, after)
+
+      later_then : (were_later && later) ≡ true → (h : ScheduledHead) → earliest_of (moments_of (group_of number h before)) ≡ Some earliest → earliest_of (moments_of (group_of number h (set row place y))) ≡ Some (earliest_after earliest deadline (count + 1))
+      later_then both h first =
+          let parts = and_parts were_later later both in
+          earliest-restarted number h row place y x deadline (earliest_after earliest deadline count) inside here (ap (λ (s : Source K). deadline_of (Some s.timer)) y_is) so_far.ascending up_then
+          (so_far.later parts.0 h first) (weaker (deadline_of (Some x.timer)) (earliest_after earliest deadline count) (no_later (ltb 0 count)) (later_is parts.1))
+          ∙ ap Some (at_least (ltb 0 count) ∙ ap (λ b. if b then min earliest deadline else earliest) (sym (lt-ltb 0 (count + 1) (omega arith))))
+        where
+          no_later : (b : Bool) → (if b then min earliest deadline else earliest) ≤ earliest
+          no_later true = omega arith
+          no_later false = omega arith
+
+          at_least : (b : Bool) → min (if b then min earliest deadline else earliest) deadline ≡ min earliest deadline
+          at_least true = omega arith
+          at_least false = refl
+
+      there_then : (k : ℕ) (d : K) → count + 1 ≤ k → k < length named → StandsFrom (number_in number) before (number (get_or named k d)) (place + 1)
+      there_then k d past inside_named =
+          let found = so_far.there k d (omega (arith, past)) inside_named in
+          let above : number (get_or named count d) < number (get_or named k d) = named_up count k d (omega (arith, past)) inside_named in
+          let at : number (get_or named count d) ≡ number name = ap number (sym (get_or_read named count name more name_here d)) in
+          let mine : number_in number (get_or before place x) ≡ number name = ap (number_in number) (sym at_before) ∙ is in
+          let its = found.is x in
+          record {
+            place = found.place;
+            behind = behind_place found.place (λ low. not_before found.place low (omega (arith, its, mine, at, above)));
+            within = found.within;
+            is = found.is;
+          }
+        where
+          -- what stands above the source at the place stands behind it
+          not_before : (p : ℕ) → p ≤ place → number_in number (get_or before place x) < number_in number (get_or before p x) → ⊥
+          not_before p low above =
+              ⊎_elim
+              (λ (front : p < place). let step = up p place x front (omega (arith, inside, so_far.size)) in omega (arith, step, above))
+              (λ (back : place ≤ p). let same : p ≡ place = omega (arith, low, back) in omega (arith, above, ap (λ k. number_in number (get_or before k x)) same))
+              (cases_lt p place)
+
+          behind_place : (p : ℕ) → (p ≤ place → ⊥) → place + 1 ≤ p
+          behind_place p none = ⊎_elim (λ (after : place < p). omega (arith, after)) (λ (low : p ≤ place). absurd (none low)) (cases_lt place p)
+
+      pub IsRestarted-more : IsRestarted (set row place y) (place + 1) (count + 1) (were_stopped || is_stopped (Some x.timer)) (were_later && later)
+      IsRestarted-more = record {
+        ascending = up_then;
+        size = length-set row place y ∙ so_far.size;
+        within = omega (arith, inside, so_far.size);
+        behind = behind_then;
+        group = group_then;
+        stopped = stopped_then;
+        later = later_then;
+        there = there_then;
+      }
+
+-- what is stored, once some sources of the group of a number are heard of again
+module _ {K : Type 0} (number : K → ℕ) {items : List NumberedKey} {heads : List ScheduledHead} {rows : List (List (Source K))} {moments : FinMap nat_cmp ℕ} {schedules : ℕ} (known : IsStored number items heads rows moments schedules) (n : ℕ) (held : set_of number_of items n ≡ true) (rows_within : n < length rows) (some : 0 < length (get_or rows n [])) (row : List (Source K)) (up : IsAscending (number_in number) row) (h : ScheduledHead) (heads_within : n < length heads) (head_here : h ≡ get_or heads n h) (deadline : ℕ) (sources : List ℕ) (all : has_each sources (group_by number heads rows n) ≡ true) (group_is : group_of number h row ≡ restarted_each deadline sources (group_of number h (get_or rows n []))) where
+  pub head_is : get_or heads n no_head ≡ h
+  head_is = sym (get_or_read heads n h heads_within head_here no_head)
+
+  pub group-each : group_of number h row ≡ restarted_each deadline sources (group_by number heads rows n)
+  group-each = group_is ∙ ap (λ g. restarted_each deadline sources (group_of number g (get_or rows n []))) (sym head_is)
+
+  pub formed-each : IsWellFormed (group_of number h row).group
+  formed-each =
+      subst (λ (e : ScheduledGroup). IsWellFormed e.group) (sym group-each)
+      (IsWellFormed-restarted_each deadline sources (group_by number heads rows n) all (known.others_are_held n held (not_vacant-by_row number known n held rows_within some)))
+
+  pub IsStored-restarted_each : (due : ℕ) → earliest_of (moments_of (group_of number h row)) ≡ Some due → IsStored number items heads (set rows n row) (map.insert moments n due) schedules
+  IsStored-restarted_each due first =
+      let stored = IsStored-written number known n h row (group_of number h row) due held heads_within rows_within up refl formed-each first in
+      let part = schedules_part number known n held in
+      let own : schedules_of (group_by number heads rows n) ≡ schedules_of (group_of number h row) = ap (λ g. schedules_of (group_of number g (get_or rows n []))) head_is in
+      let total : schedules - schedules_of (group_by number heads rows n) + schedules_of (group_of number h row) ≡ schedules = omega (arith, part, own) in
+      subst (λ (hs : List ScheduledHead). IsStored number items hs (set rows n row) (map.insert moments n due) schedules) (set-same heads n h heads_within head_here)
+      (subst (IsStored number items (set heads n h) (set rows n row) (map.insert moments n due)) total stored)

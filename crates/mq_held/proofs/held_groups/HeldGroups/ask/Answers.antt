@@ -1,0 +1,672 @@
+use Rattle.std.specs.List.{list_any}
+use Rattle.std.specs.Prelude.{map as list_map}
+use Rattle.std.proofs.Common.{◌≡◌, cond, ℕ, ◌+◌, ◌-◌, ◌<◌, ◌≤◌, Bool, true, false, [], length, get_or, set, List, None, Some, is_some, sym, ap, ◌∙◌, subst, arith}
+use Rattle.std.proofs.lemmas.List.{length-map, length-set}
+use Rattle.mq_count.proofs.Spent.{Spends-join, Spends-join_within, Spends-within}
+use Rattle.mq_sets.specs.Ascending.{IsAscending}
+use Rattle.mq_sets.specs.NumberedRows.{NumberedRowsState}
+use Rattle.mq_sets.specs.Search.{bitlen}
+use Rattle.mq_table.specs.Group.{IsWellFormed, deadline_of, is_ahead, timer_at}
+use Rattle.mq_table.specs.declared.sources.Source.{Source}
+use Rattle.mq_table.specs.Lowering.{lowered_to}
+use Rattle.mq_table.specs.MadeSources.{item_counted}
+use Rattle.mq_table.specs.SendingPlaces.{item_has_sendings}
+use Rattle.mq_table.specs.Timing.{last_member_count}
+use Rattle.mq_table.specs.Stored.{number_in, state_of, timers_in}
+use Rattle.mq_table.proofs.AskingOne.{asked_absent}
+use Rattle.mq_table.proofs.SourceLists.{get-absent}
+use Rattle.mq_sched.specs.Rounds.{IsQuietAt}
+use Rattle.mq_sched.specs.NumberedMoments.{NumberedMomentsState}
+use Rattle.mq_sched.specs.Schedule.{ScheduleState, ScheduledGroup}
+use Rattle.mq_sched.specs.Sending.{after_round, messages_due, waiting_messages}
+use Rattle.mq_sched.specs.Sink.{Sends}
+use Rattle.mq_held.specs.declared.scheduled_head.ScheduledHead.{ScheduledHead}
+use Rattle.mq_held.specs.Asked.{one_asked}
+use Rattle.mq_held.specs.Groups.{group_at, one_if}
+use Rattle.mq_held.specs.Moments.{moments_of}
+use Rattle.mq_held.specs.Held.{HeldState}
+use Rattle.mq_held.specs.Stored.{IsStored, earliest_of, group_of, groups_by, no_head}
+use Rattle.mq_held.proofs.AskedInPlace.{IsStored-asked, formed_after, group_after, head_counted, len_counted, length_counted, next_due, row_asked_is, row_counted_is, row_left, rows_counted, same_where_below, sends_after, some_where_above, stays_unasked, unasked_groups, unasked_sends, up_asked, up_counted, within_asked}
+use Rattle.mq_held.proofs.Inside.{address-of, ahead_is, contained, group-of, has as has-there, numbered, running-held, same-address, size-of, state-set, within-rows}
+use Rattle.mq_held.proofs.RestartedTimers.{moment-held, not_vacant, timer-held}
+use Rattle.mq_held.proofs.StoredEdits.{schedules-read, schedules_fit, schedules_part}
+use Rattle.mq_held.proofs.held_groups.HeldGroups.ask.Goals as goal
+
+pub row-row-requires : goal.row-row-requires
+row-row-requires g c =
+    record { number = within-rows g.K.Key.number c.self.invariant.0 c.self.view_is c.args.number c.requires.number }
+
+pub find-requires : goal.find-requires
+find-requires g c =
+    let number = g.K.Key.number in
+    let known = c.self.invariant.0 in
+    let was = c.self.view_is in
+    let n = c.args.number in
+    let timing = c.args.timing.now in
+    let now = c.args.now in
+    let source = c.args.source in
+    let rows_within = within-rows number known was n c.requires.number in
+    let row = get_or c.self.inside.sources.rows n [] in
+    let up = known.rows_ascend n [] rows_within in
+    record { ascending = subst (IsAscending (number_in number)) (sym c.row-row.ensures.cells) up }
+
+pub returns-in_default-clause-there : goal.returns-in_default-clause-there
+returns-in_default-clause-there g c address has =
+    let number = g.K.Key.number in
+    let known = c.self.invariant.0 in
+    let was = c.self.view_is in
+    let n = c.args.number in
+    let timing = c.args.timing.now in
+    let now = c.args.now in
+    let source = c.args.source in
+    let rows_within = within-rows number known was n c.requires.number in
+    let row = get_or c.self.inside.sources.rows n [] in
+    let up = known.rows_ascend n [] rows_within in
+    let absent = rw c.row-row.ensures.cells at c.in_default.ensures.member in
+    sym (ap (λ (e : ScheduledGroup). is_some (timer_at e.group (number source))) (group-of number known was has) ∙ ap is_some (get-absent number row (number source) absent))
+
+pub returns-in_default-clause-groups : goal.returns-in_default-clause-groups
+returns-in_default-clause-groups g c address has =
+    let number = g.K.Key.number in
+    let known = c.self.invariant.0 in
+    let was = c.self.view_is in
+    let n = c.args.number in
+    let timing = c.args.timing.now in
+    let now = c.args.now in
+    let source = c.args.source in
+    let rows_within = within-rows number known was n c.requires.number in
+    let row = get_or c.self.inside.sources.rows n [] in
+    let up = known.rows_ascend n [] rows_within in
+    let absent = rw c.row-row.ensures.cells at c.in_default.ensures.member in
+    let same = asked_absent number (lowered_to timing now) (last_member_count timing) source row absent in
+    let stays = stays_unasked number timing now source (get_or c.self.inside.heads.items n no_head) row up (sym same.0) (sym same.1) in
+    let unasked = subst (λ (e : ScheduledGroup). one_asked timing now (number source) e ≡ e) (sym (group-of number known was has)) stays in
+    let groups = unasked_groups c.args.self.now.groups address (number source) timing now (contained number known was has) (c.requires.quiet address has) unasked in
+    λ i. let s : HeldState = record c.args.self.now { groups = groups i } in s
+
+pub returns-in_default-clause-sent : goal.returns-in_default-clause-sent
+returns-in_default-clause-sent g c address has =
+    let number = g.K.Key.number in
+    let known = c.self.invariant.0 in
+    let was = c.self.view_is in
+    let n = c.args.number in
+    let timing = c.args.timing.now in
+    let now = c.args.now in
+    let source = c.args.source in
+    let rows_within = within-rows number known was n c.requires.number in
+    let row = get_or c.self.inside.sources.rows n [] in
+    let up = known.rows_ascend n [] rows_within in
+    let absent = rw c.row-row.ensures.cells at c.in_default.ensures.member in
+    let same = asked_absent number (lowered_to timing now) (last_member_count timing) source row absent in
+    let stays = stays_unasked number timing now source (get_or c.self.inside.heads.items n no_head) row up (sym same.0) (sym same.1) in
+    let unasked = subst (λ (e : ScheduledGroup). one_asked timing now (number source) e ≡ e) (sym (group-of number known was has)) stays in
+    unasked_sends c.args.self.now.groups address (number source) timing now (contained number known was has) (c.requires.quiet address has) unasked g.S.Sink.takes c.args.sink.now c.args.per_query
+
+pub returns-in_default-clause-spent : goal.returns-in_default-clause-spent
+returns-in_default-clause-spent g c address has =
+    let number = g.K.Key.number in
+    let known = c.self.invariant.0 in
+    let was = c.self.view_is in
+    let n = c.args.number in
+    let timing = c.args.timing.now in
+    let now = c.args.now in
+    let source = c.args.source in
+    let rows_within = within-rows number known was n c.requires.number in
+    let size = ap length c.row-row.ensures.cells ∙ sym (size-of number known was has) in
+    Spends-within _ _ c.find.ensures.spent (omega (arith, size)) (omega (arith, ap bitlen size))
+
+pub returns-then-not-runs_on-clause-there : goal.returns-then-not-runs_on-clause-there
+returns-then-not-runs_on-clause-there g c address has =
+    let number = g.K.Key.number in
+    let known = c.self.invariant.0 in
+    let was = c.self.view_is in
+    let n = c.args.number in
+    let timing = c.args.timing.now in
+    let now = c.args.now in
+    let source = c.args.source in
+    let rows_within = within-rows number known was n c.requires.number in
+    let row = get_or c.self.inside.sources.rows n [] in
+    let up = known.rows_ascend n [] rows_within in
+    let held = numbered number known was n c.requires.number in
+    let place = c.in-Ok.place in
+    let x = c.index-row-place.result in
+    let cells = c.row-row.ensures.cells in
+    let within : place < length row = omega (arith, c.in-Ok.ensures.found_in, ap length cells) in
+    let here : x ≡ get_or row place x = c.index-row-place.is ∙ ap (λ xs. get_or xs place x) cells in
+    let is : number x.address ≡ number source = ap (number_in number) c.index-row-place.is ∙ c.in-Ok.ensures.found x in
+    sym (ap (λ (e : ScheduledGroup). is_some (timer_at e.group (number source))) (group-of number known was has) ∙ ap is_some (timer-held number known n held rows_within place x within here (number source) is))
+
+pub returns-then-not-runs_on-clause-groups : goal.returns-then-not-runs_on-clause-groups
+returns-then-not-runs_on-clause-groups g c address has =
+    let number = g.K.Key.number in
+    let known = c.self.invariant.0 in
+    let was = c.self.view_is in
+    let n = c.args.number in
+    let timing = c.args.timing.now in
+    let now = c.args.now in
+    let source = c.args.source in
+    let rows_within = within-rows number known was n c.requires.number in
+    let row = get_or c.self.inside.sources.rows n [] in
+    let up = known.rows_ascend n [] rows_within in
+    let held = numbered number known was n c.requires.number in
+    let place = c.in-Ok.place in
+    let x = c.index-row-place.result in
+    let cells = c.row-row.ensures.cells in
+    let within : place < length row = omega (arith, c.in-Ok.ensures.found_in, ap length cells) in
+    let here : x ≡ get_or row place x = c.index-row-place.is ∙ ap (λ xs. get_or xs place x) cells in
+    let is : number x.address ≡ number source = ap (number_in number) c.index-row-place.is ∙ c.in-Ok.ensures.found x in
+    let limit : c.after-limit.result ≡ lowered_to timing now = c.after-limit.ensures.later ∙ ap (λ k. now + k) c.last_member_time.ensures in
+    let below : false ≡ is_ahead (lowered_to timing now) (deadline_of (Some x.timer)) = sym c.if-not-runs_on.true ∙ c.runs_on.ensures.answer ∙ (λ i. is_ahead (limit i) (c.deadline.ensures i)) ∙ ap (λ (x : Source _). is_ahead (lowered_to timing now) (deadline_of (Some x.timer))) (sym c.index-row-place.is) in
+    let stays = stays_unasked number timing now source (get_or c.self.inside.heads.items n no_head) row up (same_where_below number timing now source row up place x within here is below) (some_where_above number timing now source row up place x within here is false below) in
+    let unasked = subst (λ (e : ScheduledGroup). one_asked timing now (number source) e ≡ e) (sym (group-of number known was has)) stays in
+    let groups = unasked_groups c.args.self.now.groups address (number source) timing now (contained number known was has) (c.requires.quiet address has) unasked in
+    λ i. let s : HeldState = record c.args.self.now { groups = groups i } in s
+
+pub returns-then-not-runs_on-clause-sent : goal.returns-then-not-runs_on-clause-sent
+returns-then-not-runs_on-clause-sent g c address has =
+    let number = g.K.Key.number in
+    let known = c.self.invariant.0 in
+    let was = c.self.view_is in
+    let n = c.args.number in
+    let timing = c.args.timing.now in
+    let now = c.args.now in
+    let source = c.args.source in
+    let rows_within = within-rows number known was n c.requires.number in
+    let row = get_or c.self.inside.sources.rows n [] in
+    let up = known.rows_ascend n [] rows_within in
+    let held = numbered number known was n c.requires.number in
+    let place = c.in-Ok.place in
+    let x = c.index-row-place.result in
+    let cells = c.row-row.ensures.cells in
+    let within : place < length row = omega (arith, c.in-Ok.ensures.found_in, ap length cells) in
+    let here : x ≡ get_or row place x = c.index-row-place.is ∙ ap (λ xs. get_or xs place x) cells in
+    let is : number x.address ≡ number source = ap (number_in number) c.index-row-place.is ∙ c.in-Ok.ensures.found x in
+    let limit : c.after-limit.result ≡ lowered_to timing now = c.after-limit.ensures.later ∙ ap (λ k. now + k) c.last_member_time.ensures in
+    let below : false ≡ is_ahead (lowered_to timing now) (deadline_of (Some x.timer)) = sym c.if-not-runs_on.true ∙ c.runs_on.ensures.answer ∙ (λ i. is_ahead (limit i) (c.deadline.ensures i)) ∙ ap (λ (x : Source _). is_ahead (lowered_to timing now) (deadline_of (Some x.timer))) (sym c.index-row-place.is) in
+    let stays = stays_unasked number timing now source (get_or c.self.inside.heads.items n no_head) row up (same_where_below number timing now source row up place x within here is below) (some_where_above number timing now source row up place x within here is false below) in
+    let unasked = subst (λ (e : ScheduledGroup). one_asked timing now (number source) e ≡ e) (sym (group-of number known was has)) stays in
+    unasked_sends c.args.self.now.groups address (number source) timing now (contained number known was has) (c.requires.quiet address has) unasked g.S.Sink.takes c.args.sink.now c.args.per_query
+
+pub returns-then-not-runs_on-clause-spent : goal.returns-then-not-runs_on-clause-spent
+returns-then-not-runs_on-clause-spent g c address has =
+    let number = g.K.Key.number in
+    let known = c.self.invariant.0 in
+    let was = c.self.view_is in
+    let n = c.args.number in
+    let timing = c.args.timing.now in
+    let now = c.args.now in
+    let source = c.args.source in
+    let rows_within = within-rows number known was n c.requires.number in
+    let size = ap length c.row-row.ensures.cells ∙ sym (size-of number known was has) in
+    Spends-join_within _ _ c.find.ensures.spent c.runs_on.ensures.spent (omega (arith, size)) (omega (arith, ap bitlen size))
+
+pub ask_in_row-requires-clause-ascending : goal.ask_in_row-requires-clause-ascending
+ask_in_row-requires-clause-ascending g c =
+    let number = g.K.Key.number in
+    let known = c.self.invariant.0 in
+    let was = c.self.view_is in
+    let n = c.args.number in
+    let timing = c.args.timing.now in
+    let now = c.args.now in
+    let source = c.args.source in
+    let rows_within = within-rows number known was n c.requires.number in
+    let row = get_or c.self.inside.sources.rows n [] in
+    let up = known.rows_ascend n [] rows_within in
+    up
+
+pub row-row-requires-2 : goal.row-row-requires-2
+row-row-requires-2 g c =
+    let number = g.K.Key.number in
+    let known = c.self.invariant.0 in
+    let was = c.self.view_is in
+    let n = c.args.number in
+    let timing = c.args.timing.now in
+    let now = c.args.now in
+    let source = c.args.source in
+    let rows_within = within-rows number known was n c.requires.number in
+    let row = get_or c.self.inside.sources.rows n [] in
+    let up = known.rows_ascend n [] rows_within in
+    let held = numbered number known was n c.requires.number in
+    let place = c.in-Ok.place in
+    let x = c.index-row-place.result in
+    let cells = c.row-row.ensures.cells in
+    let within : place < length row = omega (arith, c.in-Ok.ensures.found_in, ap length cells) in
+    let here : x ≡ get_or row place x = c.index-row-place.is ∙ ap (λ xs. get_or xs place x) cells in
+    let is : number x.address ≡ number source = ap (number_in number) c.index-row-place.is ∙ c.in-Ok.ensures.found x in
+    let limit : c.after-limit.result ≡ lowered_to timing now = c.after-limit.ensures.later ∙ ap (λ k. now + k) c.last_member_time.ensures in
+    let first = c.ask_in_row.ensures.rows source (λ d. subst (λ xs. number (get_or xs place d).address ≡ number source) cells (c.in-Ok.ensures.found d)) in
+    let s0 = c.self.inside.sources in
+    let s1 = c.ask_in_row.new.rows in
+    let count = c.last_member_count-count in
+    record { number = within_asked number timing now source n s0 s1 s1 rows_within c.after-limit.result count.result limit count.ensures first }
+
+pub send_waiting-places-requires-clause-ascending : goal.send_waiting-places-requires-clause-ascending
+send_waiting-places-requires-clause-ascending g c =
+    let number = g.K.Key.number in
+    let known = c.self.invariant.0 in
+    let was = c.self.view_is in
+    let n = c.args.number in
+    let timing = c.args.timing.now in
+    let now = c.args.now in
+    let source = c.args.source in
+    let rows_within = within-rows number known was n c.requires.number in
+    let row = get_or c.self.inside.sources.rows n [] in
+    let up = known.rows_ascend n [] rows_within in
+    let held = numbered number known was n c.requires.number in
+    let place = c.in-Ok.place in
+    let x = c.index-row-place.result in
+    let cells = c.row-row.ensures.cells in
+    let within : place < length row = omega (arith, c.in-Ok.ensures.found_in, ap length cells) in
+    let here : x ≡ get_or row place x = c.index-row-place.is ∙ ap (λ xs. get_or xs place x) cells in
+    let is : number x.address ≡ number source = ap (number_in number) c.index-row-place.is ∙ c.in-Ok.ensures.found x in
+    let limit : c.after-limit.result ≡ lowered_to timing now = c.after-limit.ensures.later ∙ ap (λ k. now + k) c.last_member_time.ensures in
+    let first = c.ask_in_row.ensures.rows source (λ d. subst (λ xs. number (get_or xs place d).address ≡ number source) cells (c.in-Ok.ensures.found d)) in
+    let s0 = c.self.inside.sources in
+    let s1 = c.ask_in_row.new.rows in
+    let count = c.last_member_count-count in
+    let row_is = c.row-row-2.ensures.cells ∙ row_asked_is number timing now source n s0 s1 s1 rows_within c.after-limit.result count.result limit count.ensures first in
+    subst (IsAscending (number_in number)) (sym row_is) (up_asked number timing now source (get_or c.self.inside.heads.items n no_head) row up)
+
+pub count_in_row-left-requires-clause-number : goal.count_in_row-left-requires-clause-number
+count_in_row-left-requires-clause-number g c =
+    let number = g.K.Key.number in
+    let known = c.self.invariant.0 in
+    let was = c.self.view_is in
+    let n = c.args.number in
+    let timing = c.args.timing.now in
+    let now = c.args.now in
+    let source = c.args.source in
+    let rows_within = within-rows number known was n c.requires.number in
+    let row = get_or c.self.inside.sources.rows n [] in
+    let up = known.rows_ascend n [] rows_within in
+    let held = numbered number known was n c.requires.number in
+    let place = c.in-Ok.place in
+    let x = c.index-row-place.result in
+    let cells = c.row-row.ensures.cells in
+    let within : place < length row = omega (arith, c.in-Ok.ensures.found_in, ap length cells) in
+    let here : x ≡ get_or row place x = c.index-row-place.is ∙ ap (λ xs. get_or xs place x) cells in
+    let is : number x.address ≡ number source = ap (number_in number) c.index-row-place.is ∙ c.in-Ok.ensures.found x in
+    let limit : c.after-limit.result ≡ lowered_to timing now = c.after-limit.ensures.later ∙ ap (λ k. now + k) c.last_member_time.ensures in
+    let first = c.ask_in_row.ensures.rows source (λ d. subst (λ xs. number (get_or xs place d).address ≡ number source) cells (c.in-Ok.ensures.found d)) in
+    let s0 = c.self.inside.sources in
+    let s1 = c.ask_in_row.new.rows in
+    let count = c.last_member_count-count in
+    within_asked number timing now source n s0 s1 s1 rows_within c.after-limit.result count.result limit count.ensures first
+
+pub overflow_sub-self : goal.overflow_sub-self
+overflow_sub-self g c =
+    let number = g.K.Key.number in
+    let known = c.self.invariant.0 in
+    let was = c.self.view_is in
+    let n = c.args.number in
+    let timing = c.args.timing.now in
+    let now = c.args.now in
+    let source = c.args.source in
+    let rows_within = within-rows number known was n c.requires.number in
+    let held = numbered number known was n c.requires.number in
+    let in_heads : n < length c.self.inside.heads.items = omega (arith, rows_within, c.self.invariant.2, c.self.invariant.3) in
+    let part = schedules_part number known n held in
+    let own = schedules-read number c.self.inside.heads.items c.self.inside.sources.rows n c.index.result.now in_heads c.index.ensures in
+    omega (arith, c.count_schedules-before.ensures, part, own)
+
+-- a group has two schedules at most
+two_at_most : (a b : Bool) → one_if a + one_if b ≤ 2
+two_at_most true true = omega arith
+two_at_most true false = omega arith
+two_at_most false true = omega arith
+two_at_most false false = omega arith
+
+pub overflow_add-self : goal.overflow_add-self
+overflow_add-self g c =
+    let few = schedules_fit g.K.Key.number c.self.invariant.0 in
+    let two = two_at_most (is_some c.count_sources.new.self.group_query) (is_some c.count_sources.new.self.sources_due) in
+    omega (arith, few, two, c.count_schedules.ensures, c.self.invariant.5, c.self.invariant.6)
+
+pub row-row-requires-3 : goal.row-row-requires-3
+row-row-requires-3 g c =
+    let number = g.K.Key.number in
+    let known = c.self.invariant.0 in
+    let was = c.self.view_is in
+    let n = c.args.number in
+    let timing = c.args.timing.now in
+    let now = c.args.now in
+    let source = c.args.source in
+    let rows_within = within-rows number known was n c.requires.number in
+    let row = get_or c.self.inside.sources.rows n [] in
+    let up = known.rows_ascend n [] rows_within in
+    let held = numbered number known was n c.requires.number in
+    let place = c.in-Ok.place in
+    let x = c.index-row-place.result in
+    let cells = c.row-row.ensures.cells in
+    let within : place < length row = omega (arith, c.in-Ok.ensures.found_in, ap length cells) in
+    let here : x ≡ get_or row place x = c.index-row-place.is ∙ ap (λ xs. get_or xs place x) cells in
+    let is : number x.address ≡ number source = ap (number_in number) c.index-row-place.is ∙ c.in-Ok.ensures.found x in
+    let limit : c.after-limit.result ≡ lowered_to timing now = c.after-limit.ensures.later ∙ ap (λ k. now + k) c.last_member_time.ensures in
+    let first = c.ask_in_row.ensures.rows source (λ d. subst (λ xs. number (get_or xs place d).address ≡ number source) cells (c.in-Ok.ensures.found d)) in
+    let s0 = c.self.inside.sources in
+    let s1 = c.ask_in_row.new.rows in
+    let count = c.last_member_count-count in
+    let s2 = c.count_in_row-left.new.rows in
+    let counted = c.count_in_row-left.ensures.rows in
+    let size = length_counted number timing now source n s0 s1 s2 rows_within c.after-limit.result count.result limit count.ensures first counted in
+    record { number = omega (arith, size, rows_within) }
+
+pub earliest_stored-due-requires-clause-ascending : goal.earliest_stored-due-requires-clause-ascending
+earliest_stored-due-requires-clause-ascending g c =
+    let number = g.K.Key.number in
+    let known = c.self.invariant.0 in
+    let was = c.self.view_is in
+    let n = c.args.number in
+    let timing = c.args.timing.now in
+    let now = c.args.now in
+    let source = c.args.source in
+    let rows_within = within-rows number known was n c.requires.number in
+    let row = get_or c.self.inside.sources.rows n [] in
+    let up = known.rows_ascend n [] rows_within in
+    let held = numbered number known was n c.requires.number in
+    let place = c.in-Ok.place in
+    let x = c.index-row-place.result in
+    let cells = c.row-row.ensures.cells in
+    let within : place < length row = omega (arith, c.in-Ok.ensures.found_in, ap length cells) in
+    let here : x ≡ get_or row place x = c.index-row-place.is ∙ ap (λ xs. get_or xs place x) cells in
+    let is : number x.address ≡ number source = ap (number_in number) c.index-row-place.is ∙ c.in-Ok.ensures.found x in
+    let limit : c.after-limit.result ≡ lowered_to timing now = c.after-limit.ensures.later ∙ ap (λ k. now + k) c.last_member_time.ensures in
+    let first = c.ask_in_row.ensures.rows source (λ d. subst (λ xs. number (get_or xs place d).address ≡ number source) cells (c.in-Ok.ensures.found d)) in
+    let s0 = c.self.inside.sources in
+    let s1 = c.ask_in_row.new.rows in
+    let count = c.last_member_count-count in
+    let s2 = c.count_in_row-left.new.rows in
+    let counted = c.count_in_row-left.ensures.rows in
+    let row_asked = row_asked_is number timing now source n s0 s1 s2 rows_within c.after-limit.result count.result limit count.ensures first in
+    let row_then = c.row-row-3.ensures.cells ∙ row_counted_is number timing now source n s0 s1 s2 rows_within c.after-limit.result count.result limit count.ensures first counted in
+    let rows_then = rows_counted number timing now source n s0 s1 s2 rows_within c.after-limit.result count.result limit count.ensures first counted in
+    subst (IsAscending (number_in number)) (sym row_then) (up_counted number timing now source (get_or c.self.inside.heads.items n no_head) row up)
+
+pub earliest_stored-due-requires-clause-held : goal.earliest_stored-due-requires-clause-held
+earliest_stored-due-requires-clause-held g c =
+    let number = g.K.Key.number in
+    let known = c.self.invariant.0 in
+    let was = c.self.view_is in
+    let n = c.args.number in
+    let timing = c.args.timing.now in
+    let now = c.args.now in
+    let source = c.args.source in
+    let rows_within = within-rows number known was n c.requires.number in
+    let row = get_or c.self.inside.sources.rows n [] in
+    let up = known.rows_ascend n [] rows_within in
+    let held = numbered number known was n c.requires.number in
+    let place = c.in-Ok.place in
+    let x = c.index-row-place.result in
+    let cells = c.row-row.ensures.cells in
+    let within : place < length row = omega (arith, c.in-Ok.ensures.found_in, ap length cells) in
+    let here : x ≡ get_or row place x = c.index-row-place.is ∙ ap (λ xs. get_or xs place x) cells in
+    let is : number x.address ≡ number source = ap (number_in number) c.index-row-place.is ∙ c.in-Ok.ensures.found x in
+    let limit : c.after-limit.result ≡ lowered_to timing now = c.after-limit.ensures.later ∙ ap (λ k. now + k) c.last_member_time.ensures in
+    let above : true ≡ is_ahead (lowered_to timing now) (deadline_of (Some x.timer)) = sym c.if-not-runs_on.false ∙ c.runs_on.ensures.answer ∙ (λ i. is_ahead (limit i) (c.deadline.ensures i)) ∙ ap (λ (x : Source _). is_ahead (lowered_to timing now) (deadline_of (Some x.timer))) (sym c.index-row-place.is) in
+    let some = some_where_above number timing now source row up place x within here is true above in
+    let first = c.ask_in_row.ensures.rows source (λ d. subst (λ xs. number (get_or xs place d).address ≡ number source) cells (c.in-Ok.ensures.found d)) in
+    let s0 = c.self.inside.sources in
+    let s1 = c.ask_in_row.new.rows in
+    let count = c.last_member_count-count in
+    let s2 = c.count_in_row-left.new.rows in
+    let counted = c.count_in_row-left.ensures.rows in
+    let found = address-of number known was n c.requires.number in
+    let quiet = subst (λ (e : ScheduledGroup). IsQuietAt now e.schedule) (group-of number known was found.1) (c.requires.quiet found.0 found.1) in
+    let other = not_vacant number known n held rows_within place x within here in
+    let h = c.index.result.now in
+    let in_heads : n < length c.self.inside.heads.items = omega (arith, rows_within, c.self.invariant.2, c.self.invariant.3) in
+    let row_asked = row_asked_is number timing now source n s0 s1 s2 rows_within c.after-limit.result count.result limit count.ensures first in
+    let row_then = c.row-row-3.ensures.cells ∙ row_counted_is number timing now source n s0 s1 s2 rows_within c.after-limit.result count.result limit count.ensures first counted in
+    let rows_then = rows_counted number timing now source n s0 s1 s2 rows_within c.after-limit.result count.result limit count.ensures first counted in
+    subst (λ (xs : List (Source _)). IsWellFormed (state_of h.head (timers_in number xs))) (sym row_then) (formed_after number known n held rows_within timing now source h in_heads c.index.ensures other some quiet)
+
+pub change-requires : goal.change-requires
+change-requires g c =
+    let number = g.K.Key.number in
+    let known = c.self.invariant.0 in
+    let was = c.self.view_is in
+    let n = c.args.number in
+    let timing = c.args.timing.now in
+    let now = c.args.now in
+    let source = c.args.source in
+    let rows_within = within-rows number known was n c.requires.number in
+    let row = get_or c.self.inside.sources.rows n [] in
+    let up = known.rows_ascend n [] rows_within in
+    let held = numbered number known was n c.requires.number in
+    let place = c.in-Ok.place in
+    let x = c.index-row-place.result in
+    let cells = c.row-row.ensures.cells in
+    let within : place < length row = omega (arith, c.in-Ok.ensures.found_in, ap length cells) in
+    let here : x ≡ get_or row place x = c.index-row-place.is ∙ ap (λ xs. get_or xs place x) cells in
+    let is : number x.address ≡ number source = ap (number_in number) c.index-row-place.is ∙ c.in-Ok.ensures.found x in
+    record { there = moment-held number known n held rows_within place x within here }
+
+pub invariant_of-self : goal.invariant_of-self
+invariant_of-self g c =
+    let number = g.K.Key.number in
+    let known = c.self.invariant.0 in
+    let was = c.self.view_is in
+    let n = c.args.number in
+    let timing = c.args.timing.now in
+    let now = c.args.now in
+    let source = c.args.source in
+    let rows_within = within-rows number known was n c.requires.number in
+    let row = get_or c.self.inside.sources.rows n [] in
+    let up = known.rows_ascend n [] rows_within in
+    let held = numbered number known was n c.requires.number in
+    let place = c.in-Ok.place in
+    let x = c.index-row-place.result in
+    let cells = c.row-row.ensures.cells in
+    let within : place < length row = omega (arith, c.in-Ok.ensures.found_in, ap length cells) in
+    let here : x ≡ get_or row place x = c.index-row-place.is ∙ ap (λ xs. get_or xs place x) cells in
+    let is : number x.address ≡ number source = ap (number_in number) c.index-row-place.is ∙ c.in-Ok.ensures.found x in
+    let limit : c.after-limit.result ≡ lowered_to timing now = c.after-limit.ensures.later ∙ ap (λ k. now + k) c.last_member_time.ensures in
+    let above : true ≡ is_ahead (lowered_to timing now) (deadline_of (Some x.timer)) = sym c.if-not-runs_on.false ∙ c.runs_on.ensures.answer ∙ (λ i. is_ahead (limit i) (c.deadline.ensures i)) ∙ ap (λ (x : Source _). is_ahead (lowered_to timing now) (deadline_of (Some x.timer))) (sym c.index-row-place.is) in
+    let some = some_where_above number timing now source row up place x within here is true above in
+    let first = c.ask_in_row.ensures.rows source (λ d. subst (λ xs. number (get_or xs place d).address ≡ number source) cells (c.in-Ok.ensures.found d)) in
+    let s0 = c.self.inside.sources in
+    let s1 = c.ask_in_row.new.rows in
+    let count = c.last_member_count-count in
+    let s2 = c.count_in_row-left.new.rows in
+    let counted = c.count_in_row-left.ensures.rows in
+    let found = address-of number known was n c.requires.number in
+    let quiet = subst (λ (e : ScheduledGroup). IsQuietAt now e.schedule) (group-of number known was found.1) (c.requires.quiet found.0 found.1) in
+    let other = not_vacant number known n held rows_within place x within here in
+    let h = c.index.result.now in
+    let in_heads : n < length c.self.inside.heads.items = omega (arith, rows_within, c.self.invariant.2, c.self.invariant.3) in
+    let row_asked = row_asked_is number timing now source n s0 s1 s2 rows_within c.after-limit.result count.result limit count.ensures first in
+    let row_then = c.row-row-3.ensures.cells ∙ row_counted_is number timing now source n s0 s1 s2 rows_within c.after-limit.result count.result limit count.ensures first counted in
+    let rows_then = rows_counted number timing now source n s0 s1 s2 rows_within c.after-limit.result count.result limit count.ensures first counted in
+    let left : c.count_in_row-left.result ≡ list_any item_has_sendings (row_left number known n held rows_within timing now source h in_heads c.index.ensures other some quiet) = c.count_in_row-left.ensures.left ∙ ap (λ xs. list_any item_has_sendings (list_map item_counted xs)) row_asked in
+    let next : c.count_sources.new.self ≡ record h.schedule { sources_due = next_due number timing now source h row up } = c.count_sources.ensures ∙ (λ i. let s : ScheduleState = record h.schedule { sources_due = cond (left i) (Some (now + timing.last_member_interval)) None } in s) in
+    let head_is : record { head = h.head; schedule = c.count_sources.new.self } ≡ head_counted number known n held rows_within timing now source h in_heads c.index.ensures other some quiet = λ i. let x : ScheduledHead = record { head = h.head; schedule = next i } in x in
+    let earliest = (λ i. earliest_of (moments_of (group_of number (sym head_is i) (sym row_then i)))) ∙ c.earliest_stored-due.ensures.earliest in
+    let all = IsStored-asked number known n held rows_within timing now source h in_heads c.index.ensures other some quiet c.earliest_stored-due.result earliest in
+    let own = schedules-read number c.self.inside.heads.items s0.rows n h in_heads c.index.ensures in
+    let before = sym (c.count_schedules-before.ensures ∙ own) in
+    let after = ap (λ (s : ScheduleState). one_if (is_some s.group_query) + one_if (is_some s.sources_due)) (sym next) ∙ sym c.count_schedules.ensures in (
+      subst (λ (p : (ScheduledHead × NumberedRowsState (Source _)) × (NumberedMomentsState × ℕ)). IsStored number c.self.inside.order.items (set c.self.inside.heads.items n p.0.0) p.0.1.rows p.1.0.moments p.1.1)
+          (λ i. ((sym head_is i, sym rows_then i), (sym c.change.ensures.moments i, c.self.inside.scheduled - before i + after i))) all,
+      c.self.invariant.1 ∙ ap (λ (s : NumberedRowsState (Source _)). s.cell_limit) (sym rows_then),
+      ap (λ (s : NumberedRowsState (Source _)). length s.rows) rows_then ∙ length-set s0.rows n (row_left number known n held rows_within timing now source h in_heads c.index.ensures other some quiet) ∙ c.self.invariant.2,
+      length-set c.self.inside.heads.items n _ ∙ c.self.invariant.3,
+      ap (λ (s : NumberedMomentsState). s.room) c.change.ensures.moments ∙ c.self.invariant.4,
+      c.self.invariant.5,
+      c.self.invariant.6,
+    )
+
+pub returns-clause-there : goal.returns-clause-there
+returns-clause-there g c address has =
+    let number = g.K.Key.number in
+    let known = c.self.invariant.0 in
+    let was = c.self.view_is in
+    let n = c.args.number in
+    let timing = c.args.timing.now in
+    let now = c.args.now in
+    let source = c.args.source in
+    let rows_within = within-rows number known was n c.requires.number in
+    let row = get_or c.self.inside.sources.rows n [] in
+    let up = known.rows_ascend n [] rows_within in
+    let held = numbered number known was n c.requires.number in
+    let place = c.in-Ok.place in
+    let x = c.index-row-place.result in
+    let cells = c.row-row.ensures.cells in
+    let within : place < length row = omega (arith, c.in-Ok.ensures.found_in, ap length cells) in
+    let here : x ≡ get_or row place x = c.index-row-place.is ∙ ap (λ xs. get_or xs place x) cells in
+    let is : number x.address ≡ number source = ap (number_in number) c.index-row-place.is ∙ c.in-Ok.ensures.found x in
+    sym (ap (λ (e : ScheduledGroup). is_some (timer_at e.group (number source))) (group-of number known was has) ∙ ap is_some (timer-held number known n held rows_within place x within here (number source) is))
+
+pub returns-clause-groups : goal.returns-clause-groups
+returns-clause-groups g c address has =
+    let number = g.K.Key.number in
+    let known = c.self.invariant.0 in
+    let was = c.self.view_is in
+    let n = c.args.number in
+    let timing = c.args.timing.now in
+    let now = c.args.now in
+    let source = c.args.source in
+    let rows_within = within-rows number known was n c.requires.number in
+    let row = get_or c.self.inside.sources.rows n [] in
+    let up = known.rows_ascend n [] rows_within in
+    let held = numbered number known was n c.requires.number in
+    let place = c.in-Ok.place in
+    let x = c.index-row-place.result in
+    let cells = c.row-row.ensures.cells in
+    let within : place < length row = omega (arith, c.in-Ok.ensures.found_in, ap length cells) in
+    let here : x ≡ get_or row place x = c.index-row-place.is ∙ ap (λ xs. get_or xs place x) cells in
+    let is : number x.address ≡ number source = ap (number_in number) c.index-row-place.is ∙ c.in-Ok.ensures.found x in
+    let limit : c.after-limit.result ≡ lowered_to timing now = c.after-limit.ensures.later ∙ ap (λ k. now + k) c.last_member_time.ensures in
+    let above : true ≡ is_ahead (lowered_to timing now) (deadline_of (Some x.timer)) = sym c.if-not-runs_on.false ∙ c.runs_on.ensures.answer ∙ (λ i. is_ahead (limit i) (c.deadline.ensures i)) ∙ ap (λ (x : Source _). is_ahead (lowered_to timing now) (deadline_of (Some x.timer))) (sym c.index-row-place.is) in
+    let some = some_where_above number timing now source row up place x within here is true above in
+    let first = c.ask_in_row.ensures.rows source (λ d. subst (λ xs. number (get_or xs place d).address ≡ number source) cells (c.in-Ok.ensures.found d)) in
+    let s0 = c.self.inside.sources in
+    let s1 = c.ask_in_row.new.rows in
+    let count = c.last_member_count-count in
+    let s2 = c.count_in_row-left.new.rows in
+    let counted = c.count_in_row-left.ensures.rows in
+    let found = address-of number known was n c.requires.number in
+    let quiet = subst (λ (e : ScheduledGroup). IsQuietAt now e.schedule) (group-of number known was found.1) (c.requires.quiet found.0 found.1) in
+    let other = not_vacant number known n held rows_within place x within here in
+    let h = c.index.result.now in
+    let in_heads : n < length c.self.inside.heads.items = omega (arith, rows_within, c.self.invariant.2, c.self.invariant.3) in
+    let row_asked = row_asked_is number timing now source n s0 s1 s2 rows_within c.after-limit.result count.result limit count.ensures first in
+    let row_then = c.row-row-3.ensures.cells ∙ row_counted_is number timing now source n s0 s1 s2 rows_within c.after-limit.result count.result limit count.ensures first counted in
+    let rows_then = rows_counted number timing now source n s0 s1 s2 rows_within c.after-limit.result count.result limit count.ensures first counted in
+    let left : c.count_in_row-left.result ≡ list_any item_has_sendings (row_left number known n held rows_within timing now source h in_heads c.index.ensures other some quiet) = c.count_in_row-left.ensures.left ∙ ap (λ xs. list_any item_has_sendings (list_map item_counted xs)) row_asked in
+    let next : c.count_sources.new.self ≡ record h.schedule { sources_due = next_due number timing now source h row up } = c.count_sources.ensures ∙ (λ i. let s : ScheduleState = record h.schedule { sources_due = cond (left i) (Some (now + timing.last_member_interval)) None } in s) in
+    let head_is : record { head = h.head; schedule = c.count_sources.new.self } ≡ head_counted number known n held rows_within timing now source h in_heads c.index.ensures other some quiet = λ i. let x : ScheduledHead = record { head = h.head; schedule = next i } in x in
+    let e = after_round timing now (one_asked timing now (number source) (group_at c.args.self.now.groups address)) in
+    let head = head_counted number known n held rows_within timing now source h in_heads c.index.ensures other some quiet in
+    let row_kept = row_left number known n held rows_within timing now source h in_heads c.index.ensures other some quiet in
+    let group_is : group_of number head row_kept ≡ e = group_after number known n held rows_within timing now source h in_heads c.index.ensures other some quiet ∙ ap (λ e. after_round timing now (one_asked timing now (number source) e)) (sym (group-of number known was has)) in
+    (λ i. let s : HeldState = record { groups = groups_by number c.self.inside.order.items (set c.self.inside.heads.items n (head_is i)) (rows_then i).rows; order = c.self.inside.order; source_room = c.self.inside.source_room; ahead = (rows_then i).ahead } in s)
+    ∙ state-set number known was head row_kept e s0.ahead c.args.self.now.ahead has in_heads group_is (ahead_is number known was)
+
+pub returns-clause-sent : goal.returns-clause-sent
+returns-clause-sent g c address has =
+    let number = g.K.Key.number in
+    let known = c.self.invariant.0 in
+    let was = c.self.view_is in
+    let n = c.args.number in
+    let timing = c.args.timing.now in
+    let now = c.args.now in
+    let source = c.args.source in
+    let rows_within = within-rows number known was n c.requires.number in
+    let row = get_or c.self.inside.sources.rows n [] in
+    let up = known.rows_ascend n [] rows_within in
+    let held = numbered number known was n c.requires.number in
+    let place = c.in-Ok.place in
+    let x = c.index-row-place.result in
+    let cells = c.row-row.ensures.cells in
+    let within : place < length row = omega (arith, c.in-Ok.ensures.found_in, ap length cells) in
+    let here : x ≡ get_or row place x = c.index-row-place.is ∙ ap (λ xs. get_or xs place x) cells in
+    let is : number x.address ≡ number source = ap (number_in number) c.index-row-place.is ∙ c.in-Ok.ensures.found x in
+    let limit : c.after-limit.result ≡ lowered_to timing now = c.after-limit.ensures.later ∙ ap (λ k. now + k) c.last_member_time.ensures in
+    let above : true ≡ is_ahead (lowered_to timing now) (deadline_of (Some x.timer)) = sym c.if-not-runs_on.false ∙ c.runs_on.ensures.answer ∙ (λ i. is_ahead (limit i) (c.deadline.ensures i)) ∙ ap (λ (x : Source _). is_ahead (lowered_to timing now) (deadline_of (Some x.timer))) (sym c.index-row-place.is) in
+    let some = some_where_above number timing now source row up place x within here is true above in
+    let first = c.ask_in_row.ensures.rows source (λ d. subst (λ xs. number (get_or xs place d).address ≡ number source) cells (c.in-Ok.ensures.found d)) in
+    let s0 = c.self.inside.sources in
+    let s1 = c.ask_in_row.new.rows in
+    let count = c.last_member_count-count in
+    let found = address-of number known was n c.requires.number in
+    let quiet = subst (λ (e : ScheduledGroup). IsQuietAt now e.schedule) (group-of number known was found.1) (c.requires.quiet found.0 found.1) in
+    let other = not_vacant number known n held rows_within place x within here in
+    let h = c.index.result.now in
+    let in_heads : n < length c.self.inside.heads.items = omega (arith, rows_within, c.self.invariant.2, c.self.invariant.3) in
+    let row_is = c.row-row-2.ensures.cells ∙ row_asked_is number timing now source n s0 s1 s1 rows_within c.after-limit.result count.result limit count.ensures first in
+    let at = same-address number known was (has-there number known was c.key-address.ensures) has in
+    let old = c.args.sink.now in
+    let new = c.send_waiting-places.new.sink in
+    subst (λ (e : ScheduledGroup). Sends g.S.Sink.takes old (messages_due c.args.per_query timing now address (one_asked timing now (number source) e)) new) (sym (group-of number known was has))
+    (sends_after number known n held rows_within timing now source h in_heads c.index.ensures other some quiet g.S.Sink.takes old new c.args.per_query address (λ e is.
+    subst (λ k. Sends g.S.Sink.takes old (waiting_messages c.args.per_query timing now k e) new) at (c.send_waiting-places.ensures.sent e (ap (timers_in number) row_is ∙ is))))
+
+pub returns-clause-spent : goal.returns-clause-spent
+returns-clause-spent g c address has =
+    let number = g.K.Key.number in
+    let known = c.self.invariant.0 in
+    let was = c.self.view_is in
+    let n = c.args.number in
+    let timing = c.args.timing.now in
+    let now = c.args.now in
+    let source = c.args.source in
+    let rows_within = within-rows number known was n c.requires.number in
+    let row = get_or c.self.inside.sources.rows n [] in
+    let up = known.rows_ascend n [] rows_within in
+    let held = numbered number known was n c.requires.number in
+    let place = c.in-Ok.place in
+    let x = c.index-row-place.result in
+    let cells = c.row-row.ensures.cells in
+    let within : place < length row = omega (arith, c.in-Ok.ensures.found_in, ap length cells) in
+    let here : x ≡ get_or row place x = c.index-row-place.is ∙ ap (λ xs. get_or xs place x) cells in
+    let is : number x.address ≡ number source = ap (number_in number) c.index-row-place.is ∙ c.in-Ok.ensures.found x in
+    let limit : c.after-limit.result ≡ lowered_to timing now = c.after-limit.ensures.later ∙ ap (λ k. now + k) c.last_member_time.ensures in
+    let first = c.ask_in_row.ensures.rows source (λ d. subst (λ xs. number (get_or xs place d).address ≡ number source) cells (c.in-Ok.ensures.found d)) in
+    let s0 = c.self.inside.sources in
+    let s1 = c.ask_in_row.new.rows in
+    let count = c.last_member_count-count in
+    let s2 = c.count_in_row-left.new.rows in
+    let counted = c.count_in_row-left.ensures.rows in
+    let row_asked = row_asked_is number timing now source n s0 s1 s2 rows_within c.after-limit.result count.result limit count.ensures first in
+    let row_then = c.row-row-3.ensures.cells ∙ row_counted_is number timing now source n s0 s1 s2 rows_within c.after-limit.result count.result limit count.ensures first counted in
+    let rows_then = rows_counted number timing now source n s0 s1 s2 rows_within c.after-limit.result count.result limit count.ensures first counted in
+    let row_is = c.row-row-2.ensures.cells ∙ row_asked in
+    let size = ap length cells ∙ sym (size-of number known was has) in
+    let size_asked = ap length row_is ∙ length-map row _ ∙ sym (size-of number known was has) in
+    let size_then = ap length row_then ∙ len_counted number timing now source (get_or c.self.inside.heads.items n no_head) row up ∙ sym (size-of number known was has) in
+    let digits = ap bitlen size in
+    let others = ap (λ k. bitlen (k - 1)) (running-held number known was) in
+    let looked = Spends-join c.find.ensures.spent c.runs_on.ensures.spent in
+    let sent = Spends-join looked c.send_waiting-places.ensures.spent in
+    let told = Spends-join sent c.earliest_stored-due.ensures.spent in
+    Spends-join_within _ _ told c.change.ensures.spent (omega (arith, size)) (omega (arith, size_asked, size_then, digits, others))
+
+pub returns-clause-moved : goal.returns-clause-moved
+returns-clause-moved g c address has =
+    let number = g.K.Key.number in
+    let known = c.self.invariant.0 in
+    let was = c.self.view_is in
+    let n = c.args.number in
+    let timing = c.args.timing.now in
+    let now = c.args.now in
+    let source = c.args.source in
+    let rows_within = within-rows number known was n c.requires.number in
+    let row = get_or c.self.inside.sources.rows n [] in
+    let up = known.rows_ascend n [] rows_within in
+    let held = numbered number known was n c.requires.number in
+    let place = c.in-Ok.place in
+    let x = c.index-row-place.result in
+    let cells = c.row-row.ensures.cells in
+    let within : place < length row = omega (arith, c.in-Ok.ensures.found_in, ap length cells) in
+    let here : x ≡ get_or row place x = c.index-row-place.is ∙ ap (λ xs. get_or xs place x) cells in
+    let is : number x.address ≡ number source = ap (number_in number) c.index-row-place.is ∙ c.in-Ok.ensures.found x in
+    let limit : c.after-limit.result ≡ lowered_to timing now = c.after-limit.ensures.later ∙ ap (λ k. now + k) c.last_member_time.ensures in
+    let first = c.ask_in_row.ensures.rows source (λ d. subst (λ xs. number (get_or xs place d).address ≡ number source) cells (c.in-Ok.ensures.found d)) in
+    let s0 = c.self.inside.sources in
+    let s1 = c.ask_in_row.new.rows in
+    let count = c.last_member_count-count in
+    let row_asked = row_asked_is number timing now source n s0 s1 s1 rows_within c.after-limit.result count.result limit count.ensures first in
+    let size = ap length row_asked ∙ length-map row _ ∙ sym (size-of number known was has) in
+    let others = ap (λ k. bitlen (k - 1)) (running-held number known was) in
+    let counted = Spends-join c.ask_in_row.ensures.moved c.count_in_row-left.ensures.moved in
+    Spends-join_within _ _ counted c.change.ensures.moves (omega arith) (omega (arith, size, others))

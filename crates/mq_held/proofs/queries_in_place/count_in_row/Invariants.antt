@@ -1,0 +1,17 @@
+use Rattle.std.proofs.Common.{◌≡◌, [], Some, length, take, drop, get_or, set}
+use Rattle.std.specs.List.{filter_map, list_any}
+use Rattle.mq_count.specs.Spending.{Spends}
+use Rattle.mq_table.specs.MadeSources.{item_counted}
+use Rattle.mq_table.specs.SendingPlaces.{item_has_sendings}
+use Rattle.mq_held.proofs.queries_in_place.count_in_row.Given as goal
+
+-- the places passed have what is made of their sources; those ahead, and the other rows, are as they were
+abbrev pub invariant-loop-place : goal.invariant-loop-place
+invariant-loop-place g l = record {
+  rows : l.rows ≡ record l.initial.rows { rows = set l.initial.rows.rows l.fn.number (get_or l.rows.rows l.fn.number []) };
+  len : length (get_or l.rows.rows l.fn.number []) ≡ length (get_or l.initial.rows.rows l.fn.number []);
+  made : take l.place (get_or l.rows.rows l.fn.number []) ≡ filter_map (λ x. Some (item_counted x)) (take l.place (get_or l.initial.rows.rows l.fn.number []));
+  rest : drop l.place (get_or l.rows.rows l.fn.number []) ≡ drop l.place (get_or l.initial.rows.rows l.fn.number []);
+  left : l.left ≡ list_any item_has_sendings (take l.place (get_or l.rows.rows l.fn.number []));
+  moved : Spends 0 l.place l.initial.moves l.moves;
+}

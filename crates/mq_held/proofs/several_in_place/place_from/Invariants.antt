@@ -1,0 +1,16 @@
+use Rattle.std.proofs.Common.{◌≤◌, length, ◌-◌}
+use Rattle.mq_count.specs.Spending.{Spends}
+use Rattle.mq_table.specs.Stored.{number_in}
+use Rattle.mq_held.specs.Restarted.{StandsFrom}
+use Rattle.mq_held.proofs.several_in_place.place_from.Given as goal
+
+-- the source stands at the place or behind it
+abbrev pub invariant-loop-place : goal.invariant-loop-place
+invariant-loop-place g l = record {
+  from : l.fn.from ≤ l.place;
+  there : StandsFrom (number_in g.K.Key.number) l.row (g.K.Key.number l.name) l.place;
+  spent : Spends (l.place - l.fn.from) (l.place - l.fn.from) l.initial.m l.m;
+}
+
+abbrev pub decreases-loop-place : goal.decreases-loop-place
+decreases-loop-place g l = length l.row - l.place

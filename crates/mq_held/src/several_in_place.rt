@@ -1,0 +1,238 @@
+//! The timers of several sources, set where the row of their group stands.
+
+ghost use Rattle.std.specs.Prelude.{◌≡◌, ℕ, ◌+◌, ◌-◌, ◌*◌, ◌<◌, ◌≤◌, [], true, length, map as list_map, min, nat_lt, slice_index_or, slice_set, is_some, if◌then◌else◌, IfSome, MatchOption, Some};
+ghost use Rattle.std.specs.FinMap as map;
+ghost use Rattle.std.specs.List.{HoldsAt, list_all, list_any};
+ghost use Rattle.mq_count.specs.Spending.{Spends};
+ghost use Rattle.mq_sets.specs.Ascending.{IsAscending, set_of};
+ghost use Rattle.mq_sets.specs.Search.{bitlen};
+ghost use Rattle.mq_table.specs.Group as group;
+ghost use Rattle.mq_table.specs.Stored.{number_in, timers_in};
+ghost use Rattle.mq_held.specs.Groups.{group_at, running_in, sources_of};
+ghost use Rattle.mq_held.specs.Held.{HasNumber, IsNumber};
+ghost use Rattle.mq_held.specs.Moments.{moments_of};
+ghost use Rattle.mq_held.specs.Restarted as group_then;
+ghost use Rattle.mq_held.specs.Restarted.{StandsFrom, most_looked, most_set};
+ghost use Rattle.mq_held.specs.Stored.{earliest_of, group_of};
+
+use crate::held_groups::HeldGroups;
+use crate::scheduled_head::ScheduledHead;
+use crate::timers_in_place::{change_moment, earliest_then, is_later, restarted};
+use mq_count::{Key, Meter, Moment, Moves};
+use mq_sets::{NumberedRows, find};
+use mq_table::{Source, SourceTimer};
+use std::alloc::Allocator;
+use std::cmp::Ordering;
+
+/// Whether a timer is stopped.
+fn is_stopped(timer: SourceTimer) -> bool
+    ensures { result ≡ group.is_stopped (Some timer) }
+{
+    matches!(timer, SourceTimer::Stopped)
+}
+
+/// Whether each of some ascending names is that of one of some ascending sources: the first is looked for by halves, and the others
+/// by one walk from there. At most one comparison for each source and for each binary digit of how many there are; at least one for
+/// each name, where all are there.
+fn has_each<K: Key>(row: &[Source<K>], named: &[K], m: &mut Meter) -> bool
+    requires ascending { IsAscending (number_in K.number) row.now }
+    requires named { IsAscending K.number named.now }
+    requires some { 0 < length named.now }
+    ensures all { result ≡ list_all (set_of (number_in K.number) row.now) (list_map K.number named.now) }
+    ensures spent { Spends (if result then length named.now else 0) (length row.now + bitlen (length row.now)) m.old m.new }
+{
+    let Ok(first) = find(row, named[0], m) else {
+        return false;
+    };
+    let mut place = first + 1;
+    let mut next = 1;
+    while next < named.len() {
+        if place == row.len() {
+            return false;
+        }
+        match row[place].address.order(named[next], m) {
+            Ordering::Less => {}
+            Ordering::Equal => next += 1,
+            Ordering::Greater => return false,
+        }
+        place += 1;
+    }
+    true
+}
+
+/// The place of a name that one of some sources has, which stands at `from` or behind it, by a walk from there. One comparison for
+/// each source from there up to it.
+fn place_from<K: Key>(row: &[Source<K>], from: usize, name: K, m: &mut Meter) -> usize
+    requires there { StandsFrom (number_in K.number) row.now (K.number name) from }
+    ensures within { (from ≤ result) × (result < length row.now) }
+    ensures found { HoldsAt (λ x. number_in K.number x ≡ K.number name) row.now result }
+    ensures spent { let count = result + 1 - from in Spends count count m.old m.new }
+{
+    let mut place = from;
+    loop {
+        match row[place].address.order(name, m) {
+            Ordering::Equal => return place,
+            Ordering::Less | Ordering::Greater => place += 1,
+        }
+    }
+}
+
+/// What timers were that have been set anew.
+#[derive(Clone, Copy)]
+struct Before {
+    // Whether one of them was stopped.
+    is_stopped: bool,
+    // Whether each of them ran out after a moment, or didn't run.
+    is_later: bool,
+}
+
+/// Sets the timers of some of a row's sources to a deadline, with as many sendings to go as before. The names ascend, and each is
+/// that of a source of the row. Answers what these timers were, against the moment `earliest`. At most one comparison for each
+/// source and one for each name, and one move for each name.
+fn restart_row<K: Key, A: Allocator>(
+    rows: &mut NumberedRows<Source<K>, A>,
+    number: u16,
+    named: &[K],
+    earliest: Moment,
+    deadline: Moment,
+    m: &mut Meter,
+    moves: &mut Moves,
+) -> Before
+    requires number { number < length rows.old.rows }
+    requires ascending { IsAscending (number_in K.number) (slice_index_or rows.old.rows number []) }
+    requires named { IsAscending K.number named.now }
+    requires there { let before = slice_index_or rows.old.rows number [] in
+        list_all (set_of (number_in K.number) before) (list_map K.number named.now) ≡ true }
+    ensures rows { let after = slice_index_or rows.new.rows number [] in
+        rows.new ≡ record rows.old { rows = slice_set rows.old.rows number after } }
+    ensures ascending { IsAscending (number_in K.number) (slice_index_or rows.new.rows number []) }
+    ensures len { length (slice_index_or rows.new.rows number []) ≡ length (slice_index_or rows.old.rows number []) }
+    ensures group { let before = slice_index_or rows.old.rows number [] in
+        let after = slice_index_or rows.new.rows number [] in
+        (head : ScheduledHead) → group_of K.number head after ≡ group_then.restarted_each deadline (list_map K.number named.now) (group_of K.number head before) }
+    ensures stopped { let timers = timers_in K.number (slice_index_or rows.old.rows number []) in
+        result.is_stopped ≡ list_any (λ s. group.is_stopped (map.get timers s)) (list_map K.number named.now) }
+    ensures later { let before = slice_index_or rows.old.rows number [] in
+        let after = slice_index_or rows.new.rows number [] in
+        let moment = if nat_lt 0 (length named.now) then min earliest deadline else earliest in
+        result.is_later ≡ true → (head : ScheduledHead) →
+        earliest_of (moments_of (group_of K.number head before)) ≡ Some earliest →
+        earliest_of (moments_of (group_of K.number head after)) ≡ Some moment }
+    ensures spent { let most = length (slice_index_or rows.old.rows number []) + length named.now in
+        Spends (length named.now) most m.old m.new }
+    ensures moved { Spends (length named.now) (length named.now) moves.old moves.new }
+{
+    let mut were = Before {
+        is_stopped: false,
+        is_later: true,
+    };
+    let mut from = 0;
+    for name in named {
+        let place = place_from(rows.row(number), from, *name, m);
+        let before = rows.row(number)[place];
+        were.is_stopped |= is_stopped(before.timer);
+        were.is_later &= is_later(before.timer, earliest, m);
+        rows.set(number, place, restarted(before, deadline), moves);
+        from = place + 1;
+    }
+    were
+}
+
+impl<K: Key, A: Allocator> HeldGroups<K, A> {
+    /// Sources of the group of a number are heard of again: where it has each of those that are named, which ascend, their timers
+    /// run until another moment, each with as many sendings to go as before, and the answer is whether one of them was stopped.
+    /// Else the answer is None, and nothing changes. No row is copied. At most three comparisons for each source of the group and
+    /// one for each that is named, one for each binary digit of how many sources and of how many other groups there are, and four
+    /// more; where one source is named it is looked for by halves.
+    pub fn restart_each(
+        &mut self,
+        number: u16,
+        named: &[K],
+        deadline: Moment,
+        m: &mut Meter,
+        moves: &mut Moves,
+    ) -> Option<bool>
+        requires number { IsNumber self.old number }
+        requires named { IsAscending K.number named.now }
+        ensures all { (address : ℕ) → HasNumber self.old address number →
+            is_some result ≡ group_then.has_each (list_map K.number named.now) (group_at self.old.groups address) }
+        ensures stopped { (address : ℕ) → HasNumber self.old address number →
+            IfSome result (λ stopped. stopped ≡ group_then.some_stopped (list_map K.number named.now) (group_at self.old.groups address)) }
+        ensures groups { (address : ℕ) → HasNumber self.old address number →
+            let changed = group_then.restarted_each deadline (list_map K.number named.now) (group_at self.old.groups address) in
+            let groups = if is_some result then map.insert self.old.groups address changed else self.old.groups in
+            self.new ≡ record self.old { groups = groups } }
+        ensures spent { (address : ℕ) → HasNumber self.old address number →
+            let size = sources_of (group_at self.old.groups address) in
+            let others = running_in self.old.groups - 1 in
+            let count = length named.now in
+            MatchOption result (Spends 0 (most_looked size count) m.old m.new)
+            (λ _. Spends count (most_set size count (bitlen others)) m.old m.new) }
+        ensures moved { let others = running_in self.old.groups - 1 in
+            let count = length named.now in
+            MatchOption result (moves.new ≡ moves.old) (λ _. Spends count (count + 1 + bitlen others) moves.old moves.new) }
+    {
+        if named.is_empty() {
+            self.lemma_is_numbered();
+            return Some(false);
+        }
+        if named.len() != 1 {
+            return self.restart_several(number, named, deadline, m, moves);
+        }
+        match self.restart(number, named[0], deadline, m, moves) {
+            Some(before) => Some(is_stopped(before)),
+            None => None,
+        }
+    }
+
+    /// The same of at least one source, by walks over the group's row.
+    fn restart_several(
+        &mut self,
+        number: u16,
+        named: &[K],
+        deadline: Moment,
+        m: &mut Meter,
+        moves: &mut Moves,
+    ) -> Option<bool>
+        requires number { IsNumber self.old number }
+        requires named { IsAscending K.number named.now }
+        requires some { 0 < length named.now }
+        ensures all { (address : ℕ) → HasNumber self.old address number →
+            is_some result ≡ group_then.has_each (list_map K.number named.now) (group_at self.old.groups address) }
+        ensures stopped { (address : ℕ) → HasNumber self.old address number →
+            IfSome result (λ stopped. stopped ≡ group_then.some_stopped (list_map K.number named.now) (group_at self.old.groups address)) }
+        ensures groups { (address : ℕ) → HasNumber self.old address number →
+            let changed = group_then.restarted_each deadline (list_map K.number named.now) (group_at self.old.groups address) in
+            let groups = if is_some result then map.insert self.old.groups address changed else self.old.groups in
+            self.new ≡ record self.old { groups = groups } }
+        ensures spent { (address : ℕ) → HasNumber self.old address number →
+            let size = sources_of (group_at self.old.groups address) in
+            let others = running_in self.old.groups - 1 in
+            let count = length named.now in
+            MatchOption result (Spends 0 (size + bitlen size) m.old m.new)
+            (λ _. Spends count (3 * size + bitlen size + count + 4 + bitlen others) m.old m.new) }
+        ensures moved { let others = running_in self.old.groups - 1 in
+            let count = length named.now in
+            MatchOption result (moves.new ≡ moves.old) (λ _. Spends count (count + 1 + bitlen others) moves.old moves.new) }
+    {
+        let row = self.sources.row(number);
+        if !has_each(row, named, m) {
+            return None;
+        }
+        let item = self.heads[number as usize];
+        let earliest = self.moments.moment(number);
+        let were = restart_row(
+            &mut self.sources,
+            number,
+            named,
+            earliest,
+            deadline,
+            m,
+            moves,
+        );
+        let row = self.sources.row(number);
+        let due = earliest_then(&item, row, were.is_later, earliest, deadline, m);
+        change_moment(&mut self.moments, number, due, m, moves);
+        Some(were.is_stopped)
+    }
+}

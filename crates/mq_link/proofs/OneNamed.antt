@@ -1,0 +1,22 @@
+-- What lists of no source and of one source name.
+use Rattle.std.proofs.Common.{◌≡◌, ℕ, get_or, Bool, true, false, ◌||◌, List, [], ◌∷◌, length, refl, sym, ap, ◌∙◌, arith}
+use Rattle.std.specs.Ordering.{nat_cmp, eq_by_cmp}
+use Rattle.std.specs.Cmp.{nat_cmp_total}
+use Rattle.std.specs.FinSet as set
+use Rattle.mq_table.specs.Stored.{named_in}
+
+pub names-none : {K : Type 0} (number : K → ℕ) (xs : List K) → xs ≡ [] → (s : ℕ) → set.contains (named_in number xs) s ≡ false
+names-none number xs none s = ap (λ ys. set.contains (named_in number ys) s) none ∙ set.contains-from_list nat_cmp_total [] s
+
+pub names-one : {K : Type 0} (number : K → ℕ) (xs : List K) (x : K) → xs ≡ x ∷ [] → (s : ℕ) → set.contains (named_in number xs) s ≡ eq_by_cmp nat_cmp s (number x)
+names-one number xs x one s = ap (λ ys. set.contains (named_in number ys) s) one ∙ set.contains-from_list nat_cmp_total (number x ∷ []) s ∙ or_false (eq_by_cmp nat_cmp s (number x))
+  where
+    or_false : (b : Bool) → (b || false) ≡ b
+    or_false true = refl
+    or_false false = refl
+
+-- a list of one item
+pub one_item : {X : Type 0} (xs : List X) (x : X) → length xs ≡ 1 → x ≡ get_or xs 0 x → xs ≡ x ∷ []
+one_item [] x one is = absurd (omega (arith, one))
+one_item (y ∷ []) x one is = ap (λ z. z ∷ []) (sym is)
+one_item (y ∷ z ∷ xs) x one is = absurd (omega (arith, one))

@@ -1,0 +1,111 @@
+-- A group of which several sources are heard of again.
+use Rattle.std.proofs.Common.{◌≡◌, ℕ, ◌+◌, Bool, true, false, cond, not, ltb, List, [], ◌∷◌, Option, None, Some, is_some, refl, sym, ap, ◌∙◌}
+use Rattle.std.specs.Bool.{beq}
+use Rattle.std.specs.List.{list_any}
+use Rattle.std.specs.Ordering.{nat_cmp, eq_by_cmp}
+use Rattle.std.specs.Cmp.{nat_cmp_total}
+use Rattle.std.specs.FinMap as map
+use Rattle.std.proofs.lemmas.Bool.{and_parts, true≢false}
+use Rattle.std.proofs.lemmas.List.Folds.{Any-from_list_any, list_any_at}
+use Rattle.mq_table.specs.declared.timers.FilterMode.{FilterMode}
+use Rattle.mq_table.specs.declared.timers.FilterMode.TheVariants.{Include, Exclude}
+use Rattle.mq_table.specs.declared.timers.SourceTimer.{SourceTimer}
+use Rattle.mq_table.specs.declared.timers.SourceTimer.TheVariants.{Stopped, Running}
+use Rattle.mq_table.specs.Filter.{names, changes_filter}
+use Rattle.mq_table.specs.Group.{GroupState, is_stopped, sendings_of, timer_at}
+use Rattle.mq_table.specs.Sendings.{has_sendings}
+use Rattle.mq_table.specs.Stored.{size_of}
+use Rattle.mq_table.proofs.Filters.{changes-same, changes-at}
+use Rattle.mq_sched.specs.Schedule.{ScheduledGroup}
+use Rattle.mq_held.specs.Groups.{sources_of}
+use Rattle.mq_held.specs.Restarted.{has_each, restarted, restarted_each, some_stopped}
+use Rattle.mq_held.proofs.RestartedEach.{each_passes, has_each-restarted, some_passes, timer-restarted, timer-restarted_each, timer-there}
+use Rattle.mq_held.proofs.Sorted.{tied, ties}
+use Rattle.mq_link.proofs.RefreshedGroups.{with_timers}
+
+-- all but the timers stays
+pub group-restarted_each : (deadline : ℕ) (xs : List ℕ) (e : ScheduledGroup) → (restarted_each deadline xs e).group ≡ with_timers e.group (restarted_each deadline xs e).group.sources
+group-restarted_each deadline [] e = refl
+group-restarted_each deadline (x ∷ xs) e = group-restarted_each deadline xs (restarted deadline x e)
+
+pub schedule-restarted_each : (deadline : ℕ) (xs : List ℕ) (e : ScheduledGroup) → (restarted_each deadline xs e).schedule ≡ e.schedule
+schedule-restarted_each deadline [] e = refl
+schedule-restarted_each deadline (x ∷ xs) e = schedule-restarted_each deadline xs (restarted deadline x e)
+
+-- so does the size of a group
+restarted-size : (deadline source : ℕ) (timer : SourceTimer) (e : ScheduledGroup) → timer_at e.group source ≡ Some timer → sources_of (restarted deadline source e) ≡ sources_of e
+restarted-size deadline source timer e there =
+    map.len-insert nat_cmp_total e.group.sources source (Running deadline (sendings_of (timer_at e.group source))) ∙ ap (λ (t : Option SourceTimer). cond (is_some t) (size_of e.group) (size_of e.group + 1)) there
+
+pub size-restarted_each : (deadline : ℕ) (xs : List ℕ) (e : ScheduledGroup) → has_each xs e ≡ true → sources_of (restarted_each deadline xs e) ≡ sources_of e
+size-restarted_each deadline [] e all = refl
+size-restarted_each deadline (x ∷ xs) e all =
+    let parts = and_parts (map.contains_key e.group.sources x) (has_each xs e) all in
+    let found = timer-there (timer_at e.group x) parts.0 in
+    size-restarted_each deadline xs (restarted deadline x e) (has_each-restarted deadline x xs e parts.1) ∙ restarted-size deadline x found.0 e found.1
+
+-- the sendings to go stay with a timer that is set anew
+restarted-sendings : (deadline source : ℕ) (e : ScheduledGroup) (s : ℕ) → has_sendings (restarted deadline source e).group s ≡ has_sendings e.group s
+restarted-sendings deadline source e s =
+    ap (λ t. ltb 0 (sendings_of t)) (timer-restarted deadline source e s) ∙ by_test (eq_by_cmp nat_cmp s source) refl
+  where
+    by_test : (b : Bool) → eq_by_cmp nat_cmp s source ≡ b → ltb 0 (sendings_of (cond b (Some (Running deadline (sendings_of (timer_at e.group source)))) (timer_at e.group s))) ≡ ltb 0 (sendings_of (timer_at e.group s))
+    by_test true same = ap (λ q. ltb 0 (sendings_of (timer_at e.group q))) (sym (tied s source same))
+    by_test false differs = refl
+
+pub sendings-restarted_each : (deadline : ℕ) (xs : List ℕ) (e : ScheduledGroup) (s : ℕ) → has_sendings (restarted_each deadline xs e).group s ≡ has_sendings e.group s
+sendings-restarted_each deadline [] e s = refl
+sendings-restarted_each deadline (x ∷ xs) e s = sendings-restarted_each deadline xs (restarted deadline x e) s ∙ restarted-sendings deadline x e s
+
+-- Another filter is forwarded then exactly where one of the sources was stopped.
+module _ (deadline : ℕ) (xs : List ℕ) (e : ScheduledGroup) (all : has_each xs e ≡ true) (none_stopped : e.group.mode ≡ Include → (s : ℕ) → is_stopped (timer_at e.group s) ≡ false) where
+  abbrev after : GroupState
+  after = (restarted_each deadline xs e).group
+
+  abbrev next : ℕ → SourceTimer
+  next s = Running deadline (sendings_of (timer_at e.group s))
+
+  at : (s : ℕ) (b : Bool) → list_any (eq_by_cmp nat_cmp s) xs ≡ b → timer_at after s ≡ cond b (Some (next s)) (timer_at e.group s)
+  at s b is = timer-restarted_each deadline xs e s ∙ ap (λ b. cond b (Some (next s)) (timer_at e.group s)) is
+
+  mode_is : after.mode ≡ e.group.mode
+  mode_is = ap (λ (g : GroupState). g.mode) (group-restarted_each deadline xs e)
+
+  running_named : (mode : FilterMode) (t : Option SourceTimer) (s : ℕ) → is_some t ≡ true → is_stopped t ≡ false → names mode t ≡ names mode (Some (next s))
+  running_named mode None s there runs = absurd (true≢false (sym there))
+  running_named mode (Some Stopped) s there runs = absurd (true≢false runs)
+  running_named Include (Some (Running d n)) s there runs = refl
+  running_named (Exclude m) (Some (Running d n)) s there runs = refl
+
+  not_true : (b : Bool) → (b ≡ true → ⊥) → b ≡ false
+  not_true true none = absurd (none refl)
+  not_true false none = refl
+
+  kept_each : some_stopped xs e ≡ false → (s : ℕ) → names e.group.mode (timer_at e.group s) ≡ names after.mode (timer_at after s)
+  kept_each none s = by_test (list_any (eq_by_cmp nat_cmp s) xs) refl
+    where
+      by_test : (b : Bool) → list_any (eq_by_cmp nat_cmp s) xs ≡ b → names e.group.mode (timer_at e.group s) ≡ names after.mode (timer_at after s)
+      by_test true inside =
+          running_named e.group.mode (timer_at e.group s) s
+          (each_passes (map.contains_key e.group.sources) xs s all inside)
+          (not_true (is_stopped (timer_at e.group s)) (λ is. true≢false (sym (some_passes (λ q. is_stopped (timer_at e.group q)) xs s inside is) ∙ none)))
+          ∙ (λ i. names (sym mode_is i) (sym (at s true inside) i))
+      by_test false outside = λ i. names (sym mode_is i) (sym (at s false outside) i)
+
+  turned : (mode : FilterMode) (t : Option SourceTimer) (s : ℕ) → e.group.mode ≡ mode → timer_at e.group s ≡ t → is_stopped t ≡ true → not (beq (names mode t) (names mode (Some (next s)))) ≡ true
+  turned mode None s is here stopped = absurd (true≢false (sym stopped))
+  turned mode (Some (Running d n)) s is here stopped = absurd (true≢false (sym stopped))
+  turned Include (Some Stopped) s is here stopped = absurd (true≢false (sym (ap is_stopped here) ∙ none_stopped is s))
+  turned (Exclude m) (Some Stopped) s is here stopped = refl
+
+  pub filter-restarted_each : changes_filter e.group after ≡ some_stopped xs e
+  filter-restarted_each = by_test (some_stopped xs e) refl
+    where
+      by_test : (b : Bool) → some_stopped xs e ≡ b → changes_filter e.group after ≡ b
+      by_test false none = changes-same e.group after (ap Rattle.mq_table.specs.Group.is_include (sym mode_is)) (kept_each none)
+      by_test true some =
+          let found = Any-from_list_any (λ s. is_stopped (timer_at e.group s)) xs some in
+          let s = found.1 in
+          let inside = list_any_at (eq_by_cmp nat_cmp s) xs found.0 s found.2 (ties s (Rattle.std.specs.Prelude.slice_index_or xs found.0 s) (sym found.3)) in
+          changes-at e.group after s
+          ((λ i. not (beq (names e.group.mode (timer_at e.group s)) (names (mode_is i) (at s true inside i)))) ∙ turned e.group.mode (timer_at e.group s) s refl refl found.4)

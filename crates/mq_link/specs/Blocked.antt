@@ -1,0 +1,44 @@
+-- A BLOCK that is done where the row of its group stands.
+use Rattle.std.specs.Prelude.{◌≡◌, ℕ, ◌≤◌, Bool, true, false, ◌||◌, nat_lt, is_some}
+use Rattle.std.specs.FinMap as map
+use Rattle.mq_table.specs.declared.kind.Kind.{Kind}
+use Rattle.mq_table.specs.declared.kind.Kind.TheVariants.{IsIn, IsEx, ToIn, ToEx, Allow, Block}
+use Rattle.mq_table.specs.OlderHosts.{hosts_of}
+use Rattle.mq_sched.specs.Rounds.{is_due_at}
+use Rattle.mq_sched.specs.Schedule.{ScheduledGroup}
+use Rattle.mq_link.specs.declared.configuration.Limits.{Limits}
+use Rattle.mq_link.specs.declared.statement.StatementKind.{StatementKind}
+use Rattle.mq_link.specs.declared.statement.StatementKind.TheVariants.{Record, OlderJoin, OlderLeave}
+use Rattle.mq_link.specs.Record.{Setting}
+use Rattle.mq_link.specs.State.{Groups, group_at, schedules_in}
+
+abbrev pub blocks : Kind → Bool
+blocks IsIn = false
+blocks IsEx = false
+blocks ToIn = false
+blocks ToEx = false
+blocks Allow = false
+blocks Block = true
+
+-- whether a statement is a BLOCK
+abbrev pub is_block : StatementKind → Bool
+is_block (Record kind) = blocks kind
+is_block (OlderJoin version) = false
+is_block OlderLeave = false
+
+-- whether hosts of an older version are in a group
+abbrev pub has_older_hosts : ScheduledGroup → (now : ℕ) → Bool
+has_older_hosts e now = let hosts = hosts_of e.group now in hosts.v1 || hosts.v2
+
+-- whether sources of a group that are asked for take no schedule more than there may be
+abbrev pub has_schedule_left : Limits → Groups → ScheduledGroup → Bool
+has_schedule_left limits groups e = is_some e.schedule.sources_due || nat_lt (schedules_in groups) limits.scheduled
+
+-- What is so where a BLOCK can be done where the row of its group stands: the group is held, nothing is due for it, no older host
+-- mutes it, it names at most one source, and no limit of schedules can be passed.
+pub record CanBlock (at : Setting) (group named : ℕ) (groups : Groups) : Type 0 where
+  pub held : map.contains_key groups group ≡ true
+  pub quiet : is_due_at at.now (group_at groups group).schedule ≡ false
+  pub unmuted : has_older_hosts (group_at groups group) at.now ≡ false
+  pub few : named ≤ 1
+  pub left : has_schedule_left at.config.limits groups (group_at groups group) ≡ true
