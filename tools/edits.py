@@ -5,7 +5,7 @@ import itertools
 import os
 import re
 
-from repository import STRICT, TOP, put, text_of
+from repository import TOP, put, text_of
 
 FUNCTION = re.compile(r"\bfn (\w+)")
 NOTE = re.compile(r"(?:note: )?(?:\./)?((?:src|proofs)/\S+?):(\d+):\d+: (.*)")
@@ -49,9 +49,9 @@ def once(text, pairs):
         text = text.replace(old, new)
 
 
-def lines_of(said, is_strict):
-    """The lines of a check. What a long name lacks is said on the line behind it; where that is to tell nothing, they are one."""
-    return (said.replace("\n  has no ", " has no ") if is_strict else said).splitlines()
+def lines_of(said):
+    """The lines of a check. What a long name lacks is said on the line behind it; here they are one."""
+    return said.replace("\n  has no ", " has no ").splitlines()
 
 
 def placed(goal):
@@ -91,7 +91,6 @@ class Edit:
 
     def __init__(self, crate, path):
         self.crate, self.path, self.is_right = crate, os.path.relpath(path, TOP), "/right-bodies/" in path
-        self.is_strict = crate in STRICT
         self.name = f"{crate}/{os.path.basename(path).removesuffix('.edit')}"
         self.file, self.pairs = read_edit(path)
         text = text_of(f"{TOP}/crates/{crate}/{self.file}")
@@ -134,14 +133,6 @@ class Edit:
                 goals |= {name} if at[1] == self.file and int(at[2]) in self.lines else set()
         return goals, path
 
-    def is_told_refused(self, said):
-        """Whether a goal of the edit's function is told as unproved, also one that is new by its name alone."""
-        for at in filter(None, map(NOTE.match, said)):
-            is_here = at[1] == self.file and int(at[2]) in self.lines and at[3].startswith("it is not proved")
-            if not NAMES.search(at[3]) and (is_here or self.is_of_its_proof(at[1]) and at[3].startswith("error")):
-                return True
-        return False
-
     def is_refused(self, said, goals_of):
         """Whether a goal of the edit's function is refused, by the lines of a check. Where an answer lost its goal, one that is
         new by its name tells nothing: `goals_of` answers which the function has as it stands. Nor does any where a loop's
@@ -160,11 +151,8 @@ class Edit:
         return [it for line in said if (it := NOTE.match(line)) and self.is_of_its_proof(it[1]) and it[3].startswith("error")]
 
     def has_another_way(self, is_refused, said, goals_of):
-        """Whether the edit is to be tried once more, with its answers under other names: of a strict crate. Where answers lost
-        their goals, and goals are new for which none is written, the edit is refused only if the answers fail there too, in each
-        way to rename them."""
-        if not self.is_strict:
-            return False
+        """Whether the edit is to be tried once more, with its answers under other names. Where answers lost their goals, and goals
+        are new for which none is written, the edit is refused only if the answers fail there too, in each way to rename them."""
         if self.answers:
             self.ways = self.ways[1:] if is_refused else self.ways
             return is_refused and bool(self.ways)

@@ -10,8 +10,6 @@ import subprocess
 TOP = os.path.dirname(os.path.dirname(os.path.abspath(__file__)))
 PROGRAM, LIBRARY, PAGE = "mquerier", "mq_c", "mq_page"
 PARTS = ("src", "specs", "proofs")
-# The crates of which an edit isn't refused by a goal that is only new by its name.
-STRICT = "mq_count mq_arena mq_sets mq_wire mq_table mq_pcap mq_sched mq_held mq_link mq_text mq_replay mq_convert mq_check mq_page".split()
 
 
 def text_of(file):
