@@ -57,6 +57,7 @@ pub mod OneNamed
 pub mod RefreshedCosts
 pub mod UnpassedLimits
 pub mod BlockedStates
+pub mod BlockDone
 pub mod RecordsRead
 pub mod LinkReceived
 pub mod EventsRun
