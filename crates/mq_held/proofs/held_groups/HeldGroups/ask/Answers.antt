@@ -1,12 +1,13 @@
 use Rattle.std.specs.List.{list_any}
 use Rattle.std.specs.Prelude.{map as list_map}
-use Rattle.std.proofs.Common.{◌≡◌, cond, ℕ, ◌+◌, ◌-◌, ◌<◌, ◌≤◌, Bool, true, false, [], length, get_or, set, List, None, Some, is_some, sym, ap, ◌∙◌, subst, arith}
+use Rattle.std.proofs.Common.{◌≡◌, cond, ℕ, ◌+◌, ◌-◌, ◌<◌, ◌≤◌, Bool, true, false, [], ◌∷◌, length, get_or, set, List, None, Some, is_some, sym, ap, ◌∙◌, subst, arith}
 use Rattle.std.proofs.lemmas.List.{length-map, length-set}
 use Rattle.mq_count.proofs.Spent.{Spends-join, Spends-join_within, Spends-within}
-use Rattle.mq_sets.specs.Ascending.{IsAscending}
+use Rattle.mq_sets.specs.Ascending.{IsAscending, set_of}
 use Rattle.mq_sets.specs.NumberedRows.{NumberedRowsState}
 use Rattle.mq_sets.specs.Search.{bitlen}
-use Rattle.mq_table.specs.Group.{IsWellFormed, deadline_of, is_ahead, timer_at}
+use Rattle.mq_table.specs.AskedSources.{source_if_asked}
+use Rattle.mq_table.specs.Group.{IsWellFormed, deadline_of, is_ahead, is_vacant, timer_at}
 use Rattle.mq_table.specs.declared.sources.Source.{Source}
 use Rattle.mq_table.specs.Lowering.{lowered_to}
 use Rattle.mq_table.specs.MadeSources.{item_counted}
@@ -24,13 +25,123 @@ use Rattle.mq_held.specs.declared.scheduled_head.ScheduledHead.{ScheduledHead}
 use Rattle.mq_held.specs.Asked.{one_asked}
 use Rattle.mq_held.specs.Groups.{group_at, one_if}
 use Rattle.mq_held.specs.Moments.{moments_of}
-use Rattle.mq_held.specs.Held.{HeldState}
-use Rattle.mq_held.specs.Stored.{IsStored, earliest_of, group_of, groups_by, no_head}
-use Rattle.mq_held.proofs.AskedInPlace.{IsStored-asked, formed_after, group_after, head_counted, len_counted, length_counted, next_due, row_asked_is, row_counted_is, row_left, rows_counted, same_where_below, sends_after, some_where_above, stays_unasked, unasked_groups, unasked_sends, up_asked, up_counted, within_asked}
+use Rattle.mq_held.specs.Held.{HasNumber, HeldState}
+use Rattle.mq_held.specs.Stored.{IsStored, earliest_of, group_by, group_of, groups_by, no_head}
+use Rattle.mq_held.proofs.AskedInPlace.{IsStored-asked, formed_after, group_after, head_counted, len_counted, next_due, row_asked, row_asked_is, row_counted, row_counted_is, row_left, rows_counted, same_where_below, sends_after, some_where_above, stays_unasked, test, unasked_groups, unasked_sends, up_asked, up_counted, within_asked}
 use Rattle.mq_held.proofs.Inside.{address-of, ahead_is, contained, group-of, has as has-there, numbered, running-held, same-address, size-of, state-set, within-rows}
+use Rattle.mq_held.proofs.OrderedItems.{number_of}
 use Rattle.mq_held.proofs.RestartedTimers.{moment-held, not_vacant, timer-held}
 use Rattle.mq_held.proofs.StoredEdits.{schedules-read, schedules_fit, schedules_part}
+use Rattle.mq_held.proofs.held_groups.HeldGroups.ask.Given.{Over}
 use Rattle.mq_held.proofs.held_groups.HeldGroups.ask.Goals as goal
+use Rattle.mq_held.proofs.held_groups.HeldGroups.ask.Goals.{After-index-row-place}
+
+-- the parts of the path that its later parts come after: the place of the source, the row that is asked, the row that is counted
+abbrev place_of : (g : Over) → goal.After-row-arg-2-1 g → After-index-row-place g
+place_of g c = c.before.before.before.before.before.before.before.before.before.before.before.before
+
+abbrev asked_of : (g : Over) → goal.After-row-arg-3-1 g → goal.After-row-arg-2-1 g
+asked_of g c = c.before.before.before.before.before.before.before.before.before.before.before.before.before.before.before.before.before.before.before.before.before
+
+abbrev counted_of : (g : Over) → goal.After-earliest_stored-arg-1 g → goal.After-row-arg-3-1 g
+counted_of g c = c.before.before.before
+
+abbrev due_of : (g : Over) → goal.After-change g → goal.After-earliest_stored-arg-1 g
+due_of g c = c.before.before.before.before.before
+
+-- the number has a row, and is that of a group
+rows_so : (g : Over) (c : After-index-row-place g) → c.args.number < length c.self.inside.sources.rows
+rows_so g c = within-rows g.K.Key.number c.self.invariant.0 c.self.view_is c.args.number c.requires.number
+
+heads_so : (g : Over) (c : After-index-row-place g) → c.args.number < length c.self.inside.heads.items
+heads_so g c = omega (arith, rows_so g c, c.self.invariant.2, c.self.invariant.3)
+
+held_so : (g : Over) (c : After-index-row-place g) → set_of number_of c.self.inside.order.items c.args.number ≡ true
+held_so g c = numbered g.K.Key.number c.self.invariant.0 c.self.view_is c.args.number c.requires.number
+
+up_so : (g : Over) (c : After-index-row-place g) → IsAscending (number_in g.K.Key.number) (get_or c.self.inside.sources.rows c.args.number [])
+up_so g c = let known = c.self.invariant.0 in known.rows_ascend c.args.number [] (rows_so g c)
+
+-- the source is at its place there
+within_so : (g : Over) (c : After-index-row-place g) → c.in-Ok.place < length (get_or c.self.inside.sources.rows c.args.number [])
+within_so g c = omega (arith, c.in-Ok.ensures.found_in, ap length c.row-row.ensures.cells)
+
+here_so : (g : Over) (c : After-index-row-place g) → c.index-row-place.result ≡ get_or (get_or c.self.inside.sources.rows c.args.number []) c.in-Ok.place c.index-row-place.result
+here_so g c = c.index-row-place.is ∙ ap (λ xs. get_or xs c.in-Ok.place c.index-row-place.result) c.row-row.ensures.cells
+
+is_so : (g : Over) (c : After-index-row-place g) → (let x = c.index-row-place.result in g.K.Key.number x.address ≡ g.K.Key.number c.args.source)
+is_so g c = ap (number_in g.K.Key.number) c.index-row-place.is ∙ c.in-Ok.ensures.found c.index-row-place.result
+
+limit_so : (g : Over) (c : After-index-row-place g) → c.after-limit.result ≡ lowered_to c.args.timing.now c.args.now
+limit_so g c = c.after-limit.ensures.later ∙ ap (λ k. c.args.now + k) c.last_member_time.ensures
+
+-- so the group has it
+there_so : (g : Over) (c : After-index-row-place g) (address : ℕ) → HasNumber c.args.self.now address c.args.number → true ≡ is_some (timer_at (group_at c.args.self.now.groups address).group (g.K.Key.number c.args.source))
+there_so g c address has =
+    let number = g.K.Key.number in
+    sym (ap (λ (e : ScheduledGroup). is_some (timer_at e.group (number c.args.source))) (group-of number c.self.invariant.0 c.self.view_is has)
+    ∙ ap is_some (timer-held number c.self.invariant.0 c.args.number (held_so g c) (rows_so g c) c.in-Ok.place c.index-row-place.result (within_so g c) (here_so g c) (number c.args.source) (is_so g c)))
+
+-- nothing is due for the group
+quiet_so : (g : Over) (c : After-index-row-place g) → IsQuietAt c.args.now (group_by g.K.Key.number c.self.inside.heads.items c.self.inside.sources.rows c.args.number).schedule
+quiet_so g c =
+    let number = g.K.Key.number in
+    let found = address-of number c.self.invariant.0 c.self.view_is c.args.number c.requires.number in
+    subst (λ (e : ScheduledGroup). IsQuietAt c.args.now e.schedule) (group-of number c.self.invariant.0 c.self.view_is found.1) (c.requires.quiet found.0 found.1)
+
+other_so : (g : Over) (c : After-index-row-place g) → is_vacant (group_by g.K.Key.number c.self.inside.heads.items c.self.inside.sources.rows c.args.number).group ≡ false
+other_so g c = not_vacant g.K.Key.number c.self.invariant.0 c.args.number (held_so g c) (rows_so g c) c.in-Ok.place c.index-row-place.result (within_so g c) (here_so g c)
+
+-- where its timer isn't above the limit, the group stays
+unasked_so : (g : Over) (c : goal.Then-not-runs_on g) {address : ℕ} → HasNumber c.args.self.now address c.args.number → (let e = group_at c.args.self.now.groups address in one_asked c.args.timing.now c.args.now (g.K.Key.number c.args.source) e ≡ e)
+unasked_so g c has =
+    let number = g.K.Key.number in
+    let timing = c.args.timing.now in
+    let now = c.args.now in
+    let source = c.args.source in
+    let x = c.index-row-place.result in
+    let row = get_or c.self.inside.sources.rows c.args.number [] in
+    let b = c.before.before.before.before in
+    let below : false ≡ is_ahead (lowered_to timing now) (deadline_of (Some x.timer)) = sym c.if-not-runs_on.true ∙ c.runs_on.ensures.answer ∙ (λ i. is_ahead (limit_so g b i) (c.deadline.ensures i)) ∙ ap (λ (x : Source _). is_ahead (lowered_to timing now) (deadline_of (Some x.timer))) (sym c.index-row-place.is) in
+    let same = same_where_below number timing now source row (up_so g b) c.in-Ok.place x (within_so g b) (here_so g b) (is_so g b) below in
+    let none = some_where_above number timing now source row (up_so g b) c.in-Ok.place x (within_so g b) (here_so g b) (is_so g b) false below in
+    subst (λ (e : ScheduledGroup). one_asked timing now (number source) e ≡ e) (sym (group-of number c.self.invariant.0 c.self.view_is has)) (stays_unasked number timing now source (get_or c.self.inside.heads.items c.args.number no_head) row (up_so g b) same none)
+
+-- else it is asked for
+some_so : (g : Over) (c : goal.After-row-arg-2-1 g) → list_any (test g.K.Key.number c.args.timing.now c.args.now c.args.source) (get_or c.self.inside.sources.rows c.args.number []) ≡ true
+some_so g c =
+    let timing = c.args.timing.now in
+    let now = c.args.now in
+    let x = c.index-row-place.result in
+    let b = place_of g c in
+    let above : true ≡ is_ahead (lowered_to timing now) (deadline_of (Some x.timer)) = sym c.if-not-runs_on.false ∙ c.runs_on.ensures.answer ∙ (λ i. is_ahead (limit_so g b i) (c.deadline.ensures i)) ∙ ap (λ (x : Source _). is_ahead (lowered_to timing now) (deadline_of (Some x.timer))) (sym c.index-row-place.is) in
+    some_where_above g.K.Key.number timing now c.args.source (get_or c.self.inside.sources.rows c.args.number []) (up_so g b) c.in-Ok.place x (within_so g b) (here_so g b) (is_so g b) true above
+
+first_so : (g : Over) (c : goal.After-row-arg-2-1 g) → (let number = g.K.Key.number in let s0 = c.self.inside.sources in
+    c.ask_in_row.new.rows ≡ record s0 { rows = set s0.rows c.args.number (list_map (source_if_asked number c.after-limit.result c.last_member_count-count.result (set_of number (c.args.source ∷ []))) (get_or s0.rows c.args.number [])) })
+first_so g c = c.ask_in_row.ensures.rows c.args.source (λ d. subst (λ xs. g.K.Key.number (get_or xs c.in-Ok.place d).address ≡ g.K.Key.number c.args.source) c.row-row.ensures.cells (c.in-Ok.ensures.found d))
+
+within_asked_so : (g : Over) (c : goal.After-row-arg-2-1 g) → c.args.number < length c.ask_in_row.new.rows.rows
+within_asked_so g c =
+    let s1 = c.ask_in_row.new.rows in
+    within_asked g.K.Key.number c.args.timing.now c.args.now c.args.source c.args.number c.self.inside.sources s1 s1 (rows_so g (place_of g c)) c.after-limit.result c.last_member_count-count.result (limit_so g (place_of g c)) c.last_member_count-count.ensures (first_so g c)
+
+row_asked_so : (g : Over) (c : goal.After-row-arg-2-1 g) → get_or c.ask_in_row.new.rows.rows c.args.number [] ≡ row_asked g.K.Key.number c.args.timing.now c.args.now c.args.source (get_or c.self.inside.sources.rows c.args.number [])
+row_asked_so g c =
+    let s1 = c.ask_in_row.new.rows in
+    row_asked_is g.K.Key.number c.args.timing.now c.args.now c.args.source c.args.number c.self.inside.sources s1 s1 (rows_so g (place_of g c)) c.after-limit.result c.last_member_count-count.result (limit_so g (place_of g c)) c.last_member_count-count.ensures (first_so g c)
+
+-- and its sendings are counted
+rows_counted_so : (g : Over) (c : goal.After-row-arg-3-1 g) → (let s0 = c.self.inside.sources in
+    c.count_in_row-left.new.rows ≡ record s0 { rows = set s0.rows c.args.number (row_counted g.K.Key.number c.args.timing.now c.args.now c.args.source (get_or s0.rows c.args.number [])) })
+rows_counted_so g c =
+    let a = asked_of g c in
+    rows_counted g.K.Key.number c.args.timing.now c.args.now c.args.source c.args.number c.self.inside.sources c.ask_in_row.new.rows c.count_in_row-left.new.rows (rows_so g (place_of g a)) c.after-limit.result c.last_member_count-count.result (limit_so g (place_of g a)) c.last_member_count-count.ensures (first_so g a) c.count_in_row-left.ensures.rows
+
+row_counted_so : (g : Over) (c : goal.After-row-arg-3-1 g) → get_or c.count_in_row-left.new.rows.rows c.args.number [] ≡ row_counted g.K.Key.number c.args.timing.now c.args.now c.args.source (get_or c.self.inside.sources.rows c.args.number [])
+row_counted_so g c =
+    let a = asked_of g c in
+    row_counted_is g.K.Key.number c.args.timing.now c.args.now c.args.source c.args.number c.self.inside.sources c.ask_in_row.new.rows c.count_in_row-left.new.rows (rows_so g (place_of g a)) c.after-limit.result c.last_member_count-count.result (limit_so g (place_of g a)) c.last_member_count-count.ensures (first_so g a) c.count_in_row-left.ensures.rows
 
 pub row-row-requires : goal.row-row-requires
 row-row-requires g c =
@@ -103,45 +214,17 @@ returns-in_default-clause-spent g c address has =
     Spends-within _ _ c.find.ensures.spent (omega (arith, size)) (omega (arith, ap bitlen size))
 
 pub returns-then-not-runs_on-clause-there : goal.returns-then-not-runs_on-clause-there
-returns-then-not-runs_on-clause-there g c address has =
-    let number = g.K.Key.number in
-    let known = c.self.invariant.0 in
-    let was = c.self.view_is in
-    let n = c.args.number in
-    let source = c.args.source in
-    let rows_within = within-rows number known was n c.requires.number in
-    let row = get_or c.self.inside.sources.rows n [] in
-    let held = numbered number known was n c.requires.number in
-    let place = c.in-Ok.place in
-    let x = c.index-row-place.result in
-    let cells = c.row-row.ensures.cells in
-    let within : place < length row = omega (arith, c.in-Ok.ensures.found_in, ap length cells) in
-    let here : x ≡ get_or row place x = c.index-row-place.is ∙ ap (λ xs. get_or xs place x) cells in
-    let is : number x.address ≡ number source = ap (number_in number) c.index-row-place.is ∙ c.in-Ok.ensures.found x in
-    sym (ap (λ (e : ScheduledGroup). is_some (timer_at e.group (number source))) (group-of number known was has) ∙ ap is_some (timer-held number known n held rows_within place x within here (number source) is))
+returns-then-not-runs_on-clause-there g c = there_so g c.before.before.before.before
 
 pub returns-then-not-runs_on-clause-groups : goal.returns-then-not-runs_on-clause-groups
 returns-then-not-runs_on-clause-groups g c address has =
     let number = g.K.Key.number in
     let known = c.self.invariant.0 in
     let was = c.self.view_is in
-    let n = c.args.number in
     let timing = c.args.timing.now in
     let now = c.args.now in
     let source = c.args.source in
-    let rows_within = within-rows number known was n c.requires.number in
-    let row = get_or c.self.inside.sources.rows n [] in
-    let up = known.rows_ascend n [] rows_within in
-    let place = c.in-Ok.place in
-    let x = c.index-row-place.result in
-    let cells = c.row-row.ensures.cells in
-    let within : place < length row = omega (arith, c.in-Ok.ensures.found_in, ap length cells) in
-    let here : x ≡ get_or row place x = c.index-row-place.is ∙ ap (λ xs. get_or xs place x) cells in
-    let is : number x.address ≡ number source = ap (number_in number) c.index-row-place.is ∙ c.in-Ok.ensures.found x in
-    let limit : c.after-limit.result ≡ lowered_to timing now = c.after-limit.ensures.later ∙ ap (λ k. now + k) c.last_member_time.ensures in
-    let below : false ≡ is_ahead (lowered_to timing now) (deadline_of (Some x.timer)) = sym c.if-not-runs_on.true ∙ c.runs_on.ensures.answer ∙ (λ i. is_ahead (limit i) (c.deadline.ensures i)) ∙ ap (λ (x : Source _). is_ahead (lowered_to timing now) (deadline_of (Some x.timer))) (sym c.index-row-place.is) in
-    let stays = stays_unasked number timing now source (get_or c.self.inside.heads.items n no_head) row up (same_where_below number timing now source row up place x within here is below) (some_where_above number timing now source row up place x within here is false below) in
-    let unasked = subst (λ (e : ScheduledGroup). one_asked timing now (number source) e ≡ e) (sym (group-of number known was has)) stays in
+    let unasked = unasked_so g c has in
     let groups = unasked_groups c.args.self.now.groups address (number source) timing now (contained number known was has) (c.requires.quiet address has) unasked in
     λ i. let s : HeldState = record c.args.self.now { groups = groups i } in s
 
@@ -150,23 +233,10 @@ returns-then-not-runs_on-clause-sent g c address has =
     let number = g.K.Key.number in
     let known = c.self.invariant.0 in
     let was = c.self.view_is in
-    let n = c.args.number in
     let timing = c.args.timing.now in
     let now = c.args.now in
     let source = c.args.source in
-    let rows_within = within-rows number known was n c.requires.number in
-    let row = get_or c.self.inside.sources.rows n [] in
-    let up = known.rows_ascend n [] rows_within in
-    let place = c.in-Ok.place in
-    let x = c.index-row-place.result in
-    let cells = c.row-row.ensures.cells in
-    let within : place < length row = omega (arith, c.in-Ok.ensures.found_in, ap length cells) in
-    let here : x ≡ get_or row place x = c.index-row-place.is ∙ ap (λ xs. get_or xs place x) cells in
-    let is : number x.address ≡ number source = ap (number_in number) c.index-row-place.is ∙ c.in-Ok.ensures.found x in
-    let limit : c.after-limit.result ≡ lowered_to timing now = c.after-limit.ensures.later ∙ ap (λ k. now + k) c.last_member_time.ensures in
-    let below : false ≡ is_ahead (lowered_to timing now) (deadline_of (Some x.timer)) = sym c.if-not-runs_on.true ∙ c.runs_on.ensures.answer ∙ (λ i. is_ahead (limit i) (c.deadline.ensures i)) ∙ ap (λ (x : Source _). is_ahead (lowered_to timing now) (deadline_of (Some x.timer))) (sym c.index-row-place.is) in
-    let stays = stays_unasked number timing now source (get_or c.self.inside.heads.items n no_head) row up (same_where_below number timing now source row up place x within here is below) (some_where_above number timing now source row up place x within here is false below) in
-    let unasked = subst (λ (e : ScheduledGroup). one_asked timing now (number source) e ≡ e) (sym (group-of number known was has)) stays in
+    let unasked = unasked_so g c has in
     unasked_sends c.args.self.now.groups address (number source) timing now (contained number known was has) (c.requires.quiet address has) unasked g.S.Sink.takes c.args.sink.now c.args.per_query
 
 pub returns-then-not-runs_on-clause-spent : goal.returns-then-not-runs_on-clause-spent
@@ -188,64 +258,24 @@ ask_in_row-requires-clause-ascending g c =
     up
 
 pub row-row-requires-2 : goal.row-row-requires-2
-row-row-requires-2 g c =
-    let number = g.K.Key.number in
-    let known = c.self.invariant.0 in
-    let was = c.self.view_is in
-    let n = c.args.number in
-    let timing = c.args.timing.now in
-    let now = c.args.now in
-    let source = c.args.source in
-    let rows_within = within-rows number known was n c.requires.number in
-    let place = c.in-Ok.place in
-    let cells = c.row-row.ensures.cells in
-    let limit : c.after-limit.result ≡ lowered_to timing now = c.after-limit.ensures.later ∙ ap (λ k. now + k) c.last_member_time.ensures in
-    let first = c.ask_in_row.ensures.rows source (λ d. subst (λ xs. number (get_or xs place d).address ≡ number source) cells (c.in-Ok.ensures.found d)) in
-    let s0 = c.self.inside.sources in
-    let s1 = c.ask_in_row.new.rows in
-    let count = c.last_member_count-count in
-    record { number = within_asked number timing now source n s0 s1 s1 rows_within c.after-limit.result count.result limit count.ensures first }
+row-row-requires-2 g c = record { number = within_asked_so g c }
 
 pub send_waiting-places-requires-clause-ascending : goal.send_waiting-places-requires-clause-ascending
 send_waiting-places-requires-clause-ascending g c =
+    let asked = c.before.before.before in
+    let at_place = place_of g asked in
     let number = g.K.Key.number in
-    let known = c.self.invariant.0 in
-    let was = c.self.view_is in
     let n = c.args.number in
     let timing = c.args.timing.now in
     let now = c.args.now in
     let source = c.args.source in
-    let rows_within = within-rows number known was n c.requires.number in
     let row = get_or c.self.inside.sources.rows n [] in
-    let up = known.rows_ascend n [] rows_within in
-    let place = c.in-Ok.place in
-    let cells = c.row-row.ensures.cells in
-    let limit : c.after-limit.result ≡ lowered_to timing now = c.after-limit.ensures.later ∙ ap (λ k. now + k) c.last_member_time.ensures in
-    let first = c.ask_in_row.ensures.rows source (λ d. subst (λ xs. number (get_or xs place d).address ≡ number source) cells (c.in-Ok.ensures.found d)) in
-    let s0 = c.self.inside.sources in
-    let s1 = c.ask_in_row.new.rows in
-    let count = c.last_member_count-count in
-    let row_is = c.row-row-2.ensures.cells ∙ row_asked_is number timing now source n s0 s1 s1 rows_within c.after-limit.result count.result limit count.ensures first in
+    let up = up_so g at_place in
+    let row_is = c.row-row-2.ensures.cells ∙ row_asked_so g asked in
     subst (IsAscending (number_in number)) (sym row_is) (up_asked number timing now source (get_or c.self.inside.heads.items n no_head) row up)
 
 pub count_in_row-left-requires-clause-number : goal.count_in_row-left-requires-clause-number
-count_in_row-left-requires-clause-number g c =
-    let number = g.K.Key.number in
-    let known = c.self.invariant.0 in
-    let was = c.self.view_is in
-    let n = c.args.number in
-    let timing = c.args.timing.now in
-    let now = c.args.now in
-    let source = c.args.source in
-    let rows_within = within-rows number known was n c.requires.number in
-    let place = c.in-Ok.place in
-    let cells = c.row-row.ensures.cells in
-    let limit : c.after-limit.result ≡ lowered_to timing now = c.after-limit.ensures.later ∙ ap (λ k. now + k) c.last_member_time.ensures in
-    let first = c.ask_in_row.ensures.rows source (λ d. subst (λ xs. number (get_or xs place d).address ≡ number source) cells (c.in-Ok.ensures.found d)) in
-    let s0 = c.self.inside.sources in
-    let s1 = c.ask_in_row.new.rows in
-    let count = c.last_member_count-count in
-    within_asked number timing now source n s0 s1 s1 rows_within c.after-limit.result count.result limit count.ensures first
+count_in_row-left-requires-clause-number g c = within_asked_so g c.before.before.before.before.before.before
 
 pub overflow_sub-self : goal.overflow_sub-self
 overflow_sub-self g c =
@@ -275,138 +305,90 @@ overflow_add-self g c =
 
 pub row-row-requires-3 : goal.row-row-requires-3
 row-row-requires-3 g c =
-    let number = g.K.Key.number in
-    let known = c.self.invariant.0 in
-    let was = c.self.view_is in
-    let n = c.args.number in
-    let timing = c.args.timing.now in
-    let now = c.args.now in
-    let source = c.args.source in
-    let rows_within = within-rows number known was n c.requires.number in
-    let place = c.in-Ok.place in
-    let cells = c.row-row.ensures.cells in
-    let limit : c.after-limit.result ≡ lowered_to timing now = c.after-limit.ensures.later ∙ ap (λ k. now + k) c.last_member_time.ensures in
-    let first = c.ask_in_row.ensures.rows source (λ d. subst (λ xs. number (get_or xs place d).address ≡ number source) cells (c.in-Ok.ensures.found d)) in
-    let s0 = c.self.inside.sources in
-    let s1 = c.ask_in_row.new.rows in
-    let count = c.last_member_count-count in
-    let s2 = c.count_in_row-left.new.rows in
-    let counted = c.count_in_row-left.ensures.rows in
-    let size = length_counted number timing now source n s0 s1 s2 rows_within c.after-limit.result count.result limit count.ensures first counted in
-    record { number = omega (arith, size, rows_within) }
+    let size = ap (λ (s : NumberedRowsState _). length s.rows) (rows_counted_so g c) ∙ length-set c.self.inside.sources.rows c.args.number _ in
+    record { number = omega (arith, size, rows_so g (place_of g (asked_of g c))) }
 
 pub earliest_stored-due-requires-clause-ascending : goal.earliest_stored-due-requires-clause-ascending
 earliest_stored-due-requires-clause-ascending g c =
+    let due = c in
+    let counted_then = counted_of g due in
+    let asked = asked_of g counted_then in
+    let at_place = place_of g asked in
     let number = g.K.Key.number in
-    let known = c.self.invariant.0 in
-    let was = c.self.view_is in
     let n = c.args.number in
     let timing = c.args.timing.now in
     let now = c.args.now in
     let source = c.args.source in
-    let rows_within = within-rows number known was n c.requires.number in
     let row = get_or c.self.inside.sources.rows n [] in
-    let up = known.rows_ascend n [] rows_within in
-    let place = c.in-Ok.place in
-    let cells = c.row-row.ensures.cells in
-    let limit : c.after-limit.result ≡ lowered_to timing now = c.after-limit.ensures.later ∙ ap (λ k. now + k) c.last_member_time.ensures in
-    let first = c.ask_in_row.ensures.rows source (λ d. subst (λ xs. number (get_or xs place d).address ≡ number source) cells (c.in-Ok.ensures.found d)) in
-    let s0 = c.self.inside.sources in
-    let s1 = c.ask_in_row.new.rows in
-    let count = c.last_member_count-count in
-    let s2 = c.count_in_row-left.new.rows in
-    let counted = c.count_in_row-left.ensures.rows in
-    let row_then = c.row-row-3.ensures.cells ∙ row_counted_is number timing now source n s0 s1 s2 rows_within c.after-limit.result count.result limit count.ensures first counted in
+    let up = up_so g at_place in
+    let row_then = c.row-row-3.ensures.cells ∙ row_counted_so g counted_then in
     subst (IsAscending (number_in number)) (sym row_then) (up_counted number timing now source (get_or c.self.inside.heads.items n no_head) row up)
 
 pub earliest_stored-due-requires-clause-held : goal.earliest_stored-due-requires-clause-held
 earliest_stored-due-requires-clause-held g c =
+    let due = c in
+    let counted_then = counted_of g due in
+    let asked = asked_of g counted_then in
+    let at_place = place_of g asked in
     let number = g.K.Key.number in
     let known = c.self.invariant.0 in
-    let was = c.self.view_is in
     let n = c.args.number in
     let timing = c.args.timing.now in
     let now = c.args.now in
     let source = c.args.source in
-    let rows_within = within-rows number known was n c.requires.number in
-    let row = get_or c.self.inside.sources.rows n [] in
-    let up = known.rows_ascend n [] rows_within in
-    let held = numbered number known was n c.requires.number in
-    let place = c.in-Ok.place in
-    let x = c.index-row-place.result in
-    let cells = c.row-row.ensures.cells in
-    let within : place < length row = omega (arith, c.in-Ok.ensures.found_in, ap length cells) in
-    let here : x ≡ get_or row place x = c.index-row-place.is ∙ ap (λ xs. get_or xs place x) cells in
-    let is : number x.address ≡ number source = ap (number_in number) c.index-row-place.is ∙ c.in-Ok.ensures.found x in
-    let limit : c.after-limit.result ≡ lowered_to timing now = c.after-limit.ensures.later ∙ ap (λ k. now + k) c.last_member_time.ensures in
-    let above : true ≡ is_ahead (lowered_to timing now) (deadline_of (Some x.timer)) = sym c.if-not-runs_on.false ∙ c.runs_on.ensures.answer ∙ (λ i. is_ahead (limit i) (c.deadline.ensures i)) ∙ ap (λ (x : Source _). is_ahead (lowered_to timing now) (deadline_of (Some x.timer))) (sym c.index-row-place.is) in
-    let some = some_where_above number timing now source row up place x within here is true above in
-    let first = c.ask_in_row.ensures.rows source (λ d. subst (λ xs. number (get_or xs place d).address ≡ number source) cells (c.in-Ok.ensures.found d)) in
-    let s0 = c.self.inside.sources in
-    let s1 = c.ask_in_row.new.rows in
-    let count = c.last_member_count-count in
-    let s2 = c.count_in_row-left.new.rows in
-    let counted = c.count_in_row-left.ensures.rows in
-    let found = address-of number known was n c.requires.number in
-    let quiet = subst (λ (e : ScheduledGroup). IsQuietAt now e.schedule) (group-of number known was found.1) (c.requires.quiet found.0 found.1) in
-    let other = not_vacant number known n held rows_within place x within here in
+    let rows_within = rows_so g at_place in
+    let held = held_so g at_place in
+    let some = some_so g asked in
+    let quiet = quiet_so g at_place in
+    let other = other_so g at_place in
     let h = c.index.result.now in
-    let in_heads : n < length c.self.inside.heads.items = omega (arith, rows_within, c.self.invariant.2, c.self.invariant.3) in
-    let row_then = c.row-row-3.ensures.cells ∙ row_counted_is number timing now source n s0 s1 s2 rows_within c.after-limit.result count.result limit count.ensures first counted in
+    let in_heads = heads_so g at_place in
+    let row_then = c.row-row-3.ensures.cells ∙ row_counted_so g counted_then in
     subst (λ (xs : List (Source _)). IsWellFormed (state_of h.head (timers_in number xs))) (sym row_then) (formed_after number known n held rows_within timing now source h in_heads c.index.ensures other some quiet)
 
 pub change-requires : goal.change-requires
 change-requires g c =
+    let due = c.before.before.before.before in
+    let counted_then = counted_of g due in
+    let asked = asked_of g counted_then in
+    let at_place = place_of g asked in
     let number = g.K.Key.number in
     let known = c.self.invariant.0 in
-    let was = c.self.view_is in
     let n = c.args.number in
-    let rows_within = within-rows number known was n c.requires.number in
-    let row = get_or c.self.inside.sources.rows n [] in
-    let held = numbered number known was n c.requires.number in
+    let rows_within = rows_so g at_place in
+    let held = held_so g at_place in
     let place = c.in-Ok.place in
     let x = c.index-row-place.result in
-    let cells = c.row-row.ensures.cells in
-    let within : place < length row = omega (arith, c.in-Ok.ensures.found_in, ap length cells) in
-    let here : x ≡ get_or row place x = c.index-row-place.is ∙ ap (λ xs. get_or xs place x) cells in
+    let within = within_so g at_place in
+    let here = here_so g at_place in
     record { there = moment-held number known n held rows_within place x within here }
 
 pub invariant_of-self : goal.invariant_of-self
 invariant_of-self g c =
+    let due = due_of g c in
+    let counted_then = counted_of g due in
+    let asked = asked_of g counted_then in
+    let at_place = place_of g asked in
     let number = g.K.Key.number in
     let known = c.self.invariant.0 in
-    let was = c.self.view_is in
     let n = c.args.number in
     let timing = c.args.timing.now in
     let now = c.args.now in
     let source = c.args.source in
-    let rows_within = within-rows number known was n c.requires.number in
+    let rows_within = rows_so g at_place in
     let row = get_or c.self.inside.sources.rows n [] in
-    let up = known.rows_ascend n [] rows_within in
-    let held = numbered number known was n c.requires.number in
-    let place = c.in-Ok.place in
+    let up = up_so g at_place in
+    let held = held_so g at_place in
     let x = c.index-row-place.result in
-    let cells = c.row-row.ensures.cells in
-    let within : place < length row = omega (arith, c.in-Ok.ensures.found_in, ap length cells) in
-    let here : x ≡ get_or row place x = c.index-row-place.is ∙ ap (λ xs. get_or xs place x) cells in
-    let is : number x.address ≡ number source = ap (number_in number) c.index-row-place.is ∙ c.in-Ok.ensures.found x in
-    let limit : c.after-limit.result ≡ lowered_to timing now = c.after-limit.ensures.later ∙ ap (λ k. now + k) c.last_member_time.ensures in
-    let above : true ≡ is_ahead (lowered_to timing now) (deadline_of (Some x.timer)) = sym c.if-not-runs_on.false ∙ c.runs_on.ensures.answer ∙ (λ i. is_ahead (limit i) (c.deadline.ensures i)) ∙ ap (λ (x : Source _). is_ahead (lowered_to timing now) (deadline_of (Some x.timer))) (sym c.index-row-place.is) in
-    let some = some_where_above number timing now source row up place x within here is true above in
-    let first = c.ask_in_row.ensures.rows source (λ d. subst (λ xs. number (get_or xs place d).address ≡ number source) cells (c.in-Ok.ensures.found d)) in
+    let some = some_so g asked in
     let s0 = c.self.inside.sources in
-    let s1 = c.ask_in_row.new.rows in
-    let count = c.last_member_count-count in
-    let s2 = c.count_in_row-left.new.rows in
-    let counted = c.count_in_row-left.ensures.rows in
-    let found = address-of number known was n c.requires.number in
-    let quiet = subst (λ (e : ScheduledGroup). IsQuietAt now e.schedule) (group-of number known was found.1) (c.requires.quiet found.0 found.1) in
-    let other = not_vacant number known n held rows_within place x within here in
+    let quiet = quiet_so g at_place in
+    let other = other_so g at_place in
     let h = c.index.result.now in
-    let in_heads : n < length c.self.inside.heads.items = omega (arith, rows_within, c.self.invariant.2, c.self.invariant.3) in
-    let row_asked = row_asked_is number timing now source n s0 s1 s2 rows_within c.after-limit.result count.result limit count.ensures first in
-    let row_then = c.row-row-3.ensures.cells ∙ row_counted_is number timing now source n s0 s1 s2 rows_within c.after-limit.result count.result limit count.ensures first counted in
-    let rows_then = rows_counted number timing now source n s0 s1 s2 rows_within c.after-limit.result count.result limit count.ensures first counted in
+    let in_heads = heads_so g at_place in
+    let row_asked = row_asked_so g asked in
+    let row_then = c.row-row-3.ensures.cells ∙ row_counted_so g counted_then in
+    let rows_then = rows_counted_so g counted_then in
     let left : c.count_in_row-left.result ≡ list_any item_has_sendings (row_left number known n held rows_within timing now source h in_heads c.index.ensures other some quiet) = c.count_in_row-left.ensures.left ∙ ap (λ xs. list_any item_has_sendings (list_map item_counted xs)) row_asked in
     let next : c.count_sources.new.self ≡ record h.schedule { sources_due = next_due number timing now source h row up } = c.count_sources.ensures ∙ (λ i. let s : ScheduleState = record h.schedule { sources_due = cond (left i) (Some (now + timing.last_member_interval)) None } in s) in
     let head_is : record { head = h.head; schedule = c.count_sources.new.self } ≡ head_counted number known n held rows_within timing now source h in_heads c.index.ensures other some quiet = λ i. let x : ScheduledHead = record { head = h.head; schedule = next i } in x in
@@ -426,25 +408,14 @@ invariant_of-self g c =
     )
 
 pub returns-clause-there : goal.returns-clause-there
-returns-clause-there g c address has =
-    let number = g.K.Key.number in
-    let known = c.self.invariant.0 in
-    let was = c.self.view_is in
-    let n = c.args.number in
-    let source = c.args.source in
-    let rows_within = within-rows number known was n c.requires.number in
-    let row = get_or c.self.inside.sources.rows n [] in
-    let held = numbered number known was n c.requires.number in
-    let place = c.in-Ok.place in
-    let x = c.index-row-place.result in
-    let cells = c.row-row.ensures.cells in
-    let within : place < length row = omega (arith, c.in-Ok.ensures.found_in, ap length cells) in
-    let here : x ≡ get_or row place x = c.index-row-place.is ∙ ap (λ xs. get_or xs place x) cells in
-    let is : number x.address ≡ number source = ap (number_in number) c.index-row-place.is ∙ c.in-Ok.ensures.found x in
-    sym (ap (λ (e : ScheduledGroup). is_some (timer_at e.group (number source))) (group-of number known was has) ∙ ap is_some (timer-held number known n held rows_within place x within here (number source) is))
+returns-clause-there g c = there_so g (place_of g (asked_of g (counted_of g (due_of g c))))
 
 pub returns-clause-groups : goal.returns-clause-groups
 returns-clause-groups g c address has =
+    let due = due_of g c in
+    let counted_then = counted_of g due in
+    let asked = asked_of g counted_then in
+    let at_place = place_of g asked in
     let number = g.K.Key.number in
     let known = c.self.invariant.0 in
     let was = c.self.view_is in
@@ -452,32 +423,19 @@ returns-clause-groups g c address has =
     let timing = c.args.timing.now in
     let now = c.args.now in
     let source = c.args.source in
-    let rows_within = within-rows number known was n c.requires.number in
+    let rows_within = rows_so g at_place in
     let row = get_or c.self.inside.sources.rows n [] in
-    let up = known.rows_ascend n [] rows_within in
-    let held = numbered number known was n c.requires.number in
-    let place = c.in-Ok.place in
+    let up = up_so g at_place in
+    let held = held_so g at_place in
     let x = c.index-row-place.result in
-    let cells = c.row-row.ensures.cells in
-    let within : place < length row = omega (arith, c.in-Ok.ensures.found_in, ap length cells) in
-    let here : x ≡ get_or row place x = c.index-row-place.is ∙ ap (λ xs. get_or xs place x) cells in
-    let is : number x.address ≡ number source = ap (number_in number) c.index-row-place.is ∙ c.in-Ok.ensures.found x in
-    let limit : c.after-limit.result ≡ lowered_to timing now = c.after-limit.ensures.later ∙ ap (λ k. now + k) c.last_member_time.ensures in
-    let above : true ≡ is_ahead (lowered_to timing now) (deadline_of (Some x.timer)) = sym c.if-not-runs_on.false ∙ c.runs_on.ensures.answer ∙ (λ i. is_ahead (limit i) (c.deadline.ensures i)) ∙ ap (λ (x : Source _). is_ahead (lowered_to timing now) (deadline_of (Some x.timer))) (sym c.index-row-place.is) in
-    let some = some_where_above number timing now source row up place x within here is true above in
-    let first = c.ask_in_row.ensures.rows source (λ d. subst (λ xs. number (get_or xs place d).address ≡ number source) cells (c.in-Ok.ensures.found d)) in
+    let some = some_so g asked in
     let s0 = c.self.inside.sources in
-    let s1 = c.ask_in_row.new.rows in
-    let count = c.last_member_count-count in
-    let s2 = c.count_in_row-left.new.rows in
-    let counted = c.count_in_row-left.ensures.rows in
-    let found = address-of number known was n c.requires.number in
-    let quiet = subst (λ (e : ScheduledGroup). IsQuietAt now e.schedule) (group-of number known was found.1) (c.requires.quiet found.0 found.1) in
-    let other = not_vacant number known n held rows_within place x within here in
+    let quiet = quiet_so g at_place in
+    let other = other_so g at_place in
     let h = c.index.result.now in
-    let in_heads : n < length c.self.inside.heads.items = omega (arith, rows_within, c.self.invariant.2, c.self.invariant.3) in
-    let row_asked = row_asked_is number timing now source n s0 s1 s2 rows_within c.after-limit.result count.result limit count.ensures first in
-    let rows_then = rows_counted number timing now source n s0 s1 s2 rows_within c.after-limit.result count.result limit count.ensures first counted in
+    let in_heads = heads_so g at_place in
+    let row_asked = row_asked_so g asked in
+    let rows_then = rows_counted_so g counted_then in
     let left : c.count_in_row-left.result ≡ list_any item_has_sendings (row_left number known n held rows_within timing now source h in_heads c.index.ensures other some quiet) = c.count_in_row-left.ensures.left ∙ ap (λ xs. list_any item_has_sendings (list_map item_counted xs)) row_asked in
     let next : c.count_sources.new.self ≡ record h.schedule { sources_due = next_due number timing now source h row up } = c.count_sources.ensures ∙ (λ i. let s : ScheduleState = record h.schedule { sources_due = cond (left i) (Some (now + timing.last_member_interval)) None } in s) in
     let head_is : record { head = h.head; schedule = c.count_sources.new.self } ≡ head_counted number known n held rows_within timing now source h in_heads c.index.ensures other some quiet = λ i. let x : ScheduledHead = record { head = h.head; schedule = next i } in x in
@@ -490,6 +448,10 @@ returns-clause-groups g c address has =
 
 pub returns-clause-sent : goal.returns-clause-sent
 returns-clause-sent g c address has =
+    let due = due_of g c in
+    let counted_then = counted_of g due in
+    let asked = asked_of g counted_then in
+    let at_place = place_of g asked in
     let number = g.K.Key.number in
     let known = c.self.invariant.0 in
     let was = c.self.view_is in
@@ -497,29 +459,16 @@ returns-clause-sent g c address has =
     let timing = c.args.timing.now in
     let now = c.args.now in
     let source = c.args.source in
-    let rows_within = within-rows number known was n c.requires.number in
-    let row = get_or c.self.inside.sources.rows n [] in
-    let up = known.rows_ascend n [] rows_within in
-    let held = numbered number known was n c.requires.number in
-    let place = c.in-Ok.place in
+    let rows_within = rows_so g at_place in
+    let held = held_so g at_place in
     let x = c.index-row-place.result in
-    let cells = c.row-row.ensures.cells in
-    let within : place < length row = omega (arith, c.in-Ok.ensures.found_in, ap length cells) in
-    let here : x ≡ get_or row place x = c.index-row-place.is ∙ ap (λ xs. get_or xs place x) cells in
     let is : number x.address ≡ number source = ap (number_in number) c.index-row-place.is ∙ c.in-Ok.ensures.found x in
-    let limit : c.after-limit.result ≡ lowered_to timing now = c.after-limit.ensures.later ∙ ap (λ k. now + k) c.last_member_time.ensures in
-    let above : true ≡ is_ahead (lowered_to timing now) (deadline_of (Some x.timer)) = sym c.if-not-runs_on.false ∙ c.runs_on.ensures.answer ∙ (λ i. is_ahead (limit i) (c.deadline.ensures i)) ∙ ap (λ (x : Source _). is_ahead (lowered_to timing now) (deadline_of (Some x.timer))) (sym c.index-row-place.is) in
-    let some = some_where_above number timing now source row up place x within here is true above in
-    let first = c.ask_in_row.ensures.rows source (λ d. subst (λ xs. number (get_or xs place d).address ≡ number source) cells (c.in-Ok.ensures.found d)) in
-    let s0 = c.self.inside.sources in
-    let s1 = c.ask_in_row.new.rows in
-    let count = c.last_member_count-count in
-    let found = address-of number known was n c.requires.number in
-    let quiet = subst (λ (e : ScheduledGroup). IsQuietAt now e.schedule) (group-of number known was found.1) (c.requires.quiet found.0 found.1) in
-    let other = not_vacant number known n held rows_within place x within here in
+    let some = some_so g asked in
+    let quiet = quiet_so g at_place in
+    let other = other_so g at_place in
     let h = c.index.result.now in
-    let in_heads : n < length c.self.inside.heads.items = omega (arith, rows_within, c.self.invariant.2, c.self.invariant.3) in
-    let row_is = c.row-row-2.ensures.cells ∙ row_asked_is number timing now source n s0 s1 s1 rows_within c.after-limit.result count.result limit count.ensures first in
+    let in_heads = heads_so g at_place in
+    let row_is = c.row-row-2.ensures.cells ∙ row_asked_so g asked in
     let at = same-address number known was (has-there number known was c.key-address.ensures) has in
     let old = c.args.sink.now in
     let new = c.send_waiting-places.new.sink in
@@ -529,6 +478,10 @@ returns-clause-sent g c address has =
 
 pub returns-clause-spent : goal.returns-clause-spent
 returns-clause-spent g c address has =
+    let due = due_of g c in
+    let counted_then = counted_of g due in
+    let asked = asked_of g counted_then in
+    let at_place = place_of g asked in
     let number = g.K.Key.number in
     let known = c.self.invariant.0 in
     let was = c.self.view_is in
@@ -536,20 +489,11 @@ returns-clause-spent g c address has =
     let timing = c.args.timing.now in
     let now = c.args.now in
     let source = c.args.source in
-    let rows_within = within-rows number known was n c.requires.number in
     let row = get_or c.self.inside.sources.rows n [] in
-    let up = known.rows_ascend n [] rows_within in
-    let place = c.in-Ok.place in
+    let up = up_so g at_place in
     let cells = c.row-row.ensures.cells in
-    let limit : c.after-limit.result ≡ lowered_to timing now = c.after-limit.ensures.later ∙ ap (λ k. now + k) c.last_member_time.ensures in
-    let first = c.ask_in_row.ensures.rows source (λ d. subst (λ xs. number (get_or xs place d).address ≡ number source) cells (c.in-Ok.ensures.found d)) in
-    let s0 = c.self.inside.sources in
-    let s1 = c.ask_in_row.new.rows in
-    let count = c.last_member_count-count in
-    let s2 = c.count_in_row-left.new.rows in
-    let counted = c.count_in_row-left.ensures.rows in
-    let row_asked = row_asked_is number timing now source n s0 s1 s2 rows_within c.after-limit.result count.result limit count.ensures first in
-    let row_then = c.row-row-3.ensures.cells ∙ row_counted_is number timing now source n s0 s1 s2 rows_within c.after-limit.result count.result limit count.ensures first counted in
+    let row_asked = row_asked_so g asked in
+    let row_then = c.row-row-3.ensures.cells ∙ row_counted_so g counted_then in
     let row_is = c.row-row-2.ensures.cells ∙ row_asked in
     let size = ap length cells ∙ sym (size-of number known was has) in
     let size_asked = ap length row_is ∙ length-map row _ ∙ sym (size-of number known was has) in
@@ -563,23 +507,15 @@ returns-clause-spent g c address has =
 
 pub returns-clause-moved : goal.returns-clause-moved
 returns-clause-moved g c address has =
+    let due = due_of g c in
+    let counted_then = counted_of g due in
+    let asked = asked_of g counted_then in
     let number = g.K.Key.number in
     let known = c.self.invariant.0 in
     let was = c.self.view_is in
     let n = c.args.number in
-    let timing = c.args.timing.now in
-    let now = c.args.now in
-    let source = c.args.source in
-    let rows_within = within-rows number known was n c.requires.number in
     let row = get_or c.self.inside.sources.rows n [] in
-    let place = c.in-Ok.place in
-    let cells = c.row-row.ensures.cells in
-    let limit : c.after-limit.result ≡ lowered_to timing now = c.after-limit.ensures.later ∙ ap (λ k. now + k) c.last_member_time.ensures in
-    let first = c.ask_in_row.ensures.rows source (λ d. subst (λ xs. number (get_or xs place d).address ≡ number source) cells (c.in-Ok.ensures.found d)) in
-    let s0 = c.self.inside.sources in
-    let s1 = c.ask_in_row.new.rows in
-    let count = c.last_member_count-count in
-    let row_asked = row_asked_is number timing now source n s0 s1 s1 rows_within c.after-limit.result count.result limit count.ensures first in
+    let row_asked = row_asked_so g asked in
     let size = ap length row_asked ∙ length-map row _ ∙ sym (size-of number known was has) in
     let others = ap (λ k. bitlen (k - 1)) (running-held number known was) in
     let counted = Spends-join c.ask_in_row.ensures.moved c.count_in_row-left.ensures.moved in
