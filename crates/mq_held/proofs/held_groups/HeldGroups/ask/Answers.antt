@@ -27,7 +27,7 @@ use Rattle.mq_held.specs.Groups.{group_at, one_if}
 use Rattle.mq_held.specs.Moments.{moments_of}
 use Rattle.mq_held.specs.Held.{HasNumber, HeldState}
 use Rattle.mq_held.specs.Stored.{IsStored, earliest_of, group_by, group_of, groups_by, no_head}
-use Rattle.mq_held.proofs.AskedInPlace.{IsStored-asked, formed_after, group_after, head_counted, len_counted, next_due, row_asked, row_asked_is, row_counted, row_counted_is, row_left, rows_counted, same_where_below, sends_after, some_where_above, stays_unasked, test, unasked_groups, unasked_sends, up_asked, up_counted, within_asked}
+use Rattle.mq_held.proofs.AskedInPlace.{IsStored-asked, formed_after, group_after, head_counted, len_counted, row_asked, row_asked_is, row_counted, row_counted_is, rows_counted, same_where_below, sends_after, some_where_above, stays_unasked, test, unasked_groups, unasked_sends, up_asked, up_counted, within_asked}
 use Rattle.mq_held.proofs.Inside.{address-of, ahead_is, contained, group-of, has as has-there, numbered, running-held, same-address, size-of, state-set, within-rows}
 use Rattle.mq_held.proofs.OrderedItems.{number_of}
 use Rattle.mq_held.proofs.RestartedTimers.{moment-held, not_vacant, timer-held}
@@ -143,6 +143,25 @@ row_counted_so g c =
     let a = asked_of g c in
     row_counted_is g.K.Key.number c.args.timing.now c.args.now c.args.source c.args.number c.self.inside.sources c.ask_in_row.new.rows c.count_in_row-left.new.rows (rows_so g (place_of g a)) c.after-limit.result c.last_member_count-count.result (limit_so g (place_of g a)) c.last_member_count-count.ensures (first_so g a) c.count_in_row-left.ensures.rows
 
+-- the row and the head of the group then
+abbrev place_due : (g : Over) → goal.After-earliest_stored-arg-1 g → After-index-row-place g
+place_due g c = place_of g (asked_of g (counted_of g c))
+
+abbrev row_after : (g : Over) → goal.After-earliest_stored-arg-1 g → List (Source g.row.K.Denot)
+row_after g c = row_counted g.K.Key.number c.args.timing.now c.args.now c.args.source (get_or c.self.inside.sources.rows c.args.number [])
+
+abbrev head_after : (g : Over) (c : goal.After-earliest_stored-arg-1 g) → ScheduledHead
+head_after g c = head_counted g.K.Key.number c.self.invariant.0 c.args.number (held_so g (place_due g c)) (rows_so g (place_due g c)) c.args.timing.now c.args.now c.args.source c.index.result.now (heads_so g (place_due g c)) c.index.ensures (other_so g (place_due g c)) (some_so g (asked_of g (counted_of g c))) (quiet_so g (place_due g c))
+
+next_so : (g : Over) (c : goal.After-earliest_stored-arg-1 g) → (let head = head_after g c in c.count_sources.new.self ≡ head.schedule)
+next_so g c =
+    let h = c.index.result.now in
+    let left = c.count_in_row-left.ensures.left ∙ ap (λ xs. list_any item_has_sendings (list_map item_counted xs)) (row_asked_so g (asked_of g (counted_of g c))) in
+    c.count_sources.ensures ∙ (λ i. let s : ScheduleState = record h.schedule { sources_due = cond (left i) (Some (c.args.now + c.args.timing.now.last_member_interval)) None } in s)
+
+head_so : (g : Over) (c : goal.After-earliest_stored-arg-1 g) → (let h = c.index.result.now in ◌≡◌ {A = ScheduledHead} (record { head = h.head; schedule = c.count_sources.new.self }) (head_after g c))
+head_so g c = let h = c.index.result.now in λ i. let x : ScheduledHead = record { head = h.head; schedule = next_so g c i } in x
+
 pub row-row-requires : goal.row-row-requires
 row-row-requires g c =
     record { number = within-rows g.K.Key.number c.self.invariant.0 c.self.view_is c.args.number c.requires.number }
@@ -168,8 +187,9 @@ returns-in_default-clause-there g c address has =
     let absent = rw c.row-row.ensures.cells at c.in_default.ensures.member in
     sym (ap (λ (e : ScheduledGroup). is_some (timer_at e.group (number source))) (group-of number known was has) ∙ ap is_some (get-absent number row (number source) absent))
 
-pub returns-in_default-clause-groups : goal.returns-in_default-clause-groups
-returns-in_default-clause-groups g c address has =
+-- a source that the row hasn't isn't asked for
+unasked_absent : (g : Over) (c : goal.In_default g) {address : ℕ} → HasNumber c.args.self.now address c.args.number → (let e = group_at c.args.self.now.groups address in one_asked c.args.timing.now c.args.now (g.K.Key.number c.args.source) e ≡ e)
+unasked_absent g c has =
     let number = g.K.Key.number in
     let known = c.self.invariant.0 in
     let was = c.self.view_is in
@@ -183,7 +203,17 @@ returns-in_default-clause-groups g c address has =
     let absent = rw c.row-row.ensures.cells at c.in_default.ensures.member in
     let same = asked_absent number (lowered_to timing now) (last_member_count timing) source row absent in
     let stays = stays_unasked number timing now source (get_or c.self.inside.heads.items n no_head) row up (sym same.0) (sym same.1) in
-    let unasked = subst (λ (e : ScheduledGroup). one_asked timing now (number source) e ≡ e) (sym (group-of number known was has)) stays in
+    subst (λ (e : ScheduledGroup). one_asked timing now (number source) e ≡ e) (sym (group-of number known was has)) stays
+
+pub returns-in_default-clause-groups : goal.returns-in_default-clause-groups
+returns-in_default-clause-groups g c address has =
+    let number = g.K.Key.number in
+    let known = c.self.invariant.0 in
+    let was = c.self.view_is in
+    let timing = c.args.timing.now in
+    let now = c.args.now in
+    let source = c.args.source in
+    let unasked = unasked_absent g c has in
     let groups = unasked_groups c.args.self.now.groups address (number source) timing now (contained number known was has) (c.requires.quiet address has) unasked in
     λ i. let s : HeldState = record c.args.self.now { groups = groups i } in s
 
@@ -192,17 +222,10 @@ returns-in_default-clause-sent g c address has =
     let number = g.K.Key.number in
     let known = c.self.invariant.0 in
     let was = c.self.view_is in
-    let n = c.args.number in
     let timing = c.args.timing.now in
     let now = c.args.now in
     let source = c.args.source in
-    let rows_within = within-rows number known was n c.requires.number in
-    let row = get_or c.self.inside.sources.rows n [] in
-    let up = known.rows_ascend n [] rows_within in
-    let absent = rw c.row-row.ensures.cells at c.in_default.ensures.member in
-    let same = asked_absent number (lowered_to timing now) (last_member_count timing) source row absent in
-    let stays = stays_unasked number timing now source (get_or c.self.inside.heads.items n no_head) row up (sym same.0) (sym same.1) in
-    let unasked = subst (λ (e : ScheduledGroup). one_asked timing now (number source) e ≡ e) (sym (group-of number known was has)) stays in
+    let unasked = unasked_absent g c has in
     unasked_sends c.args.self.now.groups address (number source) timing now (contained number known was has) (c.requires.quiet address has) unasked g.S.Sink.takes c.args.sink.now c.args.per_query
 
 pub returns-in_default-clause-spent : goal.returns-in_default-clause-spent
@@ -249,13 +272,8 @@ returns-then-not-runs_on-clause-spent g c address has =
 
 pub ask_in_row-requires-clause-ascending : goal.ask_in_row-requires-clause-ascending
 ask_in_row-requires-clause-ascending g c =
-    let number = g.K.Key.number in
     let known = c.self.invariant.0 in
-    let was = c.self.view_is in
-    let n = c.args.number in
-    let rows_within = within-rows number known was n c.requires.number in
-    let up = known.rows_ascend n [] rows_within in
-    up
+    known.rows_ascend c.args.number [] (within-rows g.K.Key.number known c.self.view_is c.args.number c.requires.number)
 
 pub row-row-requires-2 : goal.row-row-requires-2
 row-row-requires-2 g c = record { number = within_asked_so g c }
@@ -310,8 +328,7 @@ row-row-requires-3 g c =
 
 pub earliest_stored-due-requires-clause-ascending : goal.earliest_stored-due-requires-clause-ascending
 earliest_stored-due-requires-clause-ascending g c =
-    let due = c in
-    let counted_then = counted_of g due in
+    let counted_then = counted_of g c in
     let asked = asked_of g counted_then in
     let at_place = place_of g asked in
     let number = g.K.Key.number in
@@ -326,8 +343,7 @@ earliest_stored-due-requires-clause-ascending g c =
 
 pub earliest_stored-due-requires-clause-held : goal.earliest_stored-due-requires-clause-held
 earliest_stored-due-requires-clause-held g c =
-    let due = c in
-    let counted_then = counted_of g due in
+    let counted_then = counted_of g c in
     let asked = asked_of g counted_then in
     let at_place = place_of g asked in
     let number = g.K.Key.number in
@@ -376,22 +392,17 @@ invariant_of-self g c =
     let now = c.args.now in
     let source = c.args.source in
     let rows_within = rows_so g at_place in
-    let row = get_or c.self.inside.sources.rows n [] in
-    let up = up_so g at_place in
     let held = held_so g at_place in
-    let x = c.index-row-place.result in
     let some = some_so g asked in
     let s0 = c.self.inside.sources in
     let quiet = quiet_so g at_place in
     let other = other_so g at_place in
     let h = c.index.result.now in
     let in_heads = heads_so g at_place in
-    let row_asked = row_asked_so g asked in
     let row_then = c.row-row-3.ensures.cells ∙ row_counted_so g counted_then in
     let rows_then = rows_counted_so g counted_then in
-    let left : c.count_in_row-left.result ≡ list_any item_has_sendings (row_left number known n held rows_within timing now source h in_heads c.index.ensures other some quiet) = c.count_in_row-left.ensures.left ∙ ap (λ xs. list_any item_has_sendings (list_map item_counted xs)) row_asked in
-    let next : c.count_sources.new.self ≡ record h.schedule { sources_due = next_due number timing now source h row up } = c.count_sources.ensures ∙ (λ i. let s : ScheduleState = record h.schedule { sources_due = cond (left i) (Some (now + timing.last_member_interval)) None } in s) in
-    let head_is : record { head = h.head; schedule = c.count_sources.new.self } ≡ head_counted number known n held rows_within timing now source h in_heads c.index.ensures other some quiet = λ i. let x : ScheduledHead = record { head = h.head; schedule = next i } in x in
+    let next = next_so g due in
+    let head_is = head_so g due in
     let earliest = (λ i. earliest_of (moments_of (group_of number (sym head_is i) (sym row_then i)))) ∙ c.earliest_stored-due.ensures.earliest in
     let all = IsStored-asked number known n held rows_within timing now source h in_heads c.index.ensures other some quiet c.earliest_stored-due.result earliest in
     let own = schedules-read number c.self.inside.heads.items s0.rows n h in_heads c.index.ensures in
@@ -400,7 +411,7 @@ invariant_of-self g c =
       subst (λ (p : (ScheduledHead × NumberedRowsState (Source _)) × (NumberedMomentsState × ℕ)). IsStored number c.self.inside.order.items (set c.self.inside.heads.items n p.0.0) p.0.1.rows p.1.0.moments p.1.1)
           (λ i. ((sym head_is i, sym rows_then i), (sym c.change.ensures.moments i, c.self.inside.scheduled - before i + after i))) all,
       c.self.invariant.1 ∙ ap (λ (s : NumberedRowsState (Source _)). s.cell_limit) (sym rows_then),
-      ap (λ (s : NumberedRowsState (Source _)). length s.rows) rows_then ∙ length-set s0.rows n (row_left number known n held rows_within timing now source h in_heads c.index.ensures other some quiet) ∙ c.self.invariant.2,
+      ap (λ (s : NumberedRowsState (Source _)). length s.rows) rows_then ∙ length-set s0.rows n (row_after g due) ∙ c.self.invariant.2,
       length-set c.self.inside.heads.items n _ ∙ c.self.invariant.3,
       ap (λ (s : NumberedMomentsState). s.room) c.change.ensures.moments ∙ c.self.invariant.4,
       c.self.invariant.5,
@@ -424,24 +435,18 @@ returns-clause-groups g c address has =
     let now = c.args.now in
     let source = c.args.source in
     let rows_within = rows_so g at_place in
-    let row = get_or c.self.inside.sources.rows n [] in
-    let up = up_so g at_place in
     let held = held_so g at_place in
-    let x = c.index-row-place.result in
     let some = some_so g asked in
     let s0 = c.self.inside.sources in
     let quiet = quiet_so g at_place in
     let other = other_so g at_place in
     let h = c.index.result.now in
     let in_heads = heads_so g at_place in
-    let row_asked = row_asked_so g asked in
     let rows_then = rows_counted_so g counted_then in
-    let left : c.count_in_row-left.result ≡ list_any item_has_sendings (row_left number known n held rows_within timing now source h in_heads c.index.ensures other some quiet) = c.count_in_row-left.ensures.left ∙ ap (λ xs. list_any item_has_sendings (list_map item_counted xs)) row_asked in
-    let next : c.count_sources.new.self ≡ record h.schedule { sources_due = next_due number timing now source h row up } = c.count_sources.ensures ∙ (λ i. let s : ScheduleState = record h.schedule { sources_due = cond (left i) (Some (now + timing.last_member_interval)) None } in s) in
-    let head_is : record { head = h.head; schedule = c.count_sources.new.self } ≡ head_counted number known n held rows_within timing now source h in_heads c.index.ensures other some quiet = λ i. let x : ScheduledHead = record { head = h.head; schedule = next i } in x in
+    let head_is = head_so g due in
     let e = after_round timing now (one_asked timing now (number source) (group_at c.args.self.now.groups address)) in
-    let head = head_counted number known n held rows_within timing now source h in_heads c.index.ensures other some quiet in
-    let row_kept = row_left number known n held rows_within timing now source h in_heads c.index.ensures other some quiet in
+    let head = head_after g due in
+    let row_kept = row_after g due in
     let group_is : group_of number head row_kept ≡ e = group_after number known n held rows_within timing now source h in_heads c.index.ensures other some quiet ∙ ap (λ e. after_round timing now (one_asked timing now (number source) e)) (sym (group-of number known was has)) in
     (λ i. let s : HeldState = record { groups = groups_by number c.self.inside.order.items (set c.self.inside.heads.items n (head_is i)) (rows_then i).rows; order = c.self.inside.order; source_room = c.self.inside.source_room; ahead = (rows_then i).ahead } in s)
     ∙ state-set number known was head row_kept e s0.ahead c.args.self.now.ahead has in_heads group_is (ahead_is number known was)
@@ -461,8 +466,6 @@ returns-clause-sent g c address has =
     let source = c.args.source in
     let rows_within = rows_so g at_place in
     let held = held_so g at_place in
-    let x = c.index-row-place.result in
-    let is : number x.address ≡ number source = ap (number_in number) c.index-row-place.is ∙ c.in-Ok.ensures.found x in
     let some = some_so g asked in
     let quiet = quiet_so g at_place in
     let other = other_so g at_place in
