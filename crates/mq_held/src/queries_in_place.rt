@@ -10,6 +10,7 @@ ghost use Rattle.mq_table.specs.AskedSources.{source_if_asked};
 ghost use Rattle.mq_table.specs.Group.{deadline_of, is_ahead, timer_at};
 ghost use Rattle.mq_table.specs.MadeSources.{item_counted};
 ghost use Rattle.mq_table.specs.SendingPlaces.{PassesBetween, item_has_sendings};
+ghost use Rattle.mq_table.specs.Sendings.{above};
 ghost use Rattle.mq_table.specs.Stored.{number_in};
 ghost use Rattle.mq_sched.specs.Rounds.{IsQuietAt};
 ghost use Rattle.mq_sched.specs.Sending.{after_round, messages_due};
@@ -123,9 +124,9 @@ impl<K: Key, A: Allocator> HeldGroups<K, A> {
             let others = running_in self.old.groups - 1 in
             Spends (min 1 size) (bitlen size + (if result then 3 * size + 5 + bitlen others else 0)) m.old m.new }
         ensures moved { (address : ℕ) → HasNumber self.old address number →
-            let size = sources_of (group_at self.old.groups address) in
+            let e = group_at self.old.groups address in
             let others = running_in self.old.groups - 1 in
-            Spends 0 (if result then size + 2 + bitlen others else 0) moves.old moves.new }
+            Spends (if above timing.now now e.group (K.number source) then 2 else 0) (if result then sources_of e + 2 + bitlen others else 0) moves.old moves.new }
     {
         let row = self.sources.row(number);
         let Ok(place) = find(row, source, m) else {

@@ -1,6 +1,7 @@
 use Rattle.std.specs.List.{list_any}
 use Rattle.std.specs.Prelude.{map as list_map}
 use Rattle.std.proofs.Common.{◌≡◌, cond, ℕ, ◌+◌, ◌-◌, ◌<◌, ◌≤◌, Bool, true, false, [], ◌∷◌, length, get_or, set, List, None, Some, is_some, sym, ap, ◌∙◌, subst, arith}
+use Rattle.std.proofs.lemmas.Bool.{true≢false}
 use Rattle.std.proofs.lemmas.List.{length-map, length-set}
 use Rattle.mq_count.proofs.Spent.{Spends-join, Spends-join_within, Spends-within}
 use Rattle.mq_sets.specs.Ascending.{IsAscending, set_of}
@@ -12,6 +13,7 @@ use Rattle.mq_table.specs.declared.sources.Source.{Source}
 use Rattle.mq_table.specs.Lowering.{lowered_to}
 use Rattle.mq_table.specs.MadeSources.{item_counted}
 use Rattle.mq_table.specs.SendingPlaces.{item_has_sendings}
+use Rattle.mq_table.specs.Sendings.{above}
 use Rattle.mq_table.specs.Timing.{last_member_count}
 use Rattle.mq_table.specs.Stored.{number_in, state_of, timers_in}
 use Rattle.mq_table.proofs.AskingOne.{asked_absent}
@@ -93,6 +95,11 @@ other_so : (g : Over) (c : After-index-row-place g) → is_vacant (group_by g.K.
 other_so g c = not_vacant g.K.Key.number c.self.invariant.0 c.args.number (held_so g c) (rows_so g c) c.in-Ok.place c.index-row-place.result (within_so g c) (here_so g c)
 
 -- where its timer isn't above the limit, the group stays
+below_so : (g : Over) (c : goal.Then-not-runs_on g) → false ≡ is_ahead (lowered_to c.args.timing.now c.args.now) (deadline_of (Some c.index-row-place.result.timer))
+below_so g c =
+    let limit = lowered_to c.args.timing.now c.args.now in
+    sym c.if-not-runs_on.true ∙ c.runs_on.ensures.answer ∙ (λ i. is_ahead (limit_so g c.before.before.before.before i) (c.deadline.ensures i)) ∙ ap (λ (x : Source _). is_ahead limit (deadline_of (Some x.timer))) (sym c.index-row-place.is)
+
 unasked_so : (g : Over) (c : goal.Then-not-runs_on g) {address : ℕ} → HasNumber c.args.self.now address c.args.number → (let e = group_at c.args.self.now.groups address in one_asked c.args.timing.now c.args.now (g.K.Key.number c.args.source) e ≡ e)
 unasked_so g c has =
     let number = g.K.Key.number in
@@ -102,7 +109,7 @@ unasked_so g c has =
     let x = c.index-row-place.result in
     let row = get_or c.self.inside.sources.rows c.args.number [] in
     let b = c.before.before.before.before in
-    let below : false ≡ is_ahead (lowered_to timing now) (deadline_of (Some x.timer)) = sym c.if-not-runs_on.true ∙ c.runs_on.ensures.answer ∙ (λ i. is_ahead (limit_so g b i) (c.deadline.ensures i)) ∙ ap (λ (x : Source _). is_ahead (lowered_to timing now) (deadline_of (Some x.timer))) (sym c.index-row-place.is) in
+    let below = below_so g c in
     let same = same_where_below number timing now source row (up_so g b) c.in-Ok.place x (within_so g b) (here_so g b) (is_so g b) below in
     let none = some_where_above number timing now source row (up_so g b) c.in-Ok.place x (within_so g b) (here_so g b) (is_so g b) false below in
     subst (λ (e : ScheduledGroup). one_asked timing now (number source) e ≡ e) (sym (group-of number c.self.invariant.0 c.self.view_is has)) (stays_unasked number timing now source (get_or c.self.inside.heads.items c.args.number no_head) row (up_so g b) same none)
@@ -508,6 +515,34 @@ returns-clause-spent g c address has =
     let told = Spends-join sent c.earliest_stored-due.ensures.spent in
     Spends-join_within _ _ told c.change.ensures.spent (omega (arith, size)) (omega (arith, size_asked, size_then, digits, others))
 
+-- the source that is asked for and the group's moment are moved
+two_least : (b : Bool) → cond b 2 0 ≤ 2
+two_least true = omega arith
+two_least false = omega arith
+
+none_least : (b : Bool) → b ≡ false → cond b 2 0 ≤ 0
+none_least true is = absurd (true≢false is)
+none_least false is = omega arith
+
+pub returns-in_default-clause-moved : goal.returns-in_default-clause-moved
+returns-in_default-clause-moved g c address has =
+    let number = g.K.Key.number in
+    let row = get_or c.self.inside.sources.rows c.args.number [] in
+    let absent = rw c.row-row.ensures.cells at c.in_default.ensures.member in
+    let timer = ap (λ (e : ScheduledGroup). timer_at e.group (number c.args.source)) (group-of number c.self.invariant.0 c.self.view_is has) ∙ get-absent number row (number c.args.source) absent in
+    let none = none_least _ (ap (λ t. is_ahead (lowered_to c.args.timing.now c.args.now) (deadline_of t)) timer) in
+    record { at_least = omega (arith, none); at_most = omega arith }
+
+pub returns-then-not-runs_on-clause-moved : goal.returns-then-not-runs_on-clause-moved
+returns-then-not-runs_on-clause-moved g c address has =
+    let number = g.K.Key.number in
+    let b = c.before.before.before.before in
+    let x = c.index-row-place.result in
+    let timer = ap (λ (e : ScheduledGroup). timer_at e.group (number c.args.source)) (group-of number c.self.invariant.0 c.self.view_is has)
+    ∙ timer-held number c.self.invariant.0 c.args.number (held_so g b) (rows_so g b) c.in-Ok.place x (within_so g b) (here_so g b) (number c.args.source) (is_so g b) in
+    let none = none_least _ (ap (λ t. is_ahead (lowered_to c.args.timing.now c.args.now) (deadline_of t)) timer ∙ sym (below_so g c)) in
+    record { at_least = omega (arith, none); at_most = omega arith }
+
 pub returns-clause-moved : goal.returns-clause-moved
 returns-clause-moved g c address has =
     let due = due_of g c in
@@ -522,4 +557,5 @@ returns-clause-moved g c address has =
     let size = ap length row_asked ∙ length-map row _ ∙ sym (size-of number known was has) in
     let others = ap (λ k. bitlen (k - 1)) (running-held number known was) in
     let counted = Spends-join c.ask_in_row.ensures.moved c.count_in_row-left.ensures.moved in
-    Spends-join_within _ _ counted c.change.ensures.moves (omega arith) (omega (arith, size, others))
+    let asks = above c.args.timing.now c.args.now (group_at c.args.self.now.groups address).group (number c.args.source) in
+    Spends-join_within _ _ counted c.change.ensures.moves (omega (arith, two_least asks)) (omega (arith, size, others))
