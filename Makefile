@@ -22,27 +22,52 @@ $(error TARGET=$(TARGET): only `make lib` and `make lib-lent` take another proce
 endif
 endif
 
-.PHONY: all run lib lib-lent quick test live live-test page page-test arm-test mutants bench install dist clean
+.PHONY: all run try lib lib-lent quick test kept live live-test conform-test page page-test arm-test mutants bench install dist clean
 
 # Both archives are of what is built in one folder, so one is made after the other. tools/build works side by side by itself.
 .NOTPARALLEL:
 
 all: bin/mquerier
 
+# Each names the commands that it lacks, before anything is built.
+.PHONY: needs-build needs-library needs-cross needs-gate needs-test needs-live needs-conform needs-page needs-arm
+needs-build:
+	@tools/needs rt bash python3
+needs-library:
+	@tools/needs rt bash python3 ar $(CC)
+needs-cross:
+	@tools/needs rt bash python3 $(CROSS_COMPILE)gcc $(CROSS_COMPILE)ar
+needs-gate:
+	@tools/needs rt bash git python3
+needs-test:
+	@tools/needs rt bash git python3 cc c++ ar nm valgrind
+needs-live:
+	@tools/needs rt bash python3 ar $(CC) ip bridge nft setpriv
+needs-conform:
+	@tools/needs rt bash python3 ar $(CC) ip bridge chrt
+needs-page:
+	@tools/needs rt bash python3 node chromium
+needs-arm:
+	@tools/needs rt bash python3 ar $(CC) $(CROSS_COMPILE)gcc $(CROSS_COMPILE)ar qemu-aarch64
+
 # Proves the crates that the program stands on, builds it, and runs it once.
-bin/mquerier: $(SOURCES)
+bin/mquerier: $(SOURCES) | needs-build
 	@tools/build $(FIRST_PATH)
 
-# What a querier makes of a capture of hosts.
-run: bin/mquerier
-	@bin/mquerier replay igmp --own 10.9.0.1 --qri 2000 --lmqi 500 < samples/igmp.pcap
+# What a querier makes of a capture of hosts: by the proved program where it is built, else by one that is compiled and not proved.
+run:
+	@tools/try replay igmp --own 10.9.0.1 --qri 2000 --lmqi 500 < samples/igmp.pcap
+
+# The same of any words: `make try ARGS="show FILE"`.
+try:
+	@tools/try $(ARGS)
 
 # The links as a library for C: lib/libmquerier.a, whose header is include/mquerier.h. `make lib TARGET=aarch64-unknown-linux-gnu`
 # makes it for that processor, of the same proofs, as lib/aarch64-unknown-linux-gnu/libmquerier.a.
 lib: $(ARCHIVE)
 
 # The archive of the crate mq_c, with what it needs of the kit inside: the kit lies where the page does that `rt doc` names.
-lib/libmquerier.a: $(SOURCES)
+lib/libmquerier.a: $(SOURCES) | needs-library
 	@tools/build --library
 	@printf 'create $@.new\naddlib crates/mq_c/out/libmq_c.a\naddlib %s/c/liblibc_c.a\nsave\nend\n' "$$(dirname "$$(rt doc)")" | ar -M
 	@mv $@.new $@
@@ -51,34 +76,34 @@ lib/libmquerier.a: $(SOURCES)
 # The same library without a heap, for links in memory that the program has: lib/libmquerier-lent.a. It takes a TARGET too.
 lib-lent: $(LENT)
 
-lib/libmquerier-lent.a: lib/no_heap.o $(SOURCES)
+lib/libmquerier-lent.a: lib/no_heap.o $(SOURCES) | needs-library
 	@tools/build --library
 	@printf 'create $@.new\naddlib crates/mq_c/out/libmq_c.a\naddmod $<\nsave\nend\n' | ar -M
 	@mv $@.new $@
 	@echo "$@ is built"
 
-lib/no_heap.o: trusted/no_heap.c
+lib/no_heap.o: trusted/no_heap.c | needs-library
 	@mkdir -p $(@D)
 	@$(CC) -std=c99 -O2 -fPIC -ffreestanding -Wall -Wextra -Werror -c $< -o $@
 
 # The kit has no heap for aarch64, so that archive has the one of this repository.
-$(AARCH64)/libmquerier.a: $(AARCH64)/heap.o $(SOURCES)
+$(AARCH64)/libmquerier.a: $(AARCH64)/heap.o $(SOURCES) | needs-cross
 	@tools/build --library aarch64-unknown-linux-gnu
 	@printf 'create $@.new\naddlib crates/mq_c/out/libmq_c.a\naddmod $<\nsave\nend\n' | $(CROSS_COMPILE)ar -M
 	@mv $@.new $@
 	@echo "$@ is built"
 
-$(AARCH64)/libmquerier-lent.a: $(AARCH64)/no_heap.o $(SOURCES)
+$(AARCH64)/libmquerier-lent.a: $(AARCH64)/no_heap.o $(SOURCES) | needs-cross
 	@tools/build --library aarch64-unknown-linux-gnu
 	@printf 'create $@.new\naddlib crates/mq_c/out/libmq_c.a\naddmod $<\nsave\nend\n' | $(CROSS_COMPILE)ar -M
 	@mv $@.new $@
 	@echo "$@ is built"
 
-$(AARCH64)/no_heap.o: trusted/no_heap.c
+$(AARCH64)/no_heap.o: trusted/no_heap.c | needs-cross
 	@mkdir -p $(@D)
 	@$(CROSS_COMPILE)gcc -std=c99 -O2 -fPIC -ffreestanding -Wall -Wextra -Werror -c $< -o $@
 
-$(AARCH64)/heap.o: trusted/heap.c
+$(AARCH64)/heap.o: trusted/heap.c | needs-cross
 	@printf '#include <stdlib.h>\n#ifndef __aarch64__\n#error\n#endif\n' | $(CROSS_COMPILE)gcc -fsyntax-only -x c - 2> /dev/null || \
 	    { echo '$(CROSS_COMPILE)gcc compiles no C for aarch64 here: on Debian install gcc-aarch64-linux-gnu and' \
 	    'libc6-dev-arm64-cross, or name another cross compiler, as CROSS_COMPILE=aarch64-none-linux-gnu-' >&2; exit 1; }
@@ -86,33 +111,46 @@ $(AARCH64)/heap.o: trusted/heap.c
 	@$(CROSS_COMPILE)gcc -std=c99 -O2 -fPIC -Wall -Wextra -Werror -c $< -o $@
 
 # Shows that it holds here: proofs, tests, and runs of the program with refused calls. The last line counts what passed.
-test:
+test: needs-test
 	@tools/gate test
 
 # The same of what changed since a commit, and which wrong bodies of that are refused: `make quick SINCE=COMMIT`. Where none is
 # named, it is the last one of origin/main below HEAD.
-quick:
+quick: needs-test
 	@tools/gate quick $(SINCE)
 
+# Has `rt ci` prove the crates that changed in the background, for the gate; called again, it says how far that is.
+kept: needs-gate
+	@tools/kept $(CRATES)
+
 # Shows that the contracts are strong: each wrong body of crates/*/wrong-bodies is refused.
-mutants:
+mutants: needs-gate
 	@tools/gate mutants
 
 # A querier on an interface of Linux, over the library: an example in C, outside of the proofs.
 LIVE := $(wildcard examples/live/*.c examples/live/*.h)
 live: bin/mquerier-live
 
-bin/mquerier-live: $(LIVE) include/mquerier.h lib/libmquerier.a
+bin/mquerier-live: $(LIVE) include/mquerier.h lib/libmquerier.a | needs-library
 	@mkdir -p bin
 	$(CC) -std=c99 -O2 -Wall -Wextra -Iinclude $(filter %.c,$^) lib/libmquerier.a -o $@
 
 # The examples in C do what docs/EMBEDDING.md says; the querier on an interface serves hosts of the Linux kernel, and does what the
 # vectors say that are played to it, those that end within SECONDS. The last two want to be root, and the last one the program.
 SECONDS := 600
-live-test: live lib/libmquerier-lent.a
+live-test: needs-live live lib/libmquerier-lent.a
 	@examples/check
 	@examples/live/test
-	@examples/live/vectors --seconds $(SECONDS)
+	@conform/vectors --seconds $(SECONDS)
+
+# conform, which holds any router to the standards (docs/CONFORM.md), held to routers here: faulty ones of its own, each of which
+# has to be found by the cases that name its fault, and bin/mquerier-live, a bridge of the kernel and routers of Debian, which are
+# installed where they are missing. It wants to be root, and takes an hour.
+conform-test: needs-conform live bin/mquerier
+	@conform/test agree
+	@conform/test lines
+	@conform/test faults
+	@conform/test peers
 
 # The page: static files in page/dist, with the proved code as WebAssembly inside (docs/PAGE.md).
 PAGE := page/make $(wildcard page/src/*) $(wildcard samples/*.pcap samples/*.pcapng)
@@ -121,16 +159,16 @@ page: page/dist/index.html
 page/dist/index.html: crates/mq_page/out/mq_page.wasm $(PAGE)
 	@page/make
 
-crates/mq_page/out/mq_page.wasm: $(SOURCES)
+crates/mq_page/out/mq_page.wasm: $(SOURCES) | needs-build
 	@tools/build --crates mq_page
 
 # The page's module, called by node, and the page in headless Chromium: texts are those of the program, bars and marks what they say.
-page-test: page bin/mquerier
+page-test: needs-page page bin/mquerier
 	@page/module-test
 	@page/test
 
 # Programs of C over the library for aarch64, run by qemu, print what they print here.
-arm-test: lib/libmquerier.a $(AARCH64)/libmquerier.a $(AARCH64)/libmquerier-lent.a
+arm-test: needs-arm lib/libmquerier.a $(AARCH64)/libmquerier.a $(AARCH64)/libmquerier-lent.a
 	@CROSS_COMPILE=$(CROSS_COMPILE) tools/aarch64
 
 # How fast captures are listed and replayed, what hostile hosts cost, and how near datagrams come to the sum bound

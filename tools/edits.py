@@ -1,5 +1,6 @@
 """Edits of functions: where each stands, and whether what a check says refuses it."""
 
+import copy
 import glob
 import itertools
 import os
@@ -104,6 +105,18 @@ class Edit:
         self.text = "\n".join(text.split("\n")[begins[at] - 1 : begins[at + 1] - 1]).strip()
         # The folder of its answers, where some lost their goals, and the ways in which they may be renamed that aren't tried yet.
         self.answers, self.ways = None, []
+
+    def of_nothing(self):
+        """The edit that leaves the same function as it is: a right one."""
+        made = copy.copy(self)
+        made.name, made.pairs, made.is_right, made.ways = f"{self.crate}/{self.function} as it stands", [], True, []
+        return made
+
+    def size(self):
+        """About what its trial takes: the lines of the function and of its proof."""
+        files = glob.glob(f"{TOP}/crates/{self.crate}/proofs/**/{self.function}/*.antt", recursive=True)
+        files += glob.glob(f"{TOP}/crates/{self.crate}/proofs/**/+{self.function}/*.antt", recursive=True)
+        return len(self.lines) + sum(text_of(it).count("\n") for it in files)
 
     def apply(self, folder):
         text = text_of(f"{folder}/{self.file}")

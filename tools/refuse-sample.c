@@ -35,6 +35,10 @@ static int tell(const char *line) {
 
 int main(int count, char **words) {
     fault = count > 1 ? words[1] : "";
+    if (has("words") || has("words-to-files") || has("no-words")) {
+        tell("mquerier: fault\n");
+        return has("words-to-files") || (has("words") && isatty(2)) ? tell("  in words\n") : 1;
+    }
     if (has("output-before-memory"))
         put(1, "some", 4);
     char *text = malloc(100);

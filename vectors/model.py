@@ -363,9 +363,9 @@ class Querier:
         return said + ["counts " + " ".join(f"{name} {number}" for name, number in zip(names, numbers))]
 
 
-def replay(data, family, options):
+def replay(data, family, options, querier=Querier):
     """The lines that a replay of a capture writes, and what it says where a fault or a gap ends it."""
-    link, last, number = Querier(family, options), 0, 0
+    link, last, number = querier(family, options), 0, 0
     said = link.lines
 
     def tick():

@@ -3,8 +3,8 @@ use Rattle.std.proofs.Common.{◌≡◌, ℕ, ◌-◌, ◌≤◌, IsTrue, Bool, 
 use Rattle.std.proofs.lemmas.List.{take-append-drop}
 use Rattle.std.proofs.lemmas.Grind.{common_steps}
 use Rattle.mq_wire.specs.Family.{Family}
-use Rattle.mq_replay.specs.Line.{IsLineOf, PrintsLine}
-use Rattle.mq_replay.specs.Text.{line_of, message_text, fault_text}
+use Rattle.mq_lines.specs.Line.{IsLineOf, PrintsLine}
+use Rattle.mq_lines.specs.Text.{line_of, message_text, fault_text}
 use Rattle.mq_c.specs.declared.line_room.LineRoom.{LineRoom}
 use Rattle.mq_c.specs.LineRoom.{in_front, written_to, LineStands}
 

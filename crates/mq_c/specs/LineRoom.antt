@@ -1,8 +1,8 @@
 -- The line of a message in memory that is lent.
 use Rattle.std.specs.Prelude.{◌≡◌, ℕ, min, Bool, List, ◌++◌, length, take, drop, Option, Some}
 use Rattle.mq_wire.specs.Family.{Family}
-use Rattle.mq_replay.specs.Line.{IsLineOf}
-use Rattle.mq_replay.specs.Text.{line_of}
+use Rattle.mq_lines.specs.Line.{IsLineOf}
+use Rattle.mq_lines.specs.Text.{line_of}
 use Rattle.mq_c.specs.declared.line_room.LineRoom.{LineRoom}
 
 -- the bytes that were written to it: those that stand at the front of the memory

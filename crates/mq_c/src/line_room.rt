@@ -2,7 +2,7 @@
 
 ghost use Rattle.std.specs.Prelude.{◌≡◌, ◌≤◌, ◌+◌, ◌++◌, IsTrue, length, take, drop, false};
 
-use mq_replay::{LineFault, Output};
+use mq_text::{LineFault, Output};
 use std::marker::{Brand, PhantomData};
 
 /// What stood in the memory when it was lent. Proofs alone know it; a call that passes `Brand` names it.

@@ -7,7 +7,8 @@ ghost use Rattle.mq_c.specs.LineRoom.{LineStands};
 
 use crate::line_room::{Lent, LineRoom};
 use mq_count::Addr6;
-use mq_replay::{LineFault, igmp_line, mld_line};
+use mq_lines::{igmp_line, mld_line};
+use mq_text::LineFault;
 
 /// The line of an IGMP message, as far as there is room for it.
 pub(crate) fn put_igmp_line<L: Lent>(body: &[u8], line: &mut [u8]) -> usize

@@ -7,7 +7,7 @@ use Rattle.mq_wire.specs.Family.{Family}
 use Rattle.mq_table.specs.declared.timing.Timing.{Timing}
 use Rattle.mq_link.specs.Configuration.{Configuration}
 use Rattle.mq_link.specs.Link.{LinkValue}
-use Rattle.mq_replay.specs.Printing.{OutputState}
+use Rattle.mq_text.specs.Printing.{OutputState}
 use Rattle.mq_replay.specs.Report.{Datagram, datagram_of}
 use Rattle.mq_check.specs.declared.finding.Finding.{Finding}
 use Rattle.mq_check.specs.Check.{Checked, Outcome, behind, settled_at, destination_in, received, seen_at, seen_or_received, with_datagram, with_packet, ticked_through}

@@ -10,6 +10,7 @@ use Rattle.mq_pcap.proofs.Filled.{Takes-nil, Takes-trans}
 use Rattle.mq_link.specs.Configuration.{Configuration}
 use Rattle.mq_replay.specs.Listing.{moment_of}
 use Rattle.mq_replay.specs.Report.{is_gap}
+use Rattle.mq_replay.proofs.ReadSoFar.{AreRecords-assoc}
 use Rattle.mq_check.specs.declared.check_fault.CheckFault.TheVariants.{Gap, Waiting}
 use Rattle.mq_check.specs.declared.finding.Finding.{Finding}
 use Rattle.mq_check.specs.Check.{Checked, Course, Outcome, at_the_start, with_packet, with_packets}
@@ -133,7 +134,7 @@ next_checked config within form old mid new first before number r found buffer p
       count = length-append to.packets (captured ∷ []) ∙ ap (λ (n : ℕ). n + 1) to.count;
       records = λ rest more end h.
           let all = to.records (reads.bytes ++ rest) (captured ∷ more) end (reads.bytes, rest, refl, reads.answers.1, reads.answers.0, h) in
-          rw (append_assoc to.bytes reads.bytes rest, append_assoc to.packets (captured ∷ []) more) all;
+          AreRecords-assoc form 1 to.bytes reads.bytes rest to.packets (captured ∷ []) more end all;
       course = λ more.
           let rest = with_packets config form.link within (Some (unwrap_or first packet.stamp_ms)) moment (number + 1 + 1) more after.checked in
           ap (λ (packets : List Captured). with_packets config form.link within None 0 1 packets (at_the_start config)) (append_assoc to.packets (captured ∷ []) more)

@@ -3,9 +3,9 @@ use Rattle.std.proofs.Common.{◌≡◌, ℕ, Bool, true, false, if◌then◌els
 use Rattle.mq_wire.specs.Family.{Family}
 use Rattle.mq_table.specs.declared.timing.Timing.{Timing}
 use Rattle.mq_link.specs.Configuration.{Configuration}
-use Rattle.mq_replay.specs.Printing.{GrowsByBeginning, OutputState, Passes}
+use Rattle.mq_text.specs.Printing.{GrowsByBeginning, OutputState, Passes}
+use Rattle.mq_text.proofs.Passing.{broken_behind, broken_within, both_passed, nothing_passed}
 use Rattle.mq_replay.specs.Report.{is_gap}
-use Rattle.mq_replay.proofs.Passing.{broken_behind, broken_within, both_passed, nothing_passed}
 use Rattle.mq_check.specs.declared.check_fault.CheckFault.{CheckFault}
 use Rattle.mq_check.specs.declared.check_fault.CheckFault.TheVariants as answer
 use Rattle.mq_check.specs.declared.finding.Finding.{Finding}

@@ -13,10 +13,10 @@ use Rattle.mq_pcap.specs.Reading.{Opens, form_of}
 use Rattle.mq_pcap.proofs.FileHeader.{header_of-append}
 use Rattle.mq_pcap.proofs.Filled.{Takes-trans}
 use Rattle.mq_link.specs.Configuration.{Configuration}
-use Rattle.mq_replay.specs.Printing.{Passes}
+use Rattle.mq_text.specs.Printing.{Passes}
+use Rattle.mq_text.proofs.Passing.{nothing_passed}
 use Rattle.mq_replay.specs.PuttingReports.{behind_header}
 use Rattle.mq_replay.proofs.Headers.{cut_header}
-use Rattle.mq_replay.proofs.Passing.{nothing_passed}
 use Rattle.mq_check.specs.declared.check_fault.CheckFault.{CheckFault}
 use Rattle.mq_check.specs.declared.check_fault.CheckFault.TheVariants as answer
 use Rattle.mq_check.specs.declared.check_terms.CheckTerms.{CheckTerms}

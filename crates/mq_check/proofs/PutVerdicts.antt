@@ -13,12 +13,12 @@ use Rattle.mq_pcap.proofs.Filled.{Takes-trans}
 use Rattle.mq_wire.specs.Family.{Family}
 use Rattle.mq_link.specs.Configuration.{Configuration}
 use Rattle.mq_link.specs.Link.{LinkValue}
+use Rattle.mq_text.specs.Printing.{GrowsByBeginning, OutputState, Passes}
+use Rattle.mq_text.proofs.Passing.{both_passed, broken_behind}
 use Rattle.mq_replay.specs.declared.stamps.Stamps.{Stamps}
 use Rattle.mq_replay.specs.Listing.{moment_of}
-use Rattle.mq_replay.specs.Printing.{GrowsByBeginning, OutputState, Passes}
 use Rattle.mq_replay.specs.PuttingReports.{behind_header}
 use Rattle.mq_replay.specs.Report.{is_gap}
-use Rattle.mq_replay.proofs.Passing.{both_passed, broken_behind}
 use Rattle.mq_replay.proofs.ReadSoFar.{begun_ends}
 use Rattle.mq_check.specs.declared.check_fault.CheckFault.{CheckFault}
 use Rattle.mq_check.specs.declared.check_fault.CheckFault.TheVariants as answer

@@ -4,8 +4,8 @@ use Rattle.std.proofs.Math.Bool.{or-false}
 use Rattle.std.proofs.lemmas.Grind.{flat_map-append}
 use Rattle.std.proofs.lemmas.List.{map-append}
 use Rattle.mq_wire.specs.Family.{Family}
-use Rattle.mq_replay.specs.Printing.{OutputState, Puts}
-use Rattle.mq_replay.proofs.Passing.{nothing_passed, then_put, put_as, broken_within}
+use Rattle.mq_text.specs.Printing.{OutputState, Puts}
+use Rattle.mq_text.proofs.Passing.{nothing_passed, then_put, put_as, broken_within}
 use Rattle.mq_check.specs.declared.asked.Asked.{Asked}
 use Rattle.mq_check.specs.declared.finding.Difference.{Difference}
 use Rattle.mq_check.specs.declared.finding.Finding.{Finding}

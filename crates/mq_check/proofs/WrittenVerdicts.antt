@@ -9,11 +9,11 @@ use Rattle.mq_pcap.specs.Capture.{is_read}
 use Rattle.mq_pcap.specs.Filling.{InputState}
 use Rattle.mq_pcap.proofs.Filled.{Takes-nil}
 use Rattle.mq_link.specs.Configuration.{Configuration}
-use Rattle.mq_replay.specs.Printing.{GrowsByBeginning, Passes}
+use Rattle.mq_text.specs.Printing.{GrowsByBeginning, Passes}
+use Rattle.mq_text.proofs.Passing.{both_passed, broken_behind}
 use Rattle.mq_replay.specs.Replaying.{ReadCapture}
 use Rattle.mq_replay.specs.Report.{is_gap}
 use Rattle.mq_replay.proofs.Headers.{cut_header}
-use Rattle.mq_replay.proofs.Passing.{both_passed, broken_behind}
 use Rattle.mq_check.specs.declared.check_fault.CheckFault.{CheckFault}
 use Rattle.mq_check.specs.declared.check_fault.CheckFault.TheVariants as answer
 use Rattle.mq_check.specs.declared.check_terms.CheckTerms.{CheckTerms}

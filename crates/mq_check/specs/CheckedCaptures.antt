@@ -6,8 +6,8 @@ use Rattle.mq_pcap.specs.declared.form.Form.{Form}
 use Rattle.mq_pcap.specs.Capture.{Captured, Captures, is_read}
 use Rattle.mq_pcap.specs.Filling.{InputState, Takes}
 use Rattle.mq_link.specs.Configuration.{Configuration}
+use Rattle.mq_text.specs.Printing.{GrowsByBeginning}
 use Rattle.mq_replay.specs.Listing.{IsOfTheFile}
-use Rattle.mq_replay.specs.Printing.{GrowsByBeginning}
 use Rattle.mq_replay.specs.Replaying.{ReadCapture}
 use Rattle.mq_check.specs.declared.check_fault.CheckFault.{CheckFault}
 use Rattle.mq_check.specs.declared.check_fault.CheckFault.TheVariants as answer

@@ -2,7 +2,7 @@
 use Rattle.std.specs.Prelude.{◌≡◌, Result, IfOk}
 use Rattle.mq_wire.specs.Family.{Family}
 use Rattle.mq_link.specs.Link.{LinkValue}
-use Rattle.mq_replay.specs.Printing.{OutputState}
+use Rattle.mq_text.specs.Printing.{OutputState}
 use Rattle.mq_check.specs.Check.{Checked, Outcome}
 use Rattle.mq_check.specs.Telling.{ToldState, Tells}
 use Rattle.mq_check.specs.Wanting.{WantingValue}

@@ -8,7 +8,7 @@ use Rattle.mq_pcap.specs.Filling.{InputState, Takes}
 use Rattle.mq_wire.specs.Family.{Family}
 use Rattle.mq_table.specs.declared.timing.Timing.{Timing}
 use Rattle.mq_link.specs.Configuration.{Configuration}
-use Rattle.mq_replay.specs.Printing.{GrowsByBeginning, Passes}
+use Rattle.mq_text.specs.Printing.{GrowsByBeginning, Passes}
 use Rattle.mq_replay.specs.PuttingReports.{behind_header}
 use Rattle.mq_replay.specs.Replaying.{ReadCapture}
 use Rattle.mq_replay.specs.Report.{is_gap}

@@ -3,8 +3,8 @@ use Rattle.std.specs.Prelude.{ℕ, Bool, true, false, List, ◌++◌, codes}
 use Rattle.std.specs.List.{flat_map}
 use Rattle.std.specs.Fmt.{decimal}
 use Rattle.mq_wire.specs.Family.{Family, Igmp, Mld}
-use Rattle.mq_replay.specs.Text.{address_text}
-pub use Rattle.mq_replay.specs.Text.{flag_text}
+use Rattle.mq_lines.specs.Text.{address_text}
+pub use Rattle.mq_lines.specs.Text.{flag_text}
 use Rattle.mq_check.specs.declared.asked.Asked.{Asked}
 use Rattle.mq_check.specs.declared.asked.Asked.TheVariants.{AllGroups, Group, Source}
 use Rattle.mq_check.specs.declared.finding.Difference.{Difference}

@@ -1,7 +1,7 @@
 -- What a contract sees of findings on their way to a writer.
 use Rattle.std.specs.Prelude.{◌≡◌, ℕ, zero, suc, Bool, ◌||◌, List, length, Result, IfOk, is_err}
 use Rattle.mq_wire.specs.Family.{Family}
-use Rattle.mq_replay.specs.Printing.{OutputState, Puts}
+use Rattle.mq_text.specs.Printing.{OutputState, Puts}
 use Rattle.mq_check.specs.declared.finding.Finding.{Finding}
 use Rattle.mq_check.specs.Checking.{counted_up}
 use Rattle.mq_check.specs.FindingLines.{finding_lines}

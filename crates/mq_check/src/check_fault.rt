@@ -5,7 +5,7 @@ ghost use Rattle.mq_check.specs.CheckedCaptures as spec;
 ghost use Rattle.mq_check.specs.declared.check_fault.CheckFault.TheVariants.{Pcap, Write};
 
 use mq_pcap::PcapFault;
-use mq_replay::LineFault;
+use mq_text::LineFault;
 use thiserror::Error;
 
 /// Why a capture was not checked to its end.

@@ -22,9 +22,10 @@ use crate::told::Told;
 use crate::totals::Totals;
 use crate::wanted_queries::WantedQueries;
 use mq_count::Watched;
+use mq_lines::LineKey;
 use mq_link::{Config, Link};
 use mq_pcap::{GREATEST_PACKET, PcapReader};
-use mq_replay::{LineKey, Stamps, first_moment, is_gap};
+use mq_replay::{Stamps, first_moment, is_gap};
 use std::alloc::Allocator;
 use std::io::{Read, Write};
 

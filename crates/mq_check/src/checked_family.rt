@@ -6,9 +6,10 @@ ghost use Rattle.mq_check.specs.Check.{packet_in, destination4_in, destination_i
 ghost use Rattle.mq_check.specs.Queries as spec;
 
 use mq_count::{Addr4, Addr6};
+use mq_lines::LineKey;
 use mq_link::{Igmp, IgmpEnvelope, Mld, MldEnvelope};
 use mq_pcap::{Endian, LinkType};
-use mq_replay::{CapturedFamily, LineKey};
+use mq_replay::CapturedFamily;
 use mq_wire::{WireKey, code8, code16, resp8, resp16};
 
 /// A family whose queriers are checked.

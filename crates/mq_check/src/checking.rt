@@ -2,8 +2,8 @@
 
 ghost use Rattle.std.specs.Prelude.{◌≡◌, ◌≤◌, ◌^◌, [], ◌∷◌, IfOk, flat_map, fold, map as list_map};
 ghost use Rattle.mq_wire.specs.Numbered.{numbered_query, numbered_version};
-ghost use Rattle.mq_replay.specs.Printing.{output_of};
-ghost use Rattle.mq_replay.specs.Text.{query_sources};
+ghost use Rattle.mq_text.specs.Printing.{output_of};
+ghost use Rattle.mq_lines.specs.Text.{query_sources};
 ghost use Rattle.mq_check.specs.declared.asked.Asked.TheVariants.{Source};
 ghost use Rattle.mq_check.specs.Checking as spec;
 ghost use Rattle.mq_check.specs.Entries.{may_be_left_out};
@@ -23,9 +23,10 @@ use crate::terms::{Terms, general_terms, terms_of};
 use crate::told::Told;
 use crate::waiting::{Side, Waiting};
 use mq_count::{Meter, Moment, Span, Watched};
+use mq_lines::LineKey;
 use mq_link::{Config, Family};
-use mq_replay::{LineFault, LineKey};
 use mq_table::Timing;
+use mq_text::LineFault;
 use mq_wire::{Query, QueryVersion, Sources, WireKey};
 use std::alloc::{AllocError, Allocator};
 use std::io::Write;

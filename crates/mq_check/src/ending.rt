@@ -2,7 +2,7 @@
 
 ghost use Rattle.std.specs.Prelude.{◌≡◌, ◌≤◌, ◌^◌, ◌||◌, IfOk, IfSome, is_err, max, unwrap_or};
 ghost use Rattle.mq_count.specs.Streams.{inner_of, has_failed};
-ghost use Rattle.mq_replay.specs.Printing.{Puts, output_of};
+ghost use Rattle.mq_text.specs.Printing.{Puts, output_of};
 ghost use Rattle.mq_check.specs.CheckedCaptures as spec;
 ghost use Rattle.mq_check.specs.Checking.{silence_found};
 ghost use Rattle.mq_check.specs.Coming.{checked_in};
@@ -20,9 +20,11 @@ use crate::told::Told;
 use crate::totals::Totals;
 use crate::wanted_queries::WantedQueries;
 use mq_count::Watched;
+use mq_lines::LineKey;
 use mq_link::{Family, Link};
-use mq_replay::{LineFault, LineKey, is_gap};
+use mq_replay::is_gap;
 use mq_table::Timing;
+use mq_text::LineFault;
 use std::alloc::Allocator;
 use std::io::Write;
 

@@ -10,8 +10,8 @@ use crate::asked::Asked;
 use crate::finding::{Difference, Finding};
 use crate::totals::Totals;
 use mq_count::Moment;
+use mq_lines::LineKey;
 use mq_link::Family;
-use mq_replay::LineKey;
 use mq_text::{Text, put, put_decimal};
 
 /// Puts a moment at the end, and what stands behind it.

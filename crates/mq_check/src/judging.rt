@@ -1,7 +1,7 @@
 //! What is found of what no longer waits.
 
 ghost use Rattle.std.specs.Prelude.{◌≡◌, ◌≤◌, ◌^◌, ◌==◌, [], ◌∷◌, IfSome, not};
-ghost use Rattle.mq_replay.specs.Printing.{output_of};
+ghost use Rattle.mq_text.specs.Printing.{output_of};
 ghost use Rattle.mq_check.specs.declared.finding.Difference.TheVariants as field;
 ghost use Rattle.mq_check.specs.Checking.{found_of_last};
 ghost use Rattle.mq_check.specs.Entries as spec;
@@ -14,8 +14,9 @@ use crate::finding::{Difference, Finding};
 use crate::terms::{QuerierTerms, Terms};
 use crate::told::Told;
 use mq_count::{Meter, Moment, Span, Watched};
+use mq_lines::LineKey;
 use mq_link::Family;
-use mq_replay::{LineFault, LineKey};
+use mq_text::LineFault;
 use mq_wire::WireKey;
 use std::io::Write;
 

@@ -4,8 +4,9 @@ ghost use Rattle.std.specs.Prelude.{◌≡◌};
 ghost use Rattle.mq_check.specs.Queries as spec;
 ghost use Rattle.mq_check.specs.Numbered.{numbered_query_if};
 
+use mq_lines::LineKey;
 use mq_link::{Config, Family};
-use mq_replay::{CapturedDatagram, CapturedFamily, LineKey};
+use mq_replay::{CapturedDatagram, CapturedFamily};
 use mq_wire::{Message, Query};
 
 /// The query that a datagram is, where it comes from the router that is checked and hosts act on it.

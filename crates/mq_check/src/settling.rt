@@ -2,7 +2,7 @@
 
 ghost use Rattle.std.specs.Prelude.{◌≡◌, ◌≤◌, ◌^◌, IfOk, IfSome};
 ghost use Rattle.std.specs.List.{flat_map};
-ghost use Rattle.mq_replay.specs.Printing.{output_of};
+ghost use Rattle.mq_text.specs.Printing.{output_of};
 ghost use Rattle.mq_check.specs.Checking.{found_of_last};
 ghost use Rattle.mq_check.specs.Telling.{Tells};
 ghost use Rattle.mq_check.specs.Waiting as waits;
@@ -11,8 +11,9 @@ use crate::judging::{tell_entry, tell_last};
 use crate::told::Told;
 use crate::waiting::Waiting;
 use mq_count::{Moment, Span, Watched};
+use mq_lines::LineKey;
 use mq_link::Family;
-use mq_replay::{LineFault, LineKey};
+use mq_text::LineFault;
 use std::alloc::Allocator;
 use std::io::Write;
 

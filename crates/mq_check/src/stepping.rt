@@ -2,7 +2,7 @@
 
 ghost use Rattle.std.specs.Prelude.{◌≡◌, ◌<◌, ◌≤◌, ◌^◌, Some};
 ghost use Rattle.mq_link.specs.Tick.{next_of};
-ghost use Rattle.mq_replay.specs.Printing.{output_of};
+ghost use Rattle.mq_text.specs.Printing.{output_of};
 ghost use Rattle.mq_check.specs.Check as spec;
 ghost use Rattle.mq_check.specs.Checking.{role_changed};
 ghost use Rattle.mq_check.specs.Coming.{Comes, checked_in};
@@ -13,10 +13,12 @@ use crate::stamp::Stamp;
 use crate::told::Told;
 use crate::wanted_queries::WantedQueries;
 use mq_count::{Meter, Moment, Span, Watched};
+use mq_lines::LineKey;
 use mq_link::Link;
 use mq_pcap::{LinkType, unwrap_frame};
-use mq_replay::{CapturedDatagram, LineFault, LineKey};
+use mq_replay::CapturedDatagram;
 use mq_table::Timing;
+use mq_text::LineFault;
 use std::alloc::Allocator;
 use std::io::Write;
 

@@ -3,13 +3,13 @@
 ghost use Rattle.std.specs.Prelude.{◌≡◌};
 ghost use Rattle.mq_wire.specs.Numbered.{numbered_query};
 ghost use Rattle.mq_wire.specs.RoundTrip.{interval_lowered};
-ghost use Rattle.mq_replay.specs.Text.{older_version};
+ghost use Rattle.mq_lines.specs.Text.{older_version};
 ghost use Rattle.mq_check.specs.Numbered.{numbered_terms};
 ghost use Rattle.mq_check.specs.Queries as spec;
 
 use crate::checked_family::CheckedFamily;
+use mq_lines::LineKey;
 use mq_link::Config;
-use mq_replay::LineKey;
 use mq_table::Timing;
 use mq_wire::{OlderVersion, Query, QueryVersion, WireKey};
 

@@ -2,7 +2,7 @@
 
 ghost use Rattle.std.specs.Prelude.{◌≡◌, ◌+◌, ◌-◌, ◌^◌, ◌||◌, [], ◌∷◌, ◌++◌, IfOk, is_err, min};
 ghost use Rattle.mq_count.specs.Streams.{inner_of, has_failed};
-ghost use Rattle.mq_replay.specs.Printing.{Puts};
+ghost use Rattle.mq_text.specs.Printing.{Puts};
 ghost use Rattle.mq_check.specs.FindingLines.{finding_line, totals_line};
 ghost use Rattle.mq_check.specs.Numbered.{numbered_finding};
 ghost use Rattle.mq_check.specs.Checking.{counted_up};
@@ -11,9 +11,9 @@ use crate::finding::Finding;
 use crate::finding_lines::{put_citation, put_finding, put_totals};
 use crate::totals::Totals;
 use mq_count::Watched;
+use mq_lines::LineKey;
 use mq_link::Family;
-use mq_replay::{LineFault, LineKey, flush, make_room};
-use mq_text::Text;
+use mq_text::{LineFault, Text, flush, make_room};
 use std::io::Write;
 use std::marker::Model;
 

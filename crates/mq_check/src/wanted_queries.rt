@@ -2,7 +2,7 @@
 
 ghost use Rattle.std.specs.Prelude.{◌≡◌, ◌≤◌, ◌^◌, IfOk, flat_map, false};
 ghost use Rattle.mq_wire.specs.Numbered.{numbered_query};
-ghost use Rattle.mq_replay.specs.Printing.{output_of};
+ghost use Rattle.mq_text.specs.Printing.{output_of};
 ghost use Rattle.mq_check.specs.Checking as spec;
 ghost use Rattle.mq_check.specs.Telling.{Tells};
 
@@ -12,9 +12,10 @@ use crate::seen_queries::query_spelled;
 use crate::stamp::Stamp;
 use crate::told::Told;
 use mq_count::{Moment, Watched};
+use mq_lines::LineKey;
 use mq_link::{Config, Outlet};
-use mq_replay::{LineFault, LineKey};
 use mq_table::Timing;
+use mq_text::LineFault;
 use mq_wire::Query;
 use std::alloc::Allocator;
 use std::io::Write;

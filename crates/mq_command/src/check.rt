@@ -44,8 +44,32 @@ Lines, in which T is a moment in milliseconds from the first packet, and G and S
   T general none for MS, wanted QI    no general query for so many milliseconds, up to the end or another querier
   checked general N specific M: F findings
 
-Status: 0 where nothing is found, 3 where something is; 1 and 2 as for replay, whose faults it has. Besides, a check
-breaks off where more than 65536 queries wait for those that they go with.";
+Status: 0 if nothing is found, 3 if something is; 1 or 2 after a fault, for which standard error has one line, and on a
+terminal a second one in words.
+
+Faults of the configuration are \"mquerier: configuration fault K\", with status 2. The first that holds is reported:
+  1 --rv has to be 1 to 7
+  2 --qi has to be 1 to 31744
+  3 --qri has to be below --qi, and for igmp 100 to 3174400, for mld 1 to 8387584
+  4 --lmqi has to be 100 to 3174400 for igmp, 1 to 8387584 for mld
+  5 --groups has to be 1 to 65535
+    --group-sources has to be 1 to 1024
+    --sources has to be 1 to 65535
+    --scheduled has to be 1 to 65535
+  6 --own or --querier has to be an address of a router: for igmp not 0.0.0.0 and below 224.0.0.0, for mld in fe80::/10
+
+Faults of the capture are \"mquerier: capture fault K\", for K of 5 to 7 with \"at record N\", with status 1. The findings
+before the fault are printed, without totals:
+  1 a read of the capture failed
+  2 it is no classic capture file; mquerier convert makes one of a pcapng file
+  3 the version of the file is not 2.4
+  4 the link type is neither Ethernet nor raw IP; mquerier convert makes a file of Ethernet
+  5 the file ends within a header
+  6 the file ends within a packet
+  7 the packet has more than 262144 bytes
+  8 the file has more than 4294967295 packets
+So it is with \"mquerier: gap before record N\": more than a day lies between the packet before and this one, or the end;
+and with \"mquerier: too many wait at record N\": more than 65536 queries wait for those that they go with.";
 
 /// The command with its options.
 pub(crate) fn command<'a>(alloc: Global) -> Result<Command<'a>, AllocError> {

@@ -28,11 +28,19 @@ writes one record of Ethernet for each packet, so that packet N of the one is pa
 its moment in nanoseconds and without its tags of 802.1Q and 802.1ad. A packet of another link type becomes
 one of type 0xffff, which is shown as other; how many there are is said on standard error at the end.
 
-Where the file has a fault, the packets before it are written, standard error says the fault, and the
-status is 1. The fault is one of: 1 a read failed; 2 no capture; 3 another version; 4 a section of no byte
-order; 5 an impossible length; 6 a packet of an interface that wasn't described; 7 more than 1024
-interfaces in a section; 8 a moment before 1970 or after 2106; 9 the file ends within a block; 10 too many
-blocks. Blocks are counted from 0, the file's header; of a classic capture block N is packet N.";
+If the file has a fault, the packets before it are written, and the status is 1. Standard error has one line,
+\"mquerier: conversion fault K\", for K of 2 to 10 with \"at block N\". On a terminal a second line says what K means:
+  1 a read of the capture failed
+  2 the file is no capture
+  3 the version of the file is not 2.4, or of a pcapng file not 1
+  4 the section is in no byte order
+  5 the block has an impossible length
+  6 the packet is of an interface that the file did not describe before
+  7 the section describes more than 1024 interfaces
+  8 the packet is from before 1970 or after 2106
+  9 the file ends within the block
+  10 the file has more than 4294967295 blocks before it
+Blocks are counted from 0, the file's header; of a classic capture block N is packet N.";
 
 /// The command with its options.
 pub(crate) fn command<'a>(alloc: Global) -> Result<Command<'a>, AllocError> {

@@ -12,6 +12,9 @@ pub use replay::Settings;
 use std::alloc::{AllocError, Global};
 use std::convert::AsStr;
 
+/// The version, as `MQ_VERSION_TEXT` of include/mquerier.h has it.
+pub const VERSION: &str = "1";
+
 /// What the command line asks for.
 #[derive(Clone, Copy)]
 pub enum Request<'a> {
@@ -163,6 +166,7 @@ where the command line is faulty or help is asked for, 3 where a check finds som
 
 fn command<'a>(alloc: Global) -> Result<Command<'a>, AllocError> {
     Command::new(alloc, "mquerier")
+        .version(VERSION)
         .about(ABOUT)
         .after_help(AFTER_HELP)
         .subcommand_required(true)
@@ -240,10 +244,17 @@ To get a capture:
   tcpdump -i INTERFACE -w capture.pcap 'igmp or icmp6 or (ip6 and ip6[6] = 0)'
 It has to be a classic capture file of Ethernet or raw IP. mquerier convert makes one of other kinds.
 
-Where the capture has a fault, the lines of all packets before it are printed, standard error says the
-fault, and the status is 1. The fault is one of: 1 a read failed; 2 no capture; 3 another version than
-2.4; 4 another link type; 5 a header is cut; 6 data are cut; 7 a packet of more than 262144 bytes; 8 too
-many packets.";
+If the capture has a fault, the lines of all packets before it are printed, and the status is 1. Standard error
+has one line, \"mquerier: capture fault K\", for K of 5 to 7 with \"at record N\". On a terminal a second line says
+what K means:
+  1 a read of the capture failed
+  2 it is no classic capture file; mquerier convert makes one of a pcapng file
+  3 the version of the file is not 2.4
+  4 the link type is neither Ethernet nor raw IP; mquerier convert makes a file of Ethernet
+  5 the file ends within a header
+  6 the file ends within a packet
+  7 the packet has more than 262144 bytes
+  8 the file has more than 4294967295 packets";
 
 fn show<'a>(alloc: Global) -> Result<Command<'a>, AllocError> {
     Command::new(alloc, "show")

@@ -94,19 +94,33 @@ link-local; 6 hop limit, which for mld has to be 1; 7 no Router Alert, for mld; 
 own address, or from 0.0.0.0; 9 a query of IGMPv1; 10 an older message for a group that no host reports,
 as 224.0.0.1.
 
-A fault of the configuration has status 2. It is the first of: 1 --rv; 2 --qi; 3 --qri; 4 --lmqi; 5 --groups,
---group-sources, --sources or --scheduled; 6 --own is no address of a router: for igmp 0.0.0.0, or 224.0.0.0
-and above; for mld one outside of fe80::/10.
+Faults of the configuration are \"mquerier: configuration fault K\", with status 2. The first that holds is reported:
+  1 --rv has to be 1 to 7
+  2 --qi has to be 1 to 31744
+  3 --qri has to be below --qi, and for igmp 100 to 3174400, for mld 1 to 8387584
+  4 --lmqi has to be 100 to 3174400 for igmp, 1 to 8387584 for mld
+  5 --groups has to be 1 to 65535
+    --group-sources has to be 1 to 1024
+    --sources has to be 1 to 65535
+    --scheduled has to be 1 to 65535
+  6 --own or --querier has to be an address of a router: for igmp not 0.0.0.0 and below 224.0.0.0, for mld in fe80::/10
 
 To get a capture:
   tcpdump -i INTERFACE -w capture.pcap 'igmp or icmp6 or (ip6 and ip6[6] = 0)'
 It has to be a classic capture file of Ethernet or raw IP. mquerier convert makes one of other kinds.
 
-Where the capture has a fault, the lines of all packets before it are printed, without groups and totals,
-standard error says the fault, and the status is 1. The fault is one of: 1 a read failed; 2 no capture; 3
-another version than 2.4; 4 another link type; 5 a header is cut; 6 data are cut; 7 a packet of more than
-262144 bytes; 8 too many packets. So it is with a gap: a packet, or the end, more than a day behind the packet
-before it. Cut a capture with a gap in two.";
+If the capture has a fault, the lines of all packets before it are printed, without groups and totals, and the
+status is 1. Standard error has one line, \"mquerier: capture fault K\", for K of 5 to 7 with \"at record N\":
+  1 a read of the capture failed
+  2 it is no classic capture file; mquerier convert makes one of a pcapng file
+  3 the version of the file is not 2.4
+  4 the link type is neither Ethernet nor raw IP; mquerier convert makes a file of Ethernet
+  5 the file ends within a header
+  6 the file ends within a packet
+  7 the packet has more than 262144 bytes
+  8 the file has more than 4294967295 packets
+Or it has \"mquerier: gap before record N\": more than a day lies between the packet before and this one, or the end.
+Cut a capture with a gap in two. On a terminal a second line says what K means.";
 
 /// The command with its options.
 pub(crate) fn command<'a>(alloc: Global) -> Result<Command<'a>, AllocError> {

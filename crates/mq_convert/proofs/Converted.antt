@@ -4,8 +4,8 @@ use Rattle.std.specs.Io.KnownBytes.{Appends}
 use Rattle.std.proofs.KnownBytes.{Appends-nil}
 use Rattle.mq_pcap.specs.Filling.{InputState}
 use Rattle.mq_pcap.proofs.Filled.{Takes-nil}
-use Rattle.mq_replay.specs.Printing.{GrowsByBeginning, Passes}
-use Rattle.mq_replay.proofs.Passing.{broken_behind, both_passed}
+use Rattle.mq_text.specs.Printing.{GrowsByBeginning, Passes}
+use Rattle.mq_text.proofs.Passing.{broken_behind, both_passed}
 use Rattle.mq_convert.specs.declared.choice.Choice.{Choice}
 use Rattle.mq_convert.specs.declared.fault.ConvertFault.{ConvertFault}
 use Rattle.mq_convert.specs.declared.fault.ConvertFault.TheVariants as answer

@@ -1,7 +1,7 @@
 -- What is put before, and then more.
 use Rattle.std.proofs.Common.{◌≡◌, ℕ, List, [], ◌++◌, Option, Result, Ok, Err, append_assoc, append-nil, sym, ◌∙◌}
-use Rattle.mq_replay.specs.Printing.{Passes, Prints, Puts}
-use Rattle.mq_replay.proofs.Passing.{held_more, put_as, then_put}
+use Rattle.mq_text.specs.Printing.{Passes, Prints, Puts}
+use Rattle.mq_text.proofs.Passing.{held_more, put_as, then_put}
 
 -- what is printed where the buffer holds nothing
 print_puts : (T E : Type 0) (b c : Option (List ℕ)) (held text : List ℕ) (r : Result T E) → held ≡ [] → Prints b c text r → Puts b c held held text r

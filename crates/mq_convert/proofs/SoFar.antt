@@ -6,8 +6,8 @@ use Rattle.std.proofs.lemmas.Grind.{flat_map-append}
 use Rattle.std.proofs.Math.Bool.{or-false, or-true}
 use Rattle.mq_pcap.specs.Filling.{InputState, Takes}
 use Rattle.mq_pcap.proofs.Filled.{Takes-nil, Takes-trans}
-use Rattle.mq_replay.specs.Printing.{Passes, Puts}
-use Rattle.mq_replay.proofs.Passing.{both_passed, broken_behind}
+use Rattle.mq_text.specs.Printing.{Passes, Puts}
+use Rattle.mq_text.proofs.Passing.{both_passed, broken_behind}
 use Rattle.mq_convert.specs.declared.choice.Choice.{Choice}
 use Rattle.mq_convert.specs.declared.fault.BlockFault.{BlockFault}
 use Rattle.mq_convert.specs.declared.fault.ConvertFault.{ConvertFault}

@@ -2,7 +2,7 @@
 use Rattle.std.specs.Prelude.{◌≡◌, ℕ, true, List, [], length, Option, None, Some, Result, Ok, Err}
 use Rattle.std.specs.Io.KnownBytes.{Appends, IsAtEnd}
 use Rattle.mq_pcap.specs.Filling.{InputState, Takes}
-use Rattle.mq_replay.specs.Printing.{GrowsByBeginning}
+use Rattle.mq_text.specs.Printing.{GrowsByBeginning}
 use Rattle.mq_convert.specs.declared.choice.Choice.{Choice}
 use Rattle.mq_convert.specs.declared.fault.BlockFault.{BlockFault}
 use Rattle.mq_convert.specs.declared.fault.ConvertFault.{ConvertFault}

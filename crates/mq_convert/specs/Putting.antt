@@ -2,7 +2,7 @@
 use Rattle.std.specs.Prelude.{◌≡◌, ℕ, false, List, ◌++◌, Option, None, Some, Result, Ok, Err, option_to_list}
 use Rattle.std.specs.List.{flat_map}
 use Rattle.mq_pcap.specs.Filling.{InputState, Takes}
-use Rattle.mq_replay.specs.Printing.{GrowsByBeginning, Passes}
+use Rattle.mq_text.specs.Printing.{GrowsByBeginning, Passes}
 use Rattle.mq_convert.specs.declared.choice.Choice.{Choice}
 use Rattle.mq_convert.specs.declared.fault.BlockFault.{BlockFault}
 use Rattle.mq_convert.specs.declared.fault.ConvertFault.{ConvertFault}

@@ -3,7 +3,7 @@
 ghost use Rattle.std.specs.Prelude.{◌≡◌, ◌≤◌, ◌||◌, ◌++◌, ℕ, List, [], is_err, length, option_to_list, IfOk};
 ghost use Rattle.mq_count.specs.Streams.{inner_of, has_failed};
 ghost use Rattle.mq_pcap.specs.Filling.{input_of};
-ghost use Rattle.mq_replay.specs.Printing.{Puts};
+ghost use Rattle.mq_text.specs.Printing.{Puts};
 ghost use Rattle.mq_convert.specs.Blocks.{IsHeldWithin};
 ghost use Rattle.mq_convert.specs.Contexts.{context_of};
 ghost use Rattle.mq_convert.specs.Converting.{Converts};
@@ -21,8 +21,7 @@ use crate::packet::Packet;
 use crate::records::{FILE_HEADER, put_record};
 use crate::unread::Unread;
 use mq_count::Watched;
-use mq_replay::{LineFault, flush};
-use mq_text::{Text, put};
+use mq_text::{LineFault, Text, flush, put};
 use std::alloc::Allocator;
 use std::io::{Read, Write};
 

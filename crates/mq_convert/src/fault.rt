@@ -3,7 +3,7 @@
 ghost use Rattle.std.specs.Prelude.{◌≡◌};
 ghost use Rattle.mq_convert.specs.declared.fault.ConvertFault.TheVariants.{Write};
 
-use mq_replay::LineFault;
+use mq_text::LineFault;
 use thiserror::Error;
 
 /// Why a block of a capture can't be read. Of several that hold the first is told, in the order in which the

@@ -2,11 +2,10 @@
 
 ghost use Rattle.std.specs.Prelude.{◌≡◌, ◌||◌, is_err};
 ghost use Rattle.mq_count.specs.Streams.{inner_of, has_failed};
-ghost use Rattle.mq_replay.specs.Printing.{Puts};
+ghost use Rattle.mq_text.specs.Printing.{Puts};
 
 use mq_count::Watched;
-use mq_replay::{LineFault, flush, print};
-use mq_text::{Text, put};
+use mq_text::{LineFault, Text, flush, print, put};
 use std::io::Write;
 
 /// How many bytes a buffer has room for.

@@ -3,7 +3,7 @@
 ghost use Rattle.std.specs.Prelude.{◌≡◌, ◌≤◌, ◌+◌, ◌*◌, ◌<◌, ◌^◌, ◌++◌, ◌||◌, is_err, length, slice_range};
 ghost use Rattle.arrayvec.specs.ArrayVec.{array_vec_len};
 ghost use Rattle.mq_count.specs.Streams.{inner_of, has_failed};
-ghost use Rattle.mq_replay.specs.Printing.{Puts};
+ghost use Rattle.mq_text.specs.Printing.{Puts};
 ghost use Rattle.mq_convert.specs.Blocks.{captured_of};
 ghost use Rattle.mq_convert.specs.Frames.{framed};
 ghost use Rattle.mq_convert.specs.Records as spec;
@@ -15,8 +15,7 @@ use crate::packet::Packet;
 use crate::pieces::put_bytes;
 use crate::tags::{tag_of, untagged};
 use mq_count::Watched;
-use mq_replay::{LineFault, make_room};
-use mq_text::{Text, put};
+use mq_text::{LineFault, Text, make_room, put};
 use std::io::Write;
 
 /// The most bytes that a frame carries in a record.

@@ -9,7 +9,7 @@ use Rattle.std.proofs.lemmas.Bool.{le-leb}
 use Rattle.std.proofs.lemmas.List.{get_or-set_same, get_or_read, length-map, length-set, set-set}
 use Rattle.mq_sets.specs.Ascending.{IsAscending, set_of}
 use Rattle.mq_sets.specs.NumberedKeys.{NumberedKey}
-use Rattle.mq_sets.specs.NumberedRows.{NumberedRowsState}
+use Rattle.mq_sets.specs.Pools.{PoolState}
 use Rattle.mq_sets.proofs.Ascents.{IsAscending-map}
 use Rattle.mq_table.specs.declared.sources.Source.{Source}
 use Rattle.mq_table.specs.declared.timing.Timing.{Timing}
@@ -160,28 +160,25 @@ module _ (groups : Groups) (address source : ℕ) (timing : Timing) (now : ℕ) 
       subst (λ queries. Sends takes sink queries sink) (sym (ap (messages_due n timing now address) unasked ∙ quiet_is_silent n timing now address (group_at groups address) quiet)) refl
 
 -- the rows, once a source of one of them is asked for, and once its sendings are counted
-module _ {K : Type 0} (number : K → ℕ) (timing : Timing) (now : ℕ) (source : K) (n : ℕ) (s0 s1 s2 : NumberedRowsState (Source K)) (within : n < length s0.rows) (limit count : ℕ) (limit_is : limit ≡ lowered_to timing now) (count_is : count ≡ last_member_count timing)
+module _ {K : Type 0} (number : K → ℕ) (timing : Timing) (now : ℕ) (source : K) (n : ℕ) (s0 s1 s2 : PoolState (Source K)) (within : n < length s0.rows) (limit count : ℕ) (limit_is : limit ≡ lowered_to timing now) (count_is : count ≡ last_member_count timing)
     (first : s1 ≡ record s0 { rows = set s0.rows n (list_map (source_if_asked number limit count (set_of number (source ∷ []))) (get_or s0.rows n [])) }) where
   pub rows_asked : s1 ≡ record s0 { rows = set s0.rows n (row_asked number timing now source (get_or s0.rows n [])) }
-  rows_asked = first ∙ (λ i. let s : NumberedRowsState (Source K) = record s0 { rows = set s0.rows n (list_map (source_if_asked number (limit_is i) (count_is i) (set_of number (source ∷ []))) (get_or s0.rows n [])) } in s)
+  rows_asked = first ∙ (λ i. let s : PoolState (Source K) = record s0 { rows = set s0.rows n (list_map (source_if_asked number (limit_is i) (count_is i) (set_of number (source ∷ []))) (get_or s0.rows n [])) } in s)
 
   pub row_asked_is : get_or s1.rows n [] ≡ row_asked number timing now source (get_or s0.rows n [])
-  row_asked_is = ap (λ (s : NumberedRowsState (Source K)). get_or s.rows n []) rows_asked ∙ get_or-set_same s0.rows n (row_asked number timing now source (get_or s0.rows n [])) [] within
+  row_asked_is = ap (λ (s : PoolState (Source K)). get_or s.rows n []) rows_asked ∙ get_or-set_same s0.rows n (row_asked number timing now source (get_or s0.rows n [])) [] within
 
   pub within_asked : n < length s1.rows
-  within_asked = let same = ap (λ (s : NumberedRowsState (Source K)). length s.rows) rows_asked in let size = length-set s0.rows n (row_asked number timing now source (get_or s0.rows n [])) in omega (arith, same, size, within)
+  within_asked = let same = ap (λ (s : PoolState (Source K)). length s.rows) rows_asked in let size = length-set s0.rows n (row_asked number timing now source (get_or s0.rows n [])) in omega (arith, same, size, within)
 
   pub rows_counted : s2 ≡ record s1 { rows = set s1.rows n (list_map item_counted (get_or s1.rows n [])) } → s2 ≡ record s0 { rows = set s0.rows n (row_counted number timing now source (get_or s0.rows n [])) }
   rows_counted second =
       second
-      ∙ (λ i. let s : NumberedRowsState (Source K) = record { rows = set (rows_asked i).rows n (list_map item_counted (row_asked_is i)); cell_limit = (rows_asked i).cell_limit; ahead = (rows_asked i).ahead } in s)
-      ∙ (λ i. let s : NumberedRowsState (Source K) = record s0 { rows = set-set s0.rows n (row_asked number timing now source (get_or s0.rows n [])) (row_counted number timing now source (get_or s0.rows n [])) i } in s)
+      ∙ (λ i. let s : PoolState (Source K) = record { rows = set (rows_asked i).rows n (list_map item_counted (row_asked_is i)); cell_limit = (rows_asked i).cell_limit; ahead = (rows_asked i).ahead } in s)
+      ∙ (λ i. let s : PoolState (Source K) = record s0 { rows = set-set s0.rows n (row_asked number timing now source (get_or s0.rows n [])) (row_counted number timing now source (get_or s0.rows n [])) i } in s)
 
   pub row_counted_is : s2 ≡ record s1 { rows = set s1.rows n (list_map item_counted (get_or s1.rows n [])) } → get_or s2.rows n [] ≡ row_counted number timing now source (get_or s0.rows n [])
-  row_counted_is second = ap (λ (s : NumberedRowsState (Source K)). get_or s.rows n []) (rows_counted second) ∙ get_or-set_same s0.rows n (row_counted number timing now source (get_or s0.rows n [])) [] within
-
-  pub length_counted : s2 ≡ record s1 { rows = set s1.rows n (list_map item_counted (get_or s1.rows n [])) } → length s2.rows ≡ length s0.rows
-  length_counted second = ap (λ (s : NumberedRowsState (Source K)). length s.rows) (rows_counted second) ∙ length-set s0.rows n (row_counted number timing now source (get_or s0.rows n []))
+  row_counted_is second = ap (λ (s : PoolState (Source K)). get_or s.rows n []) (rows_counted second) ∙ get_or-set_same s0.rows n (row_counted number timing now source (get_or s0.rows n [])) [] within
 
 -- what is stored, once a source of the group of a number was asked for
 module _ {K : Type 0} (number : K → ℕ) {items : List NumberedKey} {heads : List ScheduledHead} {rows : List (List (Source K))} {moments : FinMap nat_cmp ℕ} {schedules : ℕ} (known : IsStored number items heads rows moments schedules) (n : ℕ) (held : set_of number_of items n ≡ true) (rows_within : n < length rows) (timing : Timing) (now : ℕ) (source : K)

@@ -21,10 +21,10 @@ use Rattle.mq_sets.specs.Search.{bitlen}
 use Rattle.mq_sets.specs.Slots.{times}
 use Rattle.mq_sets.proofs.Ascents.{IsAscending-head, IsAscending-tail}
 use Rattle.mq_sets.proofs.Bitlen.{bitlen-le}
-use Rattle.mq_sets.proofs.Cells.{is_cell, is_cell-same, is_cell-other, times-some}
+use Rattle.mq_sets.proofs.Cells.{is_cell, is_cell-same, is_cell-other}
 use Rattle.mq_sets.proofs.Counted.{at_counted, length-counted}
 use Rattle.mq_table.specs.declared.sources.Source.{Source}
-use Rattle.mq_sched.specs.NumberedMoments.{is_number_due}
+use Rattle.mq_sched.specs.Deadlines.{is_number_due}
 use Rattle.mq_sched.specs.Schedule.{ScheduledGroup}
 use Rattle.mq_table.specs.Group.{is_vacant}
 use Rattle.mq_held.specs.declared.scheduled_head.ScheduledHead.{ScheduledHead}
@@ -149,19 +149,6 @@ module _ {K : Type 0} (number : K → ℕ) {order : NumberedKeysState} {heads : 
       at_most : (b : Bool) → (if b then 1 else 0) ≤ 1
       at_most true = omega arith
       at_most false = omega arith
-
-  -- each of them is that of some group
-  pub picked-there : (now : ℕ) (picked : List ℕ) → ((n : ℕ) → times n picked ≡ (if is_number_due moments now n then 1 else 0)) → All (λ n. set_of number_of order.items n ≡ true) picked
-  picked-there now picked each k d within = by_test (set_of number_of order.items n) refl
-    where
-      n : ℕ
-      n = get_or picked k d
-
-      by_test : (b : Bool) → set_of number_of order.items n ≡ b → set_of number_of order.items n ≡ true
-      by_test true held = held
-      by_test false absent =
-          let none : times n picked ≡ 0 = each n ∙ ap (λ b. if b then 1 else 0) (due-unused number known was now n absent) in
-          absurd (omega (arith, times-some picked n k d within refl, none))
 
   pub picked-ordered : (now : ℕ) (picked : List ℕ) → ((n : ℕ) → times n picked ≡ (if is_number_due moments now n then 1 else 0)) → {ns : List ℕ} → IsAscending (key_in order.items) ns → ((n : ℕ) → times n ns ≡ times n picked)
       → ns ≡ filter (is_due_at state now) (numbers_in state.order.items)

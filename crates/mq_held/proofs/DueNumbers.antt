@@ -7,7 +7,7 @@ use Rattle.std.specs.FinMap.{FinMap}
 use Rattle.mq_sets.specs.Ascending.{set_of}
 use Rattle.mq_sets.specs.NumberedKeys.{NumberedKeysState, key_in}
 use Rattle.mq_table.specs.declared.sources.Source.{Source}
-use Rattle.mq_sched.specs.NumberedMoments.{has_come, is_number_due}
+use Rattle.mq_sched.specs.Deadlines.{has_come, is_number_due}
 use Rattle.mq_held.specs.declared.scheduled_head.ScheduledHead.{ScheduledHead}
 use Rattle.mq_held.specs.Groups.{group_at}
 use Rattle.mq_held.specs.Held.{HeldState, IsNumber}

@@ -12,7 +12,7 @@ use Rattle.std.proofs.lemmas.List.Concat.{flat_map-cons}
 use Rattle.mq_sets.specs.Ascending.{set_of}
 use Rattle.mq_sets.specs.NumberedKeys.{NumberedKey, NumberedKeysState}
 use Rattle.mq_table.specs.declared.sources.Source.{Source}
-use Rattle.mq_sched.specs.NumberedMoments.{IsEarliestMoment}
+use Rattle.mq_sched.specs.Deadlines.{IsEarliestMoment}
 use Rattle.mq_held.specs.declared.scheduled_head.ScheduledHead.{ScheduledHead}
 use Rattle.mq_held.specs.Groups.{running_in}
 use Rattle.mq_held.specs.Held.{HeldState}

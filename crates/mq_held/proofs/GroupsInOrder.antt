@@ -46,11 +46,6 @@ module _ {s : HeldState} (known : IsOrdered s) where
   pub address-known : (address n : ℕ) → HasNumber s address n → key_in s.order.items n ≡ address
   address-known address n has = key-contained s.order.items known.once n address has.is
 
-  pub number-known : (address n : ℕ) → HasNumber s address n → IsNumber s n
-  number-known address n has =
-      let x : NumberedKey = record { number = n; key = address } in
-      number-is s.order.items n has.is.0 x has.is.1 (ap (λ (y : NumberedKey). y.number) has.is.2)
-
   pub place-ordered : (k : ℕ) (d : NumberedKey) → k < length s.order.items → HasPlace s.groups (get_or s.order.items k d).key k
   place-ordered k d within = record {
     address_is =

@@ -16,7 +16,6 @@ pub mod DueNumbers
 mod EarliestHeld
 mod StoredMoments
 mod MadeGroup
-mod TakenGroup
 pub mod GroupPages
 pub mod DueInOrder
 pub mod TakenItems

@@ -13,7 +13,7 @@ use Rattle.std.proofs.lemmas.List.Sums.{sum_by-insert}
 use Rattle.mq_sets.specs.Ascending.{IsAscending, set_of}
 use Rattle.mq_sets.specs.NumberedKeys.{NumberedKey, NumberedKeysState, IsSpotFor, rank_of}
 use Rattle.mq_sets.specs.declared.spots.Spot.{Spot}
-use Rattle.mq_sets.specs.NumberedRows.{cells_reserved}
+use Rattle.mq_sets.specs.Pools.{cells_reserved}
 use Rattle.mq_sets.specs.Search.{IsPlaceFor}
 use Rattle.mq_sets.specs.Slots.{times}
 use Rattle.mq_sets.proofs.Placing.{set_of-insert}
@@ -23,10 +23,10 @@ use Rattle.mq_table.specs.Group.{is_vacant}
 use Rattle.mq_sched.specs.Schedule.{ScheduledGroup}
 use Rattle.mq_held.specs.declared.scheduled_head.ScheduledHead.{ScheduledHead}
 use Rattle.mq_held.specs.Groups.{Groups, group_at, running_in, sources_in, sources_of, unheld}
-use Rattle.mq_held.specs.Held.{HeldState, HasNumber, IsNumber, ahead_with, moved_by_row, moved_by_new_row}
+use Rattle.mq_held.specs.Held.{HeldState, HasNumber, ahead_with, moved_by_row, moved_by_new_row}
 use Rattle.mq_held.specs.Stored.{group_by, entry_of, entries_of, groups_by, IsStored}
 use Rattle.mq_held.proofs.Amounts.{no_sources}
-use Rattle.mq_held.proofs.OrderedItems.{item, number_of, key_of, number-in}
+use Rattle.mq_held.proofs.OrderedItems.{item, number_of, key_of}
 use Rattle.mq_held.proofs.OrderedGroups.{group-here, groups-made}
 use Rattle.mq_held.proofs.OrderedAmounts.{running-groups, sources-groups}
 use Rattle.mq_held.proofs.StoredEdits.{IsStored-order, group-unused, schedules_at, unheld-vacant}
@@ -95,9 +95,6 @@ module _ {K : Type 0} (number : K → ℕ) {order : NumberedKeysState} {heads : 
 
   pub made-has : HasNumber mid a n
   made-has = record { is = subst (λ xs. Contains xs (item n a)) (sym items) (made-there order.items p (item n a) place.within) }
-
-  pub made-number : IsNumber mid n
-  made-number = number-in new.items n a made-has.is
 
   pub made-kept : (b m : ℕ) → HasNumber state b m → HasNumber mid b m
   made-kept b m has = record {

@@ -1,5 +1,5 @@
 -- One walk over ascending items and ascending names, which tells whether each name is that of an item.
-use Rattle.std.proofs.Common.{◌≡◌, ℕ, zero, suc, ◌+◌, ◌<◌, ◌≤◌, ◌==◌, ◌&&◌, ◌||◌, true, false, refl, List, [], ◌∷◌, length, get_or, drop, sym, ap, ◌∙◌, subst, arith, add-one}
+use Rattle.std.proofs.Common.{◌≡◌, ℕ, zero, suc, ◌+◌, ◌<◌, ◌≤◌, ◌==◌, ◌&&◌, ◌||◌, false, refl, List, [], ◌∷◌, length, get_or, drop, sym, ap, ◌∙◌, subst, arith, add-one}
 use Rattle.std.specs.Prelude.{map as list_map}
 use Rattle.std.specs.List.{All, list_all}
 use Rattle.std.proofs.lemmas.Bool.{eq-eqb}
@@ -30,10 +30,6 @@ module _ {X K : Type 0} (number : X → ℕ) (key : K → ℕ) where
   module _ (row : List X) (named : List K) (up : IsAscending number row) (named_up : IsAscending key named) where
     pub IsWalked-start : IsWalked number key row named 0 0
     IsWalked-start = record { within = omega arith; named_within = omega arith; met = omega arith; same = refl }
-
-    pub walked-all : (place next : ℕ) → IsWalked number key row named place next → length named ≤ next → list_all (set_of number row) (list_map key named) ≡ true
-    walked-all place next walked all =
-        walked.same ∙ ap (λ ks. list_all (set_of number (drop place row)) (list_map key ks)) (drop_all next named all)
 
     pub walked-behind : (place next : ℕ) → IsWalked number key row named place next → place ≡ length row → next < length named → list_all (set_of number row) (list_map key named) ≡ false
     walked-behind place next walked all more =

@@ -1,14 +1,12 @@
 -- The map of the groups that are kept by number, by the items of the order: what it has at an address, and its edits.
-use Rattle.std.proofs.Common.{◌≡◌, ℕ, ◌<◌, ◌≤◌, Bool, true, false, cond, refl, List, [], ◌∷◌, length, map, get_or, Option, None, Some, is_some, sym, ap, ◌∙◌, subst, arith, ⊎_elim}
-use Rattle.std.specs.Prelude.{slice_get}
-use Rattle.std.specs.List.{Contains, insert, remove}
+use Rattle.std.proofs.Common.{◌≡◌, ℕ, ◌<◌, ◌≤◌, Bool, true, false, cond, refl, List, [], ◌∷◌, length, map, Option, None, Some, is_some, sym, ap, ◌∙◌, subst, arith, ⊎_elim}
+use Rattle.std.specs.List.{Contains, insert}
 use Rattle.std.specs.Option.{option_map, unwrap_or}
 use Rattle.std.specs.Ordering.{nat_cmp, eq_by_cmp}
 use Rattle.std.specs.Cmp.{nat_cmp_total}
 use Rattle.std.specs.FinMap as map
 use Rattle.std.proofs.lemmas.Bool.{cases_eq}
 use Rattle.std.proofs.lemmas.List.{length-map, get_or-map}
-use Rattle.std.proofs.lemmas.Option.{slice_get-get_or}
 use Rattle.mq_sets.specs.Ascending.{IsAscending, set_of, item_with}
 use Rattle.mq_sets.specs.NumberedKeys.{NumberedKey}
 use Rattle.mq_sets.specs.Search.{IsPlaceFor}
@@ -16,16 +14,15 @@ use Rattle.mq_sets.specs.Slots.{times}
 use Rattle.mq_sets.proofs.Ascents.{IsAscending-map}
 use Rattle.mq_sets.proofs.Found.{found_where_member, maps_each_number}
 use Rattle.mq_sets.proofs.Placing.{IsAscending-insert}
-use Rattle.mq_sets.proofs.Stored.{map-insert, map-remove}
+use Rattle.mq_sets.proofs.Stored.{map-insert}
 use Rattle.mq_table.specs.declared.sources.Source.{Source}
 use Rattle.mq_sched.specs.Schedule.{ScheduledGroup}
 use Rattle.mq_held.specs.declared.scheduled_head.ScheduledHead.{ScheduledHead}
 use Rattle.mq_held.specs.Groups.{unheld, group_at}
-use Rattle.mq_held.specs.Places.{HasPlace}
 use Rattle.mq_held.specs.Stored.{group_by, entry_of, entries_of, groups_by}
 use Rattle.mq_held.proofs.Sorted.{sorted-ascending, ties, untied}
 use Rattle.mq_held.proofs.Sorted as sorted
-use Rattle.mq_held.proofs.Entries.{IsAscending-remove, entries-deleted, entries-made}
+use Rattle.mq_held.proofs.Entries.{entries-made}
 use Rattle.mq_held.proofs.OrderedItems.{item, number_of, key_of, one-key, has-key, item-of_key, no-item}
 
 module _ {K : Type 0} (number : K → ℕ) (items : List NumberedKey) (heads : List ScheduledHead) (rows : List (List (Source K))) (up : IsAscending key_of items) where
@@ -79,15 +76,6 @@ module _ {K : Type 0} (number : K → ℕ) (items : List NumberedKey) (heads : L
       mapped None = refl
       mapped (Some x) = refl
 
-  -- the place of an item is that of its address
-  pub place-here : (x : NumberedKey) (p : ℕ) → p < length items → get_or items p x ≡ x → HasPlace (groups_by number items heads rows) x.key p
-  place-here x p within is = record {
-    address_is =
-        ap (λ ks. slice_get ks p) keys-groups
-        ∙ slice_get-get_or (map key_of items) p x.key (omega (arith, length-map items key_of, within))
-        ∙ ap Some (get_or-map key_of items p x x.key within ∙ ap key_of is);
-  }
-
   -- The group of one number is another, and those of all other numbers are as they were.
   pub groups-changed : (new_heads : List ScheduledHead) (new_rows : List (List (Source K))) (n a : ℕ) (e : ScheduledGroup) → Contains items (item n a) → times n (map number_of items) ≤ 1
       → group_by number new_heads new_rows n ≡ e
@@ -135,14 +123,3 @@ groups-made number items heads rows up n a p place =
     ∙ map-insert (entry_of number heads rows) items p (item n a)
     ∙ ap (λ es. insert es p (entry_of number heads rows (item n a))) (sym (entries-groups number items heads rows up))
     ∙ sym (entries-made (groups_by number items heads rows) a p (subst (λ ks. IsPlaceFor (λ k. k) ks a p) (sym keys) goes) (group_by number heads rows n)))
-
--- a group less, that of the item at a place
-pub groups-taken : {K : Type 0} (number : K → ℕ) (items : List NumberedKey) (heads : List ScheduledHead) (rows : List (List (Source K))) (up : IsAscending key_of items) (x : NumberedKey) (p : ℕ) → p < length items → get_or items p x ≡ x
-    → groups_by number (remove items p) heads rows ≡ map.remove (groups_by number items heads rows) x.key
-groups-taken number items heads rows up x p within is =
-    let after = IsAscending-remove key_of items up p within in
-    map.same_entries_map (groups_by number (remove items p) heads rows) (map.remove (groups_by number items heads rows) x.key)
-    (entries-groups number (remove items p) heads rows after
-    ∙ map-remove (entry_of number heads rows) items p
-    ∙ ap (λ es. remove es p) (sym (entries-groups number items heads rows up))
-    ∙ sym (entries-deleted (groups_by number items heads rows) x.key p (place-here number items heads rows up x p within is).address_is))

@@ -6,7 +6,6 @@ use Rattle.std.specs.Option.{unwrap_or}
 use Rattle.std.specs.Ordering.{nat_cmp, eq_by_cmp}
 use Rattle.std.proofs.lemmas.Bool.{cases_lt, true≢false}
 use Rattle.std.proofs.lemmas.List.{get_or-map, length-map}
-use Rattle.std.proofs.lemmas.Option.{slice_get-get_or}
 use Rattle.std.specs.FinMap as map
 use Rattle.std.specs.FinMap.{find, is_sorted}
 use Rattle.std.specs.FinMap.Entries.{below_all}
@@ -22,9 +21,6 @@ pub record GoesAt (groups : Groups) (address place : ℕ) : Type 0 where
   pub goes : IsPlaceFor (λ n. n) (map.keys groups) address place
 
 module _ (groups : Groups) (a p : ℕ) (has : HasPlace groups a p) where
-  pub place-len : p < map.len groups
-  place-len = omega (arith, place_within groups a p has.address_is, map.len-entries groups)
-
   -- what is found there
   pub place-get : map.get groups a ≡ Some (group_in groups p)
   place-get =
@@ -34,18 +30,9 @@ module _ (groups : Groups) (a p : ℕ) (has : HasPlace groups a p) where
   pub place-group : group_at groups a ≡ group_in groups p
   place-group = ap (λ (e : Option ScheduledGroup). unwrap_or e unheld) place-get
 
-  pub place-contained : map.contains_key groups a ≡ true
-  place-contained = ap is_some place-get
-
   -- one place has one address
   pub same-address : (b : ℕ) → HasPlace groups b p → a ≡ b
   same-address b other = sym (key_at groups a p has.address_is (a, unheld)) ∙ key_at groups b p other.address_is (a, unheld)
-
--- each place has an address
-pub place-of : (groups : Groups) (p : ℕ) → p < map.len groups → (a : ℕ) × HasPlace groups a p
-place-of groups p within =
-    let ks = map.keys groups in
-    (get_or ks p 0, record { address_is = slice_get-get_or ks p 0 (omega (arith, map.len-entries groups, length-map (map.entries groups) (λ (e : ℕ × ScheduledGroup). e.0))) })
 
 -- a group that is held has a place, and one that isn't goes to one
 stands : (es : List (ℕ × ScheduledGroup)) (k : ℕ) → is_some (find nat_cmp k es) ≡ true → (p : ℕ) × (slice_get (list_map (λ (e : ℕ × ScheduledGroup). e.0) es) p ≡ Some k)

@@ -12,8 +12,7 @@ use Rattle.std.proofs.lemmas.List.Filters.{length-filter_both}
 use Rattle.std.proofs.lemmas.List.Sums.{count_by-le-length, length-filter, get_or-le-sum_by, sum_by-set}
 use Rattle.mq_sets.specs.Ascending.{set_of}
 use Rattle.mq_sets.specs.NumberedKeys.{NumberedKey, NumberedKeysState}
-use Rattle.mq_sets.specs.NumberedRows.{NamesRows, ahead_after, cells_reserved, moved_for}
-use Rattle.mq_sets.specs.Pools.{cells_in}
+use Rattle.mq_sets.specs.Pools.{NamesRows, ahead_after, cells_reserved, moved_for, cells_in}
 use Rattle.mq_sets.specs.Slots.{times}
 use Rattle.mq_table.specs.declared.sources.Source.{Source}
 use Rattle.mq_table.specs.Group.{is_vacant}

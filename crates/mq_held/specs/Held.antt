@@ -7,7 +7,7 @@ use Rattle.std.specs.FinMap as map
 use Rattle.std.specs.FinMap.{FinMap}
 use Rattle.mq_sets.specs.Ascending.{set_of}
 use Rattle.mq_sets.specs.NumberedKeys.{NumberedKey, NumberedKeysState, key_in}
-use Rattle.mq_sets.specs.NumberedRows.{cells_reserved}
+use Rattle.mq_sets.specs.Pools.{cells_reserved}
 use Rattle.mq_table.specs.Group.{is_vacant}
 use Rattle.mq_table.specs.declared.timers.FilterMode.{FilterMode}
 use Rattle.mq_table.specs.declared.timers.SourceTimer.{SourceTimer}

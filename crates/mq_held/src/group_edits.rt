@@ -1,6 +1,6 @@
 //! What makes a held group another, makes one, or takes one out.
 
-ghost use Rattle.std.specs.Prelude.{◌≡◌, ℕ, if◌then◌else◌, ◌+◌, ◌-◌, ◌*◌, ◌<◌, ◌≤◌, true, false, min, not, length};
+ghost use Rattle.std.specs.Prelude.{◌≡◌, ℕ, if◌then◌else◌, ◌+◌, ◌-◌, ◌*◌, ◌<◌, ◌≤◌, true, false, min, not};
 ghost use Rattle.std.specs.FinMap as map;
 ghost use Rattle.mq_count.specs.Spending.{Spends};
 ghost use Rattle.mq_sets.specs.Search.{bitlen};
@@ -16,14 +16,14 @@ use crate::earliest::{count_schedules, earliest_moment};
 use crate::held_groups::{HeldGroups, vacant_head};
 use crate::scheduled_head::ScheduledHead;
 use mq_count::{Key, Meter, Moment, Moves};
-use mq_sched::{NumberedMoments, Schedule};
+use mq_sched::{Deadlines, Schedule};
 use mq_sets::Spot;
 use mq_table::{FilterMode, Group};
 use std::alloc::Allocator;
 
 /// Sets the moment of a number, which has none yet where it is new.
 fn set_moment<A: Allocator>(
-    moments: &mut NumberedMoments<A>,
+    moments: &mut Deadlines<A>,
     number: u16,
     is_new: bool,
     due: Moment,
@@ -48,7 +48,7 @@ fn set_moment<A: Allocator>(
 
 /// Takes the moment of a number out, where there is one.
 fn remove_moment<A: Allocator>(
-    moments: &mut NumberedMoments<A>,
+    moments: &mut Deadlines<A>,
     number: u16,
     is_there: bool,
     m: &mut Meter,
@@ -132,7 +132,7 @@ impl<K: Key, A: Allocator> HeldGroups<K, A> {
     {
         let before = self.heads[number as usize];
         remove_moment(&mut self.moments, number, !was_vacant, m, moves);
-        self.sources.clear(number);
+        self.sources.remove_row(number);
         self.heads[number as usize] = vacant_head();
         self.scheduled -= count_schedules(before.schedule);
     }
@@ -208,25 +208,5 @@ impl<K: Key, A: Allocator> HeldGroups<K, A> {
         self.order.lemma_is_ordered();
         self.write(number, true, group, schedule, m, moves);
         number
-    }
-
-    /// The group of a number is no longer held. At most three comparisons and two for each binary digit of how many groups there
-    /// are.
-    pub fn remove(&mut self, number: u16, m: &mut Meter, moves: &mut Moves)
-        requires number { IsNumber self.old number }
-        ensures groups { (address : ℕ) → HasNumber self.old address number →
-            self.new.groups ≡ map.remove self.old.groups address }
-        ensures numbers { (address other : ℕ) → HasNumber self.new address other → HasNumber self.old address other }
-        ensures room { self.new.order.room ≡ self.old.order.room }
-        ensures source_room { self.new.source_room ≡ self.old.source_room }
-        ensures ahead { self.new.ahead ≡ self.old.ahead }
-        ensures spent { Spends 1 (bitlen (running_in self.old.groups) + bitlen (map.len self.old.groups) + 2) m.old m.new }
-        ensures moved { Spends 1 (4 + bitlen (running_in self.old.groups) + (1022 + length self.old.order.pages)) moves.old moves.new }
-    {
-        self.lemma_is_numbered();
-        let was_vacant = self.is_vacant(number);
-        self.make_vacant(number, was_vacant, m, moves);
-        self.order.remove(number, m, moves);
-        self.order.lemma_is_ordered();
     }
 }

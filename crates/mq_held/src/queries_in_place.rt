@@ -24,14 +24,14 @@ use crate::held_groups::HeldGroups;
 use crate::timers_in_place::earliest_stored;
 use mq_count::{Key, Meter, Moment, Moves};
 use mq_sched::{Sink, send_waiting};
-use mq_sets::{NumberedRows, find};
+use mq_sets::{Pool, find};
 use mq_table::{SendingPlaces, Source, SourceTimer, Timing, runs_on};
 use std::alloc::Allocator;
 
 /// The timer of the source at a place of a row, which runs on after a limit, is lowered to that, and so many sendings are to go for
 /// it. One move.
 fn ask_in_row<K: Key, A: Allocator>(
-    rows: &mut NumberedRows<Source<K>, A>,
+    rows: &mut Pool<Source<K>, A>,
     number: u16,
     place: usize,
     limit: Moment,
@@ -58,7 +58,7 @@ fn ask_in_row<K: Key, A: Allocator>(
 /// Leaves each source of a row one sending fewer, where it has one; outside of the places none has one. Answers whether a source
 /// has one left. No comparison; at most one move for each source.
 fn count_in_row<K: Key, A: Allocator>(
-    rows: &mut NumberedRows<Source<K>, A>,
+    rows: &mut Pool<Source<K>, A>,
     number: u16,
     places: SendingPlaces,
     moves: &mut Moves,

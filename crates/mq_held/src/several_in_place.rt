@@ -19,7 +19,7 @@ use crate::held_groups::HeldGroups;
 use crate::scheduled_head::ScheduledHead;
 use crate::timers_in_place::{change_moment, earliest_then, is_later, restarted};
 use mq_count::{Key, Meter, Moment, Moves};
-use mq_sets::{NumberedRows, find};
+use mq_sets::{Pool, find};
 use mq_table::{Source, SourceTimer};
 use std::alloc::Allocator;
 use std::cmp::Ordering;
@@ -90,7 +90,7 @@ struct Before {
 /// that of a source of the row. Answers what these timers were, against the moment `earliest`. At most one comparison for each
 /// source and one for each name, and one move for each name.
 fn restart_row<K: Key, A: Allocator>(
-    rows: &mut NumberedRows<Source<K>, A>,
+    rows: &mut Pool<Source<K>, A>,
     number: u16,
     named: &[K],
     earliest: Moment,

@@ -18,7 +18,7 @@ use crate::earliest::{earliest_of_head, earliest_with_row};
 use crate::held_groups::HeldGroups;
 use crate::scheduled_head::ScheduledHead;
 use mq_count::{Key, Meter, Moment, Moves};
-use mq_sched::NumberedMoments;
+use mq_sched::Deadlines;
 use mq_sets::find;
 use mq_table::{Source, SourceTimer};
 use std::alloc::Allocator;
@@ -95,7 +95,7 @@ pub(crate) fn earliest_then<K: Key>(
 
 /// A number has another moment, where there is one.
 pub(crate) fn change_moment<A: Allocator>(
-    moments: &mut NumberedMoments<A>,
+    moments: &mut Deadlines<A>,
     number: u16,
     due: Option<Moment>,
     m: &mut Meter,

@@ -10,7 +10,7 @@ use crate::telling::told;
 use crate::work_room::WorkRoom;
 use mq_check::{CheckTerms, CheckedFamily, check};
 use mq_count::Watched;
-use mq_replay::LineKey;
+use mq_lines::LineKey;
 
 /// Checks the querier of a capture that has the address `own`.
 pub(crate) fn check_at<F: CheckedFamily>(

@@ -9,7 +9,8 @@ use crate::settings::{Settings, querier_of};
 use crate::telling::told;
 use crate::work_room::WorkRoom;
 use mq_count::Watched;
-use mq_replay::{Asked, CapturedFamily, LineKey, replay};
+use mq_lines::LineKey;
+use mq_replay::{Asked, CapturedFamily, replay};
 
 /// Replays a capture to a querier with the address `own`.
 pub(crate) fn replay_to<F: CapturedFamily>(

@@ -17,11 +17,11 @@ use Rattle.mq_table.proofs.Rows.{filter_in_row}
 use Rattle.mq_sched.specs.Schedule.{ScheduledGroup}
 use Rattle.mq_held.specs.Groups.{Groups, group_at}
 use Rattle.mq_link.proofs.KeptGroups.{absent_unheld}
+use Rattle.mq_text.specs.Printing.{GrowsByBeginning, Passes}
+use Rattle.mq_text.proofs.Passing.{broken_behind, broken_within}
+use Rattle.mq_lines.specs.Text.{line_of}
 use Rattle.mq_replay.specs.ChangeLines.{change_line, change_lines, change_start, filter_name, named_sources, named_text}
 use Rattle.mq_replay.specs.NamedSources.{if_named, is_named, name_by, named_by}
-use Rattle.mq_replay.specs.Printing.{GrowsByBeginning, Passes}
-use Rattle.mq_replay.specs.Text.{line_of}
-use Rattle.mq_replay.proofs.Passing.{broken_behind, broken_within}
 
 -- those of some items that are named
 module _ {X : Type 0} (number : X → ℕ) (named : X → Bool) where

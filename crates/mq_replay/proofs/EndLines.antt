@@ -15,12 +15,12 @@ use Rattle.mq_link.specs.Configuration.{Configuration}
 use Rattle.mq_link.specs.Counters.{Counters}
 use Rattle.mq_link.specs.Link.{LinkValue}
 use Rattle.mq_link.specs.State.{LinkState}
-use Rattle.mq_replay.specs.declared.printing.LineFault.{LineFault}
-use Rattle.mq_replay.specs.Printing.{GrowsByBeginning, Passes, Puts}
+use Rattle.mq_text.specs.declared.printing.LineFault.{LineFault}
+use Rattle.mq_text.specs.Printing.{GrowsByBeginning, Passes, Puts}
+use Rattle.mq_text.proofs.Passing.{broken_behind, broken_within, item_passed, then_put}
 use Rattle.mq_replay.specs.ReplayLines.{group_line, group_lines, end_line, counts_line, end_lines}
 use Rattle.mq_replay.specs.Report.{ticked_before, ended_at}
 use Rattle.mq_replay.specs.Steps.{PutsReplayed, begun_with}
-use Rattle.mq_replay.proofs.Passing.{broken_behind, broken_within, item_passed, then_put}
 
 abbrev pub Entry : Type 0
 Entry = ℕ × ScheduledGroup

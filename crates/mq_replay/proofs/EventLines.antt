@@ -10,15 +10,15 @@ use Rattle.mq_link.specs.Receive.{Envelope, receipt_of}
 use Rattle.mq_link.specs.Run.{answered, HandsOut}
 use Rattle.mq_link.specs.Sent.{Outgoing}
 use Rattle.mq_link.specs.Tick.{Step, tick_of}
-use Rattle.mq_replay.specs.declared.printing.LineFault.{LineFault}
+use Rattle.mq_text.specs.declared.printing.LineFault.{LineFault}
+use Rattle.mq_text.specs.Printing.{Puts}
+use Rattle.mq_text.proofs.Passing.{broken_within, put_as, then_put}
 use Rattle.mq_replay.specs.ChangeLines.{change_lines, lines_asked}
-use Rattle.mq_replay.specs.Printing.{Puts}
 use Rattle.mq_replay.specs.QueryLines.{TicksPrinting, ReceivesPrinting}
 use Rattle.mq_replay.specs.ReplayLines.{query_lines}
 use Rattle.mq_replay.specs.Report.{Replayed, after_step, all_sent, ticked_at, with_changes}
 use Rattle.mq_replay.specs.Steps.{PutsReplayed, begun_with}
 use Rattle.mq_replay.proofs.ChangedGroups.{ticked_those}
-use Rattle.mq_replay.proofs.Passing.{broken_within, put_as, then_put}
 
 -- a step whose messages were handed out and put, is one of a replay
 step_put : {T E : Type 0} (changes : Bool) (family : Family) (now : ℕ) (before after : LinkValue) (step : Step) (old new : Option (List ℕ)) (held left : List ℕ) (r : Result T E) (messages : List Outgoing) (answers : List Bool)

@@ -1,4 +1,3 @@
-pub mod Answered
 pub mod ChangeTexts
 pub mod ChangedGroups
 pub mod EndLines
@@ -8,7 +7,6 @@ pub mod Headers
 pub mod OnePacket
 pub mod OpenedReplays
 pub mod Packets
-pub mod Passing
 pub mod PrintedQueries
 pub mod ReadSoFar
 pub mod ReplayTexts

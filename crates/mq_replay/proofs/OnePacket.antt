@@ -8,15 +8,15 @@ use Rattle.mq_link.specs.Forwarding.{AreThose, changed_by_datagram}
 use Rattle.mq_link.specs.Link.{LinkValue}
 use Rattle.mq_link.specs.Receive.{receipt_of}
 use Rattle.mq_link.specs.State.{LinkState}
-use Rattle.mq_replay.specs.declared.printing.LineFault.{LineFault}
+use Rattle.mq_text.specs.declared.printing.LineFault.{LineFault}
+use Rattle.mq_text.specs.Printing.{Puts, GrowsByBeginning}
+use Rattle.mq_text.proofs.Passing.{broken_within, then_put}
 use Rattle.mq_replay.specs.ChangeLines.{change_lines, lines_asked}
-use Rattle.mq_replay.specs.Printing.{Puts, GrowsByBeginning}
 use Rattle.mq_replay.specs.QueryLines.{ReceivesPrinting}
 use Rattle.mq_replay.specs.ReplayLines.{receipt_line, skip_line}
 use Rattle.mq_replay.specs.Report.{Replayed, after_step, ticked_before, Datagram, datagram_of, received_at, taken_or_skipped, with_packet}
 use Rattle.mq_replay.specs.Steps.{PutsReplayed, begun_with}
 use Rattle.mq_replay.proofs.Growing.{behind, as_behind, before_changes, taken_behind}
-use Rattle.mq_replay.proofs.Passing.{broken_within, then_put}
 use Rattle.mq_replay.proofs.ChangedGroups.{received_those}
 use Rattle.mq_replay.proofs.EventLines.{changes_broken, changes_put, receipt_put}
 

@@ -14,12 +14,12 @@ use Rattle.mq_pcap.proofs.FileHeader.{header_of-append}
 use Rattle.mq_pcap.proofs.Filled.{Takes-trans}
 use Rattle.mq_link.specs.Configuration.{Configuration}
 use Rattle.mq_link.specs.Counters.{Counters}
+use Rattle.mq_text.proofs.Passing.{nothing_passed}
 use Rattle.mq_replay.specs.declared.asked.Asked.{Asked}
 use Rattle.mq_replay.specs.declared.replay_fault.ReplayFault.{ReplayFault}
 use Rattle.mq_replay.specs.declared.replay_fault.ReplayFault.TheVariants as answer
 use Rattle.mq_replay.specs.PuttingReports.{IsReportPut, PutsRecords, PutsReport, behind_header}
 use Rattle.mq_replay.specs.Replaying.{IsEndedBy}
-use Rattle.mq_replay.proofs.Passing.{nothing_passed}
 use Rattle.mq_replay.proofs.Headers.{cut_header}
 
 -- a header has a fault

@@ -7,12 +7,12 @@ use Rattle.mq_wire.specs.Family as family
 use Rattle.mq_wire.specs.PseudoHeader.{pseudo_header}
 use Rattle.mq_wire.specs.Spelling.{fault_of}
 use Rattle.mq_wire.proofs.Spelled.{spelled}
-use Rattle.mq_replay.specs.Line.{IsLineOf}
+use Rattle.mq_text.specs.Printing.{GrowsByBeginning, Passes}
+use Rattle.mq_text.proofs.Passing.{nothing_passed, held_more, both_passed, broken_behind, then_put}
+use Rattle.mq_lines.specs.Line.{IsLineOf}
+use Rattle.mq_lines.specs.Text.{address_text, fault_text, line_of, message_text}
 use Rattle.mq_replay.specs.Listing.{IsSaid, place_text}
 use Rattle.mq_replay.specs.Putting.{PutsSaid, PutsPacket}
-use Rattle.mq_replay.specs.Text.{address_text, fault_text, line_of, message_text}
-use Rattle.mq_replay.specs.Printing.{GrowsByBeginning, Passes}
-use Rattle.mq_replay.proofs.Passing.{nothing_passed, held_more, both_passed, broken_behind, then_put}
 
 -- a piece was put behind what is held, and then a line
 pub message_put : (old new : Option (List ℕ)) (held more left piece line : List ℕ) → more ≡ held ++ piece → Passes old new more left line → Passes old new held left (piece ++ line)

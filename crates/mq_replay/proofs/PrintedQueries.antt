@@ -6,12 +6,12 @@ use Rattle.mq_count.specs.Streams.{inner_of, has_failed}
 use Rattle.mq_wire.specs.Family.{Family}
 use Rattle.mq_link.specs.Handing.{HandsOver}
 use Rattle.mq_link.specs.Sent.{Outgoing}
-use Rattle.mq_replay.specs.declared.printing.LineFault.{LineFault}
+use Rattle.mq_text.specs.declared.printing.LineFault.{LineFault}
+use Rattle.mq_text.specs.Printing.{Puts}
+use Rattle.mq_text.proofs.Passing.{nothing_passed, then_put, broken_within}
 use Rattle.mq_replay.specs.declared.query_outlet.QueryLines.{QueryLines}
-use Rattle.mq_replay.specs.Printing.{Puts}
 use Rattle.mq_replay.specs.QueryLines.{TakesQuery, PutsQuery}
 use Rattle.mq_replay.specs.ReplayLines.{query_line, query_lines}
-use Rattle.mq_replay.proofs.Passing.{nothing_passed, then_put, broken_within}
 
 module _ {W : Type 0} (contents : W → Option (List ℕ)) (family : Family) where
   abbrev takes : QueryLines W → ℕ → List ℕ → Bool → QueryLines W → Type 0

@@ -13,12 +13,12 @@ use Rattle.mq_pcap.specs.Reading.{Reads, IsBegun}
 use Rattle.mq_pcap.proofs.Filled.{Takes-nil, Takes-trans}
 use Rattle.mq_pcap.specs.Frame.{carried_in}
 use Rattle.std.proofs.Math.Bool.{or-false, or-true}
+use Rattle.mq_text.specs.Printing.{Passes}
+use Rattle.mq_text.proofs.Passing.{nothing_passed, both_passed, broken_behind}
 use Rattle.mq_replay.specs.declared.replay_fault.ReplayFault.{ReplayFault}
 use Rattle.mq_replay.specs.declared.replay_fault.ReplayFault.TheVariants as answer
 use Rattle.mq_replay.specs.Listing.{AreLines, IsEndedBy, IsPacketLine, moment_of, place_text}
-use Rattle.mq_replay.specs.Printing.{Passes}
 use Rattle.mq_replay.specs.Putting.{IsPut, PutsPacket, PutsPackets}
-use Rattle.mq_replay.proofs.Passing.{nothing_passed, both_passed, broken_behind}
 
 -- Some bytes behind the file's header were read as packets, whose lines are `said`. Whatever follows, its records
 -- are those behind these packets, and its lines those behind these lines.
@@ -47,6 +47,19 @@ pub none_put : (form : Form) (s : InputState) (before : Option (List ℕ)) (held
 unfolding none_read
 none_put form s before held = (none_read form s, nothing_passed before held)
 
+-- of lists one after the other it doesn't matter which two are put together first
+pub AreRecords-assoc : (form : Form) (number : ℕ) (first second rest : List ℕ) (some more others : List Captured) (end : Option PcapFault)
+    → AreRecords form number (first ++ (second ++ rest)) (some ++ (more ++ others)) end → AreRecords form number ((first ++ second) ++ rest) ((some ++ more) ++ others) end
+AreRecords-assoc form number first second rest some more others end all =
+    subst (λ (bytes : List ℕ). AreRecords form number bytes ((some ++ more) ++ others) end) (sym (append_assoc first second rest))
+    (subst (λ (packets : List Captured). AreRecords form number (first ++ (second ++ rest)) packets end) (sym (append_assoc some more others)) all)
+
+AreLines-assoc : (link : LinkType) (from : Option ℕ) (before number : ℕ) (first second rest : List ℕ) (some more others : List Captured)
+    → AreLines link from before number (some ++ (more ++ others)) (first ++ (second ++ rest)) → AreLines link from before number ((some ++ more) ++ others) ((first ++ second) ++ rest)
+AreLines-assoc link from before number first second rest some more others all =
+    subst (λ (text : List ℕ). AreLines link from before number ((some ++ more) ++ others) text) (sym (append_assoc first second rest))
+    (subst (λ (packets : List Captured). AreLines link from before number packets (first ++ (second ++ rest))) (sym (append_assoc some more others)) all)
+
 -- one packet more was read
 pub next_read : (form : Form) (old mid new : InputState) (first : Option ℕ) (before number : ℕ) (buffer line : List ℕ) (packet : Packet)
     → (r : IsReadTo form old mid first before number) → Reads form (number + 1) mid new buffer (Ok (Some packet))
@@ -62,10 +75,10 @@ next_read form old mid new first before number buffer line packet r reads is_lin
         count = length-append r.packets (captured ∷ []) ∙ ap (λ (n : ℕ). n + 1) r.count;
         records = λ rest more end h.
             let all = r.records (reads.bytes ++ rest) (captured ∷ more) end (reads.bytes, rest, refl, reads.answers.1, reads.answers.0, h) in
-            rw (append_assoc r.bytes reads.bytes rest, append_assoc r.packets (captured ∷ []) more) all;
+            AreRecords-assoc form 1 r.bytes reads.bytes rest r.packets (captured ∷ []) more end all;
         lines = λ more text h.
             let all = r.lines (captured ∷ more) (line ++ text) (line, text, refl, is_line, h) in
-            rw (append_assoc r.said line text, append_assoc r.packets (captured ∷ []) more) all;
+            AreLines-assoc form.link None 0 1 r.said line text r.packets (captured ∷ []) more all;
       },
       refl,
     )

@@ -12,6 +12,7 @@ use Rattle.mq_link.specs.Configuration.{Configuration}
 use Rattle.mq_replay.specs.Listing.{moment_of}
 use Rattle.mq_replay.specs.Report.{Replayed, at_the_start, with_packet, with_packets, is_gap}
 use Rattle.mq_replay.proofs.Growing.{packet_changes}
+use Rattle.mq_replay.proofs.ReadSoFar.{AreRecords-assoc}
 
 -- Some bytes behind the file's header were read as packets, which were replayed. Whatever follows, its records are
 -- those behind these packets, and it is replayed behind them.
@@ -82,7 +83,7 @@ next_replayed config changes form old mid new first before number r buffer packe
       asked = packet_changes config (moment_of first before packet.stamp_ms) (number + 1) (carried_in form.link (take packet.length buffer)) r ∙ to.asked;
       records = λ rest more end h.
           let all = to.records (reads.bytes ++ rest) (captured ∷ more) end (reads.bytes, rest, refl, reads.answers.1, reads.answers.0, h) in
-          rw (append_assoc to.bytes reads.bytes rest, append_assoc to.packets (captured ∷ []) more) all;
+          AreRecords-assoc form 1 to.bytes reads.bytes rest to.packets (captured ∷ []) more end all;
       course = λ more.
           ap (λ (packets : List Captured). with_packets config form.link None 0 1 packets (at_the_start config changes)) (append_assoc to.packets (captured ∷ []) more)
           ∙ to.course (captured ∷ more)

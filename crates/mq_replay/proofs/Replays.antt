@@ -16,19 +16,19 @@ use Rattle.mq_link.specs.Configuration.{Configuration}
 use Rattle.mq_link.specs.Counters.{Counters}
 use Rattle.mq_link.specs.Link.{LinkValue}
 use Rattle.mq_link.specs.State.{LinkState}
+use Rattle.mq_text.specs.Printing.{GrowsByBeginning, Passes}
 use Rattle.mq_replay.specs.declared.asked.Asked.{Asked}
 use Rattle.mq_replay.specs.declared.replay_fault.ReplayFault.{ReplayFault}
 use Rattle.mq_replay.specs.declared.replay_fault.ReplayFault.TheVariants as answer
 use Rattle.mq_replay.specs.Listing.{moment_of}
-use Rattle.mq_replay.specs.Printing.{GrowsByBeginning, Passes}
 use Rattle.mq_replay.specs.PuttingReports.{IsReportPut, IsRestPut, PutsRecords, behind_header, rest_of}
 use Rattle.mq_replay.specs.Replaying.{IsEndedBy}
 use Rattle.mq_replay.specs.Report.{Replayed, Course, Report, at_the_start, with_packet, with_packets, with_all_packets, is_gap, ticked_before, ended_at, reported, report_of}
 use Rattle.mq_replay.specs.ReplayLines.{end_lines}
 use Rattle.mq_sched.specs.Election.{is_querier}
+use Rattle.mq_text.proofs.Passing.{both_passed, broken_behind}
 use Rattle.mq_replay.specs.Steps.{PutsReplayed, begun_with}
 use Rattle.mq_replay.proofs.Growing.{behind, as_behind, before_behind, next_packet}
-use Rattle.mq_replay.proofs.Passing.{both_passed, broken_behind}
 use Rattle.mq_replay.proofs.ReadSoFar.{begun_ends}
 use Rattle.mq_replay.proofs.ReplayedSoFar.{IsReplayedTo, gap_before, next_replayed, none_left}
 

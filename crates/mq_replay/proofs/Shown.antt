@@ -13,13 +13,13 @@ use Rattle.mq_pcap.specs.Filling.{InputState, Takes}
 use Rattle.mq_pcap.specs.Reading.{Opens, form_of}
 use Rattle.mq_pcap.proofs.FileHeader.{header_of-append}
 use Rattle.mq_pcap.proofs.Filled.{Takes-nil, Takes-trans}
+use Rattle.mq_text.specs.Printing.{GrowsByBeginning, Passes}
+use Rattle.mq_text.proofs.Passing.{nothing_passed, broken_behind}
 use Rattle.mq_replay.specs.declared.replay_fault.ReplayFault.{ReplayFault}
 use Rattle.mq_replay.specs.declared.replay_fault.ReplayFault.TheVariants as answer
 use Rattle.mq_replay.specs.Listing.{IsEndedBy, IsOfTheFile, Shows, is_failed_write}
-use Rattle.mq_replay.specs.Printing.{GrowsByBeginning, Passes}
 use Rattle.mq_replay.specs.Putting.{IsPut, PutsListing, PutsPackets}
 use Rattle.mq_replay.proofs.Headers.{cut_header}
-use Rattle.mq_replay.proofs.Passing.{nothing_passed, broken_behind}
 
 -- a fault of the file
 by_fault : (header : Result Form PcapFault) (packets : List Captured) (bytes : List ℕ) (old new : InputState) (f : PcapFault) → IsOfTheFile header f bytes new → new.failed ≡ (old.failed || is_read f)

@@ -4,12 +4,12 @@ use Rattle.mq_link.specs.Configuration.{Configuration}
 use Rattle.mq_link.specs.Link.{LinkValue}
 use Rattle.mq_link.specs.State.{LinkState}
 use Rattle.mq_link.specs.Tick.{tick_of, next_of}
-use Rattle.mq_replay.specs.declared.printing.LineFault.{LineFault}
-use Rattle.mq_replay.specs.Printing.{Passes, GrowsByBeginning}
+use Rattle.mq_text.specs.declared.printing.LineFault.{LineFault}
+use Rattle.mq_text.specs.Printing.{Passes, GrowsByBeginning}
+use Rattle.mq_text.proofs.Passing.{both_passed, broken_behind, broken_within}
 use Rattle.mq_replay.specs.Report.{Replayed, ticked_at, ticked_within, ticked_before}
 use Rattle.mq_replay.specs.Steps.{PutsReplayed, begun_with}
 use Rattle.mq_replay.proofs.Growing.{behind, as_behind, ticked_behind, within_behind, none_within, one_within}
-use Rattle.mq_replay.proofs.Passing.{both_passed, broken_behind, broken_within}
 
 -- A replay has come to another one by ticks before a limit, and there are as many left as may be to come.
 pub record IsTickedTo (config : Configuration) (limit : ℕ) (from to : Replayed) : Type 0 where

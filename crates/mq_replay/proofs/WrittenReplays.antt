@@ -10,15 +10,15 @@ use Rattle.mq_pcap.specs.Filling.{InputState}
 use Rattle.mq_pcap.proofs.Filled.{Takes-nil}
 use Rattle.mq_link.specs.Configuration.{Configuration}
 use Rattle.mq_link.specs.Counters.{Counters}
+use Rattle.mq_text.specs.Printing.{GrowsByBeginning, Passes}
+use Rattle.mq_text.proofs.Passing.{both_passed, broken_behind}
 use Rattle.mq_replay.specs.declared.asked.Asked.{Asked}
 use Rattle.mq_replay.specs.declared.replay_fault.ReplayFault.{ReplayFault}
 use Rattle.mq_replay.specs.declared.replay_fault.ReplayFault.TheVariants as answer
-use Rattle.mq_replay.specs.Printing.{GrowsByBeginning, Passes}
 use Rattle.mq_replay.specs.Listing.{is_failed_write}
 use Rattle.mq_replay.specs.PuttingReports.{counted, IsReportPut, PutsReport}
 use Rattle.mq_replay.specs.Replaying.{ReadCapture, IsEndedBy, IsWritten, Replays}
 use Rattle.mq_replay.specs.Report.{Course, Report, with_all_packets, is_gap, ended_at, broken_off, last_moment, reported, report_of, so_far}
-use Rattle.mq_replay.proofs.Passing.{both_passed, broken_behind}
 use Rattle.mq_replay.proofs.Headers.{cut_header}
 
 abbrev one_of : Bool → Report → Report → Report

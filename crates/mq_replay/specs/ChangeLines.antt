@@ -7,7 +7,7 @@ use Rattle.mq_wire.specs.Family.{Family}
 use Rattle.mq_table.specs.Filter.{names}
 use Rattle.mq_table.specs.Group.{GroupState, is_include, timer_at}
 use Rattle.mq_held.specs.Groups.{Groups, group_at}
-use Rattle.mq_replay.specs.Text.{address_text, line_of}
+use Rattle.mq_lines.specs.Text.{address_text, line_of}
 
 -- what is forwarded of a group: nothing; only what some sources send; or all but what some send
 abbrev pub filter_name : (is_include : Bool) → (sources : List ℕ) → List ℕ

@@ -1,10 +1,7 @@
 pub mod ChangeLines
 pub mod Datagrams
-pub mod Line
 pub mod Listing
 pub mod NamedSources
-pub mod Numbered
-pub mod Printing
 pub mod Putting
 pub mod PuttingReports
 pub mod QueryLines
@@ -12,4 +9,3 @@ pub mod ReplayLines
 pub mod Replaying
 pub mod Report
 pub mod Steps
-pub mod Text

@@ -12,11 +12,11 @@ use Rattle.mq_pcap.specs.Frame.{Carried, Igmp, Mld, Other, Cut, Fragment, carrie
 use Rattle.mq_pcap.specs.Reading.{IsKnownThere}
 use Rattle.mq_wire.specs.Family as family
 use Rattle.mq_wire.specs.PseudoHeader.{pseudo_header}
+use Rattle.mq_text.specs.Printing.{GrowsByBeginning}
+use Rattle.mq_lines.specs.Line.{IsLineOf}
+use Rattle.mq_lines.specs.Text.{address_text}
 use Rattle.mq_replay.specs.declared.replay_fault.ReplayFault.{ReplayFault}
 use Rattle.mq_replay.specs.declared.replay_fault.ReplayFault.TheVariants as answer
-use Rattle.mq_replay.specs.Line.{IsLineOf}
-use Rattle.mq_replay.specs.Printing.{GrowsByBeginning}
-use Rattle.mq_replay.specs.Text.{address_text}
 
 -- what a line says of the message that a packet carries, or why there is none; it ends the line
 abbrev pub IsSaid : Carried → List ℕ → Type 0

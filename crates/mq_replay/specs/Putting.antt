@@ -5,10 +5,10 @@ use Rattle.mq_pcap.specs.declared.form.Form.{Form}
 use Rattle.mq_pcap.specs.Capture.{Captured, Captures, AreRecords}
 use Rattle.mq_pcap.specs.Filling.{InputState, Takes}
 use Rattle.mq_pcap.specs.Frame.{Carried}
+use Rattle.mq_text.specs.Printing.{GrowsByBeginning, Passes, Puts}
 use Rattle.mq_replay.specs.declared.replay_fault.ReplayFault.{ReplayFault}
 use Rattle.mq_replay.specs.declared.replay_fault.ReplayFault.TheVariants as answer
 use Rattle.mq_replay.specs.Listing.{IsSaid, place_text, AreLines, IsListing, IsEndedBy}
-use Rattle.mq_replay.specs.Printing.{GrowsByBeginning, Passes, Puts}
 
 -- what is said of a packet was put
 pub record PutsSaid {T E : Type 0} (old new : Option (List ℕ)) (held left : List ℕ) (carried : Carried) (r : Result T E) : Type 0 where

@@ -9,10 +9,10 @@ use Rattle.mq_pcap.specs.Filling.{InputState, Takes}
 use Rattle.mq_link.specs.Configuration.{Configuration}
 use Rattle.mq_link.specs.Counters.{Counters}
 use Rattle.mq_link.specs.State.{LinkState}
+use Rattle.mq_text.specs.Printing.{GrowsByBeginning, Passes}
 use Rattle.mq_replay.specs.declared.asked.Asked.{Asked}
 use Rattle.mq_replay.specs.declared.replay_fault.ReplayFault.{ReplayFault}
 use Rattle.mq_replay.specs.declared.replay_fault.ReplayFault.TheVariants as answer
-use Rattle.mq_replay.specs.Printing.{GrowsByBeginning, Passes}
 use Rattle.mq_replay.specs.Replaying.{ReadCapture, IsEndedBy, text_of, packets_text}
 use Rattle.mq_replay.specs.Report.{Report, reported}
 use Rattle.mq_replay.specs.Steps.{begun_with}

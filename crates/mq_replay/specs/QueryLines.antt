@@ -7,9 +7,9 @@ use Rattle.mq_link.specs.Link.{LinkValue}
 use Rattle.mq_link.specs.Receive.{Envelope}
 use Rattle.mq_link.specs.Run.{Ticks, Receives}
 use Rattle.mq_link.specs.Sent.{Outgoing}
-use Rattle.mq_replay.specs.declared.printing.LineFault.{LineFault}
+use Rattle.mq_text.specs.declared.printing.LineFault.{LineFault}
+use Rattle.mq_text.specs.Printing.{Puts}
 use Rattle.mq_replay.specs.declared.query_outlet.QueryLines.{QueryLines}
-use Rattle.mq_replay.specs.Printing.{Puts}
 use Rattle.mq_replay.specs.ReplayLines.{query_line, query_lines}
 
 -- what a query makes of the outlet: its line is put at its moment, unless a write failed before

@@ -18,7 +18,7 @@ use Rattle.mq_link.specs.declared.answers.Received.{Received}
 use Rattle.mq_link.specs.declared.answers.Received.TheVariants.{Taken, Dropped}
 use Rattle.mq_link.specs.Counters.{Counters, reason_number}
 use Rattle.mq_link.specs.Sent.{Outgoing}
-use Rattle.mq_replay.specs.Text.{address_text, line_of}
+use Rattle.mq_lines.specs.Text.{address_text, line_of}
 
 -- a query as it is sent at a moment: where it goes, and its bytes in lower-case hexadecimal
 abbrev pub query_start : Family → (moment to : ℕ) → List ℕ

@@ -8,11 +8,11 @@ use Rattle.mq_pcap.specs.Capture.{Captured, Captures}
 use Rattle.mq_pcap.specs.Filling.{InputState, Takes}
 use Rattle.mq_link.specs.Configuration.{Configuration}
 use Rattle.mq_link.specs.Counters.{Counters}
+use Rattle.mq_text.specs.Printing.{GrowsByBeginning}
 use Rattle.mq_replay.specs.declared.asked.Asked.{Asked}
 use Rattle.mq_replay.specs.declared.replay_fault.ReplayFault.{ReplayFault}
 use Rattle.mq_replay.specs.declared.replay_fault.ReplayFault.TheVariants as answer
 use Rattle.mq_replay.specs.Listing.{IsOfTheFile}
-use Rattle.mq_replay.specs.Printing.{GrowsByBeginning}
 use Rattle.mq_replay.specs.Report.{report_of, so_far}
 
 -- What was read of a capture: its bytes, taken as a whole file.

@@ -2,7 +2,7 @@
 use Rattle.std.specs.Prelude.{◌≡◌, ℕ, Bool, List, [], Option, Result, IfOk}
 use Rattle.mq_link.specs.Link.{LinkValue}
 use Rattle.mq_link.specs.State.{LinkState}
-use Rattle.mq_replay.specs.Printing.{Puts}
+use Rattle.mq_text.specs.Printing.{Puts}
 use Rattle.mq_replay.specs.Report.{Replayed}
 
 -- a replay of a link in this state, of which nothing is written

@@ -4,7 +4,7 @@ ghost use Rattle.std.specs.Prelude.{◌≡◌, refl};
 ghost use Rattle.mq_pcap.specs.Frame.{carried_of};
 ghost use Rattle.mq_replay.specs.Datagrams.{IsDatagramOf};
 
-use crate::line_key::LineKey;
+use mq_lines::LineKey;
 use mq_link::{Family, Igmp, IgmpEnvelope, Mld, MldEnvelope};
 use mq_pcap::Inner;
 

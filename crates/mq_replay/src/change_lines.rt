@@ -7,18 +7,16 @@ ghost use Rattle.mq_sets.specs.Ascending.{IsAscending};
 ghost use Rattle.mq_table.specs.Group.{vacant};
 ghost use Rattle.mq_table.specs.Stored.{number_in, timers_in};
 ghost use Rattle.mq_held.specs.Groups.{group_at};
+ghost use Rattle.mq_text.specs.Printing.{Puts};
 ghost use Rattle.mq_replay.specs.ChangeLines.{change_line, change_lines, lines_asked};
 ghost use Rattle.mq_replay.specs.NamedSources.{named_by};
-ghost use Rattle.mq_replay.specs.Printing.{Puts};
 
-use crate::buffer::{Buffer, make_room};
 use crate::change_pieces::{put_change_start, put_named, put_none};
-use crate::line_key::LineKey;
-use crate::lines::put_end;
-use crate::printing::LineFault;
 use mq_count::{Moment, Watched};
+use mq_lines::{LineKey, put_end};
 use mq_link::{Family, Link};
 use mq_table::{FilterMode, Source};
+use mq_text::{LineFault, Text, make_room};
 use std::alloc::Allocator;
 use std::io::Write;
 
@@ -27,7 +25,7 @@ pub(crate) fn put_changes<F: Family, A: Allocator, W: Write>(
     link: &Link<F, A>,
     moment: Moment,
     asked: bool,
-    buffer: &mut Buffer,
+    buffer: &mut Text,
     writer: &mut Watched<W>,
 ) -> Result<(), LineFault>
 where
@@ -48,7 +46,7 @@ where
 fn put_each<F: Family, A: Allocator, W: Write>(
     link: &Link<F, A>,
     moment: Moment,
-    buffer: &mut Buffer,
+    buffer: &mut Text,
     writer: &mut Watched<W>,
 ) -> Result<(), LineFault>
 where
@@ -70,7 +68,7 @@ fn put_group<F: Family, A: Allocator, W: Write>(
     link: &Link<F, A>,
     moment: Moment,
     address: F::Address,
-    buffer: &mut Buffer,
+    buffer: &mut Text,
     writer: &mut Watched<W>,
 ) -> Result<(), LineFault>
 where
@@ -91,7 +89,7 @@ where
 fn put_unheld<K: LineKey, W: Write>(
     moment: Moment,
     address: K,
-    buffer: &mut Buffer,
+    buffer: &mut Text,
     writer: &mut Watched<W>,
 ) -> Result<(), LineFault>
     ensures text { Puts
@@ -111,7 +109,7 @@ fn put_change<K: LineKey, W: Write>(
     address: K,
     mode: &FilterMode,
     sources: &[Source<K>],
-    buffer: &mut Buffer,
+    buffer: &mut Text,
     writer: &mut Watched<W>,
 ) -> Result<(), LineFault>
     requires ascending { IsAscending (number_in K.number) sources.now }
@@ -131,7 +129,7 @@ fn put_change<K: LineKey, W: Write>(
 fn put_all_named<K: LineKey, W: Write>(
     mode: &FilterMode,
     sources: &[Source<K>],
-    buffer: &mut Buffer,
+    buffer: &mut Text,
     writer: &mut Watched<W>,
 ) -> Result<(), LineFault>
     ensures text { Puts

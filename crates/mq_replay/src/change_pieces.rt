@@ -8,16 +8,15 @@ ghost use Rattle.mq_table.specs.Group.{is_include};
 ghost use Rattle.mq_replay.specs.ChangeLines.{change_start};
 ghost use Rattle.mq_replay.specs.NamedSources.{is_named, name_by, named_by};
 
-use crate::buffer::{Buffer, put};
-use crate::line_key::LineKey;
-use crate::pieces::put_address;
 use crate::replay_pieces::put_moment;
 use mq_count::Moment;
+use mq_lines::{LineKey, put_address};
 use mq_table::{FilterMode, Source};
+use mq_text::{Text, put};
 
 /// Puts the beginning of the line at the end, up to the sources that the filter names.
 pub(crate) fn put_change_start<K: LineKey>(
-    buffer: &mut Buffer,
+    buffer: &mut Text,
     moment: Moment,
     address: K,
     mode: &FilterMode,
@@ -34,7 +33,7 @@ pub(crate) fn put_change_start<K: LineKey>(
 }
 
 /// Puts the line of a group of which nothing is forwarded at the end.
-pub(crate) fn put_none<K: LineKey>(buffer: &mut Buffer, moment: Moment, address: K)
+pub(crate) fn put_none<K: LineKey>(buffer: &mut Text, moment: Moment, address: K)
     requires { array_vec_len buffer.old + 80 ≤ 4096 }
     ensures { buffer.new.items ≡ buffer.old.items ++ ((change_start K.family moment (K.number address) ++ codes " none") ++ codes "\n") }
 {
@@ -46,7 +45,7 @@ pub(crate) fn put_none<K: LineKey>(buffer: &mut Buffer, moment: Moment, address:
 }
 
 /// Puts which of the three kinds of filter it is at the end.
-fn put_name(buffer: &mut Buffer, is_include: bool, some: bool)
+fn put_name(buffer: &mut Text, is_include: bool, some: bool)
     requires { array_vec_len buffer.old + 8 ≤ 4096 }
     ensures { buffer.new.items ≡ buffer.old.items ++ name_by is_include some }
 {
@@ -67,7 +66,7 @@ fn names_one<K: LineKey>(mode: &FilterMode, sources: &[Source<K>]) -> bool
 }
 
 /// Puts a source at the end, if the filter of a group of this mode names it.
-pub(crate) fn put_named<K: LineKey>(buffer: &mut Buffer, mode: &FilterMode, source: &Source<K>)
+pub(crate) fn put_named<K: LineKey>(buffer: &mut Text, mode: &FilterMode, source: &Source<K>)
     requires { array_vec_len buffer.old + 42 ≤ 4096 }
     ensures { buffer.new.items ≡ buffer.old.items ++ named_by K.family mode.now (K.number source.now.address) source.now.timer }
 {

@@ -2,20 +2,19 @@
 
 ghost use Rattle.std.specs.Prelude.{◌≡◌, ◌≤◌, ◌^◌, ◌||◌, Ok, IfOk, is_err, max, unwrap_or};
 ghost use Rattle.mq_count.specs.Streams.{inner_of, has_failed};
-ghost use Rattle.mq_replay.specs.Printing.{Puts};
+ghost use Rattle.mq_text.specs.Printing.{Puts};
 ghost use Rattle.mq_replay.specs.ReplayLines.{group_lines};
 ghost use Rattle.mq_replay.specs.Report as spec;
 ghost use Rattle.mq_replay.specs.Steps.{begun_with};
 
-use crate::buffer::Buffer;
 use crate::captured_family::CapturedFamily;
 use crate::group_line::put_group;
-use crate::line_key::LineKey;
-use crate::printing::LineFault;
 use crate::replay_lines::{put_counts, put_role};
 use crate::ticks::tick_before;
 use mq_count::{Meter, Moment, Span, Watched};
+use mq_lines::LineKey;
 use mq_link::Link;
+use mq_text::{LineFault, Text};
 use std::alloc::Allocator;
 use std::io::Write;
 
@@ -46,7 +45,7 @@ pub(crate) fn put_ending<F: CapturedFamily, A: Allocator, W: Write>(
     link: &mut Link<F, A>,
     end: Moment,
     changes: bool,
-    buffer: &mut Buffer,
+    buffer: &mut Text,
     writer: &mut Watched<W>,
 ) -> Result<(), LineFault>
 where
@@ -69,7 +68,7 @@ where
 /// Puts the lines of the groups that a link holds.
 fn put_groups<F: CapturedFamily, A: Allocator, W: Write>(
     link: &Link<F, A>,
-    buffer: &mut Buffer,
+    buffer: &mut Text,
     writer: &mut Watched<W>,
 ) -> Result<(), LineFault>
 where

@@ -5,14 +5,13 @@ ghost use Rattle.mq_count.specs.Streams.{inner_of, has_failed};
 ghost use Rattle.mq_replay.specs.Report.{ticked_at};
 ghost use Rattle.mq_replay.specs.Steps.{PutsReplayed, begun_with};
 
-use crate::buffer::Buffer;
 use crate::captured_family::CapturedFamily;
 use crate::change_lines::put_changes;
-use crate::line_key::LineKey;
-use crate::printing::LineFault;
 use crate::sent_queries::tick;
 use mq_count::{Moment, Watched};
+use mq_lines::LineKey;
 use mq_link::Link;
+use mq_text::{LineFault, Text};
 use std::alloc::Allocator;
 use std::io::Write;
 
@@ -22,7 +21,7 @@ pub(crate) fn tick_at<F: CapturedFamily, A: Allocator, W: Write>(
     link: &mut Link<F, A>,
     moment: Moment,
     changes: bool,
-    buffer: &mut Buffer,
+    buffer: &mut Text,
     writer: &mut Watched<W>,
 ) -> Result<(), LineFault>
 where

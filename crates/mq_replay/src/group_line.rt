@@ -5,22 +5,21 @@ ghost use Rattle.std.specs.List.{flat_map};
 ghost use Rattle.mq_count.specs.Streams.{inner_of, has_failed};
 ghost use Rattle.mq_sets.specs.Ascending.{IsAscending};
 ghost use Rattle.mq_table.specs.Stored.{number_in, timers_in};
-ghost use Rattle.mq_replay.specs.Printing.{Puts};
+ghost use Rattle.mq_text.specs.Printing.{Puts};
 ghost use Rattle.mq_replay.specs.ReplayLines.{group_line, timer_text};
 
-use crate::buffer::{Buffer, make_room};
-use crate::line_key::LineKey;
-use crate::printing::LineFault;
 use crate::replay_pieces::{put_group_start, put_older_hosts, put_timer};
 use mq_count::Watched;
 use mq_held::HeldGroup;
+use mq_lines::LineKey;
 use mq_table::Source;
+use mq_text::{LineFault, Text, make_room};
 use std::io::Write;
 
 /// Puts the line of a group: its filter mode, its sources, and the timers of older hosts.
 pub(crate) fn put_group<K: LineKey, W: Write>(
     group: HeldGroup<'_, K>,
-    buffer: &mut Buffer,
+    buffer: &mut Text,
     writer: &mut Watched<W>,
 ) -> Result<(), LineFault>
     requires ascending { IsAscending (number_in K.number) group.sources.now }
@@ -41,7 +40,7 @@ pub(crate) fn put_group<K: LineKey, W: Write>(
 /// Puts each source with its timer after a space.
 fn put_timers<K: LineKey, W: Write>(
     sources: &[Source<K>],
-    buffer: &mut Buffer,
+    buffer: &mut Text,
     writer: &mut Watched<W>,
 ) -> Result<(), LineFault>
     ensures text { Puts

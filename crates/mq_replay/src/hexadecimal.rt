@@ -4,12 +4,11 @@ ghost use Rattle.std.specs.Prelude.{◌≡◌, ◌≤◌, ◌+◌, ◌*◌, ◌+
 ghost use Rattle.arrayvec.specs.ArrayVec.{array_vec_len};
 ghost use Rattle.hex.specs.Hex.{encode_lower};
 ghost use Rattle.mq_count.specs.Streams.{inner_of, has_failed};
-ghost use Rattle.mq_replay.specs.Printing.{Puts};
+ghost use Rattle.mq_text.specs.Printing.{Puts};
 
-use crate::buffer::{Buffer, make_room, put};
-use crate::printing::LineFault;
 use hex::encode_to_slice;
 use mq_count::Watched;
+use mq_text::{LineFault, Text, make_room, put};
 use std::io::Write;
 
 /// How many bytes are put at once.
@@ -18,7 +17,7 @@ const AT_ONCE: usize = 64;
 /// Puts bytes in lower-case hexadecimal.
 pub(crate) fn put_hexadecimal<W: Write>(
     bytes: &[u8],
-    buffer: &mut Buffer,
+    buffer: &mut Text,
     writer: &mut Watched<W>,
 ) -> Result<(), LineFault>
     ensures text { Puts
@@ -37,7 +36,7 @@ pub(crate) fn put_hexadecimal<W: Write>(
 }
 
 /// Puts some bytes at the end, each in two digits.
-fn put_few(buffer: &mut Buffer, bytes: &[u8])
+fn put_few(buffer: &mut Text, bytes: &[u8])
     requires few { length bytes.now ≤ 64 }
     requires room { array_vec_len buffer.old + 2 * length bytes.now ≤ 4096 }
     ensures { buffer.new.items ≡ buffer.old.items ++ encode_lower bytes.now }

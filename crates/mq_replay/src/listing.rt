@@ -8,20 +8,17 @@ ghost use Rattle.mq_pcap.specs.Filling.{input_of};
 ghost use Rattle.mq_pcap.specs.Frame.{carried_in, carried_of};
 ghost use Rattle.mq_pcap.specs.Reading.{form_of, number_of, progress_of};
 ghost use Rattle.mq_pcap.specs.declared.reader_state.Progress.TheVariants.{Reading};
+ghost use Rattle.mq_lines.specs.Text.{address_text};
 ghost use Rattle.mq_replay.specs.Listing as spec;
 ghost use Rattle.mq_replay.specs.Listing.{Shows, place_text};
 ghost use Rattle.mq_replay.specs.Putting.{PutsListing, PutsPacket, PutsPackets, PutsSaid};
-ghost use Rattle.mq_replay.specs.Text.{address_text};
 
-use crate::buffer::{Buffer, flush, make_room, put, put_decimal};
-use crate::line_key::LineKey;
-use crate::lines::{put_igmp, put_mld};
-use crate::pieces::put_address;
-use crate::printing::LineFault;
 use crate::replay_fault::{ReplayFault, is_failed_write};
 use crate::stamps::Stamps;
 use mq_count::Watched;
+use mq_lines::{LineKey, put_address, put_igmp, put_mld};
 use mq_pcap::{GREATEST_PACKET, Inner, LinkType, PcapReader, unwrap_frame};
+use mq_text::{LineFault, Text, flush, make_room, put, put_decimal};
 use std::alloc::Allocator;
 use std::io::{Read, Write};
 
@@ -61,7 +58,7 @@ fn show_by<R: Read, W: Write>(
     ensures failed { has_failed writer.new ≡ has_failed writer.old || spec.is_failed_write result }
     ensures no_memory { result ≡ Err ReplayFault.Memory → ⊥ }
 {
-    let mut buffer = Buffer::new();
+    let mut buffer = Text::new();
     let answer = put_listing(packet, &mut buffer, reader, writer);
     if is_failed_write(&answer) {
         return answer;
@@ -73,7 +70,7 @@ fn show_by<R: Read, W: Write>(
 /// Puts the lines of a capture.
 fn put_listing<R: Read, W: Write>(
     packet: &mut [u8],
-    buffer: &mut Buffer,
+    buffer: &mut Text,
     reader: &mut Watched<R>,
     writer: &mut Watched<W>,
 ) -> Result<u64, ReplayFault>
@@ -93,7 +90,7 @@ fn put_listing<R: Read, W: Write>(
 fn put_packets<R: Read, W: Write>(
     capture: &mut PcapReader,
     packet: &mut [u8],
-    buffer: &mut Buffer,
+    buffer: &mut Text,
     reader: &mut Watched<R>,
     writer: &mut Watched<W>,
 ) -> Result<u64, ReplayFault>
@@ -124,7 +121,7 @@ fn put_packet<W: Write>(
     moment: u64,
     link: LinkType,
     frame: &[u8],
-    buffer: &mut Buffer,
+    buffer: &mut Text,
     writer: &mut Watched<W>,
 ) -> Result<(), LineFault>
     ensures line { PutsPacket
@@ -138,7 +135,7 @@ fn put_packet<W: Write>(
 }
 
 /// Puts the number and the moment of a packet.
-fn put_place(buffer: &mut Buffer, number: u64, moment: u64)
+fn put_place(buffer: &mut Text, number: u64, moment: u64)
     requires { array_vec_len buffer.old + 50 ≤ 4096 }
     ensures text { buffer.new.items ≡ buffer.old.items ++ place_text number moment }
     ensures room { array_vec_len buffer.new ≤ array_vec_len buffer.old + 50 }
@@ -152,7 +149,7 @@ fn put_place(buffer: &mut Buffer, number: u64, moment: u64)
 /// Puts what is said of a packet, to the end of its line.
 fn put_said<W: Write>(
     inner: Inner<'_>,
-    buffer: &mut Buffer,
+    buffer: &mut Text,
     writer: &mut Watched<W>,
 ) -> Result<(), LineFault>
     requires { array_vec_len buffer.old + 100 ≤ 4096 }
@@ -193,7 +190,7 @@ fn put_said<W: Write>(
 }
 
 /// Puts the source of a packet with a message, and the message's protocol.
-fn put_sender<K: LineKey>(buffer: &mut Buffer, source: K, protocol: &[u8])
+fn put_sender<K: LineKey>(buffer: &mut Text, source: K, protocol: &[u8])
     requires { array_vec_len buffer.old + 40 + length protocol.now ≤ 4096 }
     ensures { buffer.new.items ≡ buffer.old.items ++ (address_text K.family (K.number source) ++ protocol.now) }
 {

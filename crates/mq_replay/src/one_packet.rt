@@ -6,17 +6,16 @@ ghost use Rattle.mq_pcap.specs.Frame.{carried_of};
 ghost use Rattle.mq_replay.specs.Report.{received_at, with_packet};
 ghost use Rattle.mq_replay.specs.Steps.{PutsReplayed, begun_with};
 
-use crate::buffer::Buffer;
 use crate::captured_family::{CapturedDatagram, CapturedFamily};
 use crate::change_lines::put_changes;
-use crate::line_key::LineKey;
-use crate::printing::LineFault;
 use crate::replay_lines::{put_receipt, put_skip};
 use crate::sent_queries::receive;
 use crate::ticks::tick_before;
 use mq_count::{Moment, Watched};
+use mq_lines::LineKey;
 use mq_link::Link;
 use mq_pcap::Inner;
+use mq_text::{LineFault, Text};
 use std::alloc::Allocator;
 use std::io::Write;
 
@@ -27,7 +26,7 @@ pub(crate) fn replay_packet<F: CapturedFamily, A: Allocator, W: Write>(
     number: u64,
     changes: bool,
     inner: &Inner<'_>,
-    buffer: &mut Buffer,
+    buffer: &mut Text,
     writer: &mut Watched<W>,
 ) -> Result<(), LineFault>
 where
@@ -55,7 +54,7 @@ fn hand_over<F: CapturedFamily, A: Allocator, W: Write>(
     number: u64,
     changes: bool,
     datagram: CapturedDatagram<'_, F::Envelope>,
-    buffer: &mut Buffer,
+    buffer: &mut Text,
     writer: &mut Watched<W>,
 ) -> Result<(), LineFault>
 where

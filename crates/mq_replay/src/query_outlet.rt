@@ -2,19 +2,18 @@
 
 ghost use Rattle.std.specs.Prelude.{◌≡◌};
 
-use crate::buffer::Buffer;
-use crate::line_key::LineKey;
-use crate::printing::LineFault;
 use crate::replay_lines::put_query;
 use mq_count::{Moment, Watched};
+use mq_lines::LineKey;
 use mq_link::Outlet;
+use mq_text::{LineFault, Text};
 use std::io::Write;
 
 /// Puts the line of each query at one moment. It answers true where the line was put. Once a write has failed it puts
 /// nothing more.
 #[derive(Drop)]
 pub(crate) struct QueryLines<'a, W> {
-    buffer: &'a mut Buffer,
+    buffer: &'a mut Text,
     writer: &'a mut Watched<W>,
     moment: Moment,
     answer: Result<(), LineFault>,
@@ -23,7 +22,7 @@ pub(crate) struct QueryLines<'a, W> {
 impl<'a, W: Write> QueryLines<'a, W> {
     /// For queries at this moment.
     pub(crate) fn new(
-        buffer: &'a mut Buffer,
+        buffer: &'a mut Text,
         writer: &'a mut Watched<W>,
         moment: Moment,
     ) -> QueryLines<'a, W>

@@ -4,8 +4,8 @@ ghost use Rattle.std.specs.Prelude.{◌≡◌};
 ghost use Rattle.mq_replay.specs.Listing as spec;
 ghost use Rattle.mq_replay.specs.declared.replay_fault.ReplayFault.TheVariants.{Pcap, Write};
 
-use crate::printing::LineFault;
 use mq_pcap::PcapFault;
+use mq_text::LineFault;
 use thiserror::Error;
 
 /// Why a capture was not shown or replayed to its end.

@@ -3,20 +3,18 @@
 ghost use Rattle.std.specs.Prelude.{◌≡◌, ◌||◌, is_err};
 ghost use Rattle.mq_count.specs.Streams.{inner_of, has_failed};
 ghost use Rattle.mq_pcap.specs.Frame.{carried_of};
-ghost use Rattle.mq_replay.specs.Printing.{Puts};
+ghost use Rattle.mq_text.specs.Printing.{Puts};
 ghost use Rattle.mq_replay.specs.ReplayLines.{counts_line, end_line, query_line, receipt_line, skip_line};
 
-use crate::buffer::{Buffer, make_room};
 use crate::hexadecimal::put_hexadecimal;
-use crate::line_key::LineKey;
-use crate::lines::put_end;
-use crate::printing::LineFault;
 use crate::replay_pieces::{
     put_counts_line, put_query_start, put_receipt_line, put_role_line, put_skip_line,
 };
 use mq_count::{Moment, Watched};
+use mq_lines::{LineKey, put_end};
 use mq_link::{Counts, Received};
 use mq_pcap::Inner;
+use mq_text::{LineFault, Text, make_room};
 use std::io::Write;
 
 /// Puts the line of a query that is sent at a moment: where it goes, and its bytes.
@@ -24,7 +22,7 @@ pub(crate) fn put_query<K: LineKey, W: Write>(
     moment: Moment,
     to: K,
     bytes: &[u8],
-    buffer: &mut Buffer,
+    buffer: &mut Text,
     writer: &mut Watched<W>,
 ) -> Result<(), LineFault>
     ensures text { Puts
@@ -45,7 +43,7 @@ pub(crate) fn put_receipt<K: LineKey, W: Write>(
     number: u64,
     source: K,
     answer: Received,
-    buffer: &mut Buffer,
+    buffer: &mut Text,
     writer: &mut Watched<W>,
 ) -> Result<(), LineFault>
     ensures text { Puts
@@ -63,7 +61,7 @@ pub(crate) fn put_skip<W: Write>(
     moment: Moment,
     number: u64,
     inner: &Inner<'_>,
-    buffer: &mut Buffer,
+    buffer: &mut Text,
     writer: &mut Watched<W>,
 ) -> Result<(), LineFault>
     ensures text { Puts
@@ -80,7 +78,7 @@ pub(crate) fn put_skip<W: Write>(
 pub(crate) fn put_role<W: Write>(
     moment: Moment,
     is_querier: bool,
-    buffer: &mut Buffer,
+    buffer: &mut Text,
     writer: &mut Watched<W>,
 ) -> Result<(), LineFault>
     ensures text { Puts
@@ -96,7 +94,7 @@ pub(crate) fn put_role<W: Write>(
 /// Puts the line of what was counted.
 pub(crate) fn put_counts<W: Write>(
     counts: &Counts,
-    buffer: &mut Buffer,
+    buffer: &mut Text,
     writer: &mut Watched<W>,
 ) -> Result<(), LineFault>
     ensures text { Puts

@@ -4,19 +4,18 @@ ghost use Rattle.std.specs.Prelude.{◌≡◌, ◌≤◌, ◌+◌, ◌++◌, len
 ghost use Rattle.std.specs.Fmt.{decimal};
 ghost use Rattle.arrayvec.specs.ArrayVec.{array_vec_len};
 ghost use Rattle.mq_pcap.specs.Frame.{carried_of};
+ghost use Rattle.mq_lines.specs.Text.{line_of};
 ghost use Rattle.mq_replay.specs.ReplayLines as spec;
-ghost use Rattle.mq_replay.specs.Text.{line_of};
 
-use crate::buffer::{Buffer, put, put_decimal};
-use crate::line_key::LineKey;
-use crate::pieces::put_address;
 use mq_count::Moment;
+use mq_lines::{LineKey, put_address};
 use mq_link::{Counts, DropReason, Received};
 use mq_pcap::Inner;
 use mq_table::{FilterMode, Source, SourceTimer};
+use mq_text::{Text, put, put_decimal};
 
 /// Puts a moment at the end.
-pub(crate) fn put_moment(buffer: &mut Buffer, moment: Moment)
+pub(crate) fn put_moment(buffer: &mut Text, moment: Moment)
     requires { array_vec_len buffer.old + 20 ≤ 4096 }
     ensures text { buffer.new.items ≡ buffer.old.items ++ decimal moment }
     ensures room { array_vec_len buffer.new ≤ array_vec_len buffer.old + 20 }
@@ -27,7 +26,7 @@ pub(crate) fn put_moment(buffer: &mut Buffer, moment: Moment)
 }
 
 /// Puts the beginning of a query's line at the end, up to its bytes.
-pub(crate) fn put_query_start<K: LineKey>(buffer: &mut Buffer, moment: Moment, to: K)
+pub(crate) fn put_query_start<K: LineKey>(buffer: &mut Text, moment: Moment, to: K)
     requires { array_vec_len buffer.old + 67 ≤ 4096 }
     ensures { buffer.new.items ≡ buffer.old.items ++ spec.query_start K.family moment (K.number to) }
 {
@@ -38,7 +37,7 @@ pub(crate) fn put_query_start<K: LineKey>(buffer: &mut Buffer, moment: Moment, t
 }
 
 /// Puts the moment of a packet, what is done with it, and its number at the end.
-fn put_packet(buffer: &mut Buffer, moment: Moment, what: &[u8], number: u64)
+fn put_packet(buffer: &mut Text, moment: Moment, what: &[u8], number: u64)
     requires { array_vec_len buffer.old + 40 + length what.now ≤ 4096 }
     ensures text { buffer.new.items ≡ buffer.old.items ++ spec.packet_text moment what.now number }
     ensures room { array_vec_len buffer.new ≤ array_vec_len buffer.old + 40 + length what.now }
@@ -50,7 +49,7 @@ fn put_packet(buffer: &mut Buffer, moment: Moment, what: &[u8], number: u64)
 
 /// Puts the line of a datagram that the link was handed at the end.
 pub(crate) fn put_receipt_line<K: LineKey>(
-    buffer: &mut Buffer,
+    buffer: &mut Text,
     moment: Moment,
     number: u64,
     source: K,
@@ -68,7 +67,7 @@ pub(crate) fn put_receipt_line<K: LineKey>(
 }
 
 /// Puts what became of a datagram at the end.
-fn put_answer(buffer: &mut Buffer, answer: Received)
+fn put_answer(buffer: &mut Text, answer: Received)
     requires { array_vec_len buffer.old + 70 ≤ 4096 }
     ensures text { buffer.new.items ≡ buffer.old.items ++ spec.received_text answer }
     ensures room { array_vec_len buffer.new ≤ array_vec_len buffer.old + 70 }
@@ -94,7 +93,7 @@ fn put_answer(buffer: &mut Buffer, answer: Received)
 }
 
 /// Puts the line of a packet that is skipped at the end.
-pub(crate) fn put_skip_line(buffer: &mut Buffer, moment: Moment, number: u64, inner: &Inner<'_>)
+pub(crate) fn put_skip_line(buffer: &mut Text, moment: Moment, number: u64, inner: &Inner<'_>)
     requires { array_vec_len buffer.old + 100 ≤ 4096 }
     ensures { buffer.new.items ≡ buffer.old.items ++ spec.skip_line moment number (carried_of inner.now) }
 {
@@ -105,7 +104,7 @@ pub(crate) fn put_skip_line(buffer: &mut Buffer, moment: Moment, number: u64, in
 }
 
 /// Puts why a packet is skipped at the end.
-fn put_skipped(buffer: &mut Buffer, inner: &Inner<'_>)
+fn put_skipped(buffer: &mut Text, inner: &Inner<'_>)
     requires { array_vec_len buffer.old + 8 ≤ 4096 }
     ensures text { buffer.new.items ≡ buffer.old.items ++ spec.skipped_text (carried_of inner.now) }
     ensures room { array_vec_len buffer.new ≤ array_vec_len buffer.old + 8 }
@@ -118,7 +117,7 @@ fn put_skipped(buffer: &mut Buffer, inner: &Inner<'_>)
 }
 
 /// Puts the line of the moment at which a replay ends, and of the role then, at the end.
-pub(crate) fn put_role_line(buffer: &mut Buffer, moment: Moment, is_querier: bool)
+pub(crate) fn put_role_line(buffer: &mut Text, moment: Moment, is_querier: bool)
     requires { array_vec_len buffer.old + 40 ≤ 4096 }
     ensures { buffer.new.items ≡ buffer.old.items ++ spec.end_line moment is_querier }
 {
@@ -135,7 +134,7 @@ pub(crate) fn put_role_line(buffer: &mut Buffer, moment: Moment, is_querier: boo
 }
 
 /// Puts the beginning of a group's line at the end, up to its sources.
-pub(crate) fn put_group_start<K: LineKey>(buffer: &mut Buffer, address: K, mode: FilterMode)
+pub(crate) fn put_group_start<K: LineKey>(buffer: &mut Text, address: K, mode: FilterMode)
     requires { array_vec_len buffer.old + 80 ≤ 4096 }
     ensures { buffer.new.items ≡ buffer.old.items ++ spec.group_start K.family (K.number address) mode }
 {
@@ -146,7 +145,7 @@ pub(crate) fn put_group_start<K: LineKey>(buffer: &mut Buffer, address: K, mode:
 }
 
 /// Puts the filter mode of a group at the end.
-fn put_mode(buffer: &mut Buffer, mode: FilterMode)
+fn put_mode(buffer: &mut Text, mode: FilterMode)
     requires { array_vec_len buffer.old + 28 ≤ 4096 }
     ensures { buffer.new.items ≡ buffer.old.items ++ spec.mode_text mode }
 {
@@ -160,7 +159,7 @@ fn put_mode(buffer: &mut Buffer, mode: FilterMode)
 }
 
 /// Puts a source of a group at the end, with its timer.
-pub(crate) fn put_timer<K: LineKey>(buffer: &mut Buffer, source: &Source<K>)
+pub(crate) fn put_timer<K: LineKey>(buffer: &mut Text, source: &Source<K>)
     requires { array_vec_len buffer.old + 62 ≤ 4096 }
     ensures { buffer.new.items ≡ buffer.old.items ++ spec.timer_text K.family (K.number source.now.address) source.now.timer }
 {
@@ -179,7 +178,7 @@ pub(crate) fn put_timer<K: LineKey>(buffer: &mut Buffer, source: &Source<K>)
 }
 
 /// Puts the timers of older hosts that run at the end, and the end of the line.
-pub(crate) fn put_older_hosts(buffer: &mut Buffer, v1: Option<Moment>, v2: Option<Moment>)
+pub(crate) fn put_older_hosts(buffer: &mut Text, v1: Option<Moment>, v2: Option<Moment>)
     requires { array_vec_len buffer.old + 49 ≤ 4096 }
     ensures { buffer.new.items ≡ buffer.old.items ++ line_of (spec.older_hosts_text v1 v2) }
 {
@@ -189,7 +188,7 @@ pub(crate) fn put_older_hosts(buffer: &mut Buffer, v1: Option<Moment>, v2: Optio
 }
 
 /// Puts a timer at the end behind its name, where it runs.
-fn put_deadline(buffer: &mut Buffer, name: &[u8], deadline: Option<Moment>)
+fn put_deadline(buffer: &mut Text, name: &[u8], deadline: Option<Moment>)
     requires { array_vec_len buffer.old + 20 + length name.now ≤ 4096 }
     ensures text { buffer.new.items ≡ buffer.old.items ++ spec.deadline_text name.now deadline }
     ensures room { array_vec_len buffer.new ≤ array_vec_len buffer.old + 20 + length name.now }
@@ -201,7 +200,7 @@ fn put_deadline(buffer: &mut Buffer, name: &[u8], deadline: Option<Moment>)
 }
 
 /// Puts the line of the counters at the end.
-pub(crate) fn put_counts_line(buffer: &mut Buffer, counts: &Counts)
+pub(crate) fn put_counts_line(buffer: &mut Text, counts: &Counts)
     requires { array_vec_len buffer.old + 256 ≤ 4096 }
     ensures { buffer.new.items ≡ buffer.old.items ++ spec.counts_line counts.now }
 {
@@ -213,7 +212,7 @@ pub(crate) fn put_counts_line(buffer: &mut Buffer, counts: &Counts)
 }
 
 /// Puts at the end how many datagrams were received and dropped.
-fn put_datagram_counts(buffer: &mut Buffer, counts: &Counts)
+fn put_datagram_counts(buffer: &mut Text, counts: &Counts)
     requires { array_vec_len buffer.old + 60 ≤ 4096 }
     ensures text { buffer.new.items ≡ buffer.old.items ++ spec.datagram_counts_text counts.now }
     ensures room { array_vec_len buffer.new ≤ array_vec_len buffer.old + 60 }
@@ -223,7 +222,7 @@ fn put_datagram_counts(buffer: &mut Buffer, counts: &Counts)
 }
 
 /// Puts at the end how many records were applied, ignored and refused.
-fn put_record_counts(buffer: &mut Buffer, counts: &Counts)
+fn put_record_counts(buffer: &mut Text, counts: &Counts)
     requires { array_vec_len buffer.old + 90 ≤ 4096 }
     ensures text { buffer.new.items ≡ buffer.old.items ++ spec.record_counts_text counts.now }
     ensures room { array_vec_len buffer.new ≤ array_vec_len buffer.old + 90 }
@@ -234,7 +233,7 @@ fn put_record_counts(buffer: &mut Buffer, counts: &Counts)
 }
 
 /// Puts at the end how many queries were sent, and how many were not.
-fn put_query_counts(buffer: &mut Buffer, counts: &Counts)
+fn put_query_counts(buffer: &mut Text, counts: &Counts)
     requires { array_vec_len buffer.old + 60 ≤ 4096 }
     ensures text { buffer.new.items ≡ buffer.old.items ++ spec.query_counts_text counts.now }
     ensures room { array_vec_len buffer.new ≤ array_vec_len buffer.old + 60 }
@@ -244,7 +243,7 @@ fn put_query_counts(buffer: &mut Buffer, counts: &Counts)
 }
 
 /// Puts a number at the end behind its name.
-fn put_count(buffer: &mut Buffer, name: &[u8], count: u64)
+fn put_count(buffer: &mut Text, name: &[u8], count: u64)
     requires { array_vec_len buffer.old + 20 + length name.now ≤ 4096 }
     ensures text { buffer.new.items ≡ buffer.old.items ++ (name.now ++ decimal count) }
     ensures room { array_vec_len buffer.new ≤ array_vec_len buffer.old + 20 + length name.now }

@@ -12,16 +12,16 @@ ghost use Rattle.mq_replay.specs.PuttingReports.{IsRestPut, PutsRecords, PutsRep
 ghost use Rattle.mq_replay.specs.Replaying.{Replays};
 
 use crate::asked::Asked;
-use crate::buffer::{Buffer, flush};
 use crate::captured_family::CapturedFamily;
 use crate::ending::{is_gap, last_moment, put_ending};
-use crate::line_key::LineKey;
 use crate::one_packet::replay_packet;
 use crate::replay_fault::{ReplayFault, is_failed_write};
 use crate::stamps::{Stamps, first_moment};
 use mq_count::{Moment, Watched};
+use mq_lines::LineKey;
 use mq_link::{Config, Counts, Link};
 use mq_pcap::{GREATEST_PACKET, PcapReader, unwrap_frame};
+use mq_text::{Text, flush};
 use std::alloc::Allocator;
 use std::io::{Read, Write};
 
@@ -78,7 +78,7 @@ where
     ensures failed { has_failed writer.new ≡ has_failed writer.old || spec.is_failed_write result }
     ensures no_memory { result ≡ Err ReplayFault.Memory → ⊥ }
 {
-    let mut buffer = Buffer::new();
+    let mut buffer = Text::new();
     let answer = put_replay(link, asked, packet, &mut buffer, reader, writer);
     if is_failed_write(&answer) {
         return answer;
@@ -92,7 +92,7 @@ fn put_replay<F: CapturedFamily, A: Allocator, R: Read, W: Write>(
     link: &mut Link<F, A>,
     asked: Asked,
     packet: &mut [u8],
-    buffer: &mut Buffer,
+    buffer: &mut Text,
     reader: &mut Watched<R>,
     writer: &mut Watched<W>,
 ) -> Result<(), ReplayFault>
@@ -118,7 +118,7 @@ fn put_packets<F: CapturedFamily, A: Allocator, R: Read, W: Write>(
     asked: Asked,
     capture: &mut PcapReader,
     packet: &mut [u8],
-    buffer: &mut Buffer,
+    buffer: &mut Text,
     reader: &mut Watched<R>,
     writer: &mut Watched<W>,
 ) -> Result<(), ReplayFault>
@@ -161,7 +161,7 @@ fn put_rest<F: CapturedFamily, A: Allocator, W: Write>(
     asked: Asked,
     last: Moment,
     number: u64,
-    buffer: &mut Buffer,
+    buffer: &mut Text,
     writer: &mut Watched<W>,
 ) -> Result<(), ReplayFault>
 where

@@ -5,12 +5,11 @@ ghost use Rattle.mq_count.specs.Streams.{inner_of, has_failed};
 ghost use Rattle.mq_link.specs.Forwarding.{AreThose, changed_by_datagram, changed_by_tick};
 ghost use Rattle.mq_replay.specs.QueryLines.{ReceivesPrinting, TicksPrinting};
 
-use crate::buffer::Buffer;
-use crate::line_key::LineKey;
-use crate::printing::LineFault;
 use crate::query_outlet::QueryLines;
 use mq_count::{Moment, Watched};
+use mq_lines::LineKey;
 use mq_link::{Family, Link, Received};
+use mq_text::{LineFault, Text};
 use std::alloc::Allocator;
 use std::io::Write;
 
@@ -18,7 +17,7 @@ use std::io::Write;
 pub(crate) fn tick<F: Family, A: Allocator, W: Write>(
     link: &mut Link<F, A>,
     now: Moment,
-    buffer: &mut Buffer,
+    buffer: &mut Text,
     writer: &mut Watched<W>,
 ) -> Result<(), LineFault>
 where
@@ -43,7 +42,7 @@ pub(crate) fn receive<F: Family, A: Allocator, W: Write>(
     envelope: &F::Envelope,
     body: &[u8],
     now: Moment,
-    buffer: &mut Buffer,
+    buffer: &mut Text,
     writer: &mut Watched<W>,
 ) -> Result<Received, LineFault>
 where

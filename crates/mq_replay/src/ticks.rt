@@ -5,13 +5,12 @@ ghost use Rattle.mq_count.specs.Streams.{inner_of, has_failed};
 ghost use Rattle.mq_replay.specs.Report.{ticked_before};
 ghost use Rattle.mq_replay.specs.Steps.{PutsReplayed, begun_with};
 
-use crate::buffer::Buffer;
 use crate::captured_family::CapturedFamily;
 use crate::events::tick_at;
-use crate::line_key::LineKey;
-use crate::printing::LineFault;
 use mq_count::{Meter, Moment, Watched};
+use mq_lines::LineKey;
 use mq_link::Link;
+use mq_text::{LineFault, Text};
 use std::alloc::Allocator;
 use std::io::Write;
 
@@ -21,7 +20,7 @@ pub(crate) fn tick_before<F: CapturedFamily, A: Allocator, W: Write>(
     link: &mut Link<F, A>,
     limit: Moment,
     changes: bool,
-    buffer: &mut Buffer,
+    buffer: &mut Text,
     writer: &mut Watched<W>,
 ) -> Result<(), LineFault>
 where

@@ -27,10 +27,10 @@ use Rattle.mq_link.specs.Tick.{next_of, tick_of}
 use Rattle.mq_link.proofs.Known.{Entries, ordered, entries-known, with_values, ordered-with_values}
 use Rattle.mq_link_examples.proofs.KnownLinks.{KnownStep, tick_in, tick-known}
 use Rattle.mq_link_examples.proofs.KnownReceipts.{receipt_known, receipt-known}
+use Rattle.mq_lines.specs.Text.{line_of}
 use Rattle.mq_replay.specs.declared.replay_fault.ReplayFault.{ReplayFault}
 use Rattle.mq_replay.specs.declared.replay_fault.ReplayFault.TheVariants.{Pcap, Gap}
 use Rattle.mq_replay.specs.Listing.{moment_of}
-use Rattle.mq_replay.specs.Text.{line_of}
 use Rattle.mq_replay.specs.ReplayLines.{query_lines, receipt_line, skip_line, end_line, counts_line, timer_text, group_start, older_hosts_text, group_line, group_lines, end_lines}
 use Rattle.mq_replay.specs.Report.{Replayed, all_sent, after_step, changed_at, those_among, with_changes, ticked_at, ticked_within, Datagram, datagram_of, received_at, taken_or_skipped, with_packet, is_gap, Course, with_packets, Report, ended_at, broken_off, reported, report_of}
 use Rattle.mq_replay_examples.specs.Examples.{up_to}

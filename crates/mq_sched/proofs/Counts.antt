@@ -1,10 +1,8 @@
 -- How many items of a list pass a test.
-use Rattle.std.proofs.Common.{ℕ, ◌+◌, ◌<◌, ◌≤◌, ◌≡◌, Bool, true, false, cond, arith, refl, List, [], ◌∷◌, length, get_or, map, ap, sym, ◌∙◌, ⊎_elim}
-use Rattle.std.specs.Prelude.{if◌then◌else◌}
-use Rattle.std.specs.List.{All, count_by, list_any}
-use Rattle.std.proofs.lemmas.Bool.{cases_Bool, true≢false}
+use Rattle.std.proofs.Common.{ℕ, ◌+◌, ◌<◌, ◌≤◌, ◌≡◌, Bool, true, false, cond, arith, refl, List, [], ◌∷◌, length, get_or, map, ap}
+use Rattle.std.specs.List.{All, count_by}
 use Rattle.std.proofs.lemmas.List.Elements.{All-head, All-tail}
-use Rattle.std.proofs.lemmas.List.Folds.{fold-map, list_any_at, Any-from_list_any}
+use Rattle.std.proofs.lemmas.List.Folds.{fold-map}
 use Rattle.std.proofs.lemmas.List.Sums.{sum_by-le, sum_by-cons, get_or-le-sum_by}
 
 module _ (p : ℕ → Bool) where
@@ -27,21 +25,3 @@ count-agree p q (x ∷ xs) same =
     let first = ap {B = ℕ} (λ b. cond b 1 0) (All-head (λ y. p y ≡ q y) x xs same) in
     let rest = count-agree p q xs (All-tail (λ y. p y ≡ q y) x xs same) in
     omega (arith, first, rest, sum_by-cons (λ y. cond (p y) 1 0) x xs, sum_by-cons (λ y. cond (q y) 1 0) x xs)
-
--- where one or none passes, it is told whether one does
-pub any-counted : (p : ℕ → Bool) (xs : List ℕ) (b : Bool) → count_by p xs ≡ (if b then 1 else 0) → list_any p xs ≡ b
-any-counted p xs true is =
-    ⊎_elim
-    (λ (some : list_any p xs ≡ true). some)
-    (λ (none : list_any p xs ≡ false).
-    let all : All (λ x. p x ≡ false) xs = λ k d here. ⊎_elim (λ (yes : p (get_or xs k d) ≡ true). absurd (true≢false (sym (list_any_at p xs k d here yes) ∙ none))) (λ (no : p (get_or xs k d) ≡ false). no) (cases_Bool (p (get_or xs k d))) in
-    let zero = count-none p xs all in
-    absurd (omega arith))
-    (cases_Bool (list_any p xs))
-any-counted p xs false is =
-    ⊎_elim
-    (λ (some : list_any p xs ≡ true).
-    let one = Any-from_list_any p xs some in
-    absurd (omega (arith, count-some p xs one.0 one.1 one.2 (ap p one.3 ∙ one.4))))
-    (λ (none : list_any p xs ≡ false). none)
-    (cases_Bool (list_any p xs))

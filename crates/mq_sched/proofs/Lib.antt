@@ -1,14 +1,10 @@
-pub mod AtLeaves
 pub mod Below
 pub mod Counts
 pub mod DeadlineTree
 pub mod DueLeaves
-pub mod DuePlaces
 pub mod LeafMoves
-pub mod LeafPlaces
 pub mod Leaves
 pub mod NumbersAtLeaves
-pub mod PlaceMoves
 pub mod InPortions
 pub mod Rounds
 pub mod Asked

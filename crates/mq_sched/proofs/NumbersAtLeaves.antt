@@ -14,7 +14,7 @@ use Rattle.std.proofs.lemmas.Option.{same_Some}
 use Rattle.mq_sets.specs.Slots.{times}
 use Rattle.mq_table.specs.Maps.{entries_by}
 use Rattle.mq_table.proofs.Maps.{find-entries_by}
-use Rattle.mq_sched.specs.NumberedMoments.{moment_at, moments_at, AreNumbered, IsEarliestMoment, has_come, is_number_due}
+use Rattle.mq_sched.specs.Deadlines.{moment_at, moments_at, AreNumbered, IsEarliestMoment, has_come, is_number_due}
 use Rattle.mq_sched.specs.DeadlineTree.{IsEarliestLeaf, is_leaf_due, leaf_before, leaf_after}
 use Rattle.mq_sched.proofs.Counts.{count-some, count-none, count-map, count-agree}
 use Rattle.mq_sched.proofs.LeafMoves.{after_given_up, before_given_up}

@@ -1,9 +1,6 @@
 pub mod DeadlineTree
-pub mod Deadlines
 pub mod Schedule
-pub mod LeafPlaces
-pub mod NumberedMoments
-pub mod PlaceMoves
+pub mod Deadlines
 pub mod Portions
 pub mod Sending
 pub mod Sizes

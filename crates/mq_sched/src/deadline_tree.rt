@@ -1,6 +1,6 @@
 //! A tree of deadlines, with the earliest of them at its top.
 
-ghost use Rattle.std.specs.Prelude.{◌≡◌, ℕ, ◌+◌, ◌-◌, ◌*◌, ◌/◌, ◌<◌, ◌≤◌, ◌==◌, [], min, length, take, drop, slice_index, slice_index_or, if◌then◌else◌, IfOk, MatchOption, is_ok};
+ghost use Rattle.std.specs.Prelude.{◌≡◌, ℕ, ◌+◌, ◌-◌, ◌*◌, ◌<◌, ◌≤◌, ◌==◌, [], min, length, take, drop, slice_index, if◌then◌else◌, IfOk, MatchOption, is_ok};
 ghost use Rattle.std.specs.List.{count_by};
 ghost use Rattle.mq_arena.specs.Vectors.{IsSize, Takes};
 ghost use Rattle.mq_count.specs.Spending.{Spends};
@@ -9,7 +9,6 @@ ghost use Rattle.mq_sched.specs.DeadlineTree.{TreeState, IsTreeBut, IsEarliestLe
 ghost use Rattle.mq_sched.specs.Sizes.{bytes_of_tree};
 
 use crate::due_leaves::collect;
-use crate::leaf_names::LeafName;
 use crate::node_pairs::nodes_below;
 use crate::settling::settle;
 use mq_arena::{VectorSource, both_sizes, vector_size};
@@ -159,13 +158,13 @@ impl<A: Allocator> DeadlineTree<A> {
         later
     }
 
-    /// Writes the leaves whose deadlines are at or before `now` at the front of `leaves`, and answers how many they
-    /// are. One comparison where there is a deadline; and for each that is due, at most one more for each binary
+    /// Writes the leaves whose deadlines are at or before `now` at the front of `leaves`, each as the number of leaves
+    /// before it, and returns how many they are. One comparison where there is a deadline; and for each that is due, at most one more for each binary
     /// digit of how many others there are, but none more than there are deadlines.
-    pub(crate) fn due<N: LeafName>(&self, now: Moment, leaves: &mut [N], m: &mut Meter) -> usize
+    pub(crate) fn due(&self, now: Moment, leaves: &mut [u16], m: &mut Meter) -> usize
         requires space { self.now.count ≤ length leaves.old }
         ensures within { result ≤ self.now.count }
-        ensures due { (leaf : ℕ) → count_by (λ other. N.leaf_of self.now.count other == leaf) (take result leaves.new)
+        ensures due { (leaf : ℕ) → count_by (λ other. self.now.count + other == leaf) (take result leaves.new)
             ≡ (if is_leaf_due self.now.nodes self.now.count now leaf then 1 else 0) }
         ensures behind { drop result leaves.new ≡ drop result leaves.old }
         ensures spent { let count = self.now.count in

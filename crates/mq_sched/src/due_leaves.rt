@@ -6,18 +6,17 @@ ghost use Rattle.mq_count.specs.Spending.{Spends};
 ghost use Rattle.mq_sets.specs.Search.{bitlen};
 ghost use Rattle.mq_sched.specs.DeadlineTree.{IsTreeBut, sum_below, one_if_due};
 
-use crate::leaf_names::LeafName;
 use crate::node_pairs::nodes_below;
 use mq_count::{Meter, Moment};
 
 /// Writes the leaves at or below a node whose deadlines are at or before `now`, as the node's own is, to `leaves`
-/// from `from` on, and answers where they end. One comparison for each node above the leaves that is due itself.
-pub(crate) fn collect<N: LeafName>(
+/// from `from` on, each as the number of leaves before it, and returns where they end. One comparison for each node above the leaves that is due itself.
+pub(crate) fn collect(
     nodes: &[Moment],
     lefts: &[bool],
     node: usize,
     now: Moment,
-    leaves: &mut [N],
+    leaves: &mut [u16],
     from: usize,
     m: &mut Meter,
 ) -> usize
@@ -30,15 +29,15 @@ pub(crate) fn collect<N: LeafName>(
     requires space { from + sum_below (λ _. 1) (length lefts.now) node ≤ length leaves.old }
     ensures some { from < result }
     ensures within { result ≤ from + sum_below (λ _. 1) (length lefts.now) node }
-    ensures due { (leaf : ℕ) → count_by (λ other. N.leaf_of (length lefts.now) other == leaf) (take result leaves.new)
-        ≡ count_by (λ other. N.leaf_of (length lefts.now) other == leaf) (take from leaves.old) + sum_below (one_if_due nodes.now now leaf) (length lefts.now) node }
+    ensures due { (leaf : ℕ) → count_by (λ other. length lefts.now + other == leaf) (take result leaves.new)
+        ≡ count_by (λ other. length lefts.now + other == leaf) (take from leaves.old) + sum_below (one_if_due nodes.now now leaf) (length lefts.now) node }
     ensures behind { drop result leaves.new ≡ drop result leaves.old }
     ensures spent { let all = sum_below (λ _. 1) (length lefts.now) node in
         let height = bitlen (length lefts.now - 1) + 1 - bitlen node in
         Spends (min (result - from) (all - 1)) (min (all - 1) ((result - from) * height)) m.old m.new }
 {
     if node >= lefts.len() {
-        leaves[from] = N::of_leaf(node, lefts.len());
+        leaves[from] = (node - lefts.len()) as u16;
         return from + 1;
     }
     let (first, second) = nodes_below(lefts, node);

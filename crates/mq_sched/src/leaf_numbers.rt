@@ -1,11 +1,34 @@
-//! How numbers get other leaves, and the numbers of leaves.
+//! The numbers of leaves, and the leaves of numbers.
 
-ghost use Rattle.std.specs.Prelude.{◌≡◌, ℕ, ◌+◌, ◌*◌, ◌<◌, ◌≤◌, length, map, slice_index};
+ghost use Rattle.std.specs.Prelude.{◌≡◌, ℕ, ◌+◌, ◌*◌, ◌^◌, ◌<◌, ◌≤◌, length, map, slice_index, slice_index_or, slice_set};
 ghost use Rattle.std.specs.List.{All};
-ghost use Rattle.mq_sched.specs.NumberedMoments.{AreNumbered};
+ghost use Rattle.mq_sched.specs.Deadlines.{AreNumbered};
 ghost use Rattle.mq_sched.specs.DeadlineTree.{leaf_after};
 
-use crate::leaf_moves::hand_over;
+/// The number of a leaf, or another where there is no such leaf.
+pub(crate) fn number_or(numbers: &[u16], leaf: usize, other: u16) -> u16
+    ensures { result ≡ slice_index_or numbers.now leaf other }
+{
+    if leaf < numbers.len() {
+        numbers[leaf]
+    } else {
+        other
+    }
+}
+
+/// The number of a leaf gets another leaf.
+fn hand_over(leaves: &mut [u32], numbers: &mut [u16], leaf: usize, other: usize)
+    requires leaf { leaf < length numbers.old }
+    requires other { other < length numbers.old }
+    requires number { slice_index numbers.old leaf < length leaves.old }
+    requires fits { other < 2 ^ 32 }
+    ensures leaves { leaves.new ≡ slice_set leaves.old (slice_index numbers.old leaf) other }
+    ensures numbers { numbers.new ≡ slice_set numbers.old other (slice_index numbers.old leaf) }
+{
+    let number = numbers[leaf];
+    numbers[other] = number;
+    leaves[number as usize] = other as u32;
+}
 
 /// A leaf is given up, and with it the last two of `last + 1` leaves: the number of `later`, which is one of them, has the leaf
 /// given up, and the number of the other one the node above them.

@@ -1,5 +1,4 @@
-//! Which groups are due: `Deadlines`, an index of the held groups' earliest deadlines, by their places;
-//! `NumberedMoments` is one by their numbers.
+//! Which groups are due: `Deadlines`, an index of the held groups' earliest deadlines, by their numbers.
 //!
 //! When a router asks: the specific queries that are still to go for one group (RFC 3376 section
 //! 6.6.3, RFC 3810 section 7.6.3), general queries, and the election of the querier (RFC 3376 section
@@ -11,13 +10,8 @@ mod deadline_tree;
 pub mod deadlines;
 mod due_leaves;
 pub mod election;
-mod leaf_moves;
-mod leaf_names;
 mod leaf_numbers;
-mod leaf_places;
 mod node_pairs;
-pub mod numbered_moments;
-mod place_moves;
 mod portions;
 pub mod queries;
 pub mod roles;
@@ -29,7 +23,6 @@ pub mod sinks;
 pub use announced::Announced;
 pub use deadlines::Deadlines;
 pub use election::Election;
-pub use numbered_moments::NumberedMoments;
 pub use queries::QuerySchedule;
 pub use roles::OtherQuerier;
 pub use schedules::Schedule;

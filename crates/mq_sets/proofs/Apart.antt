@@ -1,7 +1,7 @@
 -- Rows that have no cell in common: what edits of their extents leave.
-use Rattle.std.proofs.Common.{◌≡◌, ℕ, zero, suc, ◌<◌, ◌≤◌, List, [], ◌∷◌, ◌++◌, length, take, drop, set, get_or, sym, ap, subst, arith, inl, inr}
-use Rattle.std.specs.List.{All, insert, remove}
-use Rattle.std.proofs.lemmas.List.Elements.{All-head, All-tail, All-cons, All-nil, All-weaker, All-append, All-set, All-take, All-drop}
+use Rattle.std.proofs.Common.{◌≡◌, ℕ, zero, suc, ◌<◌, ◌≤◌, List, [], ◌∷◌, length, set, get_or, sym, ap, subst, arith, inl, inr}
+use Rattle.std.specs.List.{All}
+use Rattle.std.proofs.lemmas.List.Elements.{All-head, All-tail, All-weaker, All-set}
 use Rattle.mq_sets.specs.Pools.{IsWithin, IsApart, AreApart}
 use Rattle.mq_sets.specs.declared.extents.Extent.{Extent}
 
@@ -13,24 +13,6 @@ apart-turned a b (inr behind) = inl behind
 pub apart-none : (none e : Extent) → none.start ≡ 0 → none.length ≡ 0 → IsApart none e
 apart-none none e start size = inl (omega (arith, start, size))
 
--- a row more in front of a place
-pub apart-insert : (extents : List Extent) (place : ℕ) (y : Extent) → All (IsApart y) extents → AreApart extents → AreApart (insert extents place y)
-apart-insert extents zero y alone apart = (alone, apart)
-apart-insert [] (suc place) y alone apart = (All-nil (IsApart y), apart)
-apart-insert (e ∷ extents) (suc place) y alone apart =
-    let first = apart-turned y e (All-head (IsApart y) e extents alone) in (
-      All-append (IsApart e) (take place extents) (y ∷ drop place extents) (All-take (IsApart e) place extents apart.0) (All-cons (IsApart e) y (drop place extents) first (All-drop (IsApart e) place extents apart.0)),
-      apart-insert extents place y (All-tail (IsApart y) e extents alone) apart.1,
-    )
-
--- a row less
-pub apart-remove : (extents : List Extent) (place : ℕ) → AreApart extents → AreApart (remove extents place)
-apart-remove [] zero apart = apart
-apart-remove [] (suc place) apart = apart
-apart-remove (e ∷ extents) zero apart = apart.1
-apart-remove (e ∷ extents) (suc place) apart =
-    (All-append (IsApart e) (take place extents) (drop (suc place) extents) (All-take (IsApart e) place extents apart.0) (All-drop (IsApart e) (suc place) extents apart.0), apart-remove extents place apart.1)
-
 -- another row at a place, which has no cell in common with any
 pub apart-set : (extents : List Extent) (place : ℕ) (y : Extent) → All (IsApart y) extents → AreApart extents → AreApart (set extents place y)
 apart-set [] place y alone apart = apart
@@ -38,14 +20,6 @@ apart-set (e ∷ extents) zero y alone apart = (All-tail (IsApart y) e extents a
 apart-set (e ∷ extents) (suc place) y alone apart = (
   All-set (IsApart e) extents place y (apart-turned y e (All-head (IsApart y) e extents alone)) apart.0,
   apart-set extents place y (All-tail (IsApart y) e extents alone) apart.1,
-)
-
--- a row at the end
-pub apart-append : (extents : List Extent) (y : Extent) → All (IsApart y) extents → AreApart extents → AreApart (extents ++ y ∷ [])
-apart-append [] y alone apart = (All-nil (IsApart y), apart)
-apart-append (e ∷ extents) y alone apart = (
-  All-append (IsApart e) extents (y ∷ []) apart.0 (All-cons (IsApart e) y [] (apart-turned y e (All-head (IsApart y) e extents alone)) (All-nil (IsApart e))),
-  apart-append extents y (All-tail (IsApart y) e extents alone) apart.1,
 )
 
 -- a row behind all cells has none in common with those within them

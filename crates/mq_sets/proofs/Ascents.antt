@@ -45,10 +45,6 @@ module _ {X : Type 0} (number : X → ℕ) where
   item_with-above xs n above =
       item_with-none xs n (All-weaker (λ x. n < number x) (λ x. (number x == n) ≡ false) (λ x h. above-eqb (number x) n h) xs above)
 
-  pub item_with-below : (xs : List X) (n : ℕ) → All (λ x. number x < n) xs → item_with number xs n ≡ None
-  item_with-below xs n below =
-      item_with-none xs n (All-weaker (λ x. number x < n) (λ x. (number x == n) ≡ false) (λ x h. below-eqb (number x) n h) xs below)
-
 -- a map that keeps the numbers keeps the order
 pub IsAscending-map : {X Y : Type 0} (number : Y → ℕ) (f : X → Y) (xs : List X) → IsAscending (λ x. number (f x)) xs → IsAscending number (map f xs)
 IsAscending-map number f [] up = λ i j d before in_list. absurd (omega arith)

@@ -6,9 +6,8 @@ use Rattle.std.proofs.Math.Seq.{map-set_same}
 use Rattle.std.proofs.lemmas.List.{same_lists, get_or_default, get_or_past, get_or-map, get_or-set_same, get_or-set_other, length-set, length-map}
 use Rattle.std.proofs.lemmas.List.Elements.{All-head, All-tail, All-set}
 use Rattle.std.proofs.lemmas.List.Sums.{sum_by-cons, sum_by-le, sum_by-set, sum_by_push, sum_by_more_le}
-use Rattle.mq_sets.specs.Pools.{cells_of, rows_of, IsWithin, IsApart, AreApart, cells_said}
+use Rattle.mq_sets.specs.Pools.{cells_of, rows_of, IsWithin, IsApart, AreApart, cells_said, NamesRows, IsPlaced}
 use Rattle.mq_sets.specs.Slots.{times}
-use Rattle.mq_sets.specs.NumberedRows.{NamesRows, IsPlaced}
 use Rattle.mq_sets.specs.declared.extents.Extent.{Extent}
 use Rattle.mq_sets.proofs.Apart.{apart-none, apart-turned}
 use Rattle.mq_sets.proofs.Cells.{is_cell, is_cell-same, is_cell-other}

@@ -8,8 +8,7 @@ use Rattle.std.proofs.lemmas.List.{get_or-replicate, length-replicate, get_or-se
 use Rattle.std.proofs.lemmas.List.Elements.{All-head, All-tail, All-set}
 use Rattle.std.proofs.lemmas.List.Folds.{sum_by-replicate}
 use Rattle.std.proofs.lemmas.List.Sums.{sum_by-set}
-use Rattle.mq_sets.specs.Pools.{cells_of, rows_of, cells_in, cells_said, IsWithin, AreApart, IsStored}
-use Rattle.mq_sets.specs.NumberedRows.{NumberedRowsState, NamesRows, IsPlaced, MovesArePaid, size_at}
+use Rattle.mq_sets.specs.Pools.{cells_of, rows_of, cells_in, cells_said, IsWithin, AreApart, IsStored, PoolState, NamesRows, IsPlaced, MovesArePaid, size_at}
 use Rattle.mq_sets.specs.declared.extents.Extent.{Extent}
 use Rattle.mq_sets.proofs.Apart.{apart-none, apart-set}
 use Rattle.mq_sets.proofs.PackedRows.{none, AreApart-from_pairs}
@@ -21,7 +20,7 @@ IsPlaced-none rows k d in_list empty =
     ap (λ (e : Extent). e.start) (get_or-replicate rows k none d (omega (arith, in_list, length-replicate rows none)))
 
 module _ {T : Type 0} (rows : ℕ) where
-  pub IsStored-none : (limit : ℕ) → IsStored {T = T} (replicate rows none) [] 0 (length (replicate rows none)) limit
+  pub IsStored-none : (limit : ℕ) → IsStored {T = T} (replicate rows none) [] 0 limit
   IsStored-none limit = record {
     within =
         λ k d in_list. rw (get_or-replicate rows k none d (omega (arith, in_list, length-replicate rows none))) (omega arith);
@@ -30,7 +29,6 @@ module _ {T : Type 0} (rows : ℕ) where
         (λ a b d below in_list. rw (get_or-replicate rows a none d (omega (arith, below, in_list, length-replicate rows none))) (apart-none none (get_or (replicate rows none) b d) refl refl));
     used_is = omega (arith, sum_by-replicate (λ (e : Extent). e.length) rows none);
     cells_fit = omega arith;
-    rows_fit = omega arith;
   }
 
   pub rows_of-none : rows_of {T = T} [] (replicate rows none) ≡ replicate rows []
@@ -85,19 +83,18 @@ module _ {T : Type 0} (cells : List T) (extents : List Extent) (place : ℕ) (d 
             (cases_eq n place);
       }
 
-  pub IsStored-emptied : {used limit : ℕ} → IsStored extents cells used (length extents) limit → IsStored (set extents place empty) cells (used - d.length) (length (set extents place empty)) limit
+  pub IsStored-emptied : {used limit : ℕ} → IsStored extents cells used limit → IsStored (set extents place empty) cells (used - d.length) limit
   IsStored-emptied known = record {
     within = emptied-within known.within;
     apart = emptied-apart known.apart;
     used_is = omega (arith, known.used_is, emptied-said);
     cells_fit = omega (arith, known.cells_fit);
-    rows_fit = omega arith;
   }
 
 -- the rows with other parts
-pub with_parts : {T : Type 0} (before : NumberedRowsState T) (old rows new : List (List T)) (limit was_ahead ahead left : ℕ) → record { rows = old; cell_limit = limit; ahead = was_ahead } ≡ before → rows ≡ new → ahead ≡ left → record { rows = rows; cell_limit = limit; ahead = ahead } ≡ record before { rows = new; ahead = left }
+pub with_parts : {T : Type 0} (before : PoolState T) (old rows new : List (List T)) (limit was_ahead ahead left : ℕ) → record { rows = old; cell_limit = limit; ahead = was_ahead } ≡ before → rows ≡ new → ahead ≡ left → record { rows = rows; cell_limit = limit; ahead = ahead } ≡ record before { rows = new; ahead = left }
 with_parts before old rows new limit was_ahead ahead left was same same_ahead =
-    rw (same, same_ahead, ap (λ (s : NumberedRowsState _). s.cell_limit) was) refl
+    rw (same, same_ahead, ap (λ (s : PoolState _). s.cell_limit) was) refl
 
 -- what is left behind the last cell, and what was moved, once a longer row is written behind it
 module _ (old_size row_size size cells_size ahead others : ℕ) (longer : old_size < row_size) (fits : cells_size ≤ size) (ahead_is : ahead ≡ size - cells_size) where

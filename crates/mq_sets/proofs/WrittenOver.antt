@@ -1,5 +1,5 @@
 -- What is written over the front of a row that has no cell in common with another.
-use Rattle.std.proofs.Common.{◌≡◌, ℕ, zero, suc, ◌+◌, ◌-◌, ◌<◌, ◌≤◌, List, [], ◌∷◌, ◌++◌, length, take, drop, set, get_or, refl, sym, ap, ◌∙◌, subst, arith, inl, inr, append_assoc, length-append, length-take, length-drop}
+use Rattle.std.proofs.Common.{◌≡◌, ℕ, zero, suc, ◌+◌, ◌-◌, ◌<◌, ◌≤◌, List, [], ◌∷◌, ◌++◌, length, take, drop, set, get_or, refl, sym, ap, ◌∙◌, subst, arith, inl, inr, append_assoc, length-append, length-take}
 use Rattle.std.specs.List.{All, splice}
 use Rattle.std.proofs.Math.Seq.{drop-append-add}
 use Rattle.std.proofs.lemmas.List.{drop-drop, take-append-drop}
@@ -64,11 +64,3 @@ module _ {T : Type 0} (cells row : List T) (e y : Extent) (start : y.start ≡ e
   rows-written (x ∷ extents) (suc place) in_list here apart =
       let first = apart-turned x e (subst (IsApart x) (sym here) (apart.0 place e (omega (arith, in_list)))) in
       rw (written-apart x first, rows-written extents place (omega (arith, in_list)) here apart.1) refl
-
-  pub length-written : length written ≡ length cells
-  length-written =
-      let n = front_length in
-      let rest = length-drop (e.start + length row) cells in
-      let back = length-append row (drop (e.start + length row) cells) in
-      let all = length-append front (row ++ drop (e.start + length row) cells) in
-      omega (arith, n, rest, back, all, inside, fits)

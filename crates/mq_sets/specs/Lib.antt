@@ -1,7 +1,6 @@
 pub mod Ascending
 pub mod Merging
 pub mod NumberedKeys
-pub mod NumberedRows
 pub mod Pools
 pub mod Rules
 pub mod Search

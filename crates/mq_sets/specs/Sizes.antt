@@ -1,7 +1,7 @@
 -- The bytes that storage takes as it is made, by the sizes of what it keeps.
 use Rattle.std.specs.Prelude.{ℕ, ◌+◌, ◌*◌, ◌/◌}
 use Rattle.mq_arena.specs.Vectors.{bytes_for}
-use Rattle.mq_sets.specs.NumberedRows.{cells_reserved}
+use Rattle.mq_sets.specs.Pools.{cells_reserved}
 
 -- pages of numbers, each of which is a vector of a size
 unfoldable pub bytes_of_pages : (page_size limit : ℕ) → ℕ

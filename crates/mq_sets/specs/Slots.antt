@@ -1,11 +1,6 @@
--- A list whose items stay in their cells, and how it stands in cells and an order of cells.
+-- Items that keep their cells, and the order of the cells.
 use Rattle.std.specs.Prelude.{ℕ, ◌+◌, ◌≡◌, ◌<◌, ◌≤◌, ◌==◌, List, length, take, drop}
 use Rattle.std.specs.List.{All, count_by, flat_map}
-
--- what a contract sees of such a list: its items, and how many there may be
-pub record SlotListState (T : Type 0) : Type 0 where
-  pub items : List T
-  pub room : ℕ
 
 -- the item in a cell, as a list of one; of none where there is no such cell
 abbrev pub item_in : {T : Type 0} → List T → ℕ → List T

@@ -17,10 +17,8 @@
 //!
 //! - A set: `SourceSet`, with its `InsertFault`. One that is made by `with_room` takes all its memory then,
 //!   or answers `Memory`.
-//! - A list of lists in memory that is reserved once: `Pool`; one whose lists have numbers, `NumberedRows`. A list whose items
-//!   stay where they are: `SlotList`.
+//! - Rows of cells by number, in memory that is reserved once: `Pool`.
 //! - An ordered set of keys, each with a number for its life: `NumberedKeys`, with its `Spot`.
-//! - An item that is put into a long list: `insert_at_once`.
 //! - Ascending slices of whatever carries a key: `Keyed`, `find`, and `merge` with `Merge::next`,
 //!   which hands out `Merged`.
 //! - Laws for the crates above, functions that do nothing: `numbers_find_items`,
@@ -30,30 +28,26 @@
 
 mod extents;
 mod firsts;
-pub mod inserting;
+mod inserting;
 pub mod items;
 pub mod memory;
 pub mod merge_state;
 pub mod merging;
 pub mod numbered_keys;
-pub mod numbered_rows;
 mod packing;
 mod pages;
 pub mod pools;
 pub mod searching;
-pub mod slots;
+mod slots;
 pub mod source_sets;
 pub mod spots;
 
-pub use inserting::insert_at_once;
 pub use items::{Keyed, numbers_find_items};
 pub use memory::Memory;
 pub use merge_state::{Merge, Merged};
 pub use merging::{merge, rules_act_at_each_key};
 pub use numbered_keys::NumberedKeys;
-pub use numbered_rows::{NumberedRows, moves_are_paid};
-pub use pools::Pool;
+pub use pools::{Pool, moves_are_paid};
 pub use searching::{binary_digits_bound_a_number, find};
-pub use slots::SlotList;
 pub use source_sets::{InsertFault, SourceSet, sets_are_known_by_their_members};
 pub use spots::Spot;

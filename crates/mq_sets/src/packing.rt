@@ -3,8 +3,7 @@
 ghost use Rattle.std.specs.Prelude.{◌≡◌, ◌+◌, ◌^◌, ◌<◌, ◌≤◌, [], length, map, nat_le, if◌then◌else◌, vec_capacity};
 ghost use Rattle.std.specs.List.{All};
 ghost use Rattle.mq_count.specs.Spending.{Spends};
-ghost use Rattle.mq_sets.specs.Pools.{rows_of, cells_said, IsWithin, AreApart};
-ghost use Rattle.mq_sets.specs.NumberedRows.{NamesRows, IsPlaced};
+ghost use Rattle.mq_sets.specs.Pools.{rows_of, cells_said, IsWithin, AreApart, NamesRows, IsPlaced};
 
 use crate::extents::{Extent, extent_at};
 use mq_count::Moves;

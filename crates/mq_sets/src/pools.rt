@@ -1,163 +1,208 @@
-//! A list of lists whose cells stand in memory that is reserved once.
+//! Rows of cells by number, in memory that is reserved once.
 
-ghost use Rattle.std.specs.Prelude.{◌≡◌, ◌+◌, ◌*◌, ◌^◌, ◌<◌, ◌≤◌, [], length, slice_index_or, slice_set, vec_capacity, IfOk};
-ghost use Rattle.std.specs.List.{insert, remove};
-ghost use Rattle.mq_sets.specs.Pools.{PoolState, cells_in};
+ghost use Rattle.std.specs.Prelude.{◌≡◌, ◌+◌, ◌^◌, ◌<◌, ◌≤◌, [], length, map, replicate, slice_index_or, slice_set, IfOk, is_ok};
+ghost use Rattle.mq_arena.specs.Vectors.{IsSize, item_bytes, Takes};
+ghost use Rattle.mq_count.specs.Spending.{Spends};
+ghost use Rattle.mq_sets.specs.Pools.{cells_in, PoolState, NamesRows, MovesArePaid, cells_reserved, moved_for, size_at, with_row};
+ghost use Rattle.mq_sets.specs.Sizes.{bytes_of_rows};
 
-use crate::extents::{Extent, make_space, write_over};
-use crate::inserting::insert_at_once;
+use crate::extents::{Extent, extent_at, write_over};
 use crate::memory::Memory;
-use std::alloc::Global;
+use crate::packing::make_space_for;
+use mq_arena::{VectorSource, both_sizes, filled, times_size, vector_size};
+use mq_count::Moves;
+use std::alloc::{Allocator, Global};
 use std::marker::Model;
 
-/// Rows of cells. A contract sees the list of the rows, each the list of its cells, with two
-/// limits: how many rows there may be, and how many cells they may have together. `new` reserves
-/// the memory for both, and no other call takes any.
+/// Rows of cells, one for each number below a limit.
 ///
-/// A row's cells stand behind one another in one vector. `replace` writes the new row over the old one
-/// where it is no longer; else behind the last cell, and the old one is forgotten; where the vector's end
-/// is reached, the rows are copied, one after another, into a second vector of the same size, and the two
-/// change places. Each is so long that this copies no more than one cell and one row for each cell that was
-/// appended since the time before.
+/// A row without cells is not in use. A contract sees the rows by their numbers, how many cells they may have together, and
+/// how many cells fit after the last one before the rows are packed. `new` reserves all memory, and no other call allocates.
+/// No edit changes another row or its number.
+///
+/// All cells stand in one vector. `replace` writes a row over the old one if it is no longer than that. Otherwise it writes the
+/// row after the last cell and forgets the old one. At the end of the vector it packs the rows in use: it copies them, one after
+/// another, into a second vector of the same size, and the two change places. Each vector has room for all cells that the rows
+/// may have, a quarter more, and one cell for each row. So packing copies and looks at no more than four times the cells that
+/// were written after the last one since it packed before.
 #[derive(Drop)]
-pub struct Pool<T: Copy> {
-    extents: Vec<Extent>,
-    cells: Vec<T>,
-    spare: Vec<T>,
+pub struct Pool<T: Copy, A: Allocator = Global> {
+    extents: Vec<Extent, A>,
+    cells: Vec<T, A>,
+    spare: Vec<T, A>,
     used: usize,
-    row_limit: usize,
     cell_limit: usize,
 }
 
-impl<T: Copy> Model for Pool<T> {
-    ghost use Rattle.std.specs.Prelude.{◌≡◌, ◌+◌, ◌*◌, ◌^◌, ◌<◌, ◌≤◌, [], length, vec_capacity};
-    ghost use Rattle.mq_sets.specs.Pools.{PoolState, rows_of, IsStored};
+impl<T: Copy, A: Allocator> Model for Pool<T, A> {
+    ghost use Rattle.std.specs.Prelude.{◌≡◌, ◌-◌, ◌^◌, ◌<◌, ◌≤◌, [], length, vec_capacity};
+    ghost use Rattle.std.specs.List.{All};
+    ghost use Rattle.mq_sets.specs.Pools.{rows_of, IsStored, PoolState, IsPlaced, cells_reserved};
 
     ghost Value = { PoolState T };
 
-    ghost view = { λ p. record { rows = rows_of p.cells.items p.extents.items; row_limit = p.row_limit; cell_limit = p.cell_limit } };
+    ghost view = { λ r. record {
+      rows = rows_of r.cells.items r.extents.items;
+      cell_limit = r.cell_limit;
+      ahead = cells_reserved (length r.extents.items) r.cell_limit - length r.cells.items;
+    } };
 
-    ghost invariant = { λ p. IsStored p.extents.items p.cells.items p.used p.row_limit p.cell_limit
-        × (p.spare.items ≡ [])
-        × (p.row_limit ≤ vec_capacity p.extents)
-        × (2 * p.cell_limit + p.row_limit ≤ vec_capacity p.cells)
-        × (2 * p.cell_limit + p.row_limit ≤ vec_capacity p.spare)
-        × (length p.cells.items ≤ 2 * p.cell_limit + p.row_limit)
-        × (2 * p.cell_limit + p.row_limit < 2 ^ 32) };
+    ghost invariant = { λ r. IsStored r.extents.items r.cells.items r.used r.cell_limit
+        × All IsPlaced r.extents.items
+        × (r.spare.items ≡ [])
+        × (cells_reserved (length r.extents.items) r.cell_limit ≤ vec_capacity r.cells)
+        × (cells_reserved (length r.extents.items) r.cell_limit ≤ vec_capacity r.spare)
+        × (length r.cells.items ≤ cells_reserved (length r.extents.items) r.cell_limit)
+        × (cells_reserved (length r.extents.items) r.cell_limit < 2 ^ 32) };
 }
 
-impl<T: Copy> Pool<T> {
-    /// No rows, with memory for `rows` of them that have `cells` cells together; or `Memory`, where
-    /// that was refused. The vector of cells is no longer than 32 bits can count.
-    pub fn new(alloc: Global, rows: usize, cells: usize) -> Result<Pool<T>, Memory>
-        requires counted { 2 * cells + rows < 2 ^ 32 }
-        ensures { IfOk result (λ p. p ≡ record { rows = []; row_limit = rows; cell_limit = cells }) }
+impl<T: Copy, A: Allocator> Pool<T, A> {
+    /// Returns how many bytes `new` takes, or none if no memory has as many.
+    pub fn size(rows: usize, cells: usize) -> Option<usize>
+        requires counted { cells_reserved rows cells < 2 ^ 32 }
+        ensures { IsSize (bytes_of_rows (item_bytes T.row) rows cells) result }
     {
-        let size = 2 * cells + rows;
+        both_sizes(
+            vector_size::<Extent>(rows),
+            times_size(2, vector_size::<T>(cells + cells / 4 + rows)),
+        )
+    }
+
+    /// Makes rows without cells for the numbers below `rows`, which may have `cells` cells together. Fails with `Memory` if
+    /// memory is refused.
+    #[tactic(auto, unfolding(crate::specs::Sizes::bytes_of_rows))]
+    pub fn new<M: VectorSource<A>>(
+        memory: &mut M,
+        rows: usize,
+        cells: usize,
+    ) -> Result<Pool<T, A>, Memory>
+        requires counted { cells_reserved rows cells < 2 ^ 32 }
+        ensures rows { IfOk result (λ r. r ≡ record { rows = replicate rows []; cell_limit = cells; ahead = cells_reserved rows cells }) }
+        ensures memory { Takes (bytes_of_rows (item_bytes T.row) rows cells) (M.less_than memory.old) (M.less_than memory.new) (is_ok result) }
+    {
+        let size = cells + cells / 4 + rows;
+        let none = Extent {
+            start: 0,
+            length: 0,
+        };
         Ok(Pool {
-            extents: Vec::with_capacity(alloc, rows)?,
-            cells: Vec::with_capacity(alloc, size)?,
-            spare: Vec::with_capacity(alloc, size)?,
+            extents: filled(memory, none, rows)?,
+            cells: memory.with_capacity(size)?,
+            spare: memory.with_capacity(size)?,
             used: 0,
-            row_limit: rows,
             cell_limit: cells,
         })
     }
+}
 
-    /// How many rows there are.
+impl<T: Copy, A: Allocator> Pool<T, A> {
+    /// Returns how many rows there are, those without cells included.
     pub fn rows(&self) -> usize
-        ensures rows { result ≡ length self.now.rows }
-        ensures within { result ≤ self.now.row_limit }
+        ensures { result ≡ length self.now.rows }
     {
         self.extents.len()
     }
 
-    /// The cells of the row at a place, counted from 0.
-    pub fn row(&self, place: usize) -> &[T]
-        requires place { place < length self.now.rows }
-        ensures cells { result.now ≡ slice_index_or self.now.rows place [] }
+    /// Returns the cells of a row.
+    pub fn row(&self, number: u16) -> &[T]
+        requires number { number < length self.now.rows }
+        ensures cells { result.now ≡ slice_index_or self.now.rows number [] }
     {
-        let extent = self.extents[place];
+        let extent = self.extents[number as usize];
         let start = extent.start as usize;
         &self.cells[start..start + extent.length as usize]
     }
 
-    /// How many cells are free: what is left of the limit when all rows have theirs.
-    pub fn free_cells(&self) -> usize
+    /// Returns how many cells are free: the limit less the cells of all rows.
+    pub fn room(&self) -> usize
         ensures { result + cells_in self.now.rows ≡ self.now.cell_limit }
     {
         self.cell_limit - self.used
     }
 
-    /// How many more rows there may be.
-    pub fn free_rows(&self) -> usize
-        ensures { result + length self.now.rows ≡ self.now.row_limit }
+    /// Removes a row: all its cells. Its number stays, with a row without cells. Nothing is moved.
+    pub fn remove_row(&mut self, number: u16)
+        requires number { number < length self.old.rows }
+        ensures { self.new ≡ record self.old { rows = slice_set self.old.rows number [] } }
     {
-        self.row_limit - self.extents.len()
+        let before = self.extents[number as usize];
+        self.extents[number as usize] = extent_at(0, 0);
+        self.used -= before.length as usize;
     }
 
-    /// Makes a row of no cells at a place; the rows from there on move up by one.
-    pub fn insert_row(&mut self, place: usize)
-        requires place { place ≤ length self.old.rows }
-        requires free { length self.old.rows < self.old.row_limit }
-        ensures { self.new ≡ record self.old { rows = insert self.old.rows place [] } }
+    /// Replaces one cell of a row. One move.
+    pub fn set(&mut self, number: u16, place: usize, cell: T, moves: &mut Moves)
+        requires number { number < length self.old.rows }
+        requires place { place < size_at self.old number }
+        ensures rows { let row = slice_index_or self.old.rows number [] in
+            self.new ≡ record self.old { rows = slice_set self.old.rows number (slice_set row place cell) } }
+        ensures moves { Spends 1 1 moves.old moves.new }
     {
-        let empty = Extent {
-            start: 0,
-            length: 0,
-        };
-        insert_at_once(&mut self.extents, place, empty);
+        let start = self.extents[number as usize].start as usize;
+        self.cells[start + place] = cell;
+        moves.count(1);
     }
 
-    /// Takes the row at a place out with all its cells; the rows behind it move down by one.
-    pub fn remove_row(&mut self, place: usize)
-        requires place { place < length self.old.rows }
-        ensures { self.new ≡ record self.old { rows = remove self.old.rows place } }
+    /// Replaces a row. `in_use` names the rows that have cells. The moves are the cells that are written and, if the rows are
+    /// packed, the rows that are looked at.
+    pub fn replace(&mut self, number: u16, row: &[T], in_use: &[u16], moves: &mut Moves)
+        requires number { number < length self.old.rows }
+        requires fits { cells_in self.old.rows + length row.now ≤ self.old.cell_limit + size_at self.old number }
+        requires named { NamesRows (map length self.old.rows) in_use.now }
+        ensures rows { self.new ≡ with_row self.old number row.now }
+        ensures moves { let moved = moved_for self.old number row.now (length in_use.now) in
+            Spends moved moved moves.old moves.new }
     {
-        let extent = self.extents.remove(place);
-        self.used -= extent.length as usize;
-    }
-
-    /// Puts the cells of `row` in the place of those that the row at a place has.
-    pub fn replace(&mut self, place: usize, row: &[T])
-        requires place { place < length self.old.rows }
-        requires fits { let old_row = slice_index_or self.old.rows place [] in
-            cells_in self.old.rows + length row.now ≤ self.old.cell_limit + length old_row }
-        ensures { self.new ≡ record self.old { rows = slice_set self.old.rows place row.now } }
-    {
-        let before = self.extents[place];
+        if row.is_empty() {
+            self.remove_row(number);
+            return;
+        }
+        let before = self.extents[number as usize];
         if row.len() <= before.length as usize {
-            write_over(&mut self.extents, &mut self.cells, place, before, row);
+            write_over(
+                &mut self.extents,
+                &mut self.cells,
+                number as usize,
+                before,
+                row,
+            );
             self.used = self.used - before.length as usize + row.len();
+            moves.count(row.len());
         } else {
-            self.write_behind(place, row);
+            self.write_behind(number, row, in_use, moves);
         }
     }
 
-    /// The same behind the last cell.
-    fn write_behind(&mut self, place: usize, row: &[T])
-        requires place { place < length self.old.rows }
-        requires fits { let old_row = slice_index_or self.old.rows place [] in
-            cells_in self.old.rows + length row.now ≤ self.old.cell_limit + length old_row }
-        ensures { self.new ≡ record self.old { rows = slice_set self.old.rows place row.now } }
+    /// Replaces a row by a longer one, after the last cell.
+    fn write_behind(&mut self, number: u16, row: &[T], in_use: &[u16], moves: &mut Moves)
+        requires number { number < length self.old.rows }
+        requires longer { size_at self.old number < length row.now }
+        requires fits { cells_in self.old.rows + length row.now ≤ self.old.cell_limit + size_at self.old number }
+        requires named { NamesRows (map length self.old.rows) in_use.now }
+        ensures rows { self.new ≡ with_row self.old number row.now }
+        ensures moves { let moved = moved_for self.old number row.now (length in_use.now) in
+            Spends moved moved moves.old moves.new }
     {
-        let forgotten = self.extents[place].length as usize;
-        self.extents[place] = Extent {
-            start: 0,
-            length: 0,
-        };
-        make_space(
+        let size = self.cell_limit + self.cell_limit / 4 + self.extents.len();
+        let forgotten = self.extents[number as usize].length as usize;
+        self.extents[number as usize] = extent_at(0, 0);
+        make_space_for(
             &mut self.extents,
             &mut self.cells,
             &mut self.spare,
             row.len(),
-            2 * self.cell_limit + self.row_limit,
+            size,
+            in_use,
+            moves,
         );
-        self.extents[place] = Extent {
-            start: self.cells.len() as u32,
-            length: row.len() as u32,
-        };
+        self.extents[number as usize] = extent_at(self.cells.len(), row.len());
         self.cells.extend_from_slice(row).unwrap();
         self.used = self.used - forgotten + row.len();
+        moves.count(row.len());
     }
 }
+
+/// The law `MovesArePaid`: what rows move that are put in the place of others is in proportion to their own cells.
+pub fn moves_are_paid<T>()
+    ensures { MovesArePaid T }
+{}

@@ -1,8 +1,7 @@
 -- A list to which the items are pushed that a rule makes of the pairs of a merge, one after another.
-use Rattle.std.proofs.Common.{◌≡◌, ℕ, ◌+◌, ◌<◌, ◌≤◌, Bool, true, false, ◌||◌, refl, List, [], ◌∷◌, ◌++◌, length, Option, None, Some, IsSome, sym, ap, ◌∙◌, arith, append_assoc, length-append}
+use Rattle.std.proofs.Common.{◌≡◌, ℕ, ◌+◌, ◌≤◌, Bool, true, false, ◌||◌, refl, List, [], ◌∷◌, ◌++◌, length, Option, None, Some, sym, ap, ◌∙◌, arith, append_assoc, length-append}
 use Rattle.std.specs.List.{filter_map, cons_option, list_any}
 use Rattle.std.specs.Option.{option_to_list}
-use Rattle.std.proofs.lemmas.Bool.{false≢true}
 use Rattle.mq_sets.specs.declared.merge_state.Merged.{Merged}
 use Rattle.mq_sets.specs.declared.merge_state.Merged.TheVariants.{Left, Both, Right}
 use Rattle.mq_sets.specs.Merging.{left_of, right_of}
@@ -39,17 +38,3 @@ at_most_one (Some x) = omega arith
 pub pushed_few : {X L R : Type 0} (made : Option X) (xs pushed : List X) (p : Merged L R) (lefts left : List L) (rights right : List R) (both : ℕ) → pushed ≡ xs ++ option_to_list made → lefts ≡ left_of (Some p) ++ left → rights ≡ right_of (Some p) ++ right → length xs + (length lefts + length rights) ≤ both → length pushed + (length left + length right) ≤ both
 pushed_few made xs pushed p lefts left rights right both is on_left on_right few =
     omega (arith, one_or_two p, at_most_one made, ap length is ∙ length-append xs (option_to_list made), ap length on_left ∙ length-append (left_of (Some p)) left, ap length on_right ∙ length-append (right_of (Some p)) right)
-
--- and a merge has fewer items ahead
-pub fewer_ahead : {L R : Type 0} (p : Merged L R) (lefts left : List L) (rights right : List R) → lefts ≡ left_of (Some p) ++ left → rights ≡ right_of (Some p) ++ right → (length left + length right) + 1 ≤ length lefts + length rights
-fewer_ahead p lefts left rights right on_left on_right =
-    omega (arith, one_or_two p, ap length on_left ∙ length-append (left_of (Some p)) left, ap length on_right ∙ length-append (right_of (Some p)) right)
-
--- where the rule makes something of the first pair ahead, it makes something of all
-pub some_made : {X P : Type 0} (f : P → Option X) (xs : List X) (p : P) (ahead rest : List P) (all : List X) → ahead ≡ p ∷ rest → xs ++ filter_map f ahead ≡ all → IsSome (f p) → 0 < length all
-some_made f xs p ahead rest all first so_far some =
-    omega (arith, by_made (f p) (filter_map f rest) some, ap length (sym so_far ∙ ap (λ ps. xs ++ filter_map f ps) first), length-append xs (filter_map f (p ∷ rest)))
-  where
-    by_made : {X : Type 0} (made : Option X) (rest : List X) → IsSome made → 0 < length (cons_option made rest)
-    by_made None rest some = absurd (false≢true some)
-    by_made (Some x) rest some = omega arith

@@ -14,7 +14,7 @@ ghost use Rattle.mq_table.specs.MadeSources.{timer_recounted, source_recounted};
 ghost use Rattle.mq_table.specs.Stored.{number_in, size_of};
 
 use crate::group::Group;
-use crate::sending_places::{SendingPlaces, places_of_sendings};
+use crate::sending_places::SendingPlaces;
 use crate::sources::Source;
 use crate::timers::{SourceTimer, runs_on};
 use crate::timing::Timing;
@@ -211,13 +211,6 @@ impl<K: Key, A: Allocator> Group<K, A> {
         )
     }
 
-    /// The places from the first source that has a sending to go up to the last, among the group's sources. No comparison.
-    pub fn sending_places(&self) -> SendingPlaces
-        ensures { SendsBetween result.first result.end self.now.state }
-    {
-        places_of_sendings(self.sources.as_slice())
-    }
-
     /// All places of the group's sources.
     fn all_places(&self) -> SendingPlaces
         ensures { SendsBetween result.first result.end self.now.state }
@@ -226,15 +219,6 @@ impl<K: Key, A: Allocator> Group<K, A> {
             first: 0,
             end: self.sources.len(),
         }
-    }
-
-    /// Leaves each source one sending fewer, where it has one. No comparison.
-    pub fn count_sendings(&mut self)
-        ensures state { self.new.state ≡ sendings_counted self.old.state }
-        ensures room { self.new.room ≡ self.old.room }
-    {
-        let places = self.all_places();
-        self.count_sendings_between(places);
     }
 
     /// Leaves each source one sending fewer, where it has one; outside of the places none has one. Answers whether a source has

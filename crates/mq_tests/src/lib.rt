@@ -19,7 +19,11 @@ mod merges;
 #[cfg(test)]
 mod meters;
 #[cfg(test)]
+mod moments;
+#[cfg(test)]
 mod readings;
+#[cfg(test)]
+mod reserved;
 #[cfg(test)]
 mod source_sets;
 #[cfg(test)]

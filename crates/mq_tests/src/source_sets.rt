@@ -1,4 +1,4 @@
-//! What a set is after a refused growth, and the texts of what refuses a member.
+//! Sets after a refused growth and at their limit, the comparisons of a search, and the texts of what refuses a member.
 
 use crate::facts::{expect_none_wrong_at, expect_that};
 use mq_count::{Addr4, Meter};
@@ -43,6 +43,79 @@ fn a_refused_growth_leaves_the_set_as_it_was(rt: HostRuntime) {
         expect_none_wrong_at(&rt, wrong_insert(&mut set, TEN[place]), place);
     }
     expect_that(&rt, set.len() == 10, "ten members");
+}
+
+/// Inserts with a limit of two members: the number, and the fault.
+static INSERTS: [(u16, Option<InsertFault>); 5] = [
+    (3, None),
+    (1, None),
+    (2, Some(InsertFault::TooMany)),
+    (1, None),
+    (3, None),
+];
+
+/// Returns what is wrong after an insert with a limit of two members.
+fn wrong_at_the_limit(
+    set: &mut SourceSet<Addr4>,
+    number: u16,
+    fault: Option<InsertFault>,
+) -> Option<&'static str> {
+    let mut m = Meter::new();
+    let len = set.len();
+    if set.insert(address(number), 2, &mut m).err() != fault {
+        return Some("the fault");
+    }
+    if len == 0 && m.spent() != 0 {
+        return Some("the first insert compares nothing");
+    }
+    if len == 2 && set.len() != 2 {
+        return Some("two members");
+    }
+    None
+}
+
+/// Returns whether the member at a place has this number.
+fn has_at(set: &SourceSet<Addr4>, place: usize, number: u16) -> bool {
+    match set.get(place) {
+        Some(key) => key.octets() == address(number).octets(),
+        None => false,
+    }
+}
+
+#[test]
+fn a_set_at_its_limit_takes_no_new_member(rt: HostRuntime) {
+    let mut set = SourceSet::empty(rt.alloc());
+    for place in 0..INSERTS.len() {
+        let (number, fault) = INSERTS[place];
+        expect_none_wrong_at(&rt, wrong_at_the_limit(&mut set, number, fault), place);
+    }
+    expect_that(&rt, has_at(&set, 0, 1), "the lower member");
+    expect_that(&rt, has_at(&set, 1, 3), "the higher member");
+}
+
+/// Returns what is wrong with a search for a number in the set of the even numbers below 732.
+fn wrong_search(set: &SourceSet<Addr4>, number: u16) -> Option<&'static str> {
+    let mut m = Meter::new();
+    let is_member = set.position(address(number), &mut m).is_some();
+    if is_member != (number % 2 == 0 && number < 732) {
+        return Some("whether it is a member");
+    }
+    if m.spent() < 1 || m.spent() > 9 {
+        return Some("one to nine comparisons");
+    }
+    None
+}
+
+#[test]
+fn a_search_among_366_takes_one_to_nine_comparisons(rt: HostRuntime) {
+    let mut set = SourceSet::with_room(rt.alloc(), 366).expect(&rt, "memory for a set");
+    for number in 0..366 {
+        let _ = set.insert(address(2 * number), 366, &mut Meter::new());
+    }
+    expect_that(&rt, set.len() == 366, "366 members");
+    for number in 0..800 {
+        expect_none_wrong_at(&rt, wrong_search(&set, number), number as usize);
+    }
 }
 
 /// Ends the test unless this text is what is said.

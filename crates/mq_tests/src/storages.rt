@@ -1,12 +1,14 @@
 //! Storage in memory that is lent to an arena: sets, addresses by number, and the groups that a link holds.
 
+ghost use Rattle.std.specs.Prelude.{◌≡◌};
+
 use crate::arenas::arena_of;
 use crate::facts::{expect_none_wrong, expect_that};
 use mq_arena::{Arena, OfAllocator};
 use mq_count::{Addr4, Meter, Moves};
 use mq_held::HeldGroups;
-use mq_sched::NumberedMoments;
-use mq_sets::{InsertFault, NumberedKeys, NumberedRows, SourceSet};
+use mq_sched::Deadlines;
+use mq_sets::{InsertFault, NumberedKeys, Pool, SourceSet};
 
 fn address(number: u8) -> Addr4 {
     Addr4::from_octets([10, 0, 0, number])
@@ -34,8 +36,11 @@ fn a_set_grows_until_lent_memory_is_refused(rt: HostRuntime) {
 }
 
 /// Numbers an address that isn't there.
-fn numbered(keys: &mut NumberedKeys<Addr4, &Arena>, key: Addr4) -> Option<u16> {
-    if keys.free_places() == 0 {
+fn numbered(keys: &mut NumberedKeys<Addr4, &Arena>, key: Addr4) -> Option<u16>
+    requires { keys.old.room ≡ 2 }
+    ensures { keys.new.room ≡ 2 }
+{
+    if keys.len() == 2 {
         return None;
     }
     match keys.find(key, &mut Meter::new()) {
@@ -45,7 +50,9 @@ fn numbered(keys: &mut NumberedKeys<Addr4, &Arena>, key: Addr4) -> Option<u16> {
 }
 
 /// Takes an address out that is there.
-fn taken_out(keys: &mut NumberedKeys<Addr4, &Arena>, key: Addr4) -> Option<u16> {
+fn taken_out(keys: &mut NumberedKeys<Addr4, &Arena>, key: Addr4) -> Option<u16>
+    ensures { keys.new.room ≡ keys.old.room }
+{
     let mut m = Meter::new();
     let number = keys.find(key, &mut m).ok()?;
     keys.remove(number, &mut m, &mut Moves::none());
@@ -87,8 +94,8 @@ fn addresses_are_numbered_in_lent_memory(rt: HostRuntime) {
 
 /// What is wrong with storage that was made in lent memory for three groups, and holds none yet.
 fn wrong_storage(held: &HeldGroups<Addr4, &Arena>) -> Option<&'static str> {
-    if held.free_groups() != 3 || held.free_sources() != 8 {
-        return Some("the rooms");
+    if held.len() != 0 || held.free_sources() != 8 {
+        return Some("the room");
     }
     if held.find(address(1), &mut Meter::new()).is_ok() || held.earliest().is_some() {
         return Some("a group");
@@ -117,13 +124,9 @@ fn storage_is_refused_where_lent_memory_ends(rt: HostRuntime) {
         2,
     );
     expect_that(&rt, keys.is_err(), "addresses");
-    let rows: Result<NumberedRows<u8, &Arena>, _> = NumberedRows::with_room(
-        &mut OfAllocator(&arena),
-        2,
-        40,
-    );
+    let rows: Result<Pool<u8, &Arena>, _> = Pool::new(&mut OfAllocator(&arena), 2, 40);
     expect_that(&rt, rows.is_err(), "rows");
-    let moments = NumberedMoments::with_room(&mut OfAllocator(&arena), 2);
+    let moments = Deadlines::with_room(&mut OfAllocator(&arena), 2);
     expect_that(&rt, moments.is_err(), "moments");
     let held: Result<HeldGroups<Addr4, &Arena>, _> = HeldGroups::with_room(
         &mut OfAllocator(&arena),

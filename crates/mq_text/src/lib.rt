@@ -1,4 +1,4 @@
-//! Addresses as texts, of both families.
+//! Addresses as texts, of both families, and texts on their way to a writer.
 //!
 //! ```text
 //! let mut text = Text::new();
@@ -8,16 +8,24 @@
 //!
 //! - To write at the end of a `Text`, without memory: `put_v4`, `put_v6`, `put_decimal` and `put`.
 //! - To read: `read_v4` and `read_v6`.
+//! - To print on an `Output`, as a watched writer is one: `print`, and `LineFault`, which says that a write failed; `make_room`
+//!   and `flush`, for text that is put together first.
 //! - Laws, functions that do nothing: `laws`.
 #![tactic(auto)]
 
 mod address_v4;
 mod address_v6;
+mod buffer;
 pub mod laws;
+mod output;
+mod printing;
 mod reading;
 mod text;
 
 pub use address_v4::put_v4;
 pub use address_v6::put_v6;
+pub use buffer::{flush, make_room};
+pub use output::Output;
+pub use printing::{LineFault, print};
 pub use reading::{read_v4, read_v6};
 pub use text::{Text, put, put_decimal};

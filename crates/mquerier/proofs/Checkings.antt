@@ -12,7 +12,7 @@ use Rattle.mq_command.specs.declared.Protocol.{Protocol}
 use Rattle.mq_command.specs.declared.Request.TheVariants.{Check}
 use Rattle.mq_command.specs.declared.replay.Settings.{Settings}
 use Rattle.mq_link.specs.Configuration.{Configuration}
-use Rattle.mq_replay.specs.Printing.{OutputState}
+use Rattle.mq_text.specs.Printing.{OutputState}
 use Rattle.mq_wire.specs.Family.{Family}
 use Rattle.mquerier.specs.declared.failure.Failure.{Failure}
 use Rattle.mquerier.specs.declared.failure.Failure.TheVariants.{NoAddresses, NotAnAddress, NotHex, UntilTooLarge, Configuration as Unconfigured, Capture, Gap, Waiting, Conversion, ConversionRead, NotOpened, Memory, Write}
@@ -62,9 +62,9 @@ checked_for protocol querier address settings terms input output (Err NotOpened)
 checked_for protocol querier address settings terms input output (Err Memory) spelled works = (λ e. (address, spelled, works.0 e), λ e. (address, spelled, works.1 e))
 checked_for protocol querier address settings terms input output (Err Write) spelled works = (λ e. (address, spelled, works.0 e), λ e. (address, spelled, works.1 e))
 
-pub check_performed : (protocol : Protocol) (querier : Bor (List ℕ)) (settings : Settings) (within : Option ℕ) (cite : Bool) (until : Option ℕ) (file : Option (Bor (List ℕ))) (input : Input) (output errors : Output) (status : ℕ)
-    → PerformsCheck protocol querier.now settings within until cite input output errors status → Performs (Check protocol querier settings within cite until file) input output errors status
-check_performed protocol querier settings within cite until file input output errors status performs =
+pub check_performed : (protocol : Protocol) (querier : Bor (List ℕ)) (settings : Settings) (within : Option ℕ) (cite : Bool) (until : Option ℕ) (file : Option (Bor (List ℕ))) (in_words : Bool) (input : Input) (output errors : Output) (status : ℕ)
+    → PerformsCheck protocol querier.now settings within until cite in_words input output errors status → Performs (Check protocol querier settings within cite until file) in_words input output errors status
+check_performed protocol querier settings within cite until file in_words input output errors status performs =
     record {
       at_most_three = performs.at_most_three;
       done = performs.done;
@@ -107,14 +107,14 @@ unwritten_of Memory two = tt
 unwritten_of Write two = two
 
 -- a check that fails, and is told
-pub check_failed : (protocol : Protocol) (querier : List ℕ) (settings : Settings) (within until : Option ℕ) (cite : Bool) (tolerance : ℕ) (input : Input) (output errors : Output) (failure : Failure) (status : ℕ)
+pub check_failed : (protocol : Protocol) (querier : List ℕ) (settings : Settings) (within until : Option ℕ) (cite in_words : Bool) (tolerance : ℕ) (input : Input) (output errors : Output) (failure : Failure) (status : ℕ)
     → tolerance ≡ unwrap_or within 100
     → WorksOnCheck protocol querier settings (record { within = tolerance; until = until; cite = cite }) input output (Err failure)
     → (IsUnwritten {X = Totals} (Err failure) → input.new ≡ input.old)
     → (IsUnwritten {X = Totals} (Err failure) → output.new ≡ output.old)
-    → status ≡ status_of failure → Told errors failure
-    → PerformsCheck protocol querier settings within until cite input output errors status
-check_failed protocol querier settings within until cite tolerance input output errors failure status same works unread unwritten is told =
+    → status ≡ status_of failure → Told in_words errors failure
+    → PerformsCheck protocol querier settings within until cite in_words input output errors status
+check_failed protocol querier settings within until cite in_words tolerance input output errors failure status same works unread unwritten is told =
     record {
       at_most_three = ⊎_elim (λ (one : status_of failure ≡ 1). omega (arith, is, one)) (λ (two : status_of failure ≡ 2). omega (arith, is, two)) (status_is failure);
       done = λ zero. absurd (⊎_elim (λ (one : status_of failure ≡ 1). omega (arith, is, one, zero)) (λ (two : status_of failure ≡ 2). omega (arith, is, two, zero)) (status_is failure));

@@ -8,10 +8,10 @@ use Rattle.mq_link.specs.Configuration.{Configuration}
 use Rattle.mq_link.specs.Counters.{Counters}
 use Rattle.mq_pcap.specs.declared.fault.PcapFault.TheVariants as fault
 use Rattle.mq_pcap.specs.Filling.{InputState}
+use Rattle.mq_text.specs.Printing.{OutputState}
 use Rattle.mq_replay.specs.declared.asked.Asked.{Asked}
 use Rattle.mq_replay.specs.declared.replay_fault.ReplayFault.{ReplayFault}
 use Rattle.mq_replay.specs.declared.replay_fault.ReplayFault.TheVariants as answer
-use Rattle.mq_replay.specs.Printing.{OutputState}
 use Rattle.mq_replay.specs.Replaying.{Replays, ReadCapture, IsWritten, text_of, packets_text}
 use Rattle.mq_wire.specs.Family.{Family}
 use Rattle.mquerier.specs.declared.failure.Failure.{Failure}

@@ -7,9 +7,9 @@ use Rattle.hex.specs.Hex.{decode_of}
 use Rattle.mq_command.specs.declared.Protocol.{Protocol}
 use Rattle.mq_command.specs.declared.Protocol.TheVariants.{Mld}
 use Rattle.mq_command.specs.declared.Request.TheVariants.{Message}
-use Rattle.mq_replay.specs.Line.{PrintsLine}
-use Rattle.mq_replay.specs.Printing.{GrowsByBeginning}
+use Rattle.mq_text.specs.Printing.{GrowsByBeginning}
 use Rattle.mq_text.specs.Reading.{SpellsV6}
+use Rattle.mq_lines.specs.Line.{PrintsLine}
 use Rattle.mq_wire.specs.Family.{Family}
 use Rattle.mquerier.specs.declared.failure.Failure.{Failure}
 use Rattle.mquerier.specs.declared.failure.Failure.TheVariants.{NoAddresses, NotAnAddress, NotHex, UntilTooLarge, Configuration, Capture, Gap, Waiting, Conversion, ConversionRead, NotOpened, Memory, Write}

@@ -3,7 +3,7 @@ use Rattle.std.specs.Prelude.{◌≡◌, ◌⊎◌, ℕ, true, List, Option}
 use Rattle.std.specs.Io.KnownBytes.{Appends}
 use Rattle.mq_count.specs.declared.streams.Watched.{Watched}
 use Rattle.mq_pcap.specs.Filling.{InputState, input_of}
-use Rattle.mq_replay.specs.Printing.{GrowsByBeginning, OutputState, output_of}
+use Rattle.mq_text.specs.Printing.{GrowsByBeginning, OutputState, output_of}
 
 -- a stream that is read, before and after
 pub record Input : Type 0 where

@@ -1,5 +1,5 @@
 -- The failures of the program: their statuses, and what standard error is told.
-use Rattle.std.specs.Prelude.{ℕ, zero, suc, ◌-◌, List, [], ◌∷◌, ◌++◌, codes}
+use Rattle.std.specs.Prelude.{ℕ, zero, suc, ◌-◌, Bool, true, false, List, [], ◌∷◌, ◌++◌, codes}
 use Rattle.std.specs.List.{flat_map}
 use Rattle.std.specs.Fmt.{decimal}
 use Rattle.mq_convert.specs.declared.fault.BlockFault.{BlockFault}
@@ -129,13 +129,37 @@ capture_words (fault.CutData number) = codes "\n  the file ends within a packet"
 capture_words (fault.TooLong number) = codes "\n  the packet has more than 262144 bytes"
 capture_words fault.Endless = codes "\n  the file has more than 4294967295 packets"
 
--- the words behind the line of a failure, where that has a number and no more
+-- what the number of a fault of a capture that is converted means
+abbrev pub conversion_words : BlockFault → List ℕ
+conversion_words block.NoCapture = codes "\n  the file is no capture"
+conversion_words block.Version = codes "\n  the version of the file is not 2.4, or of a pcapng file not 1"
+conversion_words block.Order = codes "\n  the section is in no byte order"
+conversion_words block.Length = codes "\n  the block has an impossible length"
+conversion_words block.Interface = codes "\n  the packet is of an interface that the file did not describe before"
+conversion_words block.Interfaces = codes "\n  the section describes more than 1024 interfaces"
+conversion_words block.Moment = codes "\n  the packet is from before 1970 or after 2106"
+conversion_words block.Cut = codes "\n  the file ends within the block"
+conversion_words block.Endless = codes "\n  the file has more than 4294967295 blocks before it"
+
+-- the words after the line of a failure that has a number and no words
 abbrev pub failure_words : Failure → List ℕ
 failure_words (Configuration f query_seconds response_interval) = configuration_words f query_seconds response_interval
 failure_words (Capture f) = capture_words f
 failure_words (Gap number) = codes "\n  more than a day lies between the packet before and this one, or the end; groups and totals are not printed"
 failure_words (Waiting number) = codes "\n  more than 65536 queries wait for those that they go with; totals are not printed"
+failure_words (Conversion number f) = conversion_words f
+failure_words ConversionRead = codes "\n  a read of the capture failed"
 failure_words failure = []
 
-abbrev pub failure_line : Failure → List ℕ
-failure_line failure = codes "mquerier: " ++ failure_text failure ++ failure_words failure ++ codes "\n"
+-- the words for a person; a script gets none
+abbrev pub wanted_words : (in_words : Bool) → Failure → List ℕ
+wanted_words true failure = failure_words failure
+wanted_words false failure = []
+
+-- what standard error is told of a failure: one line, and in words a second one
+abbrev pub failure_line : (in_words : Bool) → Failure → List ℕ
+failure_line in_words failure = codes "mquerier: " ++ failure_text failure ++ wanted_words in_words failure ++ codes "\n"
+
+-- the line of the program's version
+abbrev pub version_line : (version : List ℕ) → List ℕ
+version_line version = codes "mquerier " ++ version ++ codes "\n"

@@ -1,7 +1,7 @@
 -- The line of a message that is given in hexadecimal.
 use Rattle.std.specs.Prelude.{◌≡◌, ℕ, Bool, List, length, Ok}
 use Rattle.hex.specs.Hex.{decode_of}
-use Rattle.mq_replay.specs.Line.{IsLineOf}
+use Rattle.mq_lines.specs.Line.{IsLineOf}
 use Rattle.mq_wire.specs.Family.{Family}
 
 -- the line of the bytes that this text is the hexadecimal of, and its flag; the pseudo-header before the bytes

@@ -9,10 +9,10 @@ use Rattle.mq_link.specs.Configuration.{Configuration, configuration_fault, IsFa
 use Rattle.mq_link.specs.Configured.{variables, configured}
 use Rattle.mq_link.specs.Counters.{Counters}
 use Rattle.mq_link.specs.Defaults.{defaults_of}
+use Rattle.mq_text.specs.Reading.{SpellsV4, SpellsV6}
 use Rattle.mq_replay.specs.declared.asked.Asked.{Asked}
 use Rattle.mq_replay.specs.declared.replay_fault.ReplayFault.{ReplayFault}
 use Rattle.mq_replay.specs.Replaying.{Replays}
-use Rattle.mq_text.specs.Reading.{SpellsV4, SpellsV6}
 use Rattle.mq_wire.specs.Family.{Family}
 use Rattle.mq_wire.specs.Family as family
 use Rattle.mquerier.specs.declared.failure.Failure.{Failure}

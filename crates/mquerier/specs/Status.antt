@@ -1,6 +1,10 @@
 -- What the program does of what is asked for, and its status.
-use Rattle.std.specs.Prelude.{◌≡◌, ◌≤◌, ◌⊎◌, ℕ, Bool, true, false, List, [], ◌++◌, codes, Option, None, Some, Result, Ok, IsErr}
+use Rattle.std.specs.Prelude.{◌≡◌, ◌≤◌, ◌⊎◌, ℕ, Bool, true, false, List, [], ◌++◌, codes, Option, None, Some, Result, Ok, Err, IsErr}
 use Rattle.std.specs.Option.{option_copied}
+use Rattle.clap.specs.Values.{kind_of}
+use Rattle.clap.specs.declared.error.Error.{Error}
+use Rattle.clap.specs.declared.error.kind.ErrorKind.{ErrorKind}
+use Rattle.clap.specs.declared.error.kind.ErrorKind.TheVariants.{DisplayVersion, OutOfMemory}
 use Rattle.hex.specs.Hex.{decode_of}
 use Rattle.mq_check.specs.declared.totals.Totals.{Totals}
 use Rattle.mq_command.specs.declared.Protocol.{Protocol}
@@ -11,10 +15,10 @@ use Rattle.mq_command.specs.declared.replay.Settings.{Settings}
 use Rattle.mq_convert.specs.declared.fault.ConvertFault.{ConvertFault}
 use Rattle.mq_convert.specs.declared.unread.Unread.{Unread}
 use Rattle.mq_convert.specs.Converting.{Converts}
+use Rattle.mq_text.specs.Reading.{SpellsV6}
 use Rattle.mq_replay.specs.declared.asked.Asked.{Asked}
 use Rattle.mq_replay.specs.declared.replay_fault.ReplayFault.{ReplayFault}
 use Rattle.mq_replay.specs.Listing.{Shows}
-use Rattle.mq_text.specs.Reading.{SpellsV6}
 use Rattle.mq_wire.specs.Family as family
 use Rattle.mq_wire.specs.PseudoHeader.{pseudo_header}
 use Rattle.mquerier.specs.declared.failure.Failure.{Failure}
@@ -22,7 +26,7 @@ use Rattle.mquerier.specs.declared.failure.Failure.TheVariants.{NoAddresses, Not
 use Rattle.mquerier.specs.Breaking.{IsBrokenOff, IsConversionBroken}
 use Rattle.mquerier.specs.Changes.{Input, Output, Writes, BreaksOff}
 use Rattle.mquerier.specs.CheckRuns.{IsBrokenCheck, WritesVerdict, asked_terms}
-use Rattle.mquerier.specs.Failures.{failure_line, unread_line}
+use Rattle.mquerier.specs.Failures.{failure_line, unread_line, version_line}
 use Rattle.mquerier.specs.HexLine.{IsHexLine}
 use Rattle.mquerier.specs.Replays.{SpellsAddress, IsRefusedAt, IsDoneAt, IsBrokenAt, family_of}
 
@@ -30,9 +34,9 @@ use Rattle.mquerier.specs.Replays.{SpellsAddress, IsRefusedAt, IsDoneAt, IsBroke
 abbrev pub IsTold : (errors : Output) → (text : List ℕ) → Type 0
 IsTold errors text = Writes errors text ⊎ BreaksOff errors text
 
--- of a failure it was told the failure's line
-abbrev pub Told : (errors : Output) → Failure → Type 0
-Told errors failure = IsTold errors (failure_line failure)
+-- of a failure it was told the failure's line, for a person with one in words
+abbrev pub Told : (in_words : Bool) → (errors : Output) → Failure → Type 0
+Told in_words errors failure = IsTold errors (failure_line in_words failure)
 
 -- a message of MLD lacks an address
 abbrev pub AreMissing : Protocol → (from to : Option (List ℕ)) → Type 0
@@ -147,10 +151,10 @@ IsBroken (Check protocol querier settings within cite until file) input output f
     IsBrokenCheck protocol querier.now settings (asked_terms within until cite) input output failure
 
 -- a message's fault was written and standard error told nothing, or the work broke off and that was told
-abbrev pub IsFaulty : Request → Input → (output errors : Output) → Type 0
-IsFaulty request input output errors =
+abbrev pub IsFaulty : Request → (in_words : Bool) → Input → (output errors : Output) → Type 0
+IsFaulty request in_words input output errors =
     (IsDone request input output false × (errors.new ≡ errors.old))
-    ⊎ ((failure : Failure) × IsBroken request input output failure × Told errors failure)
+    ⊎ ((failure : Failure) × IsBroken request input output failure × Told in_words errors failure)
 
 -- a request for a message, which doesn't read the input
 abbrev pub IsOfMessage : Request → Type 0
@@ -210,33 +214,33 @@ IsFinding (Check protocol querier settings within cite until file) input output 
     (totals : Totals) × (1 ≤ totals.findings) × HasChecked protocol querier.now settings within until cite input output errors totals
 
 -- What is asked for was done, or not, and this is the status.
-pub record Performs (request : Request) (input : Input) (output errors : Output) (status : ℕ) : Type 0 where
+pub record Performs (request : Request) (in_words : Bool) (input : Input) (output errors : Output) (status : ℕ) : Type 0 where
   pub at_most_three : status ≤ 3
   pub done : status ≡ 0 → IsDoneTelling request input output errors
-  pub faulty : status ≡ 1 → IsFaulty request input output errors
+  pub faulty : status ≡ 1 → IsFaulty request in_words input output errors
   -- only a faulty request is refused, and that is told
   pub refused : status ≡ 2 → (input.new ≡ input.old) × (output.new ≡ output.old)
-      × (failure : Failure) × IsRefused request failure × Told errors failure
+      × (failure : Failure) × IsRefused request failure × Told in_words errors failure
   pub found : status ≡ 3 → IsFinding request input output errors
   pub unread : IsOfMessage request → input.new ≡ input.old
 
 -- A conversion was done, or broke off, which was told.
-pub record PerformsConversion (interface vlan : Option ℕ) (input : Input) (output errors : Output) (status : ℕ) : Type 0 where
+pub record PerformsConversion (interface vlan : Option ℕ) (in_words : Bool) (input : Input) (output errors : Output) (status : ℕ) : Type 0 where
   pub at_most_one : status ≤ 1
   pub done : status ≡ 0 → (output.new.failed ≡ output.old.failed) × (unread : Unread)
       × WritesConversion interface vlan input output (Ok unread) × TellsUnread errors unread
   pub faulty : status ≡ 1 → (failure : Failure)
-      × IsConversionBroken (WritesConversion interface vlan input output) input output failure × Told errors failure
+      × IsConversionBroken (WritesConversion interface vlan input output) input output failure × Told in_words errors failure
 
 -- A check was made to its end, and found something or nothing; or it was refused, or broke off, which was told.
-pub record PerformsCheck (protocol : Protocol) (querier : List ℕ) (settings : Settings) (within until : Option ℕ) (cite : Bool) (input : Input) (output errors : Output) (status : ℕ) : Type 0 where
+pub record PerformsCheck (protocol : Protocol) (querier : List ℕ) (settings : Settings) (within until : Option ℕ) (cite in_words : Bool) (input : Input) (output errors : Output) (status : ℕ) : Type 0 where
   pub at_most_three : status ≤ 3
   pub done : status ≡ 0 → (totals : Totals) × (totals.findings ≡ 0)
       × HasChecked protocol querier settings within until cite input output errors totals
   pub faulty : status ≡ 1 → (failure : Failure)
-      × IsBrokenCheck protocol querier settings (asked_terms within until cite) input output failure × Told errors failure
+      × IsBrokenCheck protocol querier settings (asked_terms within until cite) input output failure × Told in_words errors failure
   pub refused : status ≡ 2 → (input.new ≡ input.old) × (output.new ≡ output.old)
-      × (failure : Failure) × IsRefusedReplay protocol querier settings until failure × Told errors failure
+      × (failure : Failure) × IsRefusedReplay protocol querier settings until failure × Told in_words errors failure
   pub found : status ≡ 3 → (totals : Totals) × (1 ≤ totals.findings)
       × HasChecked protocol querier settings within until cite input output errors totals
 
@@ -244,17 +248,28 @@ pub record PerformsCheck (protocol : Protocol) (querier : List ℕ) (settings : 
 abbrev pub TellsLines : (errors : Output) → Type 0
 TellsLines errors = (text : List ℕ) × IsTold errors (text ++ codes "\n")
 
--- There is no request: standard error was told why, and the status is 2, or that memory ran out, and it is 1.
-abbrev pub IsWordless : (errors : Output) → (status : ℕ) → Type 0
-IsWordless errors status = ((status ≡ 2) × TellsLines errors) ⊎ ((status ≡ 1) × Told errors Memory)
+-- The words ask for nothing that can be done: standard error was told why, and the status is 2; or there was no memory for
+-- that text, and it is 1.
+abbrev pub IsWordless : (in_words : Bool) → (errors : Output) → (status : ℕ) → Type 0
+IsWordless in_words errors status =
+    ((status ≡ 2) × TellsLines errors) ⊎ ((status ≡ 1) × Told in_words errors Memory)
 
--- the same, where nothing was read or written besides
-pub record IsUnread (input : Input) (output errors : Output) (status : ℕ) : Type 0 where
+-- The version was printed, and standard error told nothing; or the output failed, which was told.
+abbrev pub PrintsVersion : (version : List ℕ) → (in_words : Bool) → (output errors : Output) → (status : ℕ) → Type 0
+PrintsVersion version in_words output errors status =
+    ((status ≡ 0) × Writes output (version_line version) × (errors.new ≡ errors.old))
+    ⊎ ((status ≡ 1) × BreaksOff output (version_line version) × Told in_words errors Write)
+
+-- What a run does without a request, by what `clap` says of the words.
+pub record Refuses (kind : ErrorKind) (version : List ℕ) (in_words : Bool) (input : Input) (output errors : Output) (status : ℕ) : Type 0 where
   pub unread : input.new ≡ input.old
-  pub unwritten : output.new ≡ output.old
-  pub told : IsWordless errors status
+  pub unwritten : (kind ≡ DisplayVersion → ⊥) → output.new ≡ output.old
+  pub memory : kind ≡ OutOfMemory → (status ≡ 1) × Told in_words errors Memory
+  pub version_asked : kind ≡ DisplayVersion → PrintsVersion version in_words output errors status
+  pub wordless : (kind ≡ OutOfMemory → ⊥) → (kind ≡ DisplayVersion → ⊥) → IsWordless in_words errors status
 
--- A run reads a request and performs it, or reads none.
-abbrev pub Runs : Input → (output errors : Output) → (status : ℕ) → Type 0
-Runs input output errors status =
-    ((request : Request) × Performs request input output errors status) ⊎ IsUnread input output errors status
+-- A run performs the request that was read of the words, and no other; where none was read, it says why.
+abbrev pub Runs : Result Request Error → (version : List ℕ) → (in_words : Bool) → Input → (output errors : Output) → (status : ℕ) → Type 0
+Runs (Ok request) version in_words input output errors status = Performs request in_words input output errors status
+Runs (Err error) version in_words input output errors status =
+    Refuses (kind_of error) version in_words input output errors status

@@ -3,7 +3,7 @@
 ghost use Rattle.std.specs.Prelude.{◌≡◌, ◌≤◌, ◌++◌, codes, length};
 ghost use Rattle.std.specs.Fmt.{decimal};
 ghost use Rattle.arrayvec.specs.ArrayVec.{array_vec_len};
-ghost use Rattle.mquerier.specs.Failures.{status_of, failure_line, failure_text, failure_words, configuration_text, configuration_words, conversion_text, capture_text, capture_words, interval_words, limit_words};
+ghost use Rattle.mquerier.specs.Failures.{status_of, failure_line, failure_text, failure_words, wanted_words, configuration_text, configuration_words, conversion_text, conversion_words, capture_text, capture_words, interval_words, limit_words};
 
 use mq_convert::BlockFault;
 use mq_link::{ConfigFault, LimitName};
@@ -68,16 +68,27 @@ pub enum Failure {
     Write,
 }
 
-/// The line of a failure on standard error, with a second one in words behind a number.
-pub fn line_of(failure: Failure) -> Text
-    ensures { result.items ≡ failure_line failure }
+/// Returns the line of a failure on standard error, and in words a second line that says what its number means.
+pub fn line_of(failure: Failure, in_words: bool) -> Text
+    ensures { result.items ≡ failure_line in_words failure }
 {
     let mut line = Text::new();
     put(&mut line, b"mquerier: ");
     put_failure(&mut line, failure);
-    put_words(&mut line, failure);
+    put_wanted_words(&mut line, failure, in_words);
     put(&mut line, b"\n");
     line
+}
+
+/// Puts the second line if words are wanted.
+fn put_wanted_words(line: &mut Text, failure: Failure, in_words: bool)
+    requires { array_vec_len line.old ≤ 60 }
+    ensures text { line.new.items ≡ line.old.items ++ wanted_words in_words failure }
+    ensures room { array_vec_len line.new ≤ 300 }
+{
+    if in_words {
+        put_words(line, failure);
+    }
 }
 
 /// Puts what the number of a failure means.
@@ -101,6 +112,8 @@ fn put_words(line: &mut Text, failure: Failure)
             line,
             b"\n  more than 65536 queries wait for those that they go with; totals are not printed",
         ),
+        Failure::Conversion { fault, .. } => put_conversion_words(line, fault),
+        Failure::ConversionRead => put(line, b"\n  a read of the capture failed"),
         _ => {}
     }
 }
@@ -184,6 +197,33 @@ fn put_capture_words(line: &mut Text, fault: PcapFault)
         PcapFault::CutData { .. } => put(line, b"\n  the file ends within a packet"),
         PcapFault::TooLong { .. } => put(line, b"\n  the packet has more than 262144 bytes"),
         PcapFault::Endless => put(line, b"\n  the file has more than 4294967295 packets"),
+    }
+}
+
+fn put_conversion_words(line: &mut Text, fault: BlockFault)
+    requires { array_vec_len line.old ≤ 60 }
+    ensures text { line.new.items ≡ line.old.items ++ conversion_words fault }
+    ensures room { array_vec_len line.new ≤ 300 }
+{
+    match fault {
+        BlockFault::NoCapture => put(line, b"\n  the file is no capture"),
+        BlockFault::Version => put(
+            line,
+            b"\n  the version of the file is not 2.4, or of a pcapng file not 1",
+        ),
+        BlockFault::Order => put(line, b"\n  the section is in no byte order"),
+        BlockFault::Length => put(line, b"\n  the block has an impossible length"),
+        BlockFault::Interface => put(
+            line,
+            b"\n  the packet is of an interface that the file did not describe before",
+        ),
+        BlockFault::Interfaces => put(line, b"\n  the section describes more than 1024 interfaces"),
+        BlockFault::Moment => put(line, b"\n  the packet is from before 1970 or after 2106"),
+        BlockFault::Cut => put(line, b"\n  the file ends within the block"),
+        BlockFault::Endless => put(
+            line,
+            b"\n  the file has more than 4294967295 blocks before it",
+        ),
     }
 }
 

@@ -22,7 +22,7 @@ use mq_command::{Request, request_of};
 use mq_count::Watched;
 pub use program::{perform, refuse_file, run};
 use std::fs::File;
-use std::io::{BufReader, ErrorKind, Write};
+use std::io::{BufReader, ErrorKind, IsTerminal, Write};
 use std::process::ExitCode;
 use std::{env, io};
 
@@ -50,18 +50,20 @@ fn run_on_host(rt: &HostRuntime) -> io::Result<u8> {
     for word in env::args(rt)? {
         words.push(word)?;
     }
+    // A person reads what a failure's number means; a script gets one line for each failure.
+    let in_words = rt.stderr().is_terminal();
     let mut output = Watched::new(rt.stdout());
     let mut errors = Watched::new(rt.stderr());
     let asked = request_of(alloc, &words);
     let Some(name) = named_file(&asked) else {
         let mut input = Watched::new(BufReader::with_capacity(alloc, INPUT, rt.stdin())?);
-        return Ok(run(alloc, asked, &mut input, &mut output, &mut errors));
+        return Ok(run(alloc, asked, in_words, &mut input, &mut output, &mut errors));
     };
     let Ok(file) = File::open(rt, name) else {
-        return Ok(refuse_file(&mut errors));
+        return Ok(refuse_file(in_words, &mut errors));
     };
     let mut input = Watched::new(BufReader::with_capacity(alloc, INPUT, file)?);
-    Ok(run(alloc, asked, &mut input, &mut output, &mut errors))
+    Ok(run(alloc, asked, in_words, &mut input, &mut output, &mut errors))
 }
 
 /// The file that is asked for in place of standard input.

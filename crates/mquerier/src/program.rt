@@ -1,38 +1,38 @@
 //! What the program does with its words and streams.
 
-ghost use Rattle.std.specs.Prelude.{◌≡◌, ◌≤◌, ◌||◌, ◌++◌, codes, is_err};
+ghost use Rattle.std.specs.Prelude.{◌≡◌, ◌≤◌, ◌||◌, ◌++◌, MatchResult, codes, is_err};
 ghost use Rattle.mq_count.specs.Streams.{inner_of, has_failed};
-ghost use Rattle.mq_replay.specs.Printing.{Prints};
-ghost use Rattle.mquerier.specs.Changes.{input_by, output_by};
-ghost use Rattle.mquerier.specs.Failures.{status_of};
-ghost use Rattle.mquerier.specs.Status.{IsCheck, IsConversion, IsOfMessage, IsWordless, TellsLines, TellsUnread, Told, Performs, PerformsCheck, PerformsConversion, Runs};
+ghost use Rattle.mq_text.specs.Printing.{Prints};
+ghost use Rattle.mquerier.specs.Changes.{BreaksOff, Writes, input_by, output_by};
+ghost use Rattle.mquerier.specs.Failures.{status_of, version_line};
+ghost use Rattle.mquerier.specs.Status.{IsCheck, IsConversion, IsOfMessage, IsWordless, PrintsVersion, TellsLines, TellsUnread, Told, Performs, PerformsCheck, PerformsConversion, Runs};
 
 use crate::checking::check_capture;
 use crate::converting::convert_capture;
 use crate::failure::{DONE, FAULTY, FOUND, Failure, REFUSED, line_of, status_of_failure};
 use crate::unread::unread_line_of;
-use crate::work::work;
+use crate::work::{flush, work};
 use clap::Error;
 use clap::error::ErrorKind;
 use mq_check::CheckTerms;
-use mq_command::{Protocol, Request, Settings};
+use mq_command::{Protocol, Request, Settings, VERSION};
 use mq_convert::{Choice, Unread};
 use mq_count::Watched;
-use mq_replay::{LineFault, print};
+use mq_text::{LineFault, Text, print, put};
 use std::alloc::Global;
 use std::io::{Read, Write};
 
-/// Performs what the words ask for, as `request_of` has read them. A command line that is refused, or that asks for
-/// help, has the text of `clap` on `errors`, as one line or several, and the status 2, and leaves the input and
-/// the output as they were.
+/// Performs the request that `request_of` read of the words. Where it read none, the input stays as it was: the text of `clap` goes
+/// to `errors`, as one line or several, with status 2; a question for the version has its line on the output.
 pub fn run<R: Read, W: Write, E: Write>(
     alloc: Global,
     asked: Result<Request<'_>, Error>,
+    in_words: bool,
     input: &mut Watched<R>,
     output: &mut Watched<W>,
     errors: &mut Watched<E>,
 ) -> u8
-    ensures runs { Runs
+    ensures runs { Runs asked.entry VERSION.now in_words
         (input_by R.remaining input.old input.new)
         (output_by W.contents output.old output.new)
         (output_by E.contents errors.old errors.new)
@@ -43,21 +43,66 @@ pub fn run<R: Read, W: Write, E: Write>(
     ensures told { result ≡ 2 → TellsLines (output_by E.contents errors.old errors.new) }
 {
     match asked {
-        Ok(request) => perform(alloc, &request, input, output, errors),
-        Err(error) if error.kind() == ErrorKind::OutOfMemory => told(Failure::Memory, errors),
-        Err(error) => refused(alloc, &error, errors),
+        Ok(request) => perform(alloc, &request, in_words, input, output, errors),
+        Err(error) => match error.kind() {
+            ErrorKind::OutOfMemory => told(Failure::Memory, in_words, errors),
+            ErrorKind::DisplayVersion => print_version(in_words, output, errors),
+            _ => refused(alloc, &error, in_words, errors),
+        },
     }
 }
 
-/// Says on standard error what `clap` says of the words, and answers the status.
-fn refused<E: Write>(alloc: Global, error: &Error, errors: &mut Watched<E>) -> u8
-    ensures { IsWordless (output_by E.contents errors.old errors.new) result }
+/// Says on standard error what `clap` says of the words, and returns the status.
+fn refused<E: Write>(alloc: Global, error: &Error, in_words: bool, errors: &mut Watched<E>) -> u8
+    ensures { IsWordless in_words (output_by E.contents errors.old errors.new) result }
 {
     let Ok(text) = error.to_string(alloc) else {
-        return told(Failure::Memory, errors);
+        return told(Failure::Memory, in_words, errors);
     };
     let _ = print_line(text.trim_end(), errors);
     REFUSED
+}
+
+/// Prints the line of the version, and returns the status.
+fn print_version<W: Write, E: Write>(
+    in_words: bool,
+    output: &mut Watched<W>,
+    errors: &mut Watched<E>,
+) -> u8
+    ensures at_most_one { result ≤ 1 }
+    ensures prints { PrintsVersion VERSION.now in_words
+        (output_by W.contents output.old output.new)
+        (output_by E.contents errors.old errors.new)
+        result }
+{
+    match print_whole(version_line_of().as_slice(), output) {
+        Ok(()) => DONE,
+        Err(failure) => told(failure, in_words, errors),
+    }
+}
+
+/// Returns the line of the version.
+fn version_line_of() -> Text
+    ensures { result.items ≡ version_line VERSION.now }
+{
+    let mut line = Text::new();
+    put(&mut line, b"mquerier ");
+    put(&mut line, VERSION.as_bytes());
+    put(&mut line, b"\n");
+    line
+}
+
+/// Prints a text, and passes on all that the output holds back.
+fn print_whole<W: Write>(text: &[u8], output: &mut Watched<W>) -> Result<(), Failure>
+    ensures { MatchResult result
+        (λ _. Writes (output_by W.contents output.old output.new) text.now)
+        (λ failure. (failure ≡ Failure.Write)
+        × BreaksOff (output_by W.contents output.old output.new) text.now) }
+{
+    let Ok(()) = print(text, output) else {
+        return Err(Failure::Write);
+    };
+    flush(output)
 }
 
 /// Prints a text as a line.
@@ -73,15 +118,17 @@ fn print_line<W: Write>(text: &str, writer: &mut Watched<W>) -> Result<(), LineF
 
 /// Does what is asked for, and answers the status: 0 where it is done; 1 where the input is faulty, the
 /// output fails or memory runs out; 2 where the request is faulty; 3 where a check finds something. Only a message doesn't
-/// read the input. A write to `errors` that fails changes no status.
+/// read the input. A write to `errors` that fails changes no status. `in_words` says whether a person reads `errors`: then
+/// a second line says what the number of a failure means.
 pub fn perform<R: Read, W: Write, E: Write>(
     alloc: Global,
     request: &Request<'_>,
+    in_words: bool,
     input: &mut Watched<R>,
     output: &mut Watched<W>,
     errors: &mut Watched<E>,
 ) -> u8
-    ensures performs { Performs request.now
+    ensures performs { Performs request.now in_words
         (input_by R.remaining input.old input.new)
         (output_by W.contents output.old output.new)
         (output_by E.contents errors.old errors.new)
@@ -101,7 +148,7 @@ pub fn perform<R: Read, W: Write, E: Write>(
                 interface: *interface,
                 vlan: *vlan,
             };
-            perform_conversion(alloc, choice, input, output, errors)
+            perform_conversion(alloc, choice, in_words, input, output, errors)
         }
         Request::Check {
             protocol,
@@ -112,9 +159,10 @@ pub fn perform<R: Read, W: Write, E: Write>(
             until,
             ..
         } => perform_check(
-            alloc, *protocol, querier, settings, *within, *until, *cite, input, output, errors,
+            alloc, *protocol, querier, settings, *within, *until, *cite, in_words, input, output,
+            errors,
         ),
-        _ => perform_work(alloc, request, input, output, errors),
+        _ => perform_work(alloc, request, in_words, input, output, errors),
     }
 }
 
@@ -122,13 +170,14 @@ pub fn perform<R: Read, W: Write, E: Write>(
 fn perform_work<R: Read, W: Write, E: Write>(
     alloc: Global,
     request: &Request<'_>,
+    in_words: bool,
     input: &mut Watched<R>,
     output: &mut Watched<W>,
     errors: &mut Watched<E>,
 ) -> u8
     requires converts_nothing { IsConversion request.now → ⊥ }
     requires checks_nothing { IsCheck request.now → ⊥ }
-    ensures performs { Performs request.now
+    ensures performs { Performs request.now in_words
         (input_by R.remaining input.old input.new)
         (output_by W.contents output.old output.new)
         (output_by E.contents errors.old errors.new)
@@ -140,7 +189,7 @@ fn perform_work<R: Read, W: Write, E: Write>(
     match work(alloc, request, input, output) {
         Ok(true) => DONE,
         Ok(false) => FAULTY,
-        Err(failure) => told(failure, errors),
+        Err(failure) => told(failure, in_words, errors),
     }
 }
 
@@ -148,11 +197,12 @@ fn perform_work<R: Read, W: Write, E: Write>(
 fn perform_conversion<R: Read, W: Write, E: Write>(
     alloc: Global,
     choice: Choice,
+    in_words: bool,
     input: &mut Watched<R>,
     output: &mut Watched<W>,
     errors: &mut Watched<E>,
 ) -> u8
-    ensures { PerformsConversion choice.interface choice.vlan
+    ensures { PerformsConversion choice.interface choice.vlan in_words
         (input_by R.remaining input.old input.new)
         (output_by W.contents output.old output.new)
         (output_by E.contents errors.old errors.new)
@@ -163,7 +213,7 @@ fn perform_conversion<R: Read, W: Write, E: Write>(
             tell_unread(&unread, errors);
             DONE
         }
-        Err(failure) => told(failure, errors),
+        Err(failure) => told(failure, in_words, errors),
     }
 }
 
@@ -179,11 +229,12 @@ fn perform_check<R: Read, W: Write, E: Write>(
     within: Option<u32>,
     until: Option<u64>,
     cite: bool,
+    in_words: bool,
     input: &mut Watched<R>,
     output: &mut Watched<W>,
     errors: &mut Watched<E>,
 ) -> u8
-    ensures performs { PerformsCheck protocol querier.now settings.now within until cite
+    ensures performs { PerformsCheck protocol querier.now settings.now within until cite in_words
         (input_by R.remaining input.old input.new)
         (output_by W.contents output.old output.new)
         (output_by E.contents errors.old errors.new)
@@ -199,7 +250,7 @@ fn perform_check<R: Read, W: Write, E: Write>(
     match check_capture(alloc, protocol, querier, settings, terms, input, output) {
         Ok(totals) if totals.findings == 0 => DONE,
         Ok(_) => FOUND,
-        Err(failure) => told(failure, errors),
+        Err(failure) => told(failure, in_words, errors),
     }
 }
 
@@ -213,18 +264,18 @@ fn tell_unread<E: Write>(unread: &Unread, errors: &mut Watched<E>)
 }
 
 /// Says on standard error that the file that is named can't be opened, and answers the status.
-pub fn refuse_file<E: Write>(errors: &mut Watched<E>) -> u8
+pub fn refuse_file<E: Write>(in_words: bool, errors: &mut Watched<E>) -> u8
     ensures status { result ≡ 1 }
-    ensures line { Told (output_by E.contents errors.old errors.new) Failure.NotOpened }
+    ensures line { Told in_words (output_by E.contents errors.old errors.new) Failure.NotOpened }
 {
-    told(Failure::NotOpened, errors)
+    told(Failure::NotOpened, in_words, errors)
 }
 
 /// Says on standard error what failed, and answers the status.
-fn told<E: Write>(failure: Failure, errors: &mut Watched<E>) -> u8
+fn told<E: Write>(failure: Failure, in_words: bool, errors: &mut Watched<E>) -> u8
     ensures status { result ≡ status_of failure }
-    ensures line { Told (output_by E.contents errors.old errors.new) failure }
+    ensures line { Told in_words (output_by E.contents errors.old errors.new) failure }
 {
-    let _ = print(line_of(failure).as_slice(), errors);
+    let _ = print(line_of(failure, in_words).as_slice(), errors);
     status_of_failure(failure)
 }

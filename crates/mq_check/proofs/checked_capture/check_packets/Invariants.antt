@@ -4,8 +4,8 @@ use Rattle.mq_pcap.specs.declared.reader_state.Progress.TheVariants.{Reading}
 use Rattle.mq_pcap.specs.Capture.{endless, most_bytes}
 use Rattle.mq_pcap.specs.Filling.{input_of}
 use Rattle.mq_pcap.specs.Reading.{form_of, number_of, progress_of}
-use Rattle.mq_replay.specs.declared.printing.LineFault.{LineFault}
-use Rattle.mq_replay.specs.Printing.{output_of}
+use Rattle.mq_text.specs.declared.printing.LineFault.{LineFault}
+use Rattle.mq_text.specs.Printing.{output_of}
 use Rattle.mq_check.specs.declared.finding.Finding.{Finding}
 use Rattle.mq_check.specs.Coming.{checked_in}
 use Rattle.mq_check.specs.Telling.{Tells}

@@ -1,7 +1,7 @@
 use Rattle.std.proofs.Common.{ap, sym, ◌∙◌}
 use Rattle.std.proofs.lemmas.Result.{err_from_is_err_and}
 use Rattle.mq_link.specs.Configuration.{Configuration}
-use Rattle.mq_replay.specs.Printing.{output_of}
+use Rattle.mq_text.specs.Printing.{output_of}
 use Rattle.mq_check.specs.Check.{Checked}
 use Rattle.mq_check.specs.Checking.{CheckingValue}
 use Rattle.mq_check.specs.Coming.{checked_in}

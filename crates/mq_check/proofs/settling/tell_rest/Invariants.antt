@@ -1,8 +1,8 @@
 -- what was told so far, and what is found of what still waits, is what is found of all
 use Rattle.std.proofs.Common.{◌≡◌, ℕ, List, ◌++◌, length, Ok}
 use Rattle.std.specs.List.{flat_map}
-use Rattle.mq_replay.specs.Printing.{output_of}
-use Rattle.mq_replay.specs.declared.printing.LineFault.{LineFault}
+use Rattle.mq_text.specs.Printing.{output_of}
+use Rattle.mq_text.specs.declared.printing.LineFault.{LineFault}
 use Rattle.mq_check.specs.declared.finding.Finding.{Finding}
 use Rattle.mq_check.specs.Checking.{found_of_last}
 use Rattle.mq_check.specs.Telling.{Tells}

@@ -1,8 +1,8 @@
 -- the ticks so far were made, and what is found by them was told
 use Rattle.std.proofs.Common.{◌≡◌, ℕ, ◌+◌, ◌-◌, List, Ok}
 use Rattle.mq_link.specs.Tick.{next_of}
-use Rattle.mq_replay.specs.declared.printing.LineFault.{LineFault}
-use Rattle.mq_replay.specs.Printing.{output_of}
+use Rattle.mq_text.specs.declared.printing.LineFault.{LineFault}
+use Rattle.mq_text.specs.Printing.{output_of}
 use Rattle.mq_check.specs.declared.finding.Finding.{Finding}
 use Rattle.mq_check.specs.Check.{ticked_through}
 use Rattle.mq_check.specs.Coming.{checked_in}

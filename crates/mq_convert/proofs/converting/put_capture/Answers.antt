@@ -1,8 +1,8 @@
 use Rattle.std.proofs.Common.{[], ◌∙◌, arith, refl}
 use Rattle.std.proofs.lemmas.Result.{err_from_is_err_and}
 use Rattle.std.proofs.Math.Bool.{or-false}
-use Rattle.mq_replay.specs.declared.printing.LineFault.{LineFault}
-use Rattle.mq_replay.proofs.Passing.{held_more, nothing_passed}
+use Rattle.mq_text.specs.declared.printing.LineFault.{LineFault}
+use Rattle.mq_text.proofs.Passing.{held_more, nothing_passed}
 use Rattle.mq_convert.specs.Contexts.{context_of}
 use Rattle.mq_convert.specs.Records.{file_header}
 use Rattle.mq_convert.proofs.SoFar.{nothing_read, ended_faulty, ended_within, next_put, next_broken}

@@ -1,7 +1,7 @@
 use Rattle.std.proofs.Common.{◌≡◌, ◌-◌, ◌≤◌, length}
 use Rattle.mq_count.specs.Streams.{inner_of, has_failed}
 use Rattle.mq_pcap.specs.Filling.{input_of}
-use Rattle.mq_replay.specs.Printing.{Passes}
+use Rattle.mq_text.specs.Printing.{Passes}
 use Rattle.mq_convert.specs.Contexts.{context_of}
 use Rattle.mq_convert.specs.Files.{endless}
 use Rattle.mq_convert.specs.Records.{converted, packets_of}

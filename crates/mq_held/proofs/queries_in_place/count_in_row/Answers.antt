@@ -2,7 +2,7 @@ use Rattle.std.proofs.Common.{◌≡◌, ◌||◌, ◌+◌, ◌<◌, ◌∙◌, 
 use Rattle.std.specs.List.{list_any}
 use Rattle.std.proofs.lemmas.List.{get_or-set_same, length-set, set-get_or, set-set}
 use Rattle.mq_count.proofs.Spent.{Spends-join_within, Spends-none, Spends-within}
-use Rattle.mq_sets.specs.NumberedRows.{NumberedRowsState}
+use Rattle.mq_sets.specs.Pools.{PoolState}
 use Rattle.mq_table.specs.declared.sources.Source.{Source}
 use Rattle.mq_table.specs.MadeSources.{item_counted}
 use Rattle.mq_table.specs.SendingPlaces.{item_has_sendings}
@@ -39,7 +39,7 @@ loop-place-preserved g c =
     let place = c.loop-place.place in
     let held = c.index-row-place.result in
     let so_far = c.loop-place.invariant in
-    let there : n < length rows.rows = omega (arith, ap (λ (s : NumberedRowsState _). length s.rows) so_far.rows, length-set initial.rows n xs, c.requires.number) in
+    let there : n < length rows.rows = omega (arith, ap (λ (s : PoolState _). length s.rows) so_far.rows, length-set initial.rows n xs, c.requires.number) in
     let here : held ≡ get_or xs place held = c.index-row-place.is ∙ ap (λ ys. get_or ys place held) c.row.ensures.cells in
     let within : place < length row = omega (arith, c.loop-place-test.true, c.requires.between.within) in
     let within_xs : place < length xs = omega (arith, so_far.len, within) in
@@ -49,7 +49,7 @@ loop-place-preserved g c =
     elim c.if-has_sendings.branch [
       | then-has_sendings w ↦
           let own : get_or (set rows.rows n (set xs place y)) n [] ≡ set xs place y = get_or-set_same rows.rows n (set xs place y) [] there in
-          let all : set rows.rows n (set xs place y) ≡ set initial.rows n (set xs place y) = ap (λ (s : NumberedRowsState _). set s.rows n (set xs place y)) so_far.rows ∙ set-set initial.rows n xs (set xs place y) in
+          let all : set rows.rows n (set xs place y) ≡ set initial.rows n (set xs place y) = ap (λ (s : PoolState _). set s.rows n (set xs place y)) so_far.rows ∙ set-set initial.rows n xs (set xs place y) in
           let rest_is = so_far.rows in
           rw (w.rows-is, w.moves-is, w.left-is, w.has_sendings-left.ensures, w.set.ensures.rows, w.counted-timer.ensures, own) (record {
             rows = (λ i. record { rows = all i; cell_limit = (rest_is i).cell_limit; ahead = (rest_is i).ahead });
@@ -81,7 +81,7 @@ returns-clause-rows g c =
     let over : c.loop-place.place ≡ c.args.places.end = omega (arith, c.requires.between.ordered) in
     let none = rw (← over) at c.requires.between.none_behind in
     let all = all_asked item_counted row (get_or c.loop-place.rows.rows n []) c.loop-place.place so_far.made so_far.rest (uncounted_all (drop c.loop-place.place row) none) in
-    so_far.rows ∙ (λ i. let s : NumberedRowsState _ = record initial { rows = set initial.rows n (all i) } in s)
+    so_far.rows ∙ (λ i. let s : PoolState _ = record initial { rows = set initial.rows n (all i) } in s)
 
 pub returns-clause-left : goal.returns-clause-left
 returns-clause-left g c =

@@ -1,7 +1,7 @@
 use Rattle.std.proofs.Common.{rules, ◌≡◌, ◌<◌, [], cond, ltb, length, List, get_or, set, min, Some, sym, ap, ◌∙◌, subst, arith}
 use Rattle.std.proofs.lemmas.List.{get_or-set_same, get_or_default, length-set, set-set}
 use Rattle.mq_count.proofs.Spent.{Spends-join, Spends-join_within}
-use Rattle.mq_sets.specs.NumberedRows.{NumberedRowsState}
+use Rattle.mq_sets.specs.Pools.{PoolState}
 use Rattle.mq_sets.proofs.OneCell.{set-same}
 use Rattle.mq_table.specs.declared.sources.Source.{Source}
 use Rattle.mq_table.specs.Stored.{number_in}
@@ -16,7 +16,7 @@ loop-name-init g c =
     let n = c.args.number in
     let row = get_or rows.rows n [] in
     record {
-      rows = ap (λ (rs : List (List (Source _))). let s : NumberedRowsState (Source _) = record rows { rows = rs } in s) (sym (set-same rows.rows n row c.requires.number (get_or_default rows.rows n [] row c.requires.number)));
+      rows = ap (λ (rs : List (List (Source _))). let s : PoolState (Source _) = record rows { rows = rs } in s) (sym (set-same rows.rows n row c.requires.number (get_or_default rows.rows n [] row c.requires.number)));
       row = IsRestarted-none number c.args.deadline c.args.earliest row c.args.named.now c.requires.ascending c.requires.there;
       spent = search rules;
       moved = search rules;
@@ -45,14 +45,14 @@ loop-name-preserved g c =
     let held = c.loop-name.invariant in
     let cells = c.row-in-loop-name.ensures.cells in
     let first = c.row.ensures.cells in
-    let below : n < length rows.rows = omega (arith, c.requires.number, ap (λ (s : NumberedRowsState (Source _)). length s.rows) held.rows ∙ length-set was.rows n row) in
+    let below : n < length rows.rows = omega (arith, c.requires.number, ap (λ (s : PoolState (Source _)). length s.rows) held.rows ∙ length-set was.rows n row) in
     let within : place < length row = omega (arith, c.place_from-place.ensures.within.1, ap length first) in
     let here : x ≡ get_or row place x = c.index-row-place.is ∙ ap (λ xs. get_or xs place x) cells in
     let is : number x.address ≡ number c.name-item.result = ap (number_in number) (here ∙ ap (λ xs. get_or xs place x) (sym first)) ∙ c.place_from-place.ensures.found x in
     let next = IsRestarted-more number c.args.deadline c.args.earliest before c.args.named.now c.requires.ascending c.requires.named row c.loop-name.from c.loop-name.name-index c.loop-name.were.is_stopped c.loop-name.were.is_later held.row c.name-item.result c.name-item.is c.loop-name-test.true place x y c.is_later.result c.place_from-place.ensures.within.0 within here is c.restarted.ensures c.is_later.ensures.later.0 in
-    let row_is : get_or c.set.new.self.rows n [] ≡ set row place y = ap (λ (s : NumberedRowsState (Source _)). get_or s.rows n []) c.set.ensures.rows ∙ get_or-set_same rows.rows n (set row place y) [] below in
-    let left = c.set.ensures.rows ∙ ap (λ (s : NumberedRowsState (Source _)). let t : NumberedRowsState (Source _) = record s { rows = set s.rows n (set row place y) } in t) held.rows in
-    let once = ap (λ (rs : List (List (Source _))). let s : NumberedRowsState (Source _) = record was { rows = rs } in s) (set-set was.rows n row (set row place y) ∙ ap (set was.rows n) (sym row_is)) in
+    let row_is : get_or c.set.new.self.rows n [] ≡ set row place y = ap (λ (s : PoolState (Source _)). get_or s.rows n []) c.set.ensures.rows ∙ get_or-set_same rows.rows n (set row place y) [] below in
+    let left = c.set.ensures.rows ∙ ap (λ (s : PoolState (Source _)). let t : PoolState (Source _) = record s { rows = set s.rows n (set row place y) } in t) held.rows in
+    let once = ap (λ (rs : List (List (Source _))). let s : PoolState (Source _) = record was { rows = rs } in s) (set-set was.rows n row (set row place y) ∙ ap (set was.rows n) (sym row_is)) in
     record {
       rows = left ∙ once;
       row = rw (row_is, c.is_stopped.ensures) next;

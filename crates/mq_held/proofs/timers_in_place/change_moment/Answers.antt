@@ -1,8 +1,8 @@
 use Rattle.std.proofs.Common.{sym, ap}
-use Rattle.mq_sched.specs.NumberedMoments.{NumberedMomentsState}
+use Rattle.mq_sched.specs.Deadlines.{DeadlinesState}
 use Rattle.mq_held.proofs.RestartedTimers.{insert-same}
 use Rattle.mq_held.proofs.timers_in_place.change_moment.Goals as goal
 
 pub returns-in-None-clause-moments : goal.returns-in-None-clause-moments
 returns-in-None-clause-moments g c earliest is =
-    rw c.in-None.is (ap (λ moments. let s : NumberedMomentsState = record { moments = moments; room = c.args.moments.now.room } in s) (sym (insert-same c.args.moments.now.moments c.args.number earliest is)))
+    rw c.in-None.is (ap (λ moments. let s : DeadlinesState = record { moments = moments; room = c.args.moments.now.room } in s) (sym (insert-same c.args.moments.now.moments c.args.number earliest is)))

@@ -3,10 +3,10 @@ use Rattle.std.specs.List.{flat_map, list_any}
 use Rattle.std.proofs.lemmas.Result.{err_from_is_err_and}
 use Rattle.mq_table.specs.declared.sources.Source.{Source}
 use Rattle.mq_table.specs.Group.{is_include}
+use Rattle.mq_text.proofs.Passing.{broken_behind, broken_within, held_more, put_as, then_put}
 use Rattle.mq_replay.specs.ChangeLines.{change_start}
 use Rattle.mq_replay.specs.NamedSources.{is_named, name_by, named_by}
 use Rattle.mq_replay.proofs.ChangeTexts.{line-row}
-use Rattle.mq_replay.proofs.Passing.{broken_behind, broken_within, held_more, put_as, then_put}
 use Rattle.mq_replay.proofs.change_lines.put_change.Goals as goal
 
 pub returns-in_err-make_room-clause-text : goal.returns-in_err-make_room-clause-text

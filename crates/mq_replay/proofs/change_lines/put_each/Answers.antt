@@ -2,9 +2,9 @@ use Rattle.std.proofs.Common.{ℕ, List, refl, arith, ap, ◌∙◌}
 use Rattle.std.proofs.lemmas.Result.{err_from_is_err_and}
 use Rattle.std.proofs.lemmas.Bool.Decides.{nat_tests}
 use Rattle.mq_held.specs.Groups.{group_at}
+use Rattle.mq_text.proofs.Passing.{item_passed, nothing_passed}
 use Rattle.mq_replay.specs.ChangeLines.{change_line, change_lines}
 use Rattle.mq_replay.proofs.ChangeTexts.{all_passed, item_broken, lines-numbered}
-use Rattle.mq_replay.proofs.Passing.{item_passed, nothing_passed}
 use Rattle.mq_replay.proofs.change_lines.put_each.Goals as goal
 
 pub loop-address-init : goal.loop-address-init

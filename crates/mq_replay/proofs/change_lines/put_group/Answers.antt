@@ -1,8 +1,8 @@
 use Rattle.std.proofs.Common.{ap, sym}
 use Rattle.mq_sched.specs.Schedule.{ScheduledGroup}
+use Rattle.mq_text.proofs.Passing.{put_as}
 use Rattle.mq_replay.specs.ChangeLines.{change_line}
 use Rattle.mq_replay.proofs.ChangeTexts.{line-absent}
-use Rattle.mq_replay.proofs.Passing.{put_as}
 use Rattle.mq_replay.proofs.change_lines.put_group.Goals as goal
 
 pub returns-in-Some-clause-text : goal.returns-in-Some-clause-text

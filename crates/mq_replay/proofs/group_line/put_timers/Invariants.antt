@@ -1,7 +1,7 @@
 use Rattle.std.proofs.Common.{◌≡◌, take}
 use Rattle.std.specs.List.{flat_map}
 use Rattle.mq_count.specs.Streams.{inner_of, has_failed}
-use Rattle.mq_replay.specs.Printing.{Passes}
+use Rattle.mq_text.specs.Printing.{Passes}
 use Rattle.mq_replay.specs.ReplayLines.{timer_text}
 use Rattle.mq_replay.proofs.group_line.put_timers.Given as goal
 

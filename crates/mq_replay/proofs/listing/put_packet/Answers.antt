@@ -1,9 +1,9 @@
 use Rattle.std.proofs.Common.{[], ◌++◌}
 use Rattle.std.proofs.lemmas.Result.{err_from_is_err_and}
 use Rattle.mq_pcap.specs.Frame.{carried_in}
+use Rattle.mq_text.proofs.Passing.{broken_within, held_more}
 use Rattle.mq_replay.specs.Listing.{place_text}
 use Rattle.mq_replay.proofs.Packets.{some_said, put_as_packet}
-use Rattle.mq_replay.proofs.Passing.{broken_within, held_more}
 use Rattle.mq_replay.proofs.listing.put_packet.Goals as goal
 
 pub returns-in_err-make_room-clause-line : goal.returns-in_err-make_room-clause-line

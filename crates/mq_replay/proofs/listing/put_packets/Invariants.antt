@@ -4,7 +4,7 @@ use Rattle.mq_pcap.specs.declared.reader_state.Progress.TheVariants.{Reading}
 use Rattle.mq_pcap.specs.Capture.{endless, most_bytes}
 use Rattle.mq_pcap.specs.Filling.{input_of}
 use Rattle.mq_pcap.specs.Reading.{form_of, number_of, progress_of}
-use Rattle.mq_replay.specs.Printing.{Passes}
+use Rattle.mq_text.specs.Printing.{Passes}
 use Rattle.mq_replay.proofs.ReadSoFar.{IsReadTo}
 use Rattle.mq_replay.proofs.listing.put_packets.Given as goal
 

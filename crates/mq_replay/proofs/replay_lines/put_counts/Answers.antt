@@ -1,6 +1,6 @@
 use Rattle.std.proofs.Common.{[]}
 use Rattle.std.proofs.lemmas.Result.{err_from_is_err_and}
-use Rattle.mq_replay.proofs.Passing.{broken_within}
+use Rattle.mq_text.proofs.Passing.{broken_within}
 use Rattle.mq_replay.specs.ReplayLines.{counts_line}
 use Rattle.mq_replay.proofs.replay_lines.put_counts.Goals as goal
 

@@ -1,8 +1,8 @@
 use Rattle.std.proofs.Common.{[], ◌++◌, codes}
 use Rattle.std.proofs.lemmas.Result.{err_from_is_err_and}
 use Rattle.hex.specs.Hex.{encode_lower}
+use Rattle.mq_text.proofs.Passing.{both_passed, broken_behind, broken_within, held_more, then_put}
 use Rattle.mq_replay.specs.ReplayLines.{query_line, query_start}
-use Rattle.mq_replay.proofs.Passing.{both_passed, broken_behind, broken_within, held_more, then_put}
 use Rattle.mq_replay.proofs.replay_lines.put_query.Goals as goal
 
 pub returns-in_err-make_room-clause-text : goal.returns-in_err-make_room-clause-text

@@ -5,8 +5,8 @@ use Rattle.mq_pcap.specs.declared.fault.PcapFault.{PcapFault}
 use Rattle.mq_pcap.specs.declared.form.Form.{Form}
 use Rattle.mq_pcap.specs.declared.reader_state.Packet.{Packet}
 use Rattle.mq_pcap.specs.Reading.{number_of, progress_after, records_in}
+use Rattle.mq_text.proofs.Passing.{nothing_passed}
 use Rattle.mq_replay.specs.declared.stamps.Stamps.{Stamps}
-use Rattle.mq_replay.proofs.Passing.{nothing_passed}
 use Rattle.mq_replay.proofs.ReadSoFar.{read_as, none_left}
 use Rattle.mq_replay.proofs.ReplayedSoFar.{none_replayed}
 use Rattle.mq_replay.proofs.Replays.{ended_faulty, ended_by_gap_as, ended_broken_as, ended_well_as, next_put_as}

@@ -2,7 +2,7 @@ use Rattle.std.proofs.Common.{◌<◌, ◌≤◌, [], refl, ◌∙◌, subst, ar
 use Rattle.std.proofs.lemmas.Bool.Decides.{nat_tests}
 use Rattle.std.proofs.lemmas.Result.{err_from_is_err_and}
 use Rattle.std.proofs.Math.Bool.{or-false}
-use Rattle.mq_replay.proofs.Passing.{nothing_passed}
+use Rattle.mq_text.proofs.Passing.{nothing_passed}
 use Rattle.mq_replay.proofs.Ticking.{comes_later, next_broken, next_done, none_ticked, ticks_done}
 use Rattle.mq_replay.proofs.ticks.tick_before.Goals as goal
 

@@ -1,7 +1,7 @@
 use Rattle.std.proofs.Common.{◌≡◌, ℕ, ◌-◌, List}
 use Rattle.mq_count.specs.Streams.{inner_of, has_failed}
 use Rattle.mq_link.specs.Tick.{next_of}
-use Rattle.mq_replay.specs.Printing.{Passes}
+use Rattle.mq_text.specs.Printing.{Passes}
 use Rattle.mq_replay.specs.Steps.{begun_with}
 use Rattle.mq_replay.proofs.Ticking.{IsTickedTo}
 use Rattle.mq_replay.proofs.ticks.tick_before.Given as goal

@@ -10,48 +10,48 @@ use Rattle.mq_sched.proofs.DueLeaves.{leaf_written, spent_on_one, spent_on_both}
 use Rattle.mq_sched.proofs.due_leaves.+collect.Goals as goal
 
 pub bounds-leaves-from : goal.bounds-leaves-from
-bounds-leaves-from g t c =
+bounds-leaves-from t c =
     omega (arith, c.requires.space, ones-below (length c.args.lefts.now) c.args.node)
 
 pub returns-then-node-lefts-clause-within : goal.returns-then-node-lefts-clause-within
-returns-then-node-lefts-clause-within g t c = omega (arith, ones-below (length c.args.lefts.now) c.args.node)
+returns-then-node-lefts-clause-within t c = omega (arith, ones-below (length c.args.lefts.now) c.args.node)
 
 pub returns-then-node-lefts-clause-due : goal.returns-then-node-lefts-clause-due
-returns-then-node-lefts-clause-due g t c leaf =
-    leaf_written (λ x. g.N.LeafName.leaf_of (length c.args.lefts.now) x) c.args.nodes.now c.args.leaves.now c.of_leaf.result c.of_leaf.ensures (length c.args.lefts.now) c.args.now c.args.from leaf (bounds-leaves-from g t c) c.if-node-lefts.true c.requires.due
+returns-then-node-lefts-clause-due t c leaf =
+    leaf_written (λ x. length c.args.lefts.now + x) c.args.nodes.now c.args.leaves.now (c.args.node - length c.args.lefts.now) (omega (arith, c.if-node-lefts.true)) (length c.args.lefts.now) c.args.now c.args.from leaf (bounds-leaves-from t c) c.if-node-lefts.true c.requires.due
 
 pub returns-then-node-lefts-clause-spent : goal.returns-then-node-lefts-clause-spent
-returns-then-node-lefts-clause-spent g t c =
+returns-then-node-lefts-clause-spent t c =
     let one = sum_below-leaf (λ _. 1) (length c.args.lefts.now) c.args.node c.if-node-lefts.true in
     Spends-within _ _ (Spends-none c.args.m.now) (omega (arith, one)) (omega arith)
 
 pub collect-end-requires : goal.collect-end-requires
-collect-end-requires g t c κs alive =
+collect-end-requires t c =
     let parts = rw (← c.nodes_below-first.ensures.first, ← c.nodes_below-first.ensures.second) at (AreBelow-from_tree c.args.nodes.now c.args.lefts.now c.args.node c.requires.tree c.requires.node c.if-node-lefts.false) in
     let both = parts.sums (λ _. 1) in
-    (omega (arith, parts.behind, parts.within, c.decreases), (alive, (c.requires.tree, (omega (arith, parts.behind), (omega (arith, parts.within, c.requires.tree.size), (omega (arith, parts.first, c.requires.due), (c.requires.few, (omega (arith, both, c.requires.counted), omega (arith, both, c.requires.space)))))))))
+    (omega (arith, parts.behind, parts.within, c.decreases), (c.requires.tree, (omega (arith, parts.behind), (omega (arith, parts.within, c.requires.tree.size), (omega (arith, parts.first, c.requires.due), (c.requires.few, (omega (arith, both, c.requires.counted), omega (arith, both, c.requires.space))))))))
 
 pub collect-requires : goal.collect-requires
-collect-requires g t c κs alive =
+collect-requires t c =
     let parts = rw (← c.nodes_below-first.ensures.first, ← c.nodes_below-first.ensures.second) at (AreBelow-from_tree c.args.nodes.now c.args.lefts.now c.args.node c.requires.tree c.requires.node c.if-node-lefts.false) in
     let both = parts.sums (λ _. 1) in
     let second = c.nodes_below-first.result.1 in
     let read = get_or_read c.args.nodes.now second c.index-nodes-second.result (omega (arith, parts.within, c.requires.tree.size)) c.index-nodes-second.is 0 in
     let due = c.reached.ensures.answer.0 c.if-reached.true in
-    (omega (arith, parts.behind, parts.within, c.decreases), (alive, (c.requires.tree, (omega (arith, parts.behind), (omega (arith, parts.within, c.requires.tree.size), (omega (arith, read, due), (c.requires.few, (omega (arith, both, c.requires.counted, c.collect-end.ensures.within), omega (arith, both, c.requires.space, c.collect-end.ensures.within, c.collect-end.auto.leaves)))))))))
+    (omega (arith, parts.behind, parts.within, c.decreases), (c.requires.tree, (omega (arith, parts.behind), (omega (arith, parts.within, c.requires.tree.size), (omega (arith, read, due), (c.requires.few, (omega (arith, both, c.requires.counted, c.collect-end.ensures.within), omega (arith, both, c.requires.space, c.collect-end.ensures.within, c.collect-end.auto.leaves))))))))
 
 pub returns-then-reached-clause-within : goal.returns-then-reached-clause-within
-returns-then-reached-clause-within g t c =
+returns-then-reached-clause-within t c =
     let parts = rw (← c.nodes_below-first.ensures.first, ← c.nodes_below-first.ensures.second) at (AreBelow-from_tree c.args.nodes.now c.args.lefts.now c.args.node c.requires.tree c.requires.node c.if-node-lefts.false) in
     omega (arith, parts.sums (λ _. 1), c.collect-end.ensures.within, c.collect.ensures.within)
 
 pub returns-then-reached-clause-due : goal.returns-then-reached-clause-due
-returns-then-reached-clause-due g t c leaf =
+returns-then-reached-clause-due t c leaf =
     let parts = rw (← c.nodes_below-first.ensures.first, ← c.nodes_below-first.ensures.second) at (AreBelow-from_tree c.args.nodes.now c.args.lefts.now c.args.node c.requires.tree c.requires.node c.if-node-lefts.false) in
     omega (arith, parts.sums (one_if_due c.args.nodes.now c.args.now leaf), c.collect-end.ensures.due leaf, c.collect.ensures.due leaf)
 
 pub returns-then-reached-clause-behind : goal.returns-then-reached-clause-behind
-returns-then-reached-clause-behind g t c =
+returns-then-reached-clause-behind t c =
     let end = c.collect-end.result in
     let last = c.collect.result in
     let split : end + (last - end) ≡ last = omega (arith, c.collect.ensures.some) in
@@ -63,7 +63,7 @@ returns-then-reached-clause-behind g t c =
     ∙ ap (λ k. drop k c.args.leaves.now) split
 
 pub returns-then-reached-clause-spent : goal.returns-then-reached-clause-spent
-returns-then-reached-clause-spent g t c =
+returns-then-reached-clause-spent t c =
     let n = length c.args.lefts.now in
     let parts = rw (← c.nodes_below-first.ensures.first, ← c.nodes_below-first.ensures.second) at (AreBelow-from_tree c.args.nodes.now c.args.lefts.now c.args.node c.requires.tree c.requires.node c.if-node-lefts.false) in
     let height = bitlen (n - 1) - bitlen c.args.node in
@@ -78,12 +78,12 @@ returns-then-reached-clause-spent g t c =
     (spent_on_both (c.collect-end.result - c.args.from) (sum_below (λ _. 1) n c.nodes_below-first.result.0) (sum_below (λ _. 1) n c.nodes_below-first.result.1) height (omega (arith, c.collect-end.ensures.some)) (omega (arith, c.collect-end.ensures.within)) (ones-below n c.nodes_below-first.result.1) one c.reached.ensures.spent (c.collect.result - c.collect-end.result) (omega (arith, c.collect.ensures.some)) (omega (arith, c.collect.ensures.within)) two)
 
 pub returns-else-reached-clause-within : goal.returns-else-reached-clause-within
-returns-else-reached-clause-within g t c =
+returns-else-reached-clause-within t c =
     let parts = rw (← c.nodes_below-first.ensures.first, ← c.nodes_below-first.ensures.second) at (AreBelow-from_tree c.args.nodes.now c.args.lefts.now c.args.node c.requires.tree c.requires.node c.if-node-lefts.false) in
     omega (arith, parts.sums (λ _. 1), c.collect-end.ensures.within)
 
 pub returns-else-reached-clause-due : goal.returns-else-reached-clause-due
-returns-else-reached-clause-due g t c leaf =
+returns-else-reached-clause-due t c leaf =
     let parts = rw (← c.nodes_below-first.ensures.first, ← c.nodes_below-first.ensures.second) at (AreBelow-from_tree c.args.nodes.now c.args.lefts.now c.args.node c.requires.tree c.requires.node c.if-node-lefts.false) in
     let second = c.nodes_below-first.result.1 in
     let read = get_or_read c.args.nodes.now second c.index-nodes-second.result (omega (arith, parts.within, c.requires.tree.size)) c.index-nodes-second.is 0 in
@@ -93,7 +93,7 @@ returns-else-reached-clause-due g t c leaf =
     omega (arith, parts.sums (one_if_due c.args.nodes.now c.args.now leaf), c.collect-end.ensures.due leaf, none)
 
 pub returns-else-reached-clause-spent : goal.returns-else-reached-clause-spent
-returns-else-reached-clause-spent g t c =
+returns-else-reached-clause-spent t c =
     let n = length c.args.lefts.now in
     let parts = rw (← c.nodes_below-first.ensures.first, ← c.nodes_below-first.ensures.second) at (AreBelow-from_tree c.args.nodes.now c.args.lefts.now c.args.node c.requires.tree c.requires.node c.if-node-lefts.false) in
     let height = bitlen (n - 1) - bitlen c.args.node in
@@ -105,5 +105,5 @@ returns-else-reached-clause-spent g t c =
     (spent_on_one (c.collect-end.result - c.args.from) (sum_below (λ _. 1) n c.nodes_below-first.result.0) (sum_below (λ _. 1) n c.nodes_below-first.result.1) height (omega (arith, c.collect-end.ensures.some)) (omega (arith, c.collect-end.ensures.within)) (ones-below n c.nodes_below-first.result.1) one c.reached.ensures.spent)
 
 pub overflow_add-result : goal.overflow_add-result
-overflow_add-result g t c =
+overflow_add-result t c =
     omega (arith, c.requires.counted, ones-below (length c.args.lefts.now) c.args.node)

@@ -2,4 +2,4 @@ use Rattle.std.proofs.Common.{◌-◌, length}
 use Rattle.mq_sched.proofs.due_leaves.+collect.Given as goal
 
 abbrev pub decreases-collect : goal.decreases-collect
-decreases-collect g l = length l.nodes.now - l.node
+decreases-collect l = length l.nodes.now - l.node

@@ -3,8 +3,7 @@ use Rattle.std.proofs.lemmas.List.{map-set}
 use Rattle.std.proofs.lemmas.List.Edits.{paste_all}
 use Rattle.std.proofs.lemmas.Slice.{put_mid-paste}
 use Rattle.std.proofs.lemmas.List.Elements.{All-set}
-use Rattle.mq_sets.specs.NumberedRows.{IsPlaced}
-use Rattle.mq_sets.specs.Pools.{rows_of, IsWithin}
+use Rattle.mq_sets.specs.Pools.{IsPlaced, rows_of, IsWithin}
 use Rattle.mq_sets.specs.declared.extents.Extent.{Extent}
 use Rattle.mq_sets.proofs.Apart.{apart-shorter}
 use Rattle.mq_sets.proofs.WrittenOver.{rows-written}

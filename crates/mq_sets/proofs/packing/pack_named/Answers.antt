@@ -2,8 +2,7 @@ use Rattle.std.proofs.Common.{ℕ, ◌+◌, ◌-◌, ◌<◌, ◌≡◌, arith, 
 use Rattle.std.specs.List.{All}
 use Rattle.std.proofs.lemmas.List.{get_or_default, length-map, take_more, take_all}
 use Rattle.mq_count.proofs.Spent.{Spends-join}
-use Rattle.mq_sets.specs.Pools.{IsWithin, cells_said}
-use Rattle.mq_sets.specs.NumberedRows.{NamesRows}
+use Rattle.mq_sets.specs.Pools.{IsWithin, cells_said, NamesRows}
 use Rattle.mq_sets.specs.declared.extents.Extent.{Extent}
 use Rattle.mq_sets.proofs.PackedRows.{none, IsNext, IsNext-named, IsPackedBy, IsPackedBy-more, packed-rows, packed-within, packed-apart, named-all}
 use Rattle.mq_sets.proofs.packing.pack_named.Goals as goal

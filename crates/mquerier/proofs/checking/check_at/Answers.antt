@@ -5,7 +5,7 @@ use Rattle.mq_check.specs.declared.check_fault.CheckFault.{CheckFault}
 use Rattle.mq_check.specs.declared.check_fault.CheckFault.TheVariants as answer
 use Rattle.mq_check.specs.CheckedCaptures.{Checks}
 use Rattle.mq_count.specs.Streams.{inner_of}
-use Rattle.mq_replay.specs.Printing.{output_of}
+use Rattle.mq_text.specs.Printing.{output_of}
 use Rattle.mquerier.specs.Changes.{input_by}
 use Rattle.mquerier.proofs.Checkings.{flushed_check, until_in_range}
 use Rattle.mquerier.proofs.checking.check_at.Goals as goal

@@ -8,11 +8,11 @@ returns-in-Convert-clause-performs g c =
     let input = input_by g.R.Read.remaining c.args.input.now c.perform_conversion.new.input in
     let output = output_by g.W.Write.contents c.args.output.now c.perform_conversion.new.output in
     let errors = output_by g.E.Write.contents c.args.errors.now c.perform_conversion.new.errors in
-    rw c.in-Convert.is (conversion_performed _ _ _ input output errors c.perform_conversion.result c.perform_conversion.ensures)
+    rw c.in-Convert.is (conversion_performed _ _ _ _ input output errors c.perform_conversion.result c.perform_conversion.ensures)
 
 pub returns-in-Check-clause-performs : goal.returns-in-Check-clause-performs
 returns-in-Check-clause-performs g c =
     let input = input_by g.R.Read.remaining c.args.input.now c.perform_check.new.input in
     let output = output_by g.W.Write.contents c.args.output.now c.perform_check.new.output in
     let errors = output_by g.E.Write.contents c.args.errors.now c.perform_check.new.errors in
-    rw c.in-Check.is (check_performed _ _ _ _ _ _ _ input output errors c.perform_check.result c.perform_check.ensures.performs)
+    rw c.in-Check.is (check_performed _ _ _ _ _ _ _ _ input output errors c.perform_check.result c.perform_check.ensures.performs)

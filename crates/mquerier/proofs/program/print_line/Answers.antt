@@ -1,6 +1,6 @@
 use Rattle.std.proofs.Common.{codes}
 use Rattle.std.proofs.lemmas.Result.{err_from_is_err_and}
-use Rattle.mq_replay.proofs.Passing.{broken_off}
+use Rattle.mq_text.proofs.Passing.{broken_off}
 use Rattle.mquerier.proofs.program.print_line.Goals as goal
 
 pub returns-in_err-print-clause-text : goal.returns-in_err-print-clause-text

@@ -2,9 +2,9 @@ use Rattle.std.proofs.Common.{arith, refl, rules, subst, Ok, Err, ◌∙◌}
 use Rattle.std.proofs.Math.Bool.{or-true}
 use Rattle.std.proofs.lemmas.Result.{err_from_is_err_and}
 use Rattle.mq_count.specs.Streams.{inner_of}
+use Rattle.mq_text.specs.Printing.{output_of}
 use Rattle.mq_replay.specs.declared.replay_fault.ReplayFault.{ReplayFault}
 use Rattle.mq_replay.specs.declared.replay_fault.ReplayFault.TheVariants as answer
-use Rattle.mq_replay.specs.Printing.{output_of}
 use Rattle.mq_replay.specs.Replaying.{Replays}
 use Rattle.mquerier.specs.Changes.{input_by}
 use Rattle.mquerier.proofs.Replayed.{flushed_at}

@@ -1,7 +1,7 @@
 -- Where the buffer has no room and a write fails, a beginning of the text was written.
 use Rattle.std.proofs.Common.{[]}
 use Rattle.std.proofs.lemmas.Result.{err_from_is_err_and}
-use Rattle.mq_replay.proofs.Passing.{broken_within}
+use Rattle.mq_text.proofs.Passing.{broken_within}
 use Rattle.mq_check.specs.FindingLines.{totals_line}
 use Rattle.mq_check.proofs.told.Told.tell_totals.Goals as goal
 

@@ -5,7 +5,7 @@ use Rattle.std.proofs.lemmas.Bool.{true≢false}
 use Rattle.std.proofs.lemmas.List.{length-map, length-set}
 use Rattle.mq_count.proofs.Spent.{Spends-join, Spends-join_within, Spends-within}
 use Rattle.mq_sets.specs.Ascending.{IsAscending, set_of}
-use Rattle.mq_sets.specs.NumberedRows.{NumberedRowsState}
+use Rattle.mq_sets.specs.Pools.{PoolState}
 use Rattle.mq_sets.specs.Search.{bitlen}
 use Rattle.mq_table.specs.AskedSources.{source_if_asked}
 use Rattle.mq_table.specs.Group.{IsWellFormed, deadline_of, is_ahead, is_vacant, timer_at}
@@ -19,7 +19,7 @@ use Rattle.mq_table.specs.Stored.{number_in, state_of, timers_in}
 use Rattle.mq_table.proofs.AskingOne.{asked_absent}
 use Rattle.mq_table.proofs.SourceLists.{get-absent}
 use Rattle.mq_sched.specs.Rounds.{IsQuietAt}
-use Rattle.mq_sched.specs.NumberedMoments.{NumberedMomentsState}
+use Rattle.mq_sched.specs.Deadlines.{DeadlinesState}
 use Rattle.mq_sched.specs.Schedule.{ScheduleState, ScheduledGroup}
 use Rattle.mq_sched.specs.Sending.{after_round, messages_due, waiting_messages}
 use Rattle.mq_sched.specs.Sink.{Sends}
@@ -330,7 +330,7 @@ overflow_add-self g c =
 
 pub row-row-requires-3 : goal.row-row-requires-3
 row-row-requires-3 g c =
-    let size = ap (λ (s : NumberedRowsState _). length s.rows) (rows_counted_so g c) ∙ length-set c.self.inside.sources.rows c.args.number _ in
+    let size = ap (λ (s : PoolState _). length s.rows) (rows_counted_so g c) ∙ length-set c.self.inside.sources.rows c.args.number _ in
     record { number = omega (arith, size, rows_so g (place_of g (asked_of g c))) }
 
 pub earliest_stored-due-requires-clause-ascending : goal.earliest_stored-due-requires-clause-ascending
@@ -415,12 +415,12 @@ invariant_of-self g c =
     let own = schedules-read number c.self.inside.heads.items s0.rows n h in_heads c.index.ensures in
     let before = sym (c.count_schedules-before.ensures ∙ own) in
     let after = ap (λ (s : ScheduleState). one_if (is_some s.group_query) + one_if (is_some s.sources_due)) (sym next) ∙ sym c.count_schedules.ensures in (
-      subst (λ (p : (ScheduledHead × NumberedRowsState (Source _)) × (NumberedMomentsState × ℕ)). IsStored number c.self.inside.order.items (set c.self.inside.heads.items n p.0.0) p.0.1.rows p.1.0.moments p.1.1)
+      subst (λ (p : (ScheduledHead × PoolState (Source _)) × (DeadlinesState × ℕ)). IsStored number c.self.inside.order.items (set c.self.inside.heads.items n p.0.0) p.0.1.rows p.1.0.moments p.1.1)
           (λ i. ((sym head_is i, sym rows_then i), (sym c.change.ensures.moments i, c.self.inside.scheduled - before i + after i))) all,
-      c.self.invariant.1 ∙ ap (λ (s : NumberedRowsState (Source _)). s.cell_limit) (sym rows_then),
-      ap (λ (s : NumberedRowsState (Source _)). length s.rows) rows_then ∙ length-set s0.rows n (row_after g due) ∙ c.self.invariant.2,
+      c.self.invariant.1 ∙ ap (λ (s : PoolState (Source _)). s.cell_limit) (sym rows_then),
+      ap (λ (s : PoolState (Source _)). length s.rows) rows_then ∙ length-set s0.rows n (row_after g due) ∙ c.self.invariant.2,
       length-set c.self.inside.heads.items n _ ∙ c.self.invariant.3,
-      ap (λ (s : NumberedMomentsState). s.room) c.change.ensures.moments ∙ c.self.invariant.4,
+      ap (λ (s : DeadlinesState). s.room) c.change.ensures.moments ∙ c.self.invariant.4,
       c.self.invariant.5,
       c.self.invariant.6,
     )

@@ -14,8 +14,8 @@ pub remove_moment-requires : goal.remove_moment-requires
 remove_moment-requires g c =
     record { there = moment-there g.K.Key.number c.self.invariant.0 c.self.view_is c.args.number c.args.was_vacant c.requires.number c.requires.was }
 
-pub clear-requires : goal.clear-requires
-clear-requires g c = record { number = within-rows g.K.Key.number c.self.invariant.0 c.self.view_is c.args.number c.requires.number }
+pub remove_row-requires : goal.remove_row-requires
+remove_row-requires g c = record { number = within-rows g.K.Key.number c.self.invariant.0 c.self.view_is c.args.number c.requires.number }
 
 pub index_mut-requires : goal.index_mut-requires
 index_mut-requires g c =
@@ -40,7 +40,7 @@ invariant_of-self g c =
     let in_heads = within-other n c.self.inside.sources.rows c.self.inside.heads.items within (c.self.invariant.2 ∙ sym c.self.invariant.3) in
     let own = schedules-read number c.self.inside.heads.items c.self.inside.sources.rows n c.index-before.result.now in_heads c.index-before.ensures in
     let stored = IsStored-cleared number known n (numbered number known c.self.view_is n c.requires.number) in_heads within in
-    (rw (c.clear.ensures, c.vacant_head.ensures, c.remove_moment.ensures.moments, c.count_schedules.ensures, own) stored, rw c.clear.ensures c.self.invariant.1, rw c.clear.ensures (length-set c.self.inside.sources.rows n [] ∙ c.self.invariant.2), length-set c.self.inside.heads.items n c.vacant_head.result ∙ c.self.invariant.3, rw c.remove_moment.ensures.moments c.self.invariant.4, c.self.invariant.5, c.self.invariant.6)
+    (rw (c.remove_row.ensures, c.vacant_head.ensures, c.remove_moment.ensures.moments, c.count_schedules.ensures, own) stored, rw c.remove_row.ensures c.self.invariant.1, rw c.remove_row.ensures (length-set c.self.inside.sources.rows n [] ∙ c.self.invariant.2), length-set c.self.inside.heads.items n c.vacant_head.result ∙ c.self.invariant.3, rw c.remove_moment.ensures.moments c.self.invariant.4, c.self.invariant.5, c.self.invariant.6)
 
 pub returns-clause-groups : goal.returns-clause-groups
 returns-clause-groups g c address has =
@@ -49,7 +49,7 @@ returns-clause-groups g c address has =
     let known = c.self.invariant.0 in
     let within = within-rows number known c.self.view_is n c.requires.number in
     let in_heads = within-other n c.self.inside.sources.rows c.self.inside.heads.items within (c.self.invariant.2 ∙ sym c.self.invariant.3) in
-    rw (c.clear.ensures, c.vacant_head.ensures) (state-set number known c.self.view_is no_head [] unheld c.self.inside.sources.ahead c.args.self.now.ahead has in_heads (group_of-none number) (ahead_is number known c.self.view_is))
+    rw (c.remove_row.ensures, c.vacant_head.ensures) (state-set number known c.self.view_is no_head [] unheld c.self.inside.sources.ahead c.args.self.now.ahead has in_heads (group_of-none number) (ahead_is number known c.self.view_is))
 
 pub returns-clause-spent : goal.returns-clause-spent
 returns-clause-spent g c = rw (running-held g.K.Key.number c.self.invariant.0 c.self.view_is) c.remove_moment.ensures.spent

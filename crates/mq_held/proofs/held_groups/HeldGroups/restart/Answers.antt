@@ -3,7 +3,7 @@ use Rattle.std.proofs.lemmas.List.{get_or-set_same}
 use Rattle.std.specs.Option.{unwrap_or}
 use Rattle.mq_count.proofs.Spent.{Spends-join, Spends-join_within, Spends-within}
 use Rattle.mq_sets.specs.Ascending.{IsAscending}
-use Rattle.mq_sets.specs.NumberedRows.{NumberedRowsState}
+use Rattle.mq_sets.specs.Pools.{PoolState}
 use Rattle.mq_sets.specs.Search.{bitlen}
 use Rattle.mq_sets.proofs.OneCell.{set-same}
 use Rattle.mq_table.specs.Group.{IsWellFormed, timer_at}
@@ -80,7 +80,7 @@ earliest_then-due-requires-clause-ascending g c =
     let h = c.index.result.now in
     let in_heads : n < length c.self.inside.heads.items = omega (arith, rows_within, c.self.invariant.2, c.self.invariant.3) in
     let y = c.restarted-after.result in
-    let row_is : c.row-row-2.result.now ≡ set row place y = c.row-row-2.ensures.cells ∙ ap (λ (s : NumberedRowsState _). get_or s.rows n []) c.set.ensures.rows ∙ get_or-set_same c.self.inside.sources.rows n (set row place y) [] rows_within in
+    let row_is : c.row-row-2.result.now ≡ set row place y = c.row-row-2.ensures.cells ∙ ap (λ (s : PoolState _). get_or s.rows n []) c.set.ensures.rows ∙ get_or-set_same c.self.inside.sources.rows n (set row place y) [] rows_within in
     subst (IsAscending (number_in number)) (sym row_is) (up_then number known n held rows_within place x within here h in_heads c.index.ensures y c.args.deadline (number c.args.source) is c.restarted-after.ensures)
 
 pub earliest_then-due-requires-clause-held : goal.earliest_then-due-requires-clause-held
@@ -101,7 +101,7 @@ earliest_then-due-requires-clause-held g c =
     let h = c.index.result.now in
     let in_heads : n < length c.self.inside.heads.items = omega (arith, rows_within, c.self.invariant.2, c.self.invariant.3) in
     let y = c.restarted-after.result in
-    let row_is : c.row-row-2.result.now ≡ set row place y = c.row-row-2.ensures.cells ∙ ap (λ (s : NumberedRowsState _). get_or s.rows n []) c.set.ensures.rows ∙ get_or-set_same c.self.inside.sources.rows n (set row place y) [] rows_within in
+    let row_is : c.row-row-2.result.now ≡ set row place y = c.row-row-2.ensures.cells ∙ ap (λ (s : PoolState _). get_or s.rows n []) c.set.ensures.rows ∙ get_or-set_same c.self.inside.sources.rows n (set row place y) [] rows_within in
     subst (λ xs. IsWellFormed (group_of number h xs).group) (sym row_is) (formed_then number known n held rows_within place x within here h in_heads c.index.ensures y c.args.deadline (number c.args.source) is c.restarted-after.ensures)
 
 pub earliest_then-due-requires-clause-later : goal.earliest_then-due-requires-clause-later
@@ -122,7 +122,7 @@ earliest_then-due-requires-clause-later g c was_later =
     let h = c.index.result.now in
     let in_heads : n < length c.self.inside.heads.items = omega (arith, rows_within, c.self.invariant.2, c.self.invariant.3) in
     let y = c.restarted-after.result in
-    let row_is : c.row-row-2.result.now ≡ set row place y = c.row-row-2.ensures.cells ∙ ap (λ (s : NumberedRowsState _). get_or s.rows n []) c.set.ensures.rows ∙ get_or-set_same c.self.inside.sources.rows n (set row place y) [] rows_within in
+    let row_is : c.row-row-2.result.now ≡ set row place y = c.row-row-2.ensures.cells ∙ ap (λ (s : PoolState _). get_or s.rows n []) c.set.ensures.rows ∙ get_or-set_same c.self.inside.sources.rows n (set row place y) [] rows_within in
     ap (λ xs. earliest_of (moments_of (group_of number h xs))) row_is
     ∙ later_then number known n held rows_within place x within here h in_heads c.index.ensures y c.args.deadline (number c.args.source) is c.restarted-after.ensures c.moment-earliest.result c.moment-earliest.ensures (c.is_later-was_later.ensures.later.0 was_later)
 
@@ -144,7 +144,7 @@ invariant_of-self g c =
     let h = c.index.result.now in
     let in_heads : n < length c.self.inside.heads.items = omega (arith, rows_within, c.self.invariant.2, c.self.invariant.3) in
     let y = c.restarted-after.result in
-    let row_is : c.row-row-2.result.now ≡ set row place y = c.row-row-2.ensures.cells ∙ ap (λ (s : NumberedRowsState _). get_or s.rows n []) c.set.ensures.rows ∙ get_or-set_same c.self.inside.sources.rows n (set row place y) [] rows_within in
+    let row_is : c.row-row-2.result.now ≡ set row place y = c.row-row-2.ensures.cells ∙ ap (λ (s : PoolState _). get_or s.rows n []) c.set.ensures.rows ∙ get_or-set_same c.self.inside.sources.rows n (set row place y) [] rows_within in
     let first = ap (λ xs. earliest_of (moments_of (group_of number h xs))) (sym row_is) ∙ c.earliest_then-due.ensures.earliest in
     let stored = IsStored-restarted number known n held rows_within place x within here h in_heads c.index.ensures y c.args.deadline (number c.args.source) is c.restarted-after.ensures (unwrap_or c.earliest_then-due.result c.moment-earliest.result) first in
     let moments = c.change_moment.ensures.moments c.moment-earliest.result c.moment-earliest.ensures in
@@ -206,7 +206,7 @@ returns-clause-spent g c address has =
     let rows_within = within-rows number known was n c.requires.number in
     let row = get_or c.self.inside.sources.rows n [] in
     let y = c.restarted-after.result in
-    let row_is = c.row-row-2.ensures.cells ∙ ap (λ (s : NumberedRowsState _). get_or s.rows n []) c.set.ensures.rows ∙ get_or-set_same c.self.inside.sources.rows n (set row c.in-Ok.place y) [] rows_within in
+    let row_is = c.row-row-2.ensures.cells ∙ ap (λ (s : PoolState _). get_or s.rows n []) c.set.ensures.rows ∙ get_or-set_same c.self.inside.sources.rows n (set row c.in-Ok.place y) [] rows_within in
     let size = ap length c.row-row.ensures.cells ∙ sym (size-of number known was has) in
     let size_then = ap length row_is ∙ length-set row c.in-Ok.place y ∙ sym (size-of number known was has) in
     let digits = ap bitlen size in

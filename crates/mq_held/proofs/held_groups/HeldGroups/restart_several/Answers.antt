@@ -7,7 +7,7 @@ use Rattle.std.proofs.lemmas.Bool.{lt-ltb}
 use Rattle.std.proofs.lemmas.List.{get_or_read, length-map}
 use Rattle.mq_count.proofs.Spent.{Spends-join, Spends-join_within, Spends-within}
 use Rattle.mq_sets.specs.Ascending.{IsAscending, set_of}
-use Rattle.mq_sets.specs.NumberedRows.{NumberedRowsState}
+use Rattle.mq_sets.specs.Pools.{PoolState}
 use Rattle.mq_sets.specs.Search.{bitlen}
 use Rattle.mq_sets.proofs.OneCell.{set-same}
 use Rattle.mq_table.specs.declared.sources.Source.{Source}
@@ -87,7 +87,7 @@ row-row-requires-2 g c =
     let was = c.self.view_is in
     let n = c.args.number in
     let rows_within = within-rows number known was n c.requires.number in
-    let size = ap (λ (s : NumberedRowsState (Source _)). length s.rows) c.restart_row-were.ensures.rows ∙ length-set c.self.inside.sources.rows n (get_or c.restart_row-were.new.rows.rows n []) in
+    let size = ap (λ (s : PoolState (Source _)). length s.rows) c.restart_row-were.ensures.rows ∙ length-set c.self.inside.sources.rows n (get_or c.restart_row-were.new.rows.rows n []) in
     record { number = omega (arith, rows_within, size) }
 
 pub earliest_then-due-requires-clause-held : goal.earliest_then-due-requires-clause-held
@@ -154,8 +154,8 @@ invariant_of-self g c =
     let due = unwrap_or c.earliest_then-due.result c.moment-earliest.result in
     let stored = IsStored-restarted_each number known n held rows_within some row_then set_row.ascending h in_heads c.index.ensures c.args.deadline names has_all (set_row.group h) due first in
     let moments = c.change_moment.ensures.moments c.moment-earliest.result c.moment-earliest.ensures in
-    let rows_are : c.restart_row-were.new.rows.rows ≡ set c.self.inside.sources.rows n row_then = ap (λ (s : NumberedRowsState (Source _)). s.rows) set_row.rows in
-    let limit = ap (λ (s : NumberedRowsState (Source _)). s.cell_limit) set_row.rows in
+    let rows_are : c.restart_row-were.new.rows.rows ≡ set c.self.inside.sources.rows n row_then = ap (λ (s : PoolState (Source _)). s.rows) set_row.rows in
+    let limit = ap (λ (s : PoolState (Source _)). s.cell_limit) set_row.rows in
     rw moments (
       subst (λ rows. IsStored number c.self.inside.order.items c.self.inside.heads.items rows (map.insert c.self.inside.moments.moments n due) c.self.inside.scheduled) (sym rows_are) stored,
       c.self.invariant.1 ∙ sym limit,
@@ -207,7 +207,7 @@ returns-clause-groups g c address has =
     let group_is : group_of number h row_then ≡ e = group-each number known n held rows_within some row_then set_row.ascending h in_heads c.index.ensures c.args.deadline names has_all (set_row.group h) ∙ ap (restarted_each c.args.deadline names) (sym (group-of number known was has)) in
     let all_is = state-set number known was h row_then e c.self.inside.sources.ahead c.args.self.now.ahead has in_heads group_is (ahead_is number known was) in
     let state : List ScheduledHead → HeldState = λ (hs : List ScheduledHead). record { groups = groups_by number c.self.inside.order.items hs (set c.self.inside.sources.rows n row_then); order = c.self.inside.order; source_room = c.self.inside.source_room; ahead = c.self.inside.sources.ahead } in
-    let left : NumberedRowsState (Source _) → HeldState = λ s. record { groups = groups_by number c.self.inside.order.items c.self.inside.heads.items s.rows; order = c.self.inside.order; source_room = c.self.inside.source_room; ahead = s.ahead } in
+    let left : PoolState (Source _) → HeldState = λ s. record { groups = groups_by number c.self.inside.order.items c.self.inside.heads.items s.rows; order = c.self.inside.order; source_room = c.self.inside.source_room; ahead = s.ahead } in
     ap left set_row.rows ∙ ap state (sym (set-same c.self.inside.heads.items n h in_heads c.index.ensures)) ∙ all_is
 
 pub returns-clause-spent : goal.returns-clause-spent

@@ -13,19 +13,19 @@ invariant_of-result g c =
     let heads : c.in_ok-filled.field-0.items ≡ replicate groups no_head = c.in_ok-filled.ensures.items ∙ ap (replicate groups) c.vacant_head.ensures in
     let count : length c.in_ok-filled.field-0.items ≡ groups = ap length heads ∙ length-replicate groups no_head in
     let stored = IsStored-none g.K.Key.number groups in
-    rw (heads, c.in_ok-with_room.ensures.keys, c.in_ok-with_room-2.ensures.rows, c.in_ok-with_room-3.ensures.moments)
+    rw (heads, c.in_ok-with_room.ensures.keys, c.in_ok-new.ensures.rows, c.in_ok-with_room-2.ensures.moments)
     (stored, refl, length-replicate groups [], length-replicate groups no_head, refl, c.requires.numbered, omega arith)
 
 pub returns-clause-groups : goal.returns-clause-groups
 returns-clause-groups g c =
-    rw (c.in_ok-with_room.ensures.keys, c.in_ok-with_room-2.ensures.rows, groups_by-none g.K.Key.number c.in_ok-filled.field-0.items (replicate c.args.groups [])) refl
+    rw (c.in_ok-with_room.ensures.keys, c.in_ok-new.ensures.rows, groups_by-none g.K.Key.number c.in_ok-filled.field-0.items (replicate c.args.groups [])) refl
 
-pub returns-in_err-with_room-3-clause-memory : goal.returns-in_err-with_room-3-clause-memory
+pub returns-in_err-with_room-2-clause-memory : goal.returns-in_err-with_room-2-clause-memory
 unfolding bytes_of_groups
-returns-in_err-with_room-3-clause-memory g c =
-    refused c.from_residual-in_err-with_room-3.result c.from_residual-in_err-with_room-3.ensures.0
-    (both (both (both c.in_ok-with_room.ensures.memory c.in_ok-filled.ensures.memory) c.in_ok-with_room-2.ensures.memory) c.in_err-with_room-3.ensures.memory)
+returns-in_err-with_room-2-clause-memory g c =
+    refused c.from_residual-in_err-with_room-2.result c.from_residual-in_err-with_room-2.ensures.0
+    (both (both (both c.in_ok-with_room.ensures.memory c.in_ok-filled.ensures.memory) c.in_ok-new.ensures.memory) c.in_err-with_room-2.ensures.memory)
 
 pub returns-clause-memory : goal.returns-clause-memory
 unfolding bytes_of_groups
-returns-clause-memory g c = both (both (both c.in_ok-with_room.ensures.memory c.in_ok-filled.ensures.memory) c.in_ok-with_room-2.ensures.memory) c.in_ok-with_room-3.ensures.memory
+returns-clause-memory g c = both (both (both c.in_ok-with_room.ensures.memory c.in_ok-filled.ensures.memory) c.in_ok-new.ensures.memory) c.in_ok-with_room-2.ensures.memory

@@ -2,7 +2,7 @@ use Rattle.std.proofs.Common.{◌+◌, ◌-◌, ◌*◌, ◌≤◌, ◌∙◌, n
 use Rattle.std.specs.FinMap as map
 use Rattle.mq_count.proofs.Spent.{Spends-join_within}
 use Rattle.mq_sets.specs.Search.{bitlen}
-use Rattle.mq_sets.specs.NumberedRows.{ahead_after}
+use Rattle.mq_sets.specs.Pools.{ahead_after}
 use Rattle.mq_table.specs.Stored.{size_of}
 use Rattle.mq_sched.specs.Schedule.{ScheduledGroup}
 use Rattle.mq_held.specs.declared.scheduled_head.ScheduledHead.{ScheduledHead}

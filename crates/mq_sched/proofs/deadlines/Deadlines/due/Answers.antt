@@ -1,40 +1,35 @@
-use Rattle.std.proofs.Common.{◌≡◌, ap, arith, length, take}
-use Rattle.std.specs.Prelude.{slice_index}
-use Rattle.std.proofs.lemmas.List.{take_at, length-take-le, length-map}
-use Rattle.std.proofs.lemmas.List.Sorted.{IsNonDecreasingBy-from_sort}
+use Rattle.std.proofs.Common.{◌-◌, ◌/◌, ◌≡◌, ◌∙◌, arith, ap, length, take, drop}
+use Rattle.std.specs.Prelude.{slice_index, map as list_map}
+use Rattle.std.specs.FinMap as map
+use Rattle.std.proofs.lemmas.List.{take_all, take_at, length-drop, length-map, length-take-le}
 use Rattle.mq_sched.specs.Deadlines.{DeadlinesState}
-use Rattle.mq_sched.proofs.DuePlaces.{found_within, places_are_due, places_ascend}
+use Rattle.mq_sched.proofs.NumbersAtLeaves.{found_behind, due-numbers}
 use Rattle.mq_sched.proofs.deadlines.Deadlines.due.Goals as goal
 
-pub write_places-requires : goal.write_places-requires
-write_places-requires c =
-    let due = rw c.self.invariant.1 at c.due-count.ensures.due in
-    record { leaves = found_within c.self.inside.tree.nodes c.self.inside.places.leaves c.args.now c.self.invariant.0 (take c.due-count.result c.due-count.new.leaves) due }
+pub write_numbers-requires : goal.write_numbers-requires
+write_numbers-requires g c =
+    let nodes = c.self.inside.tree.nodes in
+    let leaves = c.self.inside.leaves.items in
+    let numbers = c.self.inside.numbers.items in
+    let count = c.self.inside.tree.count in
+    let known = c.self.invariant.0 in
+    let half : c.len-first.result / 2 ≡ count = omega (arith, c.len-first.ensures, c.self.inside.numbers.ok.0, known.size) in
+    let all : take (length numbers - count) (drop count numbers) ≡ drop count numbers = take_all (length numbers - count) (drop count numbers) (omega (arith, length-drop count numbers)) in
+    rw (c.deref.ensures.value, half, all) (found_behind nodes leaves numbers count known c.args.now (take c.due-count.result c.due-count.new.leaves) c.due-count.ensures.due)
 
 pub returns-clause-due : goal.returns-clause-due
-returns-clause-due c place =
-    let was = ap (λ (s : DeadlinesState). s.deadlines) c.self.view_is in
-    let count = ap length was in
-    let all = length-map c.self.inside.places.leaves (slice_index c.self.inside.tree.nodes) in
+returns-clause-due g c number =
     let nodes = c.self.inside.tree.nodes in
-    let leaves = c.self.inside.places.leaves in
+    let leaves = c.self.inside.leaves.items in
+    let numbers = c.self.inside.numbers.items in
+    let count = c.self.inside.tree.count in
+    let known = c.self.invariant.0 in
+    let counted = c.self.invariant.1 in
+    let moments = ap (λ (s : DeadlinesState). s.moments) c.self.view_is in
+    let half : c.len-first.result / 2 ≡ count = omega (arith, c.len-first.ensures, c.self.inside.numbers.ok.0, known.size) in
+    let all : take (length numbers - count) (drop count numbers) ≡ drop count numbers = take_all (length numbers - count) (drop count numbers) (omega (arith, length-drop count numbers)) in
     let found = take c.due-count.result c.due-count.new.leaves in
-    let due = rw c.self.invariant.1 at c.due-count.ensures.due in
-    let places = c.write_places.new.leaves in
-    let sorted = c.sort_unstable.new.self in
-    let size : length sorted ≡ c.due-count.result = omega (arith, c.sort_unstable.ensures.len, c.write_places.ensures.size, length-take-le c.due-count.result c.due-count.new.leaves (omega (arith, c.due-count.ensures.within, c.self.invariant.1, count, c.requires.space, c.due-count.auto.leaves))) in
-    rw (take_at sorted _ c.due-count.result size, ← was) (places_are_due nodes leaves c.args.now c.self.invariant.0 found due places c.write_places.ensures.within c.write_places.ensures.places sorted c.sort_unstable.ensures.permutation place)
-
-pub returns-clause-ascending : goal.returns-clause-ascending
-returns-clause-ascending c =
-    let was = ap (λ (s : DeadlinesState). s.deadlines) c.self.view_is in
-    let count = ap length was in
-    let all = length-map c.self.inside.places.leaves (slice_index c.self.inside.tree.nodes) in
-    let nodes = c.self.inside.tree.nodes in
-    let leaves = c.self.inside.places.leaves in
-    let found = take c.due-count.result c.due-count.new.leaves in
-    let due = rw c.self.invariant.1 at c.due-count.ensures.due in
-    let places = c.write_places.new.leaves in
-    let sorted = c.sort_unstable.new.self in
-    let size : length sorted ≡ c.due-count.result = omega (arith, c.sort_unstable.ensures.len, c.write_places.ensures.size, length-take-le c.due-count.result c.due-count.new.leaves (omega (arith, c.due-count.ensures.within, c.self.invariant.1, count, c.requires.space, c.due-count.auto.leaves))) in
-    rw (take_at sorted _ c.due-count.result size) (places_ascend nodes leaves c.args.now c.self.invariant.0 found due places c.write_places.ensures.within c.write_places.ensures.places sorted c.sort_unstable.ensures.permutation (IsNonDecreasingBy-from_sort (λ p. p) sorted c.sort_unstable.ensures.sorted))
+    let len = ap (λ (s : DeadlinesState). map.len s.moments) c.self.view_is in
+    let written = rw (c.deref.ensures.value, half, all) at c.write_numbers.ensures in
+    let size : length (list_map (slice_index (drop count numbers)) found) ≡ c.due-count.result = length-map found (slice_index (drop count numbers)) ∙ length-take-le c.due-count.result c.due-count.new.leaves (omega (arith, c.due-count.ensures.within, len, counted, c.requires.space, c.due-count.auto.leaves)) in
+    rw (written, take_at (list_map (slice_index (drop count numbers)) found) (drop c.due-count.result c.due-count.new.leaves) c.due-count.result size, ← moments) (due-numbers nodes leaves numbers count known c.args.now found c.due-count.ensures.due number)

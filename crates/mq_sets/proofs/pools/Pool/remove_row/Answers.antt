@@ -1,21 +1,41 @@
-use Rattle.std.proofs.Common.{ap, ◌∙◌, length, arith}
-use Rattle.std.specs.List.{remove}
-use Rattle.mq_sets.specs.Pools.{PoolState, cells_of}
-use Rattle.std.proofs.lemmas.List.{length-map}
-use Rattle.mq_sets.proofs.Stored.{IsStored-remove, map-remove, with_rows}
+use Rattle.std.proofs.Common.{◌<◌, ◌∙◌, ap, arith, length, set, []}
+use Rattle.std.proofs.lemmas.List.{length-map, length-set}
+use Rattle.mq_sets.specs.Pools.{cells_of, PoolState}
+use Rattle.mq_sets.proofs.RowEdits.{IsStored-emptied, emptied-placed, emptied-rows, with_parts}
 use Rattle.mq_sets.proofs.pools.Pool.remove_row.Goals as goal
 
 pub invariant_of-self : goal.invariant_of-self
 invariant_of-self g c =
-    let items = c.remove-extent.ensures.items in
     let cells = c.self.inside.cells.items in
     let extents = c.self.inside.extents.items in
+    let empty = c.extent_at.result in
+    let size = c.extent_at.ensures.length in
+    let first = c.extent_at.ensures.placed size in
     let rows = ap (λ (s : PoolState _). length s.rows) c.self.view_is in
-    let count = length-map extents (cells_of cells) in
-    (rw items (IsStored-remove cells extents c.args.place _ (omega (arith, rows, count, c.requires.place)) c.remove-extent.ensures.value c.self.invariant.0), c.self.invariant.1, omega (arith, c.self.invariant.2, c.remove-extent.ensures.capacity), c.self.invariant.3, c.self.invariant.4, c.self.invariant.5, c.self.invariant.6)
+    let in_list : c.args.number < length extents = omega (arith, rows, length-map extents (cells_of cells), c.requires.number) in
+    let here = c.index-before.ensures in
+    let same = length-set extents c.args.number empty in
+    let known = c.self.invariant in (
+      IsStored-emptied cells extents c.args.number c.index-before.result.now empty in_list here size first known.0,
+      emptied-placed cells extents c.args.number c.index-before.result.now empty in_list here size first known.1,
+      known.2,
+      omega (arith, same, known.3),
+      omega (arith, same, known.4),
+      omega (arith, same, known.5),
+      omega (arith, same, known.6),
+    )
 
 pub returns : goal.returns
 returns g c =
-    let items = c.remove-extent.ensures.items in
-    let was = ap (λ (s : PoolState _). remove s.rows c.args.place) c.self.view_is in
-    with_rows c.args.self.now _ _ _ _ _ c.self.view_is (rw items (map-remove (cells_of c.self.inside.cells.items) c.self.inside.extents.items c.args.place ∙ was))
+    let cells = c.self.inside.cells.items in
+    let extents = c.self.inside.extents.items in
+    let empty = c.extent_at.result in
+    let size = c.extent_at.ensures.length in
+    let first = c.extent_at.ensures.placed size in
+    let rows = ap (λ (s : PoolState _). length s.rows) c.self.view_is in
+    let in_list : c.args.number < length extents = omega (arith, rows, length-map extents (cells_of cells), c.requires.number) in
+    let ahead = ap (λ (s : PoolState _). s.ahead) c.self.view_is in
+    let was = ap (λ (s : PoolState _). set s.rows c.args.number []) c.self.view_is in
+    with_parts c.args.self.now _ _ _ _ _ _ _ c.self.view_is
+    (emptied-rows cells extents c.args.number c.index-before.result.now empty in_list c.index-before.ensures size first ∙ was)
+    (omega (arith, ahead, length-set extents c.args.number empty))

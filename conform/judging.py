@@ -1,0 +1,344 @@
+"""What is found of a case: by `mquerier check` and `mquerier replay` over its capture, and by rules of its own."""
+
+import dataclasses
+import os
+import re
+import subprocess
+
+import link
+from table import IGMP, text_of, wire
+
+LIMITS = ["--groups=65535", "--group-sources=1024", "--sources=65535", "--scheduled=65535"]
+LINE = re.compile(r"(\d+) (missing|extra|differs|general) (.*?)(?: \((RFC [^)]*)\))?")
+DIFFERS = re.compile(r"(.*): (\w+) \S+, wanted \S+")
+MAGIC = b"conform"
+IP_PRECEDENCE = 0xC0
+
+
+@dataclasses.dataclass
+class Heard:
+    """A frame of the recording, and the message in it: None where it can't be read."""
+
+    stamp: int
+    frame: bytes
+    is_sent: bool
+    packet: object = None
+    message: object = None
+
+    def is_query(self):
+        return self.message is not None and self.message.what == "query"
+
+    def is_general(self):
+        return self.is_query() and not any(self.message.group)
+
+    def groups(self):
+        if self.message is None:
+            return []
+        return [self.message.group] if self.message.group else [group for _, group, _ in self.message.records]
+
+
+@dataclasses.dataclass
+class Finding:
+    """What the router did otherwise than is wanted: at a moment of the case, of a group, by a packet of its capture."""
+
+    at: int
+    kind: str
+    text: str
+    is_general: bool = False
+    packet: int = 0
+    cite: str = ""
+    case: str = ""
+    group: bytes = b""
+
+
+def heard(family, record):
+    """A record of the recording, read."""
+    stamp, frame, is_sent = record
+    it = Heard(stamp, frame, is_sent)
+    packet = wire.unwrap(link.ETHERNET, frame)
+    if isinstance(packet, str) or packet.family is not family:
+        return it
+    it.packet = packet
+    try:
+        body = packet.body
+        it.message = wire.read(family, wire.with_checksum(family, body, packet.source, packet.to) if not is_sent else body, packet.source, packet.to)
+    except wire.Fault:
+        pass
+    return it
+
+
+def as_others():
+    """Has a program share the machine as others do: conform itself comes before them."""
+    os.sched_setscheduler(0, os.SCHED_OTHER, os.sched_param(0))
+
+
+def filters_of(history, begin, end):
+    """The filters that were in force between two moments: the last one before, and those that began in between."""
+    before = [words for at, words in history if at <= begin]
+    return [before[-1] if before else ["none"]] + [words for at, words in history if begin < at <= end]
+
+
+def passes(words, source):
+    """Whether a filter forwards a source: `none`, `include S ..` or `exclude !S ..`."""
+    if words[0] == "exclude":
+        return f"!{text_of(source)}" not in words
+    return words[0] == "include" and text_of(source) in words
+
+
+def is_link_local(address):
+    return address[0] == 0xFE and address[1] >> 6 == 2
+
+
+def destination(frame, packet):
+    return packet.to or frame[30:34]
+
+
+class Judge:
+    """Judges cases of one run."""
+
+    def __init__(self, program, site, options):
+        self.program, self.site, self.options = program, site, options
+        self.family, self.mac = site.family, None
+        # Findings of a field that no case judges for itself, and the queries that were compared.
+        self.fields, self.compared = [], []
+
+    # The capture of a case.
+
+    def is_from_router(self, it):
+        if it.is_sent or it.packet is None:
+            return False
+        return self.is_router(it.packet.source, it.frame[6:12])
+
+    def is_router(self, source, mac):
+        """Whether an address and that of an interface are the router's: of MLD also its interface with no link-local address."""
+        return source == self.site.router or mac == self.mac and self.family is not IGMP and not is_link_local(source)
+
+    def concerns(self, it, cast, wide):
+        """Whether a frame is of the capture of a case: its own, those of its groups, and what concerns all."""
+        if it.is_sent:
+            return it.frame in wide or any(it.frame == step.frame for step in cast.steps)
+        if any(cast.is_own(group) for group in it.groups()):
+            return True
+        return it.is_general() and self.is_from_router(it)
+
+    def capture(self, cast, stage, records, began):
+        """The frames of a case: those from its first step on, or of the first query of another router in its stage."""
+        wide = {step.frame for other in stage for step in other.wide()}
+        first = min([step.at for step in cast.steps] + [step.at for other in stage for step in other.wide()], default=cast.begin)
+        least, most = began + (first - self.options.within) * 10**6, began + (cast.end + 2 * self.options.within) * 10**6
+        found = [it for it in records if least <= it.stamp <= most and self.concerns(it, cast, wide)]
+        while found and any(not step.what for step in cast.steps) and not found[0].is_sent:
+            found.pop(0)
+        return found
+
+    def mended(self, it):
+        """A frame of the router's query whose header is as it should be, since faults of headers are judged by themselves."""
+        if not it.is_query() or not self.is_from_router(it):
+            return it.frame
+        to = destination(it.frame, it.packet)
+        body = wire.with_checksum(self.family, it.packet.body, self.site.router, to)
+        if self.family is IGMP:
+            return wire.in_ethernet(wire.in_ipv4(body, self.site.router, to, options=b"\x94\x04\0\0"), to)
+        return wire.in_ethernet(wire.in_ipv6(body, self.site.router, to), to)
+
+    def run(self, words, frames, name):
+        """What the program says of frames; its status is 0 or 3."""
+        place = os.path.join(self.options.out, "captures", f"{name}.mended.pcap")
+        with open(place, "wb") as to:
+            to.write(link.written(frames))
+        its = [*self.site.variables.words(), *LIMITS, *(["--ssm"] if self.options.ssm else [])] if words[1:] else []
+        ran = subprocess.run([self.program, *words, *its, place], capture_output=True, text=True, check=False, preexec_fn=as_others)
+        os.unlink(place)
+        if ran.returncode not in (0, 3):
+            raise OSError(f"{' '.join([self.program, *words])}: status {ran.returncode}: {ran.stderr.strip()}")
+        return ran.stdout.splitlines()
+
+    # What is found.
+
+    def judged(self, cast, stage, records, began):
+        """The findings of a case, and its capture."""
+        frames = self.capture(cast, stage, records, began)
+        if cast.case.own:
+            return getattr(self, "own_" + cast.case.own.replace("-", "_"))(cast, frames, began), frames
+        if cast.case.probes:
+            return [], frames
+        return self.checked(cast, frames, began), frames
+
+    def checked(self, cast, frames, began, within=None):
+        """What a check finds of a case."""
+        within = within or self.options.within
+        if not frames:
+            return [Finding(0, "asks", "nothing was recorded")]
+        offset = (frames[0].stamp - began) / 10**6
+        until = max(0, round(cast.end - offset))
+        words = ["check", self.family.name, f"--querier={text_of(self.site.router)}", f"--within={within}", "--cite", f"--until={until}"]
+        lines = self.run(words, [(it.stamp, self.mended(it)) for it in frames], cast.name)
+        found = [self.finding(LINE.fullmatch(line), cast, frames, offset) for line in lines if LINE.fullmatch(line)]
+        self.compare(cast, frames, found, began)
+        return [it for it in found if self.is_judged(it, cast)]
+
+    def finding(self, match, cast, frames, offset):
+        """A line of a check as a finding."""
+        at, what, rest, cite = int(match[1]), match[2], match[3], match[4] or ""
+        moment = round(at + offset)
+        field = DIFFERS.fullmatch(rest) if what == "differs" else None
+        kind = field[2] if field else "general" if what == "general" else "asks"
+        group = self.family.zero() if what == "general" else wire.address((field[1] if field else rest).split()[0])
+        milliseconds = [it.stamp // 10**6 - frames[0].stamp // 10**6 for it in frames]
+        if what == "missing":
+            packet = max((at_ for at_, it in enumerate(milliseconds, 1) if it <= at), default=1)
+        else:
+            packet = next((at_ for at_, it in enumerate(milliseconds, 1) if it >= at and not frames[at_ - 1].is_sent), len(frames))
+        return Finding(moment, kind, f"{what} at {moment} {rest}", not any(group), packet, cite, cast.name, group)
+
+    def is_judged(self, it, cast):
+        """Whether a finding is one that the case judges."""
+        if it.kind == "general":
+            return "general" in cast.case.judged
+        wants_general = any(not any(group) for _, group, _, _ in cast.wanted())
+        at = it.at - cast.shift(it.group)
+        return it.kind in cast.case.judged and it.is_general == wants_general and cast.begin - self.options.within <= at < cast.until
+
+    def compare(self, cast, frames, found, began):
+        """Keeps what a check found of fields that the case doesn't judge, and what was compared."""
+        if cast.case.stage and cast.case.stage != "lower":
+            return
+        is_lower = cast.case.stage == "lower"
+        self.compared += [it for it in frames if self.is_from_router(it) and it.is_query() and it.stamp >= began]
+        for it in found:
+            is_known = it.kind in ("asks", "general") or it.kind in cast.case.judged
+            if not is_known and not (is_lower and it.kind in ("interval", "qrv")):
+                self.fields.append(it)
+
+    # What is forwarded.
+
+    def forwarded(self, cast, frames, began, sent, seen):
+        """Which datagrams were forwarded otherwise than the filter says that a replay has at their moment, and a tolerance before
+        and after it."""
+        history, wrong, within = self.history(cast, frames, began), {}, self.options.within
+        for payload, (stamp, group, source) in sorted(sent.items(), key=lambda it: it[1][0]):
+            at = (stamp - began) / 10**6
+            wanted = {passes(it, source) for it in filters_of(history.get(group, []), at - within, at + within)}
+            if at < cast.until and len(wanted) == 1 and wanted != {payload in seen}:
+                wrong.setdefault((group, source, payload in seen), []).append(round(at))
+        found = []
+        for (group, source, was), moments in wrong.items():
+            more = f", and {len(moments) - 1} datagrams after it" if moments[1:] else ""
+            text = f"{'forwarded' if was else 'not forwarded'} at {moments[0]} {text_of(group)} {text_of(source)}{more}"
+            found.append(Finding(moments[0], "forwarding", text))
+        return found if sent else [Finding(0, "forwarding", "no datagram was sent")]
+
+    def history(self, cast, frames, began):
+        """The filters of each group in a replay of a case's capture, with their moments."""
+        if not frames:
+            return {}
+        offset = (frames[0].stamp - began) / 10**6
+        words = ["replay", self.family.name, f"--own={text_of(self.site.router)}", "--changes", f"--until={max(0, round(cast.end - offset))}"]
+        lines = self.run(words, [(it.stamp, self.mended(it)) for it in frames], cast.name)
+        found = {}
+        for moment, what, *rest in map(str.split, lines):
+            if what == "change":
+                found.setdefault(wire.address(rest[0]), []).append((int(moment) + offset, rest[1:]))
+        return found
+
+    # Rules of cases.
+
+    def seen(self, cast, frames, began):
+        """The router's queries in a capture: the moment of each in the case, and what it asks about."""
+        found = []
+        for it in frames:
+            if self.is_from_router(it) and it.is_query():
+                found.append(((it.stamp - began) / 10**6, it))
+        return found
+
+    def own_times(self, cast, frames, began):
+        """Each thing is asked for as often as the table says."""
+        found = []
+        for words in [one for its in cast.case.sees for _, one in (cast.each(its) if "~" in its[1] else [(0, its)])]:
+            number, group, sources = cast.at(words[0]), cast.group(words[1]), cast.sources(words[2:])
+            for source in sources:
+                times = sum(group == it.message.group and source in it.message.sources for _, it in self.seen(cast, frames, began))
+                if times != number:
+                    found.append(Finding(0, "asks", f"{text_of(group)} {text_of(source)} was asked for {times} times, wanted {number}"))
+        return found
+
+    def own_general(self, cast, frames, began):
+        """General queries a Query Interval apart, and a fiftieth of it earlier or later: of which there have to be two."""
+        number = sum(it.is_general() for _, it in self.seen(cast, frames, began))
+        if number < 2:
+            return [Finding(cast.until, "general", f"{number} general queries in {cast.until} ms", True)]
+        return self.checked(cast, frames, began, max(self.options.within, cast.names["QI"] // 50))
+
+    def generals(self, cast, frames, began):
+        return [at for at, it in self.seen(cast, frames, began) if it.is_general()]
+
+    def own_no_startup(self, cast, frames, began):
+        """After the first general query since the case begins, the next isn't a Startup Query Interval later. Another case judges
+        whether one comes."""
+        moments = [at for at in self.generals(cast, frames, began) if at >= cast.begin - self.options.within]
+        spans = [round(later - before) for before, later in zip(moments, moments[1:])]
+        wrong = [it for it in spans if abs(it - cast.names["SQI"]) <= self.options.within]
+        return [Finding(round(moments[1]), "general", f"general after {it}, a Startup Query Interval", True) for it in wrong]
+
+    def own_startup(self, cast, frames, began):
+        """As many general queries as the Robustness Variable, a Startup Query Interval apart."""
+        moments, number, span = self.generals(cast, frames, began), cast.names["RV"], cast.names["SQI"]
+        if not moments:
+            return [Finding(0, "general", "no general query after the start", True)]
+        spans = [round(later - before) for before, later in zip(moments, moments[1:])][: number - 1]
+        found = [Finding(0, "general", f"general after {it}, wanted {span}", True) for it in spans if abs(it - span) > self.options.within]
+        if len(moments) != number:
+            found.append(Finding(0, "general", f"{len(moments)} general queries at the start, wanted {number}", True))
+        return found
+
+    # What all queries say, and their headers.
+
+    def over_all(self, case, queries):
+        """The findings of a case over all queries: None where there was no query of its kind."""
+        kind = case.of[0]
+        is_of = {"general": Heard.is_general, "specific": lambda it: not it.is_general()}.get((*case.of, "")[1], lambda it: True)
+        if kind in HEADERS:
+            queries = [it for it in queries if is_of(it)]
+            found = [(number, HEADERS[kind](self, it)) for number, it in enumerate(queries, 1)]
+            return [Finding(0, kind, f"packet {number}: {text}", packet=number) for number, text in found if text] if queries else None
+        if not any(is_of(it) for it in self.compared):
+            return None
+        general = {"general": True, "specific": False}.get((*case.of, "")[1])
+        found = [it for it in self.fields if it.kind == kind and general in (None, it.is_general)]
+        return [dataclasses.replace(it, text=f"{it.case}: {it.text}") for it in found]
+
+    def ttl(self, it):
+        hops = it.packet.hops if self.family is not IGMP else it.frame[22]
+        return "" if hops == 1 else f"{'TTL' if self.family is IGMP else 'hop limit'} {hops}, wanted 1"
+
+    def alert(self, it):
+        if self.family is not IGMP:
+            return "" if it.packet.alert else "no Router Alert"
+        options = it.frame[34 : 14 + 4 * (it.frame[14] & 15)]
+        return "" if b"\x94\x04\0\0" in options else "no Router Alert"
+
+    def service(self, it):
+        return "" if it.frame[15] & IP_PRECEDENCE == IP_PRECEDENCE else f"type of service 0x{it.frame[15]:02x}, wanted 0xc0"
+
+    def source(self, it):
+        it = it.packet.source
+        return "" if is_link_local(it) else f"from {text_of(it)}, which isn't link-local"
+
+    def checksum(self, it):
+        to, packet = destination(it.frame, it.packet), it.packet
+        if wire.with_checksum(self.family, packet.body, packet.source, to) != packet.body:
+            return "a wrong checksum"
+        if self.family is IGMP and wire.summed(it.frame[14 : 14 + 4 * (it.frame[14] & 15)]) % 0xFFFF:
+            return "a wrong checksum of the IP header"
+        return ""
+
+    def octets(self, it):
+        message, size = it.message, self.family.size
+        length = size + (4 if self.family is IGMP else 8) + (4 + size * len(message.sources) if message.fields else 0)
+        reserved = it.packet.body[length - size * len(message.sources) - 4] & 0xF0 if message.fields else 0
+        if len(it.packet.body) != length:
+            return f"{len(it.packet.body) - length} octets after the fields"
+        return f"reserved bits 0x{reserved:02x}" if reserved else ""
+
+
+HEADERS = {name: getattr(Judge, name) for name in ("ttl", "alert", "service", "source", "checksum", "octets")}

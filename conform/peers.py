@@ -1,0 +1,163 @@
+"""The routers to which conform is held here: each is started at an end of a lab's link."""
+
+import os
+import re
+import shutil
+import subprocess
+import time
+
+from lab import OWN, TOP, Failed, run
+
+LIVE = f"{TOP}/bin/mquerier-live"
+# Programs of Debian that can't be installed side by side are unpacked here.
+UNPACKED = f"{TOP}/bin/peers"
+LIMITS = "--groups 4096 --sources 65535 --group-sources 1024 --scheduled 4096".split()
+FRR = {
+    "igmp": "ip pim rp 10.9.9.254\ninterface q0\n ip igmp\n ip pim\ninterface u0\n ip pim\n",
+    "mld": "interface q0\n ipv6 mld\ninterface u0\n ipv6 pim\n",
+}
+PIMD = """phyint q0 enable igmpv3
+phyint u0 enable
+igmp-query-interval 125
+bsr-candidate u0 priority 5
+rp-candidate u0 time 30 priority 20
+group-prefix 224.0.0.0 masklen 4
+"""
+IGMPPROXY = """quickleave
+phyint u0 upstream ratelimit 0 threshold 1
+ altnet 10.0.0.0/8
+phyint q0 downstream ratelimit 0 threshold 1
+phyint lo disabled
+"""
+
+
+def installed(package, program):
+    """The program of a package of Debian, installed where it is missing; None where it can't be."""
+    if not os.path.exists(program):
+        quiet = {"env": {**os.environ, "DEBIAN_FRONTEND": "noninteractive", "RUNLEVEL": "1"}, "stdout": subprocess.DEVNULL, "stderr": subprocess.DEVNULL}
+        words = ["apt-get", "install", "-y", "-q", "--no-install-recommends", package]
+        if subprocess.run(words, check=False, **quiet).returncode:
+            subprocess.run(["apt-get", "update", "-q"], check=False, **quiet)
+            subprocess.run(words, check=False, **quiet)
+    return program if os.path.exists(program) else None
+
+
+def unpacked(package, program):
+    """The program of a package that is unpacked and not installed."""
+    place = f"{UNPACKED}/{package}"
+    if not os.path.exists(f"{place}{program}"):
+        os.makedirs(place, exist_ok=True)
+        subprocess.run(["apt-get", "download", "-q", package], cwd=place, capture_output=True, check=False)
+        for name in os.listdir(place):
+            if name.endswith(".deb"):
+                subprocess.run(["dpkg", "-x", f"{place}/{name}", place], capture_output=True, check=False)
+    return f"{place}{program}" if os.path.exists(f"{place}{program}") else None
+
+
+def version_of(package):
+    found = re.search(r"^Version: (\S+)", run("dpkg", "-s", package, is_checked=False), re.M)
+    return found[1] if found else "?"
+
+
+def put(lab, name, text):
+    """A file of the lab's own."""
+    place = f"/tmp/{lab.space}.{name}"
+    with open(place, "w", encoding="utf-8") as it:
+        it.write(text)
+    return place
+
+
+# Each answers the options of conform besides the family and the router, and says its version.
+
+
+def live(lab, family):
+    """bin/mquerier-live, which keeps the source-specific range and can be restarted."""
+    if not os.access(LIVE, os.X_OK):
+        raise Failed("bin/mquerier-live is not there: `make live` builds it")
+    lab.both()
+    words = [LIVE, "q0", family, "--own", OWN[family], *LIMITS, "--ssm"]
+    place = put(lab, "restart", f"#!/bin/sh\nkill $(cat /tmp/{lab.space}.pid)\nsleep 0.3\nexec /bin/sh /tmp/{lab.space}.start\n")
+    put(lab, "start", f"chrt -r 1 {' '.join(words)} < /dev/null > /tmp/{lab.space}.live 2>&1 &\necho $! > /tmp/{lab.space}.pid\n")
+    run(*lab.words("sh", f"/tmp/{lab.space}.start"))
+    return ["--ssm", "--restart", f"sh {place}"]
+
+
+def bridge(lab, family):
+    """A bridge of the kernel as querier of its ports, which forwards from one of them to the other."""
+    a_bridge(lab, "mcast_querier 1 mcast_query_use_ifaddr 1")
+    lab.setting("ipv6/conf/br0/accept_dad", 0)
+    lab.address("br0", "10.0.0.9/24", "fe80::9/64")
+    return ["--upstream", "v0"]
+
+
+def a_bridge(lab, how):
+    lab.ip("link", "add", "br0", "type", "bridge", "mcast_snooping", "1", *how.split(), "mcast_igmp_version", "3", "mcast_mld_version", "2")
+    for name in ("q0", "u0"):
+        lab.setting(f"ipv6/conf/{name}/disable_ipv6", 1)
+        lab.ip("link", "set", name, "master", "br0", "up")
+
+
+def live_bridge(lab, family):
+    """bin/mquerier-live with --mdb: it decides what a bridge forwards to its port."""
+    if not os.access(LIVE, os.X_OK):
+        raise Failed("bin/mquerier-live is not there: `make live` builds it")
+    a_bridge(lab, "mcast_querier 0 mcast_hash_max 65536")
+    lab.address("br0", "10.0.0.9/24", "fe80::9/64")
+    lab.ip("link", "set", "q0", "type", "bridge_slave", "mcast_router", "0")
+    lab.start(LIVE, "br0", family, "--own", OWN[family], *LIMITS, "--mdb", "br0", "q0", until=" send ")
+    return ["--upstream", "v0"]
+
+
+def frr(lab, family):
+    """FRR's pimd, of IGMP alone."""
+    daemon = "/usr/lib/frr/pimd" if family == "igmp" else "/usr/lib/frr/pim6d"
+    if not installed("frr", daemon):
+        raise Failed(f"{daemon} is not there: Debian's frr {version_of('frr')} has none")
+    lab.both()
+    files = [put(lab, "zebra.conf", ""), put(lab, "pimd.conf", FRR[family])]
+    place = f"/tmp/{lab.space}.frr"
+    os.makedirs(place, exist_ok=True)
+    shutil.chown(place, "frr", "frr")
+    how = ["-z", f"{place}/zebra", "--vty_socket", place, "-P", "0"]
+    lab.start("/usr/lib/frr/zebra", *how, "-i", f"{place}/zebra.pid", "-f", files[0])
+    wait_for(f"{place}/zebra")
+    lab.start(daemon, *how, "-i", f"{place}/pimd.pid", "-f", files[1])
+    return ["--upstream", "v0"] if family == "igmp" else []
+
+
+def pimd(lab, family):
+    """pimd by troglobit, of IGMP alone."""
+    program = unpacked("pimd", "/usr/sbin/pimd")
+    if not program or family != "igmp":
+        raise Failed("it has no MLD" if program else "pimd is not there")
+    lab.both()
+    lab.start(program, "-f", "-N", "-c", put(lab, "pimd.conf", PIMD))
+    return ["--upstream", "v0"]
+
+
+def igmpproxy(lab, family):
+    """igmpproxy, of IGMP alone."""
+    program = installed("igmpproxy", "/usr/sbin/igmpproxy")
+    if not program or family != "igmp":
+        raise Failed("it has no MLD" if program else "igmpproxy is not there")
+    lab.both()
+    lab.start(program, "-n", put(lab, "igmpproxy.conf", IGMPPROXY))
+    return ["--upstream", "v0"]
+
+
+def wait_for(place, seconds=10):
+    limit = time.monotonic() + seconds
+    while not os.path.exists(place):
+        if time.monotonic() > limit:
+            raise Failed(f"{place} doesn't come")
+        time.sleep(0.05)
+
+
+PEERS = {
+    "live": live,
+    "bridge": bridge,
+    "live-bridge": live_bridge,
+    "frr": frr,
+    "pimd": pimd,
+    "igmpproxy": igmpproxy,
+}

@@ -1,0 +1,65 @@
+//! What the lines know of an address.
+
+ghost use Rattle.std.specs.Prelude.{◌≡◌, ◌≤◌, ◌+◌, ◌++◌};
+ghost use Rattle.arrayvec.specs.ArrayVec.{array_vec_len};
+ghost use Rattle.mq_wire.specs.Family.{Family, Igmp, Mld};
+ghost use Rattle.mq_lines.specs.Text.{address_text};
+ghost use Rattle.mq_lines.specs.Text as spec;
+
+use mq_count::{Addr4, Addr6};
+use mq_text::{Text, put_v4, put_v6};
+use mq_wire::{OlderVersion, WireKey};
+
+/// An address as a line has it, and what the lines of its family have besides.
+pub trait LineKey: WireKey {
+    ghost family: { Family };
+
+    /// Puts the address at the end of a text.
+    fn put(self, text: &mut Text)
+        requires { array_vec_len text.old + 40 ≤ 4096 }
+        ensures text { text.new.items ≡ text.old.items ++ address_text family (Self.number self) }
+        ensures room { array_vec_len text.new ≤ array_vec_len text.old + 40 };
+
+    /// The family's own version: 3 of IGMP, 2 of MLD.
+    fn current_version() -> u8
+        ensures { result ≡ spec.current_version family };
+
+    /// Whether a query of an older version has a response.
+    fn has_response(version: OlderVersion) -> bool
+        ensures { result ≡ spec.has_response family version };
+}
+
+impl LineKey for Addr4 {
+    ghost family = { Igmp };
+
+    fn put(self, text: &mut Text) {
+        put_v4(text, self)
+    }
+
+    fn current_version() -> u8 {
+        3
+    }
+
+    fn has_response(version: OlderVersion) -> bool {
+        match version {
+            OlderVersion::V1 => false,
+            OlderVersion::V2 => true,
+        }
+    }
+}
+
+impl LineKey for Addr6 {
+    ghost family = { Mld };
+
+    fn put(self, text: &mut Text) {
+        put_v6(text, self)
+    }
+
+    fn current_version() -> u8 {
+        2
+    }
+
+    fn has_response(_version: OlderVersion) -> bool {
+        true
+    }
+}

@@ -1,6 +1,0 @@
-use Rattle.mq_sched.specs.PlaceMoves.{moved_up}
-use Rattle.mq_sched.proofs.PlaceMoves.{MovedUpTo}
-use Rattle.mq_sched.proofs.place_moves.move_up.Given as goal
-
-abbrev pub invariant-loop-place : goal.invariant-loop-place
-invariant-loop-place l = MovedUpTo (moved_up l.from) l.initial.places l.places l.place-index

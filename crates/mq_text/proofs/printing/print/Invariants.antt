@@ -1,0 +1,16 @@
+use Rattle.std.proofs.Common.{◌≡◌, ℕ, List, ◌++◌, length}
+use Rattle.std.specs.Io.KnownBytes.{Appends}
+use Rattle.mq_count.specs.Streams.{inner_of, has_failed}
+use Rattle.mq_text.proofs.printing.print.Given as goal
+
+-- what was written so far and what is left are the text
+abbrev pub invariant-loop-rest : goal.invariant-loop-rest
+invariant-loop-rest g l =
+    record {
+      grows : (written : List ℕ) × (l.text ≡ written ++ l.rest)
+          × Appends (g.W.Write.contents (inner_of l.fn.writer)) (g.W.Write.contents (inner_of l.writer)) written;
+      same : has_failed l.writer ≡ has_failed l.fn.writer;
+    }
+
+abbrev pub decreases-loop-rest : goal.decreases-loop-rest
+decreases-loop-rest g l = length l.rest

@@ -1,0 +1,42 @@
+//! What lines are written to.
+
+ghost use Rattle.std.specs.Prelude.{◌≡◌, ◌||◌, is_err};
+ghost use Rattle.mq_text.specs.Printing.{Prints};
+
+use crate::printing::{LineFault, print};
+use mq_count::Watched;
+use std::io::Write;
+
+/// What takes a text whole, or a beginning of it and then no more: a watched writer, or memory that is lent.
+pub trait Output {
+    ghost use Rattle.std.specs.Prelude.{ℕ, Bool, List, Option};
+
+    /// The bytes that it holds, where they are known.
+    ghost held: { Self → Option (List ℕ) };
+
+    /// Whether a text was not taken whole.
+    ghost failed: { Self → Bool };
+
+    /// The memory that it was lent and writes into, by the loan's ghost name; 0 where it was lent none.
+    ghost loan: { Self → ℕ };
+
+    /// Writes all of a text, or a beginning of it where a fault comes.
+    fn print(&mut self, text: &[u8]) -> Result<(), LineFault>
+        ensures text { Prints (held self.old) (held self.new) text.now result }
+        ensures failed { failed self.new ≡ failed self.old || is_err result }
+        ensures same_loan { loan self.new ≡ loan self.old };
+}
+
+impl<W: Write> Output for Watched<W> {
+    ghost use Rattle.mq_count.specs.Streams.{inner_of, has_failed};
+
+    ghost held = { λ writer. W.contents (inner_of writer) };
+
+    ghost failed = { has_failed };
+
+    ghost loan = { λ writer. 0 };
+
+    fn print(&mut self, text: &[u8]) -> Result<(), LineFault> {
+        print(text, self)
+    }
+}

@@ -1,0 +1,27 @@
+"""What the proof of each crate costs, in seconds of a processor: as it was measured on the machine at hand, or else as tools/costs says."""
+
+import os
+
+from repository import TOP, put, text_of
+
+STATED, MEASURED = f"{TOP}/tools/costs", f"{TOP}/bin/costs"
+# Of a crate that was never measured.
+UNKNOWN = 60.0
+
+
+def table(file):
+    rows = [line.partition("#")[0].split() for line in text_of(file).splitlines()] if os.path.isfile(file) else []
+    return {row[0]: float(row[1]) for row in rows if row}
+
+
+def cost_of(name):
+    for file in (MEASURED, STATED):
+        if name in (found := table(file)):
+            return found[name]
+    return UNKNOWN
+
+
+def note_cost(name, seconds):
+    """Keeps what the proof of a crate took here."""
+    now = {**table(MEASURED), name: seconds}
+    put(MEASURED, "".join(f"{it} {now[it]:.0f}\n" for it in sorted(now)))

@@ -1,0 +1,276 @@
+"""The toolchain as the tools call it.
+
+`rt` proves one crate a call, and keeps all crates below it locked meanwhile. The tools call `rattle`, the compiler, with the words
+that `rt` gives it, so that crates are proved side by side; and they take what `rt ci` proved on this machine and kept. What they
+make stands where `rt` looks for it: crates/NAME/out/rlib, with the stamp by which `rt` knows it, and a key that says over which
+libraries it was made.
+"""
+
+import contextlib
+import hashlib
+import importlib.machinery
+import importlib.util
+import json
+import os
+import shutil
+import subprocess
+import sys
+import time
+
+from repository import TOP, said_by
+
+CARRIES_ON = "--incremental", "out/incremental"
+WASM = "wasm64-unknown-unknown"
+
+
+def folder():
+    """The toolchain's folder: the page that `rt doc` names stands there."""
+    status, said = said_by(TOP, "rt", "doc")
+    if status:
+        raise ValueError(f"`rt doc` fails: {said.strip()}")
+    return os.path.dirname(said.strip())
+
+
+def loaded():
+    """The command `rt` as a module."""
+    path = f"{folder()}/bin/rt"
+    loader = importlib.machinery.SourceFileLoader("rt", path)
+    made = importlib.util.module_from_spec(importlib.util.spec_from_loader("rt", loader))
+    sys.modules["rt"] = made
+    loader.exec_module(made)
+    return made
+
+
+def text_of(file):
+    try:
+        with open(file, encoding="utf-8", errors="replace") as it:
+            return it.read()
+    except FileNotFoundError:
+        return None
+
+
+def without(words, *flags):
+    """The words without these flags and the word behind each."""
+    for flag in flags:
+        at = words.index(flag)
+        words = [*words[:at], *words[at + 2 :]]
+    return words
+
+
+class Kit:
+    """The crates of a repository with what is proved of them. Its calls may run in threads, for a crate once those below it are done."""
+
+    def __init__(self, top=TOP, beside=None, anew=False):
+        """`top` is the repository or a copy of its crates. `beside` is the number of a process, an `rt ci`: as long as it is at work, libraries are
+        taken as it makes them. `anew` takes nothing that an `rt ci` kept."""
+        self.rt = rt = loaded()
+        self.top, self.beside, self.anew = top, beside, anew
+        rt.Crate.allowed = rt.handles_of(top)
+        rt.rtlib.Crate = rt.Crate
+        found = rt.rtlib.crates_below(f"{top}/crates")
+        self.crates = {it.name: it for it in sorted(found, key=lambda it: len(it.below()))}
+        self.kept = rt.Kept([*self.crates.values()])
+        # Its first call starts a process, which is not safe once threads run.
+        self.guard = rt.rtlib.guarded()
+        # What `rattle` took of the processors for each crate, in seconds.
+        self.spent = {}
+
+    def out(self, name):
+        return f"{self.crates[name].folder}/out"
+
+    def has_kept_work(self, name):
+        """Whether checks of the crate left work over which the next one goes on."""
+        return bool(os.path.isdir(f"{self.out(name)}/incremental") and os.listdir(f"{self.out(name)}/incremental"))
+
+    def key(self, name, target=""):
+        """A sum of all that the crate's proof reads, once those below it are built."""
+        return self.kept.key(self.crates[name]) + target
+
+    def is_made(self, file, key):
+        return os.path.exists(file) and text_of(f"{file}.key") == key
+
+    def made(self, file, key):
+        with open(f"{file}.key", "w", encoding="utf-8") as it:
+            it.write(key)
+
+    def is_given(self, name, key):
+        """Whether an earlier `rt ci` on this machine proved the same, or a build of the repository of which this is a copy; then what it made stands in
+        out/. Where an `rt ci` proves it just now, this waits for it."""
+        crate, built = self.crates[name], f"{TOP}/crates/{name}/out/rlib/{name}.rlib"
+        if self.anew:
+            return False
+        if self.top != TOP and crate.makes_rlib() and self.is_made(built, key):
+            shutil.copytree(built, crate.rlib, copy_function=self.rt.link_or_copy)
+            return True
+        with contextlib.ExitStack() as turn:
+            is_given = self.kept.give(crate, False, key)
+            if not is_given and turn.enter_context(self.kept.in_turn(crate, False, key)):
+                is_given = self.kept.give(crate, False, key)
+        return is_given
+
+    def is_beside(self):
+        return self.beside is not None and os.path.isdir(f"/proc/{self.beside}")
+
+    def is_given_in_time(self, name, key):
+        """Whether the crate is given, now or while the `rt ci` is at work that this waits for."""
+        while not self.is_given(name, key):
+            if not self.is_beside():
+                return self.is_given(name, key)
+            time.sleep(2)
+        return True
+
+    def kept_names(self):
+        """The crates of which `rt ci` has kept a proof of today's files on this machine, with their tests."""
+        return self.names_of(lambda crate, key: crate.has_tests() and self.kept_sums(crate, True, key) is None)
+
+    def proved_names(self):
+        """These, and the crates that were proved and built here."""
+        return self.names_of(lambda crate, key: False, self.is_built)
+
+    def is_built(self, crate, key):
+        made = f"rlib/{crate.name}.rlib" if crate.makes_rlib() else crate.name if crate.is_program else f"lib{crate.name}.a"
+        file = f"{self.out(crate.name)}/{made}"
+        return os.path.exists(file) and (text_of(f"{file}.key") or "").startswith(key)
+
+    def names_of(self, lacks, is_built=lambda crate, key: False):
+        """The crates that are kept or built, and below which all are."""
+        found = []
+        for name, crate in self.crates.items():
+            if any(it.name not in self.kept.rlibs for it in crate.below()):
+                continue
+            key = self.key(name)
+            sums = self.kept_sums(crate, False, key)
+            if is_built(crate, key):
+                self.kept.is_built(crate)
+            elif sums is None or lacks(crate, key):
+                continue
+            else:
+                self.kept.rlibs[name] = hashlib.sha256(repr([] if crate.is_program else sums).encode()).hexdigest()
+            found.append(name)
+        return found
+
+    def kept_sums(self, crate, tests, key):
+        """The files that are kept of a proof, each with its sum; None where none is kept."""
+        text = text_of(f"{self.kept.place(crate, tests, key)}/made.json") if self.kept.at else None
+        return None if text is None else [tuple(it) for it in json.loads(text)["files"]]
+
+    def run_in(self, place, words):
+        """Runs `rattle` in a folder, behind all else; its status and what it says."""
+        how = {"stdin": subprocess.DEVNULL, "stdout": subprocess.PIPE, "stderr": subprocess.STDOUT, "errors": "replace"}
+        ran = subprocess.run([*self.guard, "nice", "-n", "10", self.rt.rtlib.RATTLE, *words], cwd=place, text=True, check=False, **how)
+        return ran.returncode, ran.stdout
+
+    def call(self, crate, words, told=None, later=False):
+        """Runs `rattle` in a crate's folder, hands each line that it says to `told`, and returns its status and its lines."""
+        how = {"stdin": subprocess.DEVNULL, "stdout": subprocess.PIPE, "stderr": subprocess.STDOUT, "errors": "replace"}
+        before = [*self.guard, *(["nice", "-n", "10"] if later else [])]
+        ran, lines = subprocess.Popen([*before, self.rt.rtlib.RATTLE, *words], cwd=crate.folder, text=True, **how), []
+        for line in ran.stdout:
+            lines.append(line.rstrip("\n"))
+            if told:
+                told(line)
+        _, status, used = os.wait4(ran.pid, 0)
+        ran.returncode = os.waitstatus_to_exitcode(status)
+        self.spent[crate.name] = self.spent.get(crate.name, 0) + used.ru_utime + used.ru_stime
+        return ran.returncode, lines
+
+    def library(self, name, jobs, told=None, later=False):
+        """Proves a library and builds it, unless that is done. The status, and what was said of it."""
+        crate, key = self.crates[name], self.key(name)
+        rlib, lines, status = f"{self.out(name)}/rlib/{name}.rlib", [], 0
+        if not self.is_made(rlib, key):
+            shutil.rmtree(os.path.dirname(rlib), ignore_errors=True)
+            os.makedirs(os.path.dirname(rlib))
+            if not self.is_given_in_time(name, key):
+                status, lines = self.proved_library(crate, rlib, jobs, told, later)
+            if not status:
+                self.made(rlib, key)
+        if not status:
+            self.kept.is_built(crate)
+            # By this file `rt` knows that the library is built.
+            with open(f"{os.path.dirname(rlib)}/stamp", "w", encoding="utf-8") as it:
+                it.write(crate.stamp())
+        return status, lines
+
+    def proved_library(self, crate, rlib, jobs, told, later):
+        words = crate.words(["--jobs", str(jobs)])
+        if self.has_kept_work(crate.name):
+            return self.call(crate, ["build", *words, *CARRIES_ON, "-o", rlib], told, later)
+        checked = f"{crate.folder}/out/checked"
+        status, lines = self.call(crate, ["check", *words, "--progress", "--statements", "-o", checked], told, later)
+        if not status:
+            words = without(words, "--logic-built", "--jobs")
+            status, more = self.call(crate, ["build", *words, "--crate-checked", checked, "-o", rlib], told, later)
+            lines = [*lines, *more] if status else lines
+        shutil.rmtree(checked, ignore_errors=True)
+        return status, lines
+
+    def program(self, name, jobs, told=None, later=False):
+        """Proves a program and compiles it into out/NAME, unless that is done."""
+        crate, key = self.crates[name], self.key(name)
+        file, lines, status = f"{self.out(name)}/{name}", [], 0
+        if not self.is_made(file, key):
+            os.makedirs(self.out(name), exist_ok=True)
+            if not self.is_given(name, key):
+                status, lines = self.proved_program(crate, file, jobs, told, later)
+            if not status:
+                self.made(file, key)
+        return status, lines
+
+    def proved_program(self, crate, file, jobs, told, later):
+        words, checked = crate.words(["--jobs", str(jobs)]), f"{crate.folder}/out/checked"
+        toolchain = ["--toolchain", f"{self.rt.KIT}/toolchain", "--backend", "llvm"]
+        if self.has_kept_work(crate.name):
+            status, lines = self.call(crate, ["build", *words, *CARRIES_ON, *toolchain, "-o", f"{file}.o"], told, later)
+        else:
+            status, lines = self.call(crate, ["check", *words, "--progress", "-o", checked], told, later)
+            if not status:
+                words = [*without(words, "--logic-built", "--jobs"), "--crate-checked", checked]
+                status, more = self.call(crate, ["build", *words, *toolchain, "-o", f"{file}.o"], told, later)
+                lines = [*lines, *more] if status else lines
+        shutil.rmtree(checked, ignore_errors=True)
+        return (crate.link(f"out/{crate.name}.o", f"out/{crate.name}") if not status else status), lines
+
+    def tests(self, name, told=None, later=False):
+        """Proves and runs the tests of a crate. The status, and what was said."""
+        how = {"stdin": subprocess.DEVNULL, "stdout": subprocess.PIPE, "stderr": subprocess.STDOUT, "errors": "replace"}
+        words = [*self.guard, *(["nice", "-n", "10"] if later else []), "rt", "test"]
+        ran = subprocess.run(words, cwd=self.crates[name].folder, text=True, check=False, **how)
+        for line in ran.stdout.splitlines(True) if told else ():
+            told(line)
+        return ran.returncode, ran.stdout.splitlines()
+
+    def archive(self, name, target, jobs, told=None, later=False):
+        """Proves a static library and compiles it for a processor into out/libNAME.a, unless that is done. What was proved for one processor
+        serves the next."""
+        crate, key = self.crates[name], self.key(name, target)
+        file = f"{self.out(name)}/lib{name}.a"
+        if self.is_made(file, key):
+            return 0, []
+        os.makedirs(self.out(name), exist_ok=True)
+        words = [*crate.words(["--jobs", str(jobs), "--target", target]), *CARRIES_ON]
+        toolchain = ["--toolchain", f"{self.rt.KIT}/toolchain", "--backend", "llvm"]
+        status, lines = self.call(crate, ["build", *words, *toolchain, "-o", file], told, later)
+        if not status:
+            self.made(file, key)
+        return status, lines
+
+    def needs(self, name, jobs):
+        """The memory that a proof of the crate is likely to take, in bytes, as was measured over libraries without their proofs. `rt` plans on
+        twice as much."""
+        crate = self.crates[name]
+        antt = sum(text_of(it).count("\n") for it in self.rt.rtlib.files_of(crate.folder) if it.endswith(".antt"))
+        return (1_000_000_000 + 350_000 * crate.count(rb"\n") + 100_000 * antt) * (1 + 0.35 * (jobs - 1))
+
+    def memory(self):
+        """The memory that all proofs together may take, in bytes."""
+        return 0.85 * self.rt.free()
+
+    def processors(self):
+        return self.rt.processors()
+
+    def link_page(self, name):
+        """Links the module for WebAssembly of a static library that was made for it."""
+        out, kit = self.out(name), self.rt.KIT
+        words = ["--target", WASM, "--toolchain", f"{kit}/toolchain", "-o", f"{out}/{name}.wasm", f"{out}/lib{name}.a"]
+        return said_by(TOP, f"{kit}/bin/rattle-link", *words)

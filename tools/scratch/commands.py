@@ -1,0 +1,63 @@
+"""Tests of tools/needs, tools/try and tools/kept."""
+
+import os
+import time
+
+from scratch import copy_tools, put, run, taken, want
+
+
+def names_what_is_missing(top):
+    want(run(top, f"{top}/tools/needs", "sh", "cat") == (0, ""), "commands that are there", "")
+    status, said = run(top, f"{top}/tools/needs", "sh", "no-such-command", "qemu-no-such")
+    want(status == 1 and len(said.splitlines()) == 2 and said.startswith("`no-such-command` isn't on the PATH."), "commands that are missing", said)
+    os.rename(f"{top}/path/rt", f"{top}/rt")
+    status, said = run(top, "env", f"PATH={top}/path:/usr/bin:/bin", f"{top}/tools/needs", "rt")
+    want(status == 1 and "Rattle toolchain" in said, "the toolchain is missing", said)
+    os.rename(f"{top}/rt", f"{top}/path/rt")
+
+
+def tries(top):
+    """Words are handed to the program where it is built, and else to one that isn't proved, which is said."""
+    os.makedirs(f"{top}/crates/mquerier", exist_ok=True)
+    os.remove(f"{top}/bin/mquerier")
+    put(f"{top}/capture", "bytes")
+    status, said = run(top, f"{top}/tools/try", "show", f"{top}/capture")
+    want(status == 0 and said.startswith("not proved yet: `make` proves the program"), "a try says that nothing is proved", said)
+    want(said.splitlines()[-1] == f"try --data capture={top}/capture -- show capture", "the words of a try", said)
+    put(f"{top}/bin/mquerier", "#!/bin/sh\necho proved $*\n", 0o755)
+    want(run(top, f"{top}/tools/try", "show", "x") == (0, "proved show x\n"), "the program where it is built", "")
+
+
+def ended(top):
+    """Waits until the last run in the background has ended."""
+    for _ in range(100):
+        if "at work" not in run(top, f"{top}/tools/kept")[1]:
+            return
+        time.sleep(0.1)
+
+
+def keeps(top):
+    """`rt ci` is begun for the crates that aren't kept, and its end is told."""
+    put(f"{top}/said", "rt: low proved\n7 passed, 0 failed (low and the crates below alone: not the gate)\n")
+    put(f"{top}/status", "0")
+    status, said = run(top, f"{top}/tools/kept", "low")
+    want(status == 0 and "`rt ci low` is at work" in said, "a run in the background", said)
+    ended(top)
+    want("rt: low proved" in taken(f"{top}/bin/kept.log"), "what it says is kept", taken(f"{top}/bin/kept.log"))
+    put(f"{top}/said", "rt: FAILED: low\n6 passed, 1 failed\n")
+    put(f"{top}/status", "1")
+    run(top, f"{top}/tools/kept", "low")
+    for _ in range(100):
+        status, said = run(top, f"{top}/tools/kept", "low")
+        if status:
+            break
+        time.sleep(0.1)
+    want(status == 1 and "the last run failed" in said, "a run that fails", said)
+    want(run(top, f"{top}/tools/kept", "no-such-crate")[0] == 2, "a crate that isn't there", "")
+
+
+def commands(top):
+    copy_tools(top, "needs", "try", "kept")
+    names_what_is_missing(top)
+    tries(top)
+    keeps(top)
