@@ -113,9 +113,8 @@ typedef struct {
    above it that its code can say: a response interval of 150 ms goes as 100 ms (IGMP counts tenths of a second), a query
    interval of 135 s as 128 s.
 
-   What greater limits cost: memory, all of it at once (docs/EMBEDDING.md, "Memory"); and with `groups` time, since each
-   group that is made or ends moves what is kept of the groups behind it. With thousands of groups a host that makes and
-   ends groups without end costs much (docs/DECISIONS.md, "What greater limits cost"). */
+   What greater limits cost: memory, all of it at once (docs/EMBEDDING.md, "Memory"), and time in the calls that are handed
+   what a host says of full groups (docs/DECISIONS.md, "What greater limits cost"). */
 typedef struct {
   uint32_t robustness;           /* 1 to 7 */
   uint32_t query_interval;       /* seconds, 1 to 31744 */

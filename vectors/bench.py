@@ -1,4 +1,4 @@
-"""What the cases of cases.py are made of: addresses, packets with what is told of them, and cases."""
+"""What cases are made of: addresses, packets with what is told of them, and cases."""
 
 import dataclasses
 

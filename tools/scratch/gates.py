@@ -50,6 +50,8 @@ def gates(top):
         ended, printed = gate(top, "test", "mutants")
         last = f"{passed + sum(beside.values())} passed, {failed} failed"
         want(ended == (wanted, last), f"the gate of {script, said, status}", printed)
+        told = printed.splitlines().count("rt: FAILED: low")
+        want(told == 2 * said.count("FAILED: low"), "what failed stands once more at the end", printed)
     put(f"{top}/said", "7 passed, 0 failed\n")
     put(f"{top}/status", "0")
     put(f"{top}/tools/wrong-bodies", "#!/bin/sh\necho \"2 passed, $((1 - $#)) failed\"\nexit $((1 - $#))\n", 0o755)

@@ -50,7 +50,7 @@ fn a_refused_growth_leaves_the_group_as_it_was(rt: HostRuntime) {
 }
 
 /// Returns whether two moments are equal, or both absent.
-fn are_equal(first: Option<Moment>, second: Option<Moment>) -> bool {
+pub fn are_equal(first: Option<Moment>, second: Option<Moment>) -> bool {
     let mut m = Meter::new();
     match (first, second) {
         (Some(a), Some(b)) => m.reached(a, b) && m.reached(b, a),

@@ -11,6 +11,8 @@ mod arenas;
 #[cfg(test)]
 mod captures;
 #[cfg(test)]
+mod codes;
+#[cfg(test)]
 mod facts;
 #[cfg(test)]
 mod groups;
@@ -30,5 +32,7 @@ mod source_sets;
 mod storages;
 #[cfg(test)]
 mod streams;
+#[cfg(test)]
+mod table_rows;
 #[cfg(test)]
 mod writing;
