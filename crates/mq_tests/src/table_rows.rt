@@ -17,13 +17,24 @@ type Record = (Kind, &'static [u8]);
 /// deadline of EXCLUDE, and two letters for each source, itself and its deadline. A deadline is the digit of the second whose
 /// membership interval ends then, and `-` where the timer is stopped. Then the sources that are asked for, and whether the
 /// group is.
-type Row = (&'static [Record], Record, &'static [u8], &'static [u8], &'static [u8], bool);
+type Row = (
+    &'static [Record],
+    Record,
+    &'static [u8],
+    &'static [u8],
+    &'static [u8],
+    bool,
+);
 
 /// INCLUDE of a and b.
 const INCLUDE: &[Record] = &[(Kind::Allow, b"a"), (Kind::Allow, b"b")];
 
 /// EXCLUDE in which the timers of a and b run, and those of c and d are stopped.
-const EXCLUDE: &[Record] = &[(Kind::ToEx, b"cd"), (Kind::Allow, b"a"), (Kind::Allow, b"b")];
+const EXCLUDE: &[Record] = &[
+    (Kind::ToEx, b"cd"),
+    (Kind::Allow, b"a"),
+    (Kind::Allow, b"b"),
+];
 
 static ROWS: [Row; 12] = [
     (INCLUDE, (Kind::IsIn, b"bc"), b"i", b"a0b3c3", b"", false),
@@ -32,12 +43,40 @@ static ROWS: [Row; 12] = [
     (INCLUDE, (Kind::ToEx, b"bc"), b"3", b"b1c-", b"b", false),
     (INCLUDE, (Kind::Allow, b"bc"), b"i", b"a0b3c3", b"", false),
     (INCLUDE, (Kind::Block, b"bc"), b"i", b"a0b1", b"b", false),
-    (EXCLUDE, (Kind::IsIn, b"bde"), b"0", b"a1b3c-d3e3", b"", false),
+    (
+        EXCLUDE,
+        (Kind::IsIn, b"bde"),
+        b"0",
+        b"a1b3c-d3e3",
+        b"",
+        false,
+    ),
     (EXCLUDE, (Kind::IsEx, b"bde"), b"3", b"b2d-e3", b"", false),
-    (EXCLUDE, (Kind::ToIn, b"bde"), b"0", b"a1b3c-d3e3", b"a", true),
+    (
+        EXCLUDE,
+        (Kind::ToIn, b"bde"),
+        b"0",
+        b"a1b3c-d3e3",
+        b"a",
+        true,
+    ),
     (EXCLUDE, (Kind::ToEx, b"bde"), b"3", b"b2d-e0", b"be", false),
-    (EXCLUDE, (Kind::Allow, b"bde"), b"0", b"a1b3c-d3e3", b"", false),
-    (EXCLUDE, (Kind::Block, b"bde"), b"0", b"a1b2c-d-e0", b"be", false),
+    (
+        EXCLUDE,
+        (Kind::Allow, b"bde"),
+        b"0",
+        b"a1b3c-d3e3",
+        b"",
+        false,
+    ),
+    (
+        EXCLUDE,
+        (Kind::Block, b"bde"),
+        b"0",
+        b"a1b2c-d-e0",
+        b"be",
+        false,
+    ),
 ];
 
 /// The group after a record at this second.
@@ -58,7 +97,9 @@ fn recorded(
     }
     let timing = Timing::new(2, 125, 10000, 1000).unwrap();
     let now = Moment::from_ms(1000 * second).unwrap();
-    group.apply(alloc, record.0, &named, now, &timing, &mut m).map_err(|_| "memory for a group")
+    group
+        .apply(alloc, record.0, &named, now, &timing, &mut m)
+        .map_err(|_| "memory for a group")
 }
 
 fn source_of(letter: u8) -> Addr4 {
