@@ -24,6 +24,7 @@ IMPORT = re.compile(r"(?:pub |unfoldable )*use ([^\s{]+?)(?:\.\{([^}]*)\}|(?: as
 MARKS = re.compile(r"((?:(?:pub|abbrev|unfoldable|pattern|axiom|data|record) )*)(\S+)")
 OPENED = {"abbrev", "unfoldable", "pattern", "data", "record", "axiom"}
 SIGNED = re.compile(r"\S+(?: \{[^}\n]*\})?\s+:(?:\s|\Z)")
+UNFOLDING = re.compile(r"(?m)^ *unfolding (.+)")
 WORD = re.compile(r"\w+")
 NAME = re.compile(r"[^\s(){}\[\],;:.\"λ⟦⟧]+")
 
@@ -193,6 +194,13 @@ def chunks(lines):
     return found
 
 
+@functools.lru_cache(maxsize=None)
+def unfolded():
+    """The names that are unfolded somewhere: what a check unfolds for a lemma it can unfold for whoever uses this."""
+    files = [f"{TOP}/crates/{crate}/{file}" for crate in crates() for part in ("specs", "proofs") for file in files_of(crate, part, "antt")]
+    return {name for file in files for names in UNFOLDING.findall(text_of(file)) for name in names.split()}
+
+
 class Terms:
     """Reads a file of specs/ or proofs/ into items: each signature with the equations behind it."""
 
@@ -213,6 +221,8 @@ class Terms:
             elif name == "module":
                 first, _, inner = chunk.partition(" where\n")
                 self.read(textwrap.dedent(inner).split("\n"), [*head, first])
+            elif self.found and name == "unfolding":
+                self.found[-1][2] += f"\n{chunk}"
             elif self.found and not marks and not SIGNED.match(chunk):
                 self.found[-1][3] += chunk + "\n"
             elif name != "mod":
@@ -220,7 +230,7 @@ class Terms:
 
     def items(self, crate, file):
         for name, marks, text, rest in self.found:
-            is_open = not marks.isdisjoint(OPENED)
+            is_open = not marks.isdisjoint(OPENED) or name in unfolded()
             it = Item(crate, file, "term", name, "\n".join([text, rest * is_open]), "" if is_open else rest)
             it.imports = self.imports
             yield it
