@@ -13,7 +13,7 @@ use std::alloc::{AllocError, Global};
 use std::convert::AsStr;
 
 /// The version, as `MQ_VERSION_TEXT` of include/mquerier.h has it.
-pub const VERSION: &str = "1";
+pub const VERSION: &str = "2";
 
 /// What the command line asks for.
 #[derive(Clone, Copy)]
