@@ -1,6 +1,6 @@
 //! The calls of a link that hand out queries, for both families.
 
-ghost use Rattle.std.specs.Prelude.{◌≡◌, ◌+◌, ◌*◌, ◌<◌, ◌≤◌, ◌^◌, length, true, false};
+ghost use Rattle.std.specs.Prelude.{◌≡◌, ℕ, ◌+◌, ◌*◌, ◌<◌, ◌≤◌, ◌^◌, length, true, false};
 ghost use Rattle.std.specs.FinMap as map;
 ghost use Rattle.mq_count.specs.Spending.{Spends};
 ghost use Rattle.mq_link.specs.Cost.{cost_of};
@@ -13,17 +13,14 @@ ghost use Rattle.mq_c.specs.Calls as spec;
 ghost use Rattle.mq_c.specs.Calls.{CallsAt, IsRefusedAs, TicksInto, ReceivesInto};
 ghost use Rattle.mq_c.specs.Changed.{WorksIn};
 ghost use Rattle.mq_c.specs.Queries.{outbox_of};
-ghost use Rattle.mq_c.specs.Rooms.{longest_body, receive_room, tick_room};
+ghost use Rattle.mq_c.specs.Rooms.{receive_room, tick_room};
 
-use crate::any_link::AnyLink;
-use crate::any_workspace::AnyWorkspace;
 use crate::forms::Answer;
-use crate::heap_or_lent::HeapOrLent;
 use crate::queries::Queries;
 use crate::statuses::{DONE, MOMENT, WORKSPACE};
+use mq_arena::Lodged;
 use mq_count::Moment;
 use mq_link::{BareLink, Family, Received, Workspace};
-use std::alloc::Allocator;
 
 /// The answer of a call that did nothing, for the reason that its status says.
 fn refused(status: u32) -> Answer
@@ -38,17 +35,6 @@ fn refused(status: u32) -> Answer
         sent: 0,
         unsent: 0,
         written: 0,
-    }
-}
-
-/// The answer of a call that has no workspace to work in, at a moment that may be out of range.
-pub(crate) fn refused_at(now: u64) -> Answer
-    ensures late { 2 ^ 53 < now → result ≡ spec.refused_moment }
-    ensures in_range { now ≤ 2 ^ 53 → result ≡ spec.refused_workspace }
-{
-    match Moment::from_ms(now) {
-        Some(_) => refused(WORKSPACE),
-        None => refused(MOMENT),
     }
 }
 
@@ -92,9 +78,9 @@ fn answer_to(received: Received, queries: &Queries<'_>) -> Answer
 
 /// A tick at a moment, with its queries, and how much it compares and moves at most, as of the link; where the memory is as long
 /// as the room of a tick, none is left out. Nothing, where the workspace is too small.
-fn tick_at<F: Family, A: Allocator, B: Allocator>(
-    link: &mut BareLink<F, A>,
-    workspace: &mut Workspace<F, B>,
+fn tick_at<F: Family>(
+    link: &mut BareLink<F, Lodged>,
+    workspace: &mut Workspace<F, Lodged>,
     now: Moment,
     out: &mut [u8],
 ) -> Answer
@@ -121,9 +107,9 @@ fn tick_at<F: Family, A: Allocator, B: Allocator>(
 
 /// A datagram at a moment, with its queries, and how much it compares and moves at most, as of the link; where the memory is as
 /// long as the room of a datagram, none is left out. Nothing, where the workspace is too small.
-fn receive_at<F: Family, A: Allocator, B: Allocator>(
-    link: &mut BareLink<F, A>,
-    workspace: &mut Workspace<F, B>,
+fn receive_at<F: Family>(
+    link: &mut BareLink<F, Lodged>,
+    workspace: &mut Workspace<F, Lodged>,
     envelope: &F::Envelope,
     body: &[u8],
     now: Moment,
@@ -139,7 +125,7 @@ fn receive_at<F: Family, A: Allocator, B: Allocator>(
     ensures refused { suffices link.old.config.limits workspace.old ≡ false → IsRefusedAs spec.refused_workspace link.old link.new out.old out.new result }
     ensures spent { Spends 0 (cost_of (length body.now) (held_of link.old.state)) link.old.spent link.new.spent }
     ensures moved { Spends 0 (most_moved (length body.now) (held_of link.old.state)) link.old.moved link.new.moved }
-    ensures none_left_out { receive_room F.Address.WIDTH link.old.config ≤ length out.old → length body.now ≤ longest_body → result.unsent ≡ 0 }
+    ensures none_left_out { (longest : ℕ) → receive_room F.Address.WIDTH longest link.old.config ≤ length out.old → length body.now ≤ longest → result.unsent ≡ 0 }
 {
     link.config().is_faultless();
     link.is_well_formed();
@@ -152,8 +138,8 @@ fn receive_at<F: Family, A: Allocator, B: Allocator>(
 
 /// Does what is due, in a workspace; with as much memory as the room of a tick, no query is left out.
 pub(crate) fn tick<F: Family>(
-    link: &mut AnyLink<F>,
-    workspace: &mut AnyWorkspace<F>,
+    link: &mut BareLink<F, Lodged>,
+    workspace: &mut Workspace<F, Lodged>,
     now: u64,
     out: &mut [u8],
 ) -> Answer
@@ -170,24 +156,15 @@ pub(crate) fn tick<F: Family>(
 {
     link.is_well_formed();
     match Moment::from_ms(now) {
-        Some(now) => match &mut link.bare {
-            HeapOrLent::Heap(link) => match &mut workspace.workspace {
-                HeapOrLent::Heap(workspace) => tick_at(link, workspace, now, out),
-                HeapOrLent::Lent(workspace) => tick_at(link, workspace, now, out),
-            },
-            HeapOrLent::Lent(lent) => match &mut workspace.workspace {
-                HeapOrLent::Heap(workspace) => tick_at(lent, workspace, now, out),
-                HeapOrLent::Lent(workspace) => tick_at(lent, workspace, now, out),
-            },
-        },
+        Some(now) => tick_at(link, workspace, now, out),
         None => refused(MOMENT),
     }
 }
 
 /// Takes a datagram, in a workspace; with as much memory as the room of a datagram, no query is left out.
 pub(crate) fn receive<F: Family>(
-    link: &mut AnyLink<F>,
-    workspace: &mut AnyWorkspace<F>,
+    link: &mut BareLink<F, Lodged>,
+    workspace: &mut Workspace<F, Lodged>,
     envelope: F::Envelope,
     body: &[u8],
     now: u64,
@@ -200,28 +177,11 @@ pub(crate) fn receive<F: Family>(
     ensures formed { IsWellFormed link.new.config link.new.state }
     ensures spent { Spends 0 (cost_of (length body.now) (held_of link.old.state)) link.old.spent link.new.spent }
     ensures moved { Spends 0 (most_moved (length body.now) (held_of link.old.state)) link.old.moved link.new.moved }
-    ensures none_left_out { receive_room F.Address.WIDTH link.old.config ≤ length out.old → length body.now ≤ longest_body → result.unsent ≡ 0 }
+    ensures none_left_out { (longest : ℕ) → receive_room F.Address.WIDTH longest link.old.config ≤ length out.old → length body.now ≤ longest → result.unsent ≡ 0 }
 {
     link.is_well_formed();
     match Moment::from_ms(now) {
-        Some(now) => match &mut link.bare {
-            HeapOrLent::Heap(link) => match &mut workspace.workspace {
-                HeapOrLent::Heap(workspace) => receive_at(
-                    link, workspace, &envelope, body, now, out,
-                ),
-                HeapOrLent::Lent(workspace) => receive_at(
-                    link, workspace, &envelope, body, now, out,
-                ),
-            },
-            HeapOrLent::Lent(lent) => match &mut workspace.workspace {
-                HeapOrLent::Heap(workspace) => receive_at(
-                    lent, workspace, &envelope, body, now, out,
-                ),
-                HeapOrLent::Lent(workspace) => receive_at(
-                    lent, workspace, &envelope, body, now, out,
-                ),
-            },
-        },
+        Some(now) => receive_at(link, workspace, &envelope, body, now, out),
         None => refused(MOMENT),
     }
 }

@@ -26,9 +26,9 @@ returns-in-Ok-clause-receives g c enough =
     })
 
 pub returns-in-Ok-clause-none_left_out : goal.returns-in-Ok-clause-none_left_out
-returns-in-Ok-clause-none_left_out g c room short =
+returns-in-Ok-clause-none_left_out g c longest room short =
     let enough = sym c.receive.ensures.answer ∙ ap is_ok c.in-Ok.is in
-    receive_leaves_none g.F.Address.WireKey.WIDTH (g.F.Family.envelope_of c.args.envelope.now) c.args.body.now c.args.now _ _ _ _ _
+    receive_leaves_none g.F.Address.WireKey.WIDTH longest (g.F.Family.envelope_of c.args.envelope.now) c.args.body.now c.args.now _ _ _ _ _
     (subst IsFaultless c.config.ensures c.is_faultless.ensures.faultless) c.is_well_formed.ensures.formed (returns-in-Ok-clause-receives g c enough) room short
 
 pub returns-in-Ok-clause-workspace : goal.returns-in-Ok-clause-workspace
