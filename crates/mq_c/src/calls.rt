@@ -1,6 +1,6 @@
 //! The calls of a link that hand out queries, for both families.
 
-ghost use Rattle.std.specs.Prelude.{◌≡◌, ℕ, ◌+◌, ◌*◌, ◌<◌, ◌≤◌, ◌^◌, length, true, false};
+ghost use Rattle.std.specs.Prelude.{◌≡◌, ℕ, ◌+◌, ◌*◌, ◌<◌, ◌≤◌, ◌^◌, length, true};
 ghost use Rattle.std.specs.FinMap as map;
 ghost use Rattle.mq_count.specs.Spending.{Spends};
 ghost use Rattle.mq_link.specs.Cost.{cost_of};
@@ -10,7 +10,7 @@ ghost use Rattle.mq_link.specs.State.{IsWellFormed, held_of, sources_in};
 ghost use Rattle.mq_link.specs.Tick.{moment_of, next_of};
 ghost use Rattle.mq_link.specs.Workspace.{suffices};
 ghost use Rattle.mq_c.specs.Calls as spec;
-ghost use Rattle.mq_c.specs.Calls.{CallsAt, IsRefusedAs, TicksInto, ReceivesInto};
+ghost use Rattle.mq_c.specs.Calls.{CallsAt, TicksInto, ReceivesInto};
 ghost use Rattle.mq_c.specs.Changed.{WorksIn};
 ghost use Rattle.mq_c.specs.Queries.{outbox_of};
 ghost use Rattle.mq_c.specs.Rooms.{receive_room, tick_room};
@@ -76,66 +76,6 @@ fn answer_to(received: Received, queries: &Queries<'_>) -> Answer
     }
 }
 
-/// A tick at a moment, with its queries, and how much it compares and moves at most, as of the link; where the memory is as long
-/// as the room of a tick, none is left out. Nothing, where the workspace is too small.
-fn tick_at<F: Family>(
-    link: &mut BareLink<F, Lodged>,
-    workspace: &mut Workspace<F, Lodged>,
-    now: Moment,
-    out: &mut [u8],
-) -> Answer
-    requires in_range { now ≤ 2 ^ 53 }
-    ensures workspace { WorksIn (suffices link.old.config.limits workspace.old) now (changed_by_tick link.old.config now link.old.state) workspace.old workspace.new }
-    ensures config { link.new.config ≡ link.old.config }
-    ensures formed { IsWellFormed link.new.config link.new.state }
-    ensures later { suffices link.old.config.limits workspace.old ≡ true → now < next_of link.new.state }
-    ensures ticks { suffices link.old.config.limits workspace.old ≡ true → TicksInto F.Address.WIDTH now link.old link.new out.old out.new result }
-    ensures refused { suffices link.old.config.limits workspace.old ≡ false → IsRefusedAs spec.refused_workspace link.old link.new out.old out.new result }
-    ensures spent { Spends 0 (cost_of 0 (held_of link.old.state)) link.old.spent link.new.spent }
-    ensures moved { let groups = link.old.state.groups in
-        Spends 0 (6 * sources_in groups + 136 * map.len groups) link.old.moved link.new.moved }
-    ensures still { moment_of link.old.state now < next_of link.old.state → link.new.moved ≡ link.old.moved }
-    ensures none_left_out { tick_room F.Address.WIDTH link.old.config ≤ length out.old → result.unsent ≡ 0 }
-{
-    link.is_well_formed();
-    let mut queries = Queries::new(out);
-    match link.tick(workspace, now, &mut queries) {
-        Ok(()) => answer_to_tick(&queries),
-        Err(_) => refused(WORKSPACE),
-    }
-}
-
-/// A datagram at a moment, with its queries, and how much it compares and moves at most, as of the link; where the memory is as
-/// long as the room of a datagram, none is left out. Nothing, where the workspace is too small.
-fn receive_at<F: Family>(
-    link: &mut BareLink<F, Lodged>,
-    workspace: &mut Workspace<F, Lodged>,
-    envelope: &F::Envelope,
-    body: &[u8],
-    now: Moment,
-    out: &mut [u8],
-) -> Answer
-    requires in_range { now ≤ 2 ^ 53 }
-    ensures workspace { WorksIn (suffices link.old.config.limits workspace.old) now (changed_by_datagram link.old.config (F.envelope_of envelope.now) body.now now link.old.state)
-        workspace.old workspace.new }
-    ensures config { link.new.config ≡ link.old.config }
-    ensures formed { IsWellFormed link.new.config link.new.state }
-    ensures receives { suffices link.old.config.limits workspace.old ≡ true → ReceivesInto F.Address.WIDTH (F.envelope_of envelope.now) body.now now link.old link.new
-        out.old out.new result }
-    ensures refused { suffices link.old.config.limits workspace.old ≡ false → IsRefusedAs spec.refused_workspace link.old link.new out.old out.new result }
-    ensures spent { Spends 0 (cost_of (length body.now) (held_of link.old.state)) link.old.spent link.new.spent }
-    ensures moved { Spends 0 (most_moved (length body.now) (held_of link.old.state)) link.old.moved link.new.moved }
-    ensures none_left_out { (longest : ℕ) → receive_room F.Address.WIDTH longest link.old.config ≤ length out.old → length body.now ≤ longest → result.unsent ≡ 0 }
-{
-    link.config().is_faultless();
-    link.is_well_formed();
-    let mut queries = Queries::new(out);
-    match link.receive(workspace, envelope, body, now, &mut queries) {
-        Ok(received) => answer_to(received, &queries),
-        Err(_) => refused(WORKSPACE),
-    }
-}
-
 /// Does what is due, in a workspace; with as much memory as the room of a tick, no query is left out.
 pub(crate) fn tick<F: Family>(
     link: &mut BareLink<F, Lodged>,
@@ -155,9 +95,13 @@ pub(crate) fn tick<F: Family>(
     ensures none_left_out { tick_room F.Address.WIDTH link.old.config ≤ length out.old → result.unsent ≡ 0 }
 {
     link.is_well_formed();
-    match Moment::from_ms(now) {
-        Some(now) => tick_at(link, workspace, now, out),
-        None => refused(MOMENT),
+    let Some(now) = Moment::from_ms(now) else {
+        return refused(MOMENT);
+    };
+    let mut queries = Queries::new(out);
+    match link.tick(workspace, now, &mut queries) {
+        Ok(()) => answer_to_tick(&queries),
+        Err(_) => refused(WORKSPACE),
     }
 }
 
@@ -179,9 +123,14 @@ pub(crate) fn receive<F: Family>(
     ensures moved { Spends 0 (most_moved (length body.now) (held_of link.old.state)) link.old.moved link.new.moved }
     ensures none_left_out { (longest : ℕ) → receive_room F.Address.WIDTH longest link.old.config ≤ length out.old → length body.now ≤ longest → result.unsent ≡ 0 }
 {
+    link.config().is_faultless();
     link.is_well_formed();
-    match Moment::from_ms(now) {
-        Some(now) => receive_at(link, workspace, &envelope, body, now, out),
-        None => refused(MOMENT),
+    let Some(now) = Moment::from_ms(now) else {
+        return refused(MOMENT);
+    };
+    let mut queries = Queries::new(out);
+    match link.receive(workspace, &envelope, body, now, &mut queries) {
+        Ok(received) => answer_to(received, &queries),
+        Err(_) => refused(WORKSPACE),
     }
 }
