@@ -1,6 +1,6 @@
 -- The two functions of a struct of one pointer that owns a value, for whatever family: what is behind the pointer is lent, and the
 -- pointer of a value is put in. Each meets the clauses that follow from what it does. Assumes `Logic`.
-use Rattle.std.proofs.Common.{◌≡◌, ℕ, List, [], ◌∷◌, ◌++◌, refl, sym, subst, ◌∙◌, MutBor}
+use Rattle.std.proofs.Common.{◌≡◌, ℕ, List, [], ◌∷◌, refl, sym, ◌∙◌, MutBor}
 use seplogic.Ra.Ura.{Ura}
 use base.Fraction.{full_share}
 use base.Logic.{SProp, ent, sep, id⊢, emp}
@@ -11,20 +11,20 @@ use mir.Raw.{raw as bare}
 use mir.Syntax.{named, erased, static, mut, Ty, Fn, Callee, ty_ptr, ty_ref, local, value_local, place, field, deref, copy, assign, rv_opd, addr_of, aggregate, seq, block, return}
 use mir.Val.{Val, vptr}
 use prog.Model.{Model}
-use prog.Wp.{WpFn, Closed}
+use prog.Wp.{Closed}
 use types.Logic.{Logic, sem}
 use types.Kit.{‵, raw, ◌⊛◌, some, later, at_ret, ◌$◌, ◌∵◌, !, qed, by, move, keep, use0, use1, drop, split, join, pick, fsplit, fsplit3, fjoin, fpack, suffices, done, frame, await, group, rewrite}
 use types.Part.{agg, whole, sub, look_in}
 use types.Run.{stop, fld, load, of_opd, no_more, and_then, first, blocks, exec, returns, enter, addr}
-use types.ByLocal.{alloc_all, pass_all, free_all, look_at, get, get_in, through, sets, env, sets_last}
+use types.ByLocal.{alloc_all, pass_all, free_all, look_at, get, through, sets, env, sets_last}
 use denote.Builtin.{One, RefMutOf}
-use denote.Exit.{yes, no}
+use denote.Exit.{no}
 use denote.Follow.{follows, Part, lends_Part}
 use denote.Memory.{part_at, mem, cell_at, part_of, lone}
-use denote.RattleType.{RattleType, owns}
+use denote.RattleType.{RattleType}
 use denote.RawPtr.{Ptr, block_ptr}
 use denote.Ref.{MutRef, mut_vals, mut_Tells}
-use denote.Signature.{types_at, plain, mut_ref_to}
+use denote.Signature.{plain, mut_ref_to}
 use denote.Steps.{nothing, opens}
 use denote.Triple.Clauses.{Ended, Clauses, AtExit, closing, at_exit}
 use denote.Triple.Entry.{Args, Res}

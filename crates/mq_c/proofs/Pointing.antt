@@ -6,7 +6,7 @@ use base.Stored.{Coded}
 use base.Logic.{never, fst∗}
 use base.Fml.{Fml}
 use mir.Raw.{raw as bare}
-use mir.Syntax.{Sym, Ty}
+use mir.Syntax.{Sym}
 use mir.Val.{Val, vptr, vstruct, vcons, vnil, of_list}
 use types.Logic.{Logic, sem}
 use types.Kit.{Item, Goal, Seq, Step, step, ‵, ◌$◌, drop, fsplit, fjoin, fpick, fpack, feq_i, feq_l, rewrite}

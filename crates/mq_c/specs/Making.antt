@@ -1,5 +1,5 @@
 -- Links that are made for C.
-use Rattle.std.specs.Prelude.{◌≡◌, ◌⊎◌, ℕ, ◌<◌, ◌≤◌, ◌^◌, ◌==◌, not, Option, Some, Result, Ok, Err, []}
+use Rattle.std.specs.Prelude.{◌≡◌, ◌⊎◌, ℕ, ◌<◌, ◌≤◌, ◌^◌, ◌==◌, not, Some, Result, Ok, Err, []}
 use Rattle.mq_wire.specs.Family.{Family}
 use Rattle.mq_link.specs.declared.configuration.ConfigFault.{ConfigFault}
 use Rattle.mq_link.specs.Configuration.{Configuration, configuration_fault, IsFaultless}

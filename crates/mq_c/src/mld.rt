@@ -33,12 +33,12 @@ ghost use Rattle.mq_c.specs.Statuses as status;
 use crate::changed::put_changed;
 use crate::counting::{few, put_counters};
 use crate::forms::{Answer, MldConfig, MldGroup, MldSource, Page};
-use crate::mld_objects::{MldLink, MldLinkPlace, MldWorkspace, MldWorkspacePlace};
 use crate::lines::put_mld_line;
 use crate::making::{
     default_settings, link_in, link_size, with_object, workspace_in, workspace_size,
 };
 use crate::milliseconds::milliseconds;
+use crate::mld_objects::{MldLink, MldLinkPlace, MldWorkspace, MldWorkspacePlace};
 use crate::other_querier::other_querier;
 use crate::pages::{put_group, put_groups};
 use crate::statuses::{DONE, MEMORY};

@@ -15,16 +15,19 @@ returns-in-Ok-clause-receives g c =
     let done = handed width c.new-queries.result receives.messages receives.answers left receives.handed in
     rw (c.out-1.given.1.1 (sym (done.1 ∙ made.same_out)), ← c.in-Some.ensures.1)
     (record {
-      done = λ _ _. (record {
-        received = c.in-Ok.received;
-        messages = receives.messages;
-        answers = receives.answers;
-        receives = receives.receives;
-        box = outbox_of left;
-        puts = subst (λ box. Puts width box receives.messages receives.answers (outbox_of left)) made.empty done.0;
-        bytes_are = refl;
-        answer_is = c.answer_to.ensures;
-      }, c.receive.ensures.config);
+      done = λ _ _. (
+        record {
+          received = c.in-Ok.received;
+          messages = receives.messages;
+          answers = receives.answers;
+          receives = receives.receives;
+          box = outbox_of left;
+          puts = subst (λ box. Puts width box receives.messages receives.answers (outbox_of left)) made.empty done.0;
+          bytes_are = refl;
+          answer_is = c.answer_to.ensures;
+        },
+        c.receive.ensures.config,
+      );
       too_late = λ late. absurd (omega (arith, c.in-Some.ensures, late));
       no_workspace = λ _ none. absurd (let wrong = sym none ∙ enough in cc);
     })

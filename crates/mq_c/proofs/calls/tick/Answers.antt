@@ -14,15 +14,18 @@ returns-in-Ok-clause-ticks g c =
     let done = handed width c.new-queries.result ticks.messages ticks.answers left ticks.handed in
     rw (c.out-1.given.1.1 (sym (done.1 ∙ made.same_out)), ← c.in-Some.ensures.1)
     (record {
-      done = λ _ _. (record {
-        messages = ticks.messages;
-        answers = ticks.answers;
-        ticks = ticks.ticks;
-        box = outbox_of left;
-        puts = subst (λ box. Puts width box ticks.messages ticks.answers (outbox_of left)) made.empty done.0;
-        bytes_are = refl;
-        answer_is = c.answer_to_tick.ensures;
-      }, c.tick.ensures.config);
+      done = λ _ _. (
+        record {
+          messages = ticks.messages;
+          answers = ticks.answers;
+          ticks = ticks.ticks;
+          box = outbox_of left;
+          puts = subst (λ box. Puts width box ticks.messages ticks.answers (outbox_of left)) made.empty done.0;
+          bytes_are = refl;
+          answer_is = c.answer_to_tick.ensures;
+        },
+        c.tick.ensures.config,
+      );
       too_late = λ late. absurd (omega (arith, c.in-Some.ensures, late));
       no_workspace = λ _ none. absurd (let wrong = sym none ∙ enough in cc);
     })
