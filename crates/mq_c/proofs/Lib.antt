@@ -1,6 +1,5 @@
 mod HandedInto
 mod LentLines
-mod LooseValues
 mod Meetings
 mod OneGroup
 mod OutletBytes

@@ -1,7 +1,6 @@
--- The three functions of a struct of one pointer that owns a box, for whatever family: the box is taken out, the pointer of
--- a box is put in, and what is behind the pointer is lent. Each meets the clauses that follow from what it does. Assumes
--- `Logic`.
-use Rattle.std.proofs.Common.{◌≡◌, ℕ, List, [], ◌∷◌, ◌++◌, refl, sym, subst, ◌∙◌, MutBor}
+-- The two functions of a struct of one pointer that owns a value, for whatever family: what is behind the pointer is lent, and the
+-- pointer of a value is put in. Each meets the clauses that follow from what it does. Assumes `Logic`.
+use Rattle.std.proofs.Common.{◌≡◌, ℕ, List, [], ◌∷◌, refl, sym, ◌∙◌, MutBor}
 use seplogic.Ra.Ura.{Ura}
 use base.Fraction.{full_share}
 use base.Logic.{SProp, ent, sep, id⊢, emp}
@@ -12,98 +11,39 @@ use mir.Raw.{raw as bare}
 use mir.Syntax.{named, erased, static, mut, Ty, Fn, Callee, ty_ptr, ty_ref, local, value_local, place, field, deref, copy, assign, rv_opd, addr_of, aggregate, seq, block, return}
 use mir.Val.{Val, vptr}
 use prog.Model.{Model}
-use prog.Wp.{WpFn, Closed}
+use prog.Wp.{Closed}
 use types.Logic.{Logic, sem}
 use types.Kit.{‵, raw, ◌⊛◌, some, later, at_ret, ◌$◌, ◌∵◌, !, qed, by, move, keep, use0, use1, drop, split, join, pick, fsplit, fsplit3, fjoin, fpack, suffices, done, frame, await, group, rewrite}
 use types.Part.{agg, whole, sub, look_in}
 use types.Run.{stop, fld, load, of_opd, no_more, and_then, first, blocks, exec, returns, enter, addr}
-use types.ByLocal.{alloc_all, pass_all, free_all, look_at, get, get_in, through, sets, env, sets_last}
+use types.ByLocal.{alloc_all, pass_all, free_all, look_at, get, through, sets, env, sets_last}
 use denote.Builtin.{One, RefMutOf}
-use denote.Exit.{yes, no}
+use denote.Exit.{no}
 use denote.Follow.{follows, Part, lends_Part}
 use denote.Memory.{part_at, mem, cell_at, part_of, lone}
-use denote.RattleType.{RattleType, owns}
+use denote.RattleType.{RattleType}
 use denote.RawPtr.{Ptr, block_ptr}
 use denote.Ref.{MutRef, mut_vals, mut_Tells}
-use denote.Signature.{types_at, plain, mut_ref_to}
+use denote.Signature.{plain, mut_ref_to}
 use denote.Steps.{nothing, opens}
 use denote.Triple.Clauses.{Ended, Clauses, AtExit, closing, at_exit}
 use denote.Triple.Entry.{Args, Res}
 use denote.Triple.Spec.{Meets}
 use denote.Triple.Walked.{Stays, stay_dropped, walk_of, ends_at, Goes-spent_ref}
-use Rattle.core.proofs.alloc.Calls.{Goes-blank, handle_tells}
-use Rattle.std.proofs.raw_atomic.Walks.{proved, proved_at, leaves}
+use Rattle.std.proofs.raw_atomic.Walks.{proved}
 use Rattle.std_alloc.proofs.VecSteps.Shapes.{after}
 use Rattle.std_alloc.specs.Box.Ownership.{box_owns}
-use Rattle.std_heap.specs.contracts.Global as heap
-use Rattle.std_heap.specs.contracts.GlobalAllocator.TheImpl.{ghosts}
-use Rattle.std_heap.proofs.Global.TheLaws as heap_laws
-use Rattle.mq_c.specs.Freeing.{freeing, no_freeing}
-use Rattle.mq_c.specs.contracts.loose.Loose as loose
-use Rattle.mq_c.proofs.LooseValues.{both, al, loose_good, loose_in, loose_out}
+use Rattle.mq_c.specs.Owning.{no_freeing}
 use Rattle.mq_c.proofs.Pointing.{Pointing, row_of, boxed, alone, pointer_in, pointer_out}
-
-abbrev Z : RattleType
-Z = heap.the_row
 
 abbrev pub ty_of : RattleType → Ty
 ty_of R = lone R.mir
 
 module _ (R : RattleType) (P : Pointing) where
-  abbrev L : RattleType
-  L = loose.the_row R Z ghosts
-
+  -- ---- what is behind the pointer is lent
   module _ (kept : P.D → R.Denot) where
-    abbrev B : RattleType
-    B = row_of P (boxed freeing R P kept)
-
-    -- ---- the box is taken out
-    abbrev pub into_code : Fn
-    into_code = record {
-      lifetimes = 0;
-      outlives = [];
-      ty_params = [];
-      givens = 0;
-      params = 2;
-      locals = local (ty_of L) value_local ∷ local (ty_of B) value_local ∷ local (ty_of Z) value_local ∷ local ty_ptr value_local ∷ local ty_ptr value_local ∷ [];
-      body =
-          seq (assign (place 3 []) (rv_opd (copy (place 1 (field 0 ∷ [])))))
-          (seq (assign (place 4 []) (rv_opd (copy (place 3 []))))
-          (seq (assign (place 0 []) (aggregate (copy (place 4 []) ∷ copy (place 2 []) ∷ []))) return));
-    }
-
-    abbrev pub into_ended : Ended
-    into_ended = record {
-      signature = record { lifetimes = 0; outlives = []; params = plain (λ κs. B) ∷ plain (λ κs. Z) ∷ []; result = plain (λ κs. L) };
-      kept = (yes, (yes, tt));
-    }
-
-    module _ {M : Type 1} (𝓤 : Ura M) (𝓛 : Logic 𝓤) (𝓜 : Model 𝓤 𝓛.H) (𝓡 : Running 𝓤 𝓛.H 𝓜) (k : Callee) (c : Clauses 𝓤 into_ended) where
-      pub into_meets : ((κs : Lfts 0) (a : Args into_ended.signature κs) (g : (c κs a).ghost) (r : Res into_ended.signature κs) (e : AtExit into_ended κs) → r.value ≡ kept a.0 → ent 𝓤 (emp 𝓤) ((c κs a).ensures g r e))
-          → Closed 𝓤 𝓛.H (tables 𝓤 𝓛.H 𝓜 𝓡 𝓡.env).C (tables 𝓤 𝓛.H 𝓜 𝓡 𝓡.env).Λ k into_code
-          → Meets 𝓛 into_ended.signature ((tables 𝓤 𝓛.H 𝓜 𝓡 𝓡.env).C k) (closing 𝓛 into_ended c)
-      into_meets holds closed =
-          let 𝓣 = tables 𝓤 𝓛.H 𝓜 𝓡 𝓡.env in let LZ = heap_laws.the_row_laws in let T = into_ended in
-          let hs : Stays T.signature.params T.kept = (stay_dropped (plain (λ κs. B)) yes, (stay_dropped (plain (λ κs. Z)) yes, tt)) in
-          proved_at 𝓛 T hs c 𝓜 𝓡 (Goes-blank 𝓛 0 (plain (λ κs. B)) yes (λ κs x f. tt), (Goes-blank 𝓛 0 (plain (λ κs. Z)) yes (λ κs x f. tt), tt)) k into_code closed (λ z are.
-          let κs = z.0.0 in let v = z.0.3.0 in let a = z.0.3.1.0 in let Post : Val → SProp 𝓤 = (walk_of 𝓛 T hs c).post z in let Run : List Val → SProp 𝓤 = λ ws. WpFn 𝓤 𝓛.H 𝓣.C 𝓣.Λ into_code ws Post in
-          qed 𝓛 ((‵ ftrue ⊛ ‵ (owns (types_at T.signature.params κs) z.0.3 z.0.4)) ∷ raw ((c κs z.0.3).requires z.1) ∷ []) ∵ split ! $ move ! (1 ∷ []) $ fsplit ! $
-          pointer_out P freeing R kept ! v z.0.4.0 (λ b o e ws. move ! (1 ∷ []) $ fsplit ! $ handle_tells (al R Z LZ ghosts) ! a z.0.4.1.0 (λ h eh fits.
-          -- [the handle; nothing; what is owned; the tokens; nothing]
-          let us : List Val = alone (vptr b o) ∷ h ∷ [] in let made : L.Denot = record { at = block_ptr b o; alloc = a; value = kept v } in
-          suffices ! (Run us) (subst (λ (xs : List Val). ent 𝓤 (Run us) (Run xs)) (sym (λ i. ws i ++ (eh i ++ []))) (id⊢ 𝓤 (Run us))) $
-          enter ! 𝓣.C 𝓣.Λ into_code us Post $ alloc_all ! (λ l. pass_all ! refl ((tt, (tt, tt)), (fits, tt)) $
-          sets ! (of_opd ! (get_in ! (fld ! refl (stop !)) (sub ! 0 refl (whole !)))) refl (tt, tt) $
-          sets ! (of_opd ! (get ! refl)) refl (tt, tt) $
-          sets ! (agg ! (and_then ! (get ! refl) (and_then ! (get ! refl) (no_more !)))) refl (loose_good R Z LZ ghosts b o h fits) $
-          move ! (2 ∷ 0 ∷ []) $ loose_in R Z LZ ghosts ! b o h a (kept v) $
-          use0 𝓛 (raw ((c κs z.0.3).ensures z.1 made (at_exit T κs z.0.3 (tt, (tt, tt))))) (holds κs z.0.3 z.1 made (at_exit T κs z.0.3 (tt, (tt, tt))) refl) $ nothing ! $ nothing ! $ fjoin ! $ nothing ! $ fjoin ! $
-          returns ! (look_at ! 0 refl) $ free_all ! refl $ keep ! (3 ∷ 0 ∷ 2 ∷ 1 ∷ []) $ by ! (leaves 𝓛 T hs c z (both (vptr b o) h) made (tt, (tt, tt)) (tt, (tt, tt)))))))
-
-  -- ---- what is behind the pointer is lent, whatever right there is to give it back
-  module _ (right : Ty → Ptr → Fml) (kept : P.D → R.Denot) where
     abbrev O : RattleType
-    O = row_of P (boxed right R P kept)
+    O = row_of P (boxed R P kept)
 
     abbrev pub lend_code : Fn
     lend_code = record {
@@ -134,16 +74,16 @@ module _ (R : RattleType) (P : Pointing) where
         module _ (rb ro : ℕ) (h : P.D) (b o : ℕ) where
           -- all of the object but what is behind its pointer
           abbrev Rest : Fml
-          Rest = fsep (right (bare (ty_of R)) (block_ptr b o)) (cell_at full_share O.mir (alone (vptr b o) ∷ []) rb ro)
+          Rest = fsep (no_freeing (bare (ty_of R)) (block_ptr b o)) (cell_at full_share O.mir (alone (vptr b o) ∷ []) rb ro)
 
           back : (P.as_values h).0 ≡ block_ptr b o → (w : R.Denot) → ent 𝓤 (sep 𝓤 (sem 𝓛 ((mem R).own_at w b o)) (sem 𝓛 Rest)) (sem 𝓛 ((mem O).own_at (with_kept h w) rb ro))
           unfolding part_of
           back at_b w =
               let here = same_at h w ∙ at_b in
               qed 𝓛 (‵ (part_at R full_share w b o) ∷ ‵ Rest ∷ []) ∵ move ! (1 ∷ []) $ fsplit ! $ move ! (2 ∷ 0 ∷ []) $ fjoin ! $
-              rewrite ! 0 (λ (p : Ptr). ‵ (box_owns right R p w)) (sym here) refl $
-              rewrite ! 0 (λ (x : R.Denot). ‵ (box_owns right R (P.as_values (with_kept h w)).0 x)) (sym (is_kept h w)) refl $
-              pointer_in P (boxed right R P kept) ! b o (with_kept h w) here $ move ! (1 ∷ 0 ∷ []) $ fjoin ! $
+              rewrite ! 0 (λ (p : Ptr). ‵ (box_owns no_freeing R p w)) (sym here) refl $
+              rewrite ! 0 (λ (x : R.Denot). ‵ (box_owns no_freeing R (P.as_values (with_kept h w)).0 x)) (sym (is_kept h w)) refl $
+              pointer_in P (boxed R P kept) ! b o (with_kept h w) here $ move ! (1 ∷ 0 ∷ []) $ fjoin ! $
               fpack ! (List Val) (λ us. fsep (cell_at full_share O.mir us rb ro) (O.own_val (with_kept h w) us)) (alone (vptr b o) ∷ []) $ done !
 
         module _ (𝓜 : Model 𝓤 𝓛.H) (𝓡 : Running 𝓤 𝓛.H 𝓜) (k : Callee) (c : Clauses 𝓤 lend_ended) where
@@ -161,9 +101,9 @@ module _ (R : RattleType) (P : Pointing) where
               qed 𝓛 (((‵ (flft κ q) ⊛ ‵ ftrue) ⊛ ‵ (fsep ((MutRef (named 0) κ O).own_val a.0 vs) ftrue)) ∷ raw ((c κs a).requires g) ∷ []) ∵ split ! $
               enter ! 𝓣.C 𝓣.Λ lend_code _ Post $ alloc_all ! (λ l. pass_all ! refl ((tt, tt), tt) $ let En = env lend_code.locals l in
               move ! (1 ∷ []) $ fsplit ! $ fsplit3 ! $ drop ! $ move ! (3 ∷ []) $ split ! $ move ! (2 ∷ 3 ∷ 0 ∷ []) $
-              opens ! tt O {h = h} rb ro (λ us. move ! (1 ∷ []) $ pointer_out P right R kept ! h us (λ b o at_b ws. fsplit ! $
+              opens ! tt O {h = h} rb ro (λ us. move ! (1 ∷ []) $ pointer_out P R kept ! h us (λ b o at_b ws. fsplit ! $
               rewrite ! 2 (λ (xs : List Val). ‵ (cell_at full_share O.mir xs rb ro)) ws refl $
-              -- [what is behind the pointer; the right to free it; the object's cell; the open borrow, in three entries]
+              -- [what is behind the pointer; no right to free it; the object's cell; the open borrow, in three entries]
               first ! $ blocks ! $
               sets ! (of_opd ! (load ! (through ! refl (fld ! refl (stop !))) (look_in ! 2 (sub ! 0 refl (whole !))))) refl (tt, tt) $
               sets ! (of_opd ! (get ! refl)) refl (tt, tt) $
@@ -231,51 +171,3 @@ module _ (R : RattleType) (P : Pointing) where
             suffices ! _ (ends_at 𝓛 T hs c y (alone (vptr b o)) x (tt, tt) (tt, tt)) $
             nothing ! $ nothing ! $ fjoin ! $ join ! $ nothing ! $ join ! $ frame ! $
             use0 𝓛 (raw ((c κs a).ensures g x (at_exit T κs a (tt, tt)))) (holds κs a g (at_exit T κs a (tt, tt))) $ done !)))
-
-  -- ---- the pointer of a box is put in
-  module _ (owned : P.D → Fml) (made : L.Denot → P.D) (at_is : (v : L.Denot) → (P.as_values (made v)).0 ≡ v.at) (is_owned : (v : L.Denot) → owned (made v) ≡ box_owns freeing R v.at v.value) where
-    abbrev N : RattleType
-    N = row_of P owned
-
-    abbrev pub put_code : Fn
-    put_code = record {
-      lifetimes = 0;
-      outlives = [];
-      ty_params = [];
-      givens = 0;
-      params = 1;
-      locals = local (ty_of N) value_local ∷ local (ty_of L) value_local ∷ local ty_ptr value_local ∷ local ty_ptr value_local ∷ [];
-      body =
-          seq (assign (place 2 []) (rv_opd (copy (place 1 (field 0 ∷ [])))))
-          (seq (assign (place 3 []) (rv_opd (copy (place 2 []))))
-          (seq (assign (place 0 []) (aggregate (copy (place 3 []) ∷ []))) return));
-    }
-
-    abbrev pub put_ended : Ended
-    put_ended = record {
-      signature = record { lifetimes = 0; outlives = []; params = plain (λ κs. L) ∷ []; result = plain (λ κs. N) };
-      kept = (yes, tt);
-    }
-
-    module _ {M : Type 1} (𝓤 : Ura M) (𝓛 : Logic 𝓤) (𝓜 : Model 𝓤 𝓛.H) (𝓡 : Running 𝓤 𝓛.H 𝓜) (k : Callee) (c : Clauses 𝓤 put_ended) where
-      pub put_meets : ((κs : Lfts 0) (a : Args put_ended.signature κs) (g : (c κs a).ghost) (e : AtExit put_ended κs) → ent 𝓤 (emp 𝓤) ((c κs a).ensures g (made a.0) e))
-          → Closed 𝓤 𝓛.H (tables 𝓤 𝓛.H 𝓜 𝓡 𝓡.env).C (tables 𝓤 𝓛.H 𝓜 𝓡 𝓡.env).Λ k put_code
-          → Meets 𝓛 put_ended.signature ((tables 𝓤 𝓛.H 𝓜 𝓡 𝓡.env).C k) (closing 𝓛 put_ended c)
-      put_meets holds closed =
-          let 𝓣 = tables 𝓤 𝓛.H 𝓜 𝓡 𝓡.env in let LZ = heap_laws.the_row_laws in let T = put_ended in
-          let hs : Stays T.signature.params T.kept = (stay_dropped (plain (λ κs. L)) yes, tt) in
-          proved_at 𝓛 T hs c 𝓜 𝓡 (Goes-blank 𝓛 0 (plain (λ κs. L)) yes (λ κs x f. tt), tt) k put_code closed (λ z are.
-          let κs = z.0.0 in let v = z.0.3.0 in let Post : Val → SProp 𝓤 = (walk_of 𝓛 T hs c).post z in let Run : List Val → SProp 𝓤 = λ ws. WpFn 𝓤 𝓛.H 𝓣.C 𝓣.Λ put_code ws Post in
-          qed 𝓛 ((‵ ftrue ⊛ ‵ (owns (types_at T.signature.params κs) z.0.3 z.0.4)) ∷ raw ((c κs z.0.3).requires z.1) ∷ []) ∵ split ! $ move ! (1 ∷ []) $ fsplit ! $
-          loose_out R Z LZ ghosts ! v z.0.4.0 (λ b o h e ws fits.
-          -- [what is owned; the handle; nothing; the tokens; nothing]
-          let w : Val = both (vptr b o) h in
-          suffices ! (Run (w ∷ [])) (subst (λ (us : List Val). ent 𝓤 (Run (w ∷ [])) (Run us)) (sym (λ i. ws i ++ [])) (id⊢ 𝓤 (Run (w ∷ [])))) $
-          enter ! 𝓣.C 𝓣.Λ put_code (w ∷ []) Post $ alloc_all ! (λ l. pass_all ! refl (loose_good R Z LZ ghosts b o h fits, tt) $
-          sets ! (of_opd ! (get_in ! (fld ! refl (stop !)) (sub ! 0 refl (whole !)))) refl (tt, tt) $
-          sets ! (of_opd ! (get ! refl)) refl (tt, tt) $
-          sets ! (agg ! (and_then ! (get ! refl) (no_more !))) refl (tt, (tt, tt)) $
-          rewrite ! 0 (λ (p : Ptr). ‵ (box_owns freeing R p v.value)) (sym e) refl $ rewrite ! 0 (λ (F : Fml). ‵ F) (sym (is_owned v)) refl $
-          pointer_in P owned ! b o (made v) (at_is v ∙ e) $
-          use0 𝓛 (raw ((c κs z.0.3).ensures z.1 (made v) (at_exit T κs z.0.3 (tt, tt)))) (holds κs z.0.3 z.1 (at_exit T κs z.0.3 (tt, tt))) $ nothing ! $ nothing ! $ fjoin ! $
-          returns ! (look_at ! 0 refl) $ free_all ! refl $ keep ! (5 ∷ 0 ∷ 2 ∷ 1 ∷ []) $ by ! (leaves 𝓛 T hs c z (alone (vptr b o)) (made v) (tt, tt) (tt, tt)))))

@@ -1,72 +1,38 @@
 -- The objects and the places of both families, of links and of workspaces, as structs of one pointer.
-use Rattle.mq_c.specs.contracts.igmp_object.IgmpObject as IgmpObject
-use Rattle.mq_c.specs.contracts.igmp_object.IgmpLentPlace as IgmpLentPlace
-use Rattle.mq_c.specs.contracts.igmp_object.IgmpBox as IgmpBox
-use Rattle.mq_c.specs.contracts.igmp_object.IgmpPlace as IgmpPlace
-use Rattle.mq_c.specs.contracts.igmp_workspace.IgmpWorkspace as IgmpWorkspace
-use Rattle.mq_c.specs.contracts.igmp_workspace.IgmpWorkspaceLentPlace as IgmpWorkspaceLentPlace
-use Rattle.mq_c.specs.contracts.igmp_workspace.IgmpWorkspaceBox as IgmpWorkspaceBox
-use Rattle.mq_c.specs.contracts.igmp_workspace.IgmpWorkspacePlace as IgmpWorkspacePlace
-use Rattle.mq_c.specs.contracts.mld_object.MldObject as MldObject
-use Rattle.mq_c.specs.contracts.mld_object.MldLentPlace as MldLentPlace
-use Rattle.mq_c.specs.contracts.mld_object.MldBox as MldBox
-use Rattle.mq_c.specs.contracts.mld_object.MldPlace as MldPlace
-use Rattle.mq_c.specs.contracts.mld_workspace.MldWorkspace as MldWorkspace
-use Rattle.mq_c.specs.contracts.mld_workspace.MldWorkspaceLentPlace as MldWorkspaceLentPlace
-use Rattle.mq_c.specs.contracts.mld_workspace.MldWorkspaceBox as MldWorkspaceBox
-use Rattle.mq_c.specs.contracts.mld_workspace.MldWorkspacePlace as MldWorkspacePlace
+use Rattle.mq_c.specs.contracts.igmp_objects.IgmpLink as IgmpLink
+use Rattle.mq_c.specs.contracts.igmp_objects.IgmpLinkPlace as IgmpLinkPlace
+use Rattle.mq_c.specs.contracts.igmp_objects.IgmpWorkspace as IgmpWorkspace
+use Rattle.mq_c.specs.contracts.igmp_objects.IgmpWorkspacePlace as IgmpWorkspacePlace
+use Rattle.mq_c.specs.contracts.mld_objects.MldLink as MldLink
+use Rattle.mq_c.specs.contracts.mld_objects.MldLinkPlace as MldLinkPlace
+use Rattle.mq_c.specs.contracts.mld_objects.MldWorkspace as MldWorkspace
+use Rattle.mq_c.specs.contracts.mld_objects.MldWorkspacePlace as MldWorkspacePlace
 use Rattle.mq_c.proofs.Pointing.{Pointing}
 
-abbrev pub igmp_object : Pointing
-igmp_object = record {
-  name = IgmpObject.struct.name;
-  D = IgmpObject.struct.D;
-  as_values = IgmpObject.struct.as_values;
-  Ghost = IgmpObject.struct.Ghost;
-  ghosts = IgmpObject.struct.ghosts;
-  make = IgmpObject.struct.make;
-  eta = IgmpObject.struct.eta;
-  beta = IgmpObject.struct.beta;
-  codes = IgmpObject.the_codes;
+abbrev pub igmp_link : Pointing
+igmp_link = record {
+  name = IgmpLink.struct.name;
+  D = IgmpLink.struct.D;
+  as_values = IgmpLink.struct.as_values;
+  Ghost = IgmpLink.struct.Ghost;
+  ghosts = IgmpLink.struct.ghosts;
+  make = IgmpLink.struct.make;
+  eta = IgmpLink.struct.eta;
+  beta = IgmpLink.struct.beta;
+  codes = IgmpLink.the_codes;
 }
 
-abbrev pub igmp_place : Pointing
-igmp_place = record {
-  name = IgmpPlace.struct.name;
-  D = IgmpPlace.struct.D;
-  as_values = IgmpPlace.struct.as_values;
-  Ghost = IgmpPlace.struct.Ghost;
-  ghosts = IgmpPlace.struct.ghosts;
-  make = IgmpPlace.struct.make;
-  eta = IgmpPlace.struct.eta;
-  beta = IgmpPlace.struct.beta;
-  codes = IgmpPlace.the_codes;
-}
-
-abbrev pub mld_object : Pointing
-mld_object = record {
-  name = MldObject.struct.name;
-  D = MldObject.struct.D;
-  as_values = MldObject.struct.as_values;
-  Ghost = MldObject.struct.Ghost;
-  ghosts = MldObject.struct.ghosts;
-  make = MldObject.struct.make;
-  eta = MldObject.struct.eta;
-  beta = MldObject.struct.beta;
-  codes = MldObject.the_codes;
-}
-
-abbrev pub mld_place : Pointing
-mld_place = record {
-  name = MldPlace.struct.name;
-  D = MldPlace.struct.D;
-  as_values = MldPlace.struct.as_values;
-  Ghost = MldPlace.struct.Ghost;
-  ghosts = MldPlace.struct.ghosts;
-  make = MldPlace.struct.make;
-  eta = MldPlace.struct.eta;
-  beta = MldPlace.struct.beta;
-  codes = MldPlace.the_codes;
+abbrev pub igmp_link_place : Pointing
+igmp_link_place = record {
+  name = IgmpLinkPlace.struct.name;
+  D = IgmpLinkPlace.struct.D;
+  as_values = IgmpLinkPlace.struct.as_values;
+  Ghost = IgmpLinkPlace.struct.Ghost;
+  ghosts = IgmpLinkPlace.struct.ghosts;
+  make = IgmpLinkPlace.struct.make;
+  eta = IgmpLinkPlace.struct.eta;
+  beta = IgmpLinkPlace.struct.beta;
+  codes = IgmpLinkPlace.the_codes;
 }
 
 abbrev pub igmp_workspace : Pointing
@@ -95,6 +61,32 @@ igmp_workspace_place = record {
   codes = IgmpWorkspacePlace.the_codes;
 }
 
+abbrev pub mld_link : Pointing
+mld_link = record {
+  name = MldLink.struct.name;
+  D = MldLink.struct.D;
+  as_values = MldLink.struct.as_values;
+  Ghost = MldLink.struct.Ghost;
+  ghosts = MldLink.struct.ghosts;
+  make = MldLink.struct.make;
+  eta = MldLink.struct.eta;
+  beta = MldLink.struct.beta;
+  codes = MldLink.the_codes;
+}
+
+abbrev pub mld_link_place : Pointing
+mld_link_place = record {
+  name = MldLinkPlace.struct.name;
+  D = MldLinkPlace.struct.D;
+  as_values = MldLinkPlace.struct.as_values;
+  Ghost = MldLinkPlace.struct.Ghost;
+  ghosts = MldLinkPlace.struct.ghosts;
+  make = MldLinkPlace.struct.make;
+  eta = MldLinkPlace.struct.eta;
+  beta = MldLinkPlace.struct.beta;
+  codes = MldLinkPlace.the_codes;
+}
+
 abbrev pub mld_workspace : Pointing
 mld_workspace = record {
   name = MldWorkspace.struct.name;
@@ -119,108 +111,4 @@ mld_workspace_place = record {
   eta = MldWorkspacePlace.struct.eta;
   beta = MldWorkspacePlace.struct.beta;
   codes = MldWorkspacePlace.the_codes;
-}
-
-abbrev pub igmp_box : Pointing
-igmp_box = record {
-  name = IgmpBox.struct.name;
-  D = IgmpBox.struct.D;
-  as_values = IgmpBox.struct.as_values;
-  Ghost = IgmpBox.struct.Ghost;
-  ghosts = IgmpBox.struct.ghosts;
-  make = IgmpBox.struct.make;
-  eta = IgmpBox.struct.eta;
-  beta = IgmpBox.struct.beta;
-  codes = IgmpBox.the_codes;
-}
-
-abbrev pub igmp_lent_place : Pointing
-igmp_lent_place = record {
-  name = IgmpLentPlace.struct.name;
-  D = IgmpLentPlace.struct.D;
-  as_values = IgmpLentPlace.struct.as_values;
-  Ghost = IgmpLentPlace.struct.Ghost;
-  ghosts = IgmpLentPlace.struct.ghosts;
-  make = IgmpLentPlace.struct.make;
-  eta = IgmpLentPlace.struct.eta;
-  beta = IgmpLentPlace.struct.beta;
-  codes = IgmpLentPlace.the_codes;
-}
-
-abbrev pub mld_box : Pointing
-mld_box = record {
-  name = MldBox.struct.name;
-  D = MldBox.struct.D;
-  as_values = MldBox.struct.as_values;
-  Ghost = MldBox.struct.Ghost;
-  ghosts = MldBox.struct.ghosts;
-  make = MldBox.struct.make;
-  eta = MldBox.struct.eta;
-  beta = MldBox.struct.beta;
-  codes = MldBox.the_codes;
-}
-
-abbrev pub mld_lent_place : Pointing
-mld_lent_place = record {
-  name = MldLentPlace.struct.name;
-  D = MldLentPlace.struct.D;
-  as_values = MldLentPlace.struct.as_values;
-  Ghost = MldLentPlace.struct.Ghost;
-  ghosts = MldLentPlace.struct.ghosts;
-  make = MldLentPlace.struct.make;
-  eta = MldLentPlace.struct.eta;
-  beta = MldLentPlace.struct.beta;
-  codes = MldLentPlace.the_codes;
-}
-
-abbrev pub igmp_workspace_box : Pointing
-igmp_workspace_box = record {
-  name = IgmpWorkspaceBox.struct.name;
-  D = IgmpWorkspaceBox.struct.D;
-  as_values = IgmpWorkspaceBox.struct.as_values;
-  Ghost = IgmpWorkspaceBox.struct.Ghost;
-  ghosts = IgmpWorkspaceBox.struct.ghosts;
-  make = IgmpWorkspaceBox.struct.make;
-  eta = IgmpWorkspaceBox.struct.eta;
-  beta = IgmpWorkspaceBox.struct.beta;
-  codes = IgmpWorkspaceBox.the_codes;
-}
-
-abbrev pub igmp_workspace_lent_place : Pointing
-igmp_workspace_lent_place = record {
-  name = IgmpWorkspaceLentPlace.struct.name;
-  D = IgmpWorkspaceLentPlace.struct.D;
-  as_values = IgmpWorkspaceLentPlace.struct.as_values;
-  Ghost = IgmpWorkspaceLentPlace.struct.Ghost;
-  ghosts = IgmpWorkspaceLentPlace.struct.ghosts;
-  make = IgmpWorkspaceLentPlace.struct.make;
-  eta = IgmpWorkspaceLentPlace.struct.eta;
-  beta = IgmpWorkspaceLentPlace.struct.beta;
-  codes = IgmpWorkspaceLentPlace.the_codes;
-}
-
-abbrev pub mld_workspace_box : Pointing
-mld_workspace_box = record {
-  name = MldWorkspaceBox.struct.name;
-  D = MldWorkspaceBox.struct.D;
-  as_values = MldWorkspaceBox.struct.as_values;
-  Ghost = MldWorkspaceBox.struct.Ghost;
-  ghosts = MldWorkspaceBox.struct.ghosts;
-  make = MldWorkspaceBox.struct.make;
-  eta = MldWorkspaceBox.struct.eta;
-  beta = MldWorkspaceBox.struct.beta;
-  codes = MldWorkspaceBox.the_codes;
-}
-
-abbrev pub mld_workspace_lent_place : Pointing
-mld_workspace_lent_place = record {
-  name = MldWorkspaceLentPlace.struct.name;
-  D = MldWorkspaceLentPlace.struct.D;
-  as_values = MldWorkspaceLentPlace.struct.as_values;
-  Ghost = MldWorkspaceLentPlace.struct.Ghost;
-  ghosts = MldWorkspaceLentPlace.struct.ghosts;
-  make = MldWorkspaceLentPlace.struct.make;
-  eta = MldWorkspaceLentPlace.struct.eta;
-  beta = MldWorkspaceLentPlace.struct.beta;
-  codes = MldWorkspaceLentPlace.the_codes;
 }

@@ -1,4 +1,4 @@
--- A struct of one pointer that owns the box of a value, for whatever family: what it is in the machine, and how it is lent
+-- A struct of one pointer that owns a value, for whatever family: what it is in the machine, and how it is lent
 -- and given up. Assumes `Logic`.
 use Rattle.std.proofs.Common.{◌≡◌, ℕ, List, [], ◌∷◌, ◌++◌, refl, sym, subst}
 use seplogic.Ra.Ura.{Ura}
@@ -6,7 +6,7 @@ use base.Stored.{Coded}
 use base.Logic.{never, fst∗}
 use base.Fml.{Fml}
 use mir.Raw.{raw as bare}
-use mir.Syntax.{Sym, Ty}
+use mir.Syntax.{Sym}
 use mir.Val.{Val, vptr, vstruct, vcons, vnil, of_list}
 use types.Logic.{Logic, sem}
 use types.Kit.{Item, Goal, Seq, Step, step, ‵, ◌$◌, drop, fsplit, fjoin, fpick, fpack, feq_i, feq_l, rewrite}
@@ -21,6 +21,7 @@ use denote.Struct.Struct.{Struct, within}
 use denote.Struct.Owning.{Owning, owning, row, shape}
 use denote.Struct.Values.{Values}
 use Rattle.std_alloc.specs.Box.Ownership.{box_owns}
+use Rattle.mq_c.specs.Owning.{no_freeing}
 
 abbrev pub alone : Val → Val
 alone v = vstruct (vcons v vnil)
@@ -63,17 +64,17 @@ owning_of P owned = owning (struct_of P) P.codes owned
 abbrev pub row_of : (P : Pointing) → (P.D → Fml) → RattleType
 row_of P owned = row (owning_of P owned)
 
--- a value behind the pointer, with a right to give its memory back
-abbrev pub boxed : (right : Ty → Ptr → Fml) (R : RattleType) (P : Pointing) → (P.D → R.Denot) → P.D → Fml
-boxed right R P kept d = box_owns right R (P.as_values d).0 (kept d)
+-- a value behind the pointer
+abbrev pub boxed : (R : RattleType) (P : Pointing) → (P.D → R.Denot) → P.D → Fml
+boxed R P kept d = box_owns no_freeing R (P.as_values d).0 (kept d)
 
 module _ {M : Type 1} {𝓤 : Ura M} {𝓛 : Logic 𝓤} {K : Type 0} {Γ : List (Item 𝓤)} {G : Goal 𝓤 𝓛.H} (P : Pointing) where
-  pub pointer_out : (right : Ty → Ptr → Fml) (R : RattleType) (kept : P.D → R.Denot) → K → (d : P.D) (vs : List Val)
-      → ((b o : ℕ) → (P.as_values d).0 ≡ block_ptr b o → vs ≡ alone (vptr b o) ∷ [] → Seq K 𝓛 (‵ (box_owns right R (block_ptr b o) (kept d)) ∷ Γ) G)
-      → Seq K 𝓛 (‵ ((row_of P (boxed right R P kept)).own_val d vs) ∷ Γ) G
-  pointer_out right R kept t d vs k =
+  pub pointer_out : (R : RattleType) (kept : P.D → R.Denot) → K → (d : P.D) (vs : List Val)
+      → ((b o : ℕ) → (P.as_values d).0 ≡ block_ptr b o → vs ≡ alone (vptr b o) ∷ [] → Seq K 𝓛 (‵ (box_owns no_freeing R (block_ptr b o) (kept d)) ∷ Γ) G)
+      → Seq K 𝓛 (‵ ((row_of P (boxed R P kept)).own_val d vs) ∷ Γ) G
+  pointer_out R kept t d vs k =
       fsplit t $ fpick t (λ vss. fsplit t $ feq_l t (λ ev. fsplit t $ feq_l t (λ ep. drop t $
-      in_a_block t (P.as_values d).0 (λ p. box_owns right R p (kept d)) (fst∗ 𝓤 (never 𝓤) (sem 𝓛 (right (bare (lone R.mir)) null_ptr))) (λ b o e. k b o e
+      in_a_block t (P.as_values d).0 (λ p. box_owns no_freeing R p (kept d)) (fst∗ 𝓤 (never 𝓤) (sem 𝓛 (no_freeing (bare (lone R.mir)) null_ptr))) (λ b o e. k b o e
       (subst (λ (p : Ptr). vs ≡ vstruct (of_list (ptr_val p ∷ [])) ∷ []) e
       (subst (λ (ps : List Val). vs ≡ vstruct (of_list (ps ++ [])) ∷ []) ep ev))))))
 

@@ -12,7 +12,7 @@ use Rattle.mq_wire.proofs.Addresses.{length_addresses}
 use Rattle.mq_wire.proofs.Spans.{ends_within, sum-append, sum-replicate}
 use Rattle.mq_link.specs.Receive.{read_of}
 use Rattle.mq_link.proofs.SpelledMessages.{AreWhole, where_read}
-use Rattle.mq_c.specs.Rooms.{longest_body, records_in_body, sources_in_body}
+use Rattle.mq_c.specs.Rooms.{records_in_body, sources_in_body}
 
 -- how many sources a record names
 abbrev pub sources_named : RecordView ℕ → ℕ
@@ -46,30 +46,30 @@ module _ (width : ℕ) (bytes : List ℕ) where
       omega (arith, first, rest, all, heads, addresses)
 
 -- so much of a message that a body holds
-abbrev pub IsWithin : Family → Message ℕ → Type 0
-IsWithin family (Query query) = Unit {0}
-IsWithin family (OldReport version group) = Unit {0}
-IsWithin family (Leave group) = Unit {0}
-IsWithin family (Report records) = (length records ≤ records_in_body family) × (sum_by sources_named records ≤ sources_in_body family)
+abbrev pub IsWithin : (longest : ℕ) → Family → Message ℕ → Type 0
+IsWithin longest family (Query query) = Unit {0}
+IsWithin longest family (OldReport version group) = Unit {0}
+IsWithin longest family (Leave group) = Unit {0}
+IsWithin longest family (Report records) = (length records ≤ records_in_body longest family) × (sum_by sources_named records ≤ sources_in_body longest family)
 
-few_of : (family : Family) (records named len : ℕ) → records * (4 + address_width family) + named * address_width family ≤ len → len ≤ longest_body
-    → (records ≤ records_in_body family) × (named ≤ sources_in_body family)
-few_of Igmp records named len within short = (omega (arith, within, short), omega (arith, within, short))
-few_of Mld records named len within short = (omega (arith, within, short), omega (arith, within, short))
+few_of : (longest : ℕ) (family : Family) (records named len : ℕ) → records * (4 + address_width family) + named * address_width family ≤ len → len ≤ longest
+    → (records ≤ records_in_body longest family) × (named ≤ sources_in_body longest family)
+few_of longest Igmp records named len within short = (omega (arith, within, short), omega (arith, within, short))
+few_of longest Mld records named len within short = (omega (arith, within, short), omega (arith, within, short))
 
-of_report : (family : Family) (bytes : List ℕ) → AreWhole bytes (report_spans family bytes) → length bytes ≤ longest_body → IsWithin family (Report (report_records family bytes))
-of_report family bytes whole short =
+of_report : (longest : ℕ) (family : Family) (bytes : List ℕ) → AreWhole bytes (report_spans family bytes) → length bytes ≤ longest → IsWithin longest family (Report (report_records family bytes))
+of_report longest family bytes whole short =
     let records = spans_of_records (address_width family) (record_count bytes) 8 bytes in
     let ends = ends_within (length bytes) 0 (report_spans family bytes) (omega arith) whole in
     let head = sum-append (1 ∷ 1 ∷ 2 ∷ 2 ∷ 2 ∷ []) records in
     let rs = report_records family bytes in
-    few_of family (length rs) (sum_by sources_named rs) (length bytes)
+    few_of longest family (length rs) (sum_by sources_named rs) (length bytes)
     (omega (arith, ends, head, records_bytes (address_width family) bytes (record_count bytes) 8)) short
 
-of_query : (family : Family) (bytes : List ℕ) (b : Bool) → length bytes ≤ longest_body → IsWithin family (Query (cond b (older_query family bytes) (current_query family bytes)))
-of_query family bytes b short = tt
+of_query : (longest : ℕ) (family : Family) (bytes : List ℕ) (b : Bool) → length bytes ≤ longest → IsWithin longest family (Query (cond b (older_query family bytes) (current_query family bytes)))
+of_query longest family bytes b short = tt
 
-pub within_where_read : (family : Family) (pseudo bytes : List ℕ) (message : Message ℕ) → read_of family pseudo bytes ≡ Ok message → length bytes ≤ longest_body → IsWithin family message
-within_where_read =
-    where_read (λ family bytes message. length bytes ≤ longest_body → IsWithin family message)
-    (λ family bytes b whole. of_query family bytes b) of_report (λ family bytes version whole short. tt) (λ family bytes whole short. tt)
+pub within_where_read : (longest : ℕ) (family : Family) (pseudo bytes : List ℕ) (message : Message ℕ) → read_of family pseudo bytes ≡ Ok message → length bytes ≤ longest → IsWithin longest family message
+within_where_read longest =
+    where_read (λ family bytes message. length bytes ≤ longest → IsWithin longest family message)
+    (λ family bytes b whole. of_query longest family bytes b) (of_report longest) (λ family bytes version whole short. tt) (λ family bytes whole short. tt)

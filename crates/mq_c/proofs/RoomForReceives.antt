@@ -11,31 +11,31 @@ use Rattle.mq_link.proofs.AllFits.{fits-receipt_of}
 use Rattle.mq_c.specs.declared.forms.Answer.{Answer}
 use Rattle.mq_c.specs.Calls.{ReceivesInto, answer_to}
 use Rattle.mq_c.specs.Queries.{Outbox, outbox_at}
-use Rattle.mq_c.specs.Rooms.{longest_body, asking_records, most_asked, receive_room}
+use Rattle.mq_c.specs.Rooms.{asking_records, most_asked, receive_room}
 use Rattle.mq_c.proofs.QueryLengths.{all_told}
 use Rattle.mq_c.proofs.ReceiptQueries.{receipt_few}
 use Rattle.mq_c.proofs.RoomSuffices.{taken_by, AreTold, none_left_out}
 use Rattle.mq_c.proofs.RoomTaken.{room_taken}
 
 -- all that its queries take
-receive_taken : (width : ℕ) (config : Configuration) (envelope : Envelope) (bytes : List ℕ) (now : ℕ) (state : LinkState) → IsFaultless config → IsWellFormed config state → length bytes ≤ longest_body
-    → sum_by (taken_by width) (outgoing_of config (receipt_of config envelope bytes now state).step) ≤ receive_room width config
-receive_taken width config envelope bytes now state faultless formed short =
+receive_taken : (width longest : ℕ) (config : Configuration) (envelope : Envelope) (bytes : List ℕ) (now : ℕ) (state : LinkState) → IsFaultless config → IsWellFormed config state → length bytes ≤ longest
+    → sum_by (taken_by width) (outgoing_of config (receipt_of config envelope bytes now state).step) ≤ receive_room width longest config
+receive_taken width longest config envelope bytes now state faultless formed short =
     let step = (receipt_of config envelope bytes now state).step in
-    room_taken width config step.timing step.queries (1 + 2 * config.limits.scheduled + 3 * asking_records config) (most_asked config)
-    (receipt_few config envelope bytes now state faultless formed short)
+    room_taken width config step.timing step.queries (1 + 2 * config.limits.scheduled + 3 * asking_records longest config) (most_asked longest config)
+    (receipt_few longest config envelope bytes now state faultless formed short)
 
 unsent_of : (received : Received) (box : Outbox) → (answer_to received box).unsent ≡ box.unsent
 unsent_of (Taken applied ignored refused) box = refl
 unsent_of (Dropped reason) box = refl
 
 -- a datagram leaves none out where there is so much
-pub receive_leaves_none : (width : ℕ) (envelope : Envelope) (bytes : List ℕ) (now : ℕ) (before after : LinkValue) (old new : List ℕ) (answer : Answer) → IsFaultless before.config → IsWellFormed before.config before.state
-    → ReceivesInto width envelope bytes now before after old new answer → receive_room width before.config ≤ length old → length bytes ≤ longest_body → answer.unsent ≡ 0
-receive_leaves_none width envelope bytes now before after old new answer faultless formed did room short =
+pub receive_leaves_none : (width longest : ℕ) (envelope : Envelope) (bytes : List ℕ) (now : ℕ) (before after : LinkValue) (old new : List ℕ) (answer : Answer) → IsFaultless before.config → IsWellFormed before.config before.state
+    → ReceivesInto width envelope bytes now before after old new answer → receive_room width longest before.config ≤ length old → length bytes ≤ longest → answer.unsent ≡ 0
+receive_leaves_none width longest envelope bytes now before after old new answer faultless formed did room short =
     let config = before.config in
     let step = (receipt_of config envelope bytes now before.state).step in
-    let taken = receive_taken width config envelope bytes now before.state faultless formed short in
+    let taken = receive_taken width longest config envelope bytes now before.state faultless formed short in
     let handed = did.receives.hands_out.handed in
     let told = subst AreTold (sym handed) (all_told config step.timing step.queries (fits-receipt_of config envelope bytes now before.state)) in
     let fit : sum_by (taken_by width) did.messages ≤ length old = rw handed (omega (arith, taken, room)) in

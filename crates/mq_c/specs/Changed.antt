@@ -1,8 +1,7 @@
 -- Which groups a call changed, as the workspace that it worked in tells.
-use Rattle.std.specs.Prelude.{◌≡◌, ℕ, ◌<◌, ◌≤◌, ◌^◌, Bool, true, false, Option, None, Some, MatchOption, List, [], ◌++◌, length, map as list_map, take, drop}
-use Rattle.mq_link.specs.declared.configuration.Limits.{Limits}
+use Rattle.std.specs.Prelude.{◌≡◌, ℕ, ◌<◌, ◌≤◌, ◌^◌, Bool, true, false, List, ◌++◌, length, map as list_map, take, drop}
 use Rattle.mq_link.specs.Forwarding.{AreThose}
-use Rattle.mq_link.specs.Workspace.{WorkspaceState, suffices, with_changed}
+use Rattle.mq_link.specs.Workspace.{WorkspaceState, with_changed}
 
 -- What a call at a moment leaves of the workspace that it was lent: the rooms are as they were, and where it suffices and the
 -- moment is in range, it tells the addresses that pass a test. Else it is as it was.
@@ -11,16 +10,6 @@ pub record WorksIn (suffices : Bool) (now : ℕ) (test : ℕ → Bool) (before a
   pub done : now ≤ 2 ^ 53 → suffices ≡ true → AreThose test after.changed
   pub too_late : 2 ^ 53 < now → after ≡ before
   pub too_small : suffices ≡ false → after ≡ before
-
--- The same of a link's own workspace, which it may have none of.
-abbrev pub WorksInOwn : Limits → (now : ℕ) → (test : ℕ → Bool) → (before after : Option WorkspaceState) → Type 0
-WorksInOwn limits now test None after = after ≡ None
-WorksInOwn limits now test (Some before) after = MatchOption after ⊥ (λ after. WorksIn (suffices limits before) now test before after)
-
--- what a link's own workspace tells; without one there is nothing
-abbrev pub own_changed : Option WorkspaceState → List ℕ
-own_changed None = []
-own_changed (Some workspace) = workspace.changed
 
 -- an address as it crosses, by what a family makes of its number
 abbrev pub stored_octets : {K A : Type 0} → (number : K → ℕ) → (octets_of : ℕ → A) → K → A

@@ -1,5 +1,5 @@
 -- Links that are made for C.
-use Rattle.std.specs.Prelude.{◌≡◌, ◌⊎◌, ℕ, ◌<◌, ◌≤◌, ◌^◌, ◌==◌, not, Option, Some, Result, Ok, Err, []}
+use Rattle.std.specs.Prelude.{◌≡◌, ◌⊎◌, ℕ, ◌<◌, ◌≤◌, ◌^◌, ◌==◌, not, Some, Result, Ok, Err, []}
 use Rattle.mq_wire.specs.Family.{Family}
 use Rattle.mq_link.specs.declared.configuration.ConfigFault.{ConfigFault}
 use Rattle.mq_link.specs.Configuration.{Configuration, configuration_fault, IsFaultless}
@@ -8,9 +8,7 @@ use Rattle.mq_link.specs.Defaults.{defaults_of}
 use Rattle.mq_link.specs.Link.{LinkValue}
 use Rattle.mq_link.specs.State.{link_at}
 use Rattle.mq_link.specs.Workspace.{WorkspaceState}
-use Rattle.mq_c.specs.declared.c_link.CLink.{CLink}
 use Rattle.mq_c.specs.declared.forms.Settings.{Settings}
-use Rattle.mq_c.specs.Lent.{workspace_for}
 use Rattle.mq_c.specs.Statuses.{memory, moment, status_of}
 
 -- the configuration that is asked for, of a family
@@ -48,29 +46,23 @@ fresh_link config start = record { config = config; state = link_at config start
 abbrev pub IsLateOrMemory : (start status : ℕ) → Type 0
 IsLateOrMemory start status = ((2 ^ 53 < start) × (status ≡ moment)) ⊎ ((start ≤ 2 ^ 53) × (status ≡ memory))
 
--- a link so configured at its start, with its own workspace or without one
-pub record IsStarted {F K E : Type 0} (config : Configuration) (start : ℕ) (own : Option WorkspaceState) (made : CLink F K E) : Type 0 where
-  pub link : made.link ≡ fresh_link config start
-  pub workspace : made.workspace ≡ own
-
--- it is made, or the status says which of these two it is
-abbrev pub IsLinkOrStatus : {F K E : Type 0} → (start : ℕ) → Configuration → Option WorkspaceState → Result (CLink F K E) ℕ → Type 0
-IsLinkOrStatus start config own (Ok made) = (start ≤ 2 ^ 53) × IsStarted config start own made
-IsLinkOrStatus start config own (Err status) = IsLateOrMemory start status × (0 < status)
-
--- What C asks for is made: a link, with its own workspace or without one.
-pub record IsMade {F K E : Type 0} (asked : Configuration) (start : ℕ) (own : Option WorkspaceState) (made : CLink F K E) : Type 0 where
+-- What C asks for is made: a link at its start.
+pub record IsMade (asked : Configuration) (start : ℕ) (made : LinkValue) : Type 0 where
   pub faultless : IsFaultless asked
   pub in_range : start ≤ 2 ^ 53
-  pub started : IsStarted asked start own made
+  pub started : made ≡ fresh_link asked start
 
 -- The status is that of the first fault of the configuration.
 abbrev pub IsFaultOf : (asked : Configuration) → (status : ℕ) → Type 0
 IsFaultOf asked status = (fault : ConfigFault) × (configuration_fault asked ≡ Some fault) × (status ≡ status_of fault)
 
 -- It isn't, and the status says why: the first fault of the configuration, or where it has none the moment or memory.
-abbrev pub IsRefused : (asked : Configuration) → (start status : ℕ) → Type 0
-IsRefused asked start status = (0 < status) × (IsFaultOf asked status ⊎ (IsFaultless asked × IsLateOrMemory start status))
+abbrev pub IsLinkRefused : (asked : Configuration) → (start status : ℕ) → Type 0
+IsLinkRefused asked start status = (0 < status) × (IsFaultOf asked status ⊎ (IsFaultless asked × IsLateOrMemory start status))
+
+-- the workspace that is made for links so configured
+abbrev pub workspace_for : Configuration → WorkspaceState
+workspace_for config = record { groups = config.limits.groups; group_sources = config.limits.group_sources; changed = [] }
 
 -- A workspace is made for links so configured.
 pub record IsWorkspaceMade (asked : Configuration) (made : WorkspaceState) : Type 0 where

@@ -21,33 +21,31 @@ tick_queries config = 1 + 2 * config.limits.scheduled + config.limits.sources / 
 abbrev pub tick_room : (width : ℕ) → Configuration → ℕ
 tick_room width config = room_of width config.family (tick_queries config) config.limits.sources
 
--- The longest datagram, and how many records and how many of their sources it has at most: a record begins with its type,
--- the length of its auxiliary data, the number of its sources, and its group.
-abbrev pub longest_body : ℕ
-longest_body = 65535
+-- How many records a body of a length has at most, one for an older message, and how many of their sources: a record begins
+-- with its type, the length of its auxiliary data, the number of its sources, and its group.
+abbrev pub records_in_body : (longest : ℕ) → Family → ℕ
+records_in_body longest family = 1 + longest / (4 + address_width family)
 
-abbrev pub records_in_body : Family → ℕ
-records_in_body family = longest_body / (4 + address_width family)
-
-abbrev pub sources_in_body : Family → ℕ
-sources_in_body family = longest_body / address_width family
+abbrev pub sources_in_body : (longest : ℕ) → Family → ℕ
+sources_in_body longest family = longest / address_width family
 
 -- How many of its records ask at most: four for each group, since a fifth is refused, one that makes a group asks nothing,
 -- and no record deletes one.
-abbrev pub asking_records : Configuration → ℕ
-asking_records config = min (4 * config.limits.groups) (records_in_body config.family)
+abbrev pub asking_records : (longest : ℕ) → Configuration → ℕ
+asking_records longest config = min (4 * config.limits.groups) (records_in_body longest config.family)
 
 -- How many sources the queries of a datagram name at most: those of the tick before it no source twice; and its records
 -- ask for no source but those that their groups have then, which were held before, or were named by one that met the
 -- group.
-abbrev pub most_asked : Configuration → ℕ
-most_asked config = config.limits.sources + 4 * (config.limits.sources + sources_in_body config.family)
+abbrev pub most_asked : (longest : ℕ) → Configuration → ℕ
+most_asked longest config = config.limits.sources + 4 * (config.limits.sources + sources_in_body longest config.family)
 
 -- how many queries a datagram sends at most: those of the tick; three for each record that asks, one for its group and two
 -- for its sources; and one more for each full query of what is asked for
-abbrev pub receive_queries : Configuration → ℕ
-receive_queries config =
-    1 + 2 * config.limits.scheduled + 3 * asking_records config + most_asked config / per_query config.family
+abbrev pub receive_queries : (longest : ℕ) → Configuration → ℕ
+receive_queries longest config =
+    1 + 2 * config.limits.scheduled + 3 * asking_records longest config + most_asked longest config / per_query config.family
 
-abbrev pub receive_room : (width : ℕ) → Configuration → ℕ
-receive_room width config = room_of width config.family (receive_queries config) (most_asked config)
+-- how much memory suffices where no body is longer than that
+abbrev pub receive_room : (width longest : ℕ) → Configuration → ℕ
+receive_room width longest config = room_of width config.family (receive_queries longest config) (most_asked longest config)

@@ -1,5 +1,5 @@
 -- How many bytes of lent memory suffice for a link, and for a workspace.
-use Rattle.std.specs.Prelude.{◌≡◌, ◌⊎◌, ℕ, ◌+◌, ◌-◌, ◌≤◌, ◌^◌, Bool, true, false}
+use Rattle.std.specs.Prelude.{◌≡◌, ◌⊎◌, ℕ, ◌+◌, ◌-◌, ◌≤◌, ◌^◌}
 use denote.RattleType.{RattleType}
 use denote.Builtin.{u16}
 use Rattle.std.specs.contracts.vec.Vec as vec
@@ -8,22 +8,19 @@ use Rattle.std_alloc.specs.contracts.vec.lodged.LodgedAllocator.TheImpl as lodgi
 use Rattle.mq_arena.specs.Blocks.{size_of_block}
 use Rattle.mq_arena.specs.Vectors.{bytes_for, item_bytes}
 use Rattle.mq_link.specs.declared.configuration.Limits.{Limits}
-use Rattle.mq_link.specs.Sizes.{bytes_of_link, bytes_of_workspace}
+use Rattle.mq_link.specs.Sizes.{bytes_of_link}
 
--- what a workspace for links of these limits takes, by the row of an address, where one is wanted
-abbrev pub bytes_of_own : RattleType → Limits → Bool → ℕ
-bytes_of_own K limits false = 0
-bytes_of_own K limits true = bytes_of_workspace K limits
-
--- what a link of these limits takes, with its own workspace or without one
-abbrev pub bytes_of_all : RattleType → Limits → Bool → ℕ
-bytes_of_all K limits has_own =
-    bytes_of_own K limits has_own
-    + bytes_of_link (vec.the_row u16 lodged.the_row lodging.ghosts) K limits
+-- what a link of these limits takes, by the row of an address
+abbrev pub bytes_of_link_lent : RattleType → Limits → ℕ
+bytes_of_link_lent K limits = bytes_of_link (vec.the_row u16 lodged.the_row lodging.ghosts) K limits
 
 -- so many bytes and those of the object, by its row: whole units of 16
 abbrev pub bytes_with_object : RattleType → ℕ → ℕ
 bytes_with_object R bytes = size_of_block (bytes + bytes_for (item_bytes R) 1)
+
+-- so many bytes in whole units of 16, of memory that may begin anywhere
+abbrev pub bytes_lent : ℕ → ℕ
+bytes_lent bytes = bytes + 16
 
 -- A size is told as so many bytes; where no memory has as many, as the greatest number.
 abbrev pub IsTold : (bytes told : ℕ) → Type 0

@@ -6,24 +6,24 @@ use Rattle.mq_link.specs.declared.configuration.ConfigFault.{ConfigFault}
 use Rattle.mq_link.specs.declared.configuration.ConfigFault.TheVariants.{Robustness, QueryInterval, ResponseInterval, LastMember, Limit, OwnAddress}
 pub use Rattle.mq_link.specs.Counters.{reason_number, refusal_number, kind_number}
 
--- all was done; memory ran out; the moment is above 2^53; there is no workspace that suffices
+-- all was done; memory ran out; the moment is above 2^53; the workspace is too small
 abbrev pub all_done : ℕ
 all_done = 0
 
 abbrev pub memory : ℕ
-memory = 100
+memory = 10
 
 abbrev pub moment : ℕ
-moment = 101
+moment = 11
 
 abbrev pub workspace : ℕ
-workspace = 102
+workspace = 12
 
 abbrev pub limit_status : LimitName → ℕ
-limit_status Groups = 51
-limit_status GroupSources = 52
-limit_status Sources = 53
-limit_status Scheduled = 54
+limit_status Groups = 5
+limit_status GroupSources = 6
+limit_status Sources = 7
+limit_status Scheduled = 8
 
 -- a fault of a configuration
 abbrev pub status_of : ConfigFault → ℕ
@@ -32,4 +32,4 @@ status_of QueryInterval = 2
 status_of ResponseInterval = 3
 status_of LastMember = 4
 status_of (Limit which) = limit_status which
-status_of OwnAddress = 6
+status_of OwnAddress = 9

@@ -1,30 +1,29 @@
 //! How many bytes the queries of one call take at most.
 
 ghost use Rattle.std.specs.Prelude.{◌≡◌, ◌+◌, ◌*◌, ◌/◌, ◌<◌, min};
-ghost use Rattle.mq_c.specs.Rooms.{longest_body};
-
-/// The longest body.
-const LONGEST_BODY: u64 = 65535;
 
 /// The bytes for a family: of an address and of a query without sources; and how many sources a query holds at most. With
-/// the limits of a link, this is the room of a datagram (`receive_room`), which is more than that of a tick.
+/// the limits of a link and the length of the longest body, this is the room of a datagram (`receive_room`), which is more
+/// than that of a tick.
 pub(crate) fn outlet_bytes(
     width: u8,
     head: u8,
     per_query: u16,
+    longest: u32,
     groups: u32,
     sources: u32,
     scheduled: u32,
 ) -> u64
     requires width { 0 < width }
     requires per_query { 0 < per_query }
-    ensures { let asked = sources + 4 * (sources + longest_body / width) in
-        result ≡ (width + (2 + head)) * (1 + 2 * scheduled + 3 * min (4 * groups) (longest_body / (4 + width)) + asked / per_query) + width * asked }
+    ensures { let asked = sources + 4 * (sources + longest / width) in
+        result ≡ (width + (2 + head)) * (1 + 2 * scheduled + 3 * min (4 * groups) (1 + longest / (4 + width)) + asked / per_query) + width * asked }
 {
     let width = u64::from(width);
+    let longest = u64::from(longest);
     let sources = u64::from(sources);
-    let asking = (4 * u64::from(groups)).min(LONGEST_BODY / (4 + width));
-    let asked = sources + 4 * (sources + LONGEST_BODY / width);
+    let asking = (4 * u64::from(groups)).min(1 + longest / (4 + width));
+    let asked = sources + 4 * (sources + longest / width);
     let queries = 1 + 2 * u64::from(scheduled) + 3 * asking + asked / u64::from(per_query);
     (width + 2 + u64::from(head)) * queries + width * asked
 }

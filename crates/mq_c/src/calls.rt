@@ -1,6 +1,6 @@
 //! The calls of a link that hand out queries, for both families.
 
-ghost use Rattle.std.specs.Prelude.{◌≡◌, ◌+◌, ◌*◌, ◌<◌, ◌≤◌, ◌^◌, length, true, false};
+ghost use Rattle.std.specs.Prelude.{◌≡◌, ℕ, ◌+◌, ◌*◌, ◌<◌, ◌≤◌, ◌^◌, length, true};
 ghost use Rattle.std.specs.FinMap as map;
 ghost use Rattle.mq_count.specs.Spending.{Spends};
 ghost use Rattle.mq_link.specs.Cost.{cost_of};
@@ -10,20 +10,17 @@ ghost use Rattle.mq_link.specs.State.{IsWellFormed, held_of, sources_in};
 ghost use Rattle.mq_link.specs.Tick.{moment_of, next_of};
 ghost use Rattle.mq_link.specs.Workspace.{suffices};
 ghost use Rattle.mq_c.specs.Calls as spec;
-ghost use Rattle.mq_c.specs.Calls.{CallsAt, IsRefusedAs, TicksInto, ReceivesInto};
+ghost use Rattle.mq_c.specs.Calls.{CallsAt, TicksInto, ReceivesInto};
 ghost use Rattle.mq_c.specs.Changed.{WorksIn};
 ghost use Rattle.mq_c.specs.Queries.{outbox_of};
-ghost use Rattle.mq_c.specs.Rooms.{longest_body, receive_room, tick_room};
+ghost use Rattle.mq_c.specs.Rooms.{receive_room, tick_room};
 
-use crate::any_link::AnyLink;
-use crate::any_workspace::AnyWorkspace;
 use crate::forms::Answer;
-use crate::heap_or_lent::HeapOrLent;
 use crate::queries::Queries;
 use crate::statuses::{DONE, MOMENT, WORKSPACE};
+use mq_arena::Lodged;
 use mq_count::Moment;
 use mq_link::{BareLink, Family, Received, Workspace};
-use std::alloc::Allocator;
 
 /// The answer of a call that did nothing, for the reason that its status says.
 fn refused(status: u32) -> Answer
@@ -38,17 +35,6 @@ fn refused(status: u32) -> Answer
         sent: 0,
         unsent: 0,
         written: 0,
-    }
-}
-
-/// The answer of a call that has no workspace to work in, at a moment that may be out of range.
-pub(crate) fn refused_at(now: u64) -> Answer
-    ensures late { 2 ^ 53 < now → result ≡ spec.refused_moment }
-    ensures in_range { now ≤ 2 ^ 53 → result ≡ spec.refused_workspace }
-{
-    match Moment::from_ms(now) {
-        Some(_) => refused(WORKSPACE),
-        None => refused(MOMENT),
     }
 }
 
@@ -90,70 +76,10 @@ fn answer_to(received: Received, queries: &Queries<'_>) -> Answer
     }
 }
 
-/// A tick at a moment, with its queries, and how much it compares and moves at most, as of the link; where the memory is as long
-/// as the room of a tick, none is left out. Nothing, where the workspace is too small.
-fn tick_at<F: Family, A: Allocator, B: Allocator>(
-    link: &mut BareLink<F, A>,
-    workspace: &mut Workspace<F, B>,
-    now: Moment,
-    out: &mut [u8],
-) -> Answer
-    requires in_range { now ≤ 2 ^ 53 }
-    ensures workspace { WorksIn (suffices link.old.config.limits workspace.old) now (changed_by_tick link.old.config now link.old.state) workspace.old workspace.new }
-    ensures config { link.new.config ≡ link.old.config }
-    ensures formed { IsWellFormed link.new.config link.new.state }
-    ensures later { suffices link.old.config.limits workspace.old ≡ true → now < next_of link.new.state }
-    ensures ticks { suffices link.old.config.limits workspace.old ≡ true → TicksInto F.Address.WIDTH now link.old link.new out.old out.new result }
-    ensures refused { suffices link.old.config.limits workspace.old ≡ false → IsRefusedAs spec.refused_workspace link.old link.new out.old out.new result }
-    ensures spent { Spends 0 (cost_of 0 (held_of link.old.state)) link.old.spent link.new.spent }
-    ensures moved { let groups = link.old.state.groups in
-        Spends 0 (6 * sources_in groups + 136 * map.len groups) link.old.moved link.new.moved }
-    ensures still { moment_of link.old.state now < next_of link.old.state → link.new.moved ≡ link.old.moved }
-    ensures none_left_out { tick_room F.Address.WIDTH link.old.config ≤ length out.old → result.unsent ≡ 0 }
-{
-    link.is_well_formed();
-    let mut queries = Queries::new(out);
-    match link.tick(workspace, now, &mut queries) {
-        Ok(()) => answer_to_tick(&queries),
-        Err(_) => refused(WORKSPACE),
-    }
-}
-
-/// A datagram at a moment, with its queries, and how much it compares and moves at most, as of the link; where the memory is as
-/// long as the room of a datagram, none is left out. Nothing, where the workspace is too small.
-fn receive_at<F: Family, A: Allocator, B: Allocator>(
-    link: &mut BareLink<F, A>,
-    workspace: &mut Workspace<F, B>,
-    envelope: &F::Envelope,
-    body: &[u8],
-    now: Moment,
-    out: &mut [u8],
-) -> Answer
-    requires in_range { now ≤ 2 ^ 53 }
-    ensures workspace { WorksIn (suffices link.old.config.limits workspace.old) now (changed_by_datagram link.old.config (F.envelope_of envelope.now) body.now now link.old.state)
-        workspace.old workspace.new }
-    ensures config { link.new.config ≡ link.old.config }
-    ensures formed { IsWellFormed link.new.config link.new.state }
-    ensures receives { suffices link.old.config.limits workspace.old ≡ true → ReceivesInto F.Address.WIDTH (F.envelope_of envelope.now) body.now now link.old link.new
-        out.old out.new result }
-    ensures refused { suffices link.old.config.limits workspace.old ≡ false → IsRefusedAs spec.refused_workspace link.old link.new out.old out.new result }
-    ensures spent { Spends 0 (cost_of (length body.now) (held_of link.old.state)) link.old.spent link.new.spent }
-    ensures moved { Spends 0 (most_moved (length body.now) (held_of link.old.state)) link.old.moved link.new.moved }
-    ensures none_left_out { receive_room F.Address.WIDTH link.old.config ≤ length out.old → length body.now ≤ longest_body → result.unsent ≡ 0 }
-{
-    link.config().is_faultless();
-    link.is_well_formed();
-    let mut queries = Queries::new(out);
-    match link.receive(workspace, envelope, body, now, &mut queries) {
-        Ok(received) => answer_to(received, &queries),
-        Err(_) => refused(WORKSPACE),
-    }
-}
-
 /// Does what is due, in a workspace; with as much memory as the room of a tick, no query is left out.
 pub(crate) fn tick<F: Family>(
-    link: &mut AnyLink<F>,
-    workspace: &mut AnyWorkspace<F>,
+    link: &mut BareLink<F, Lodged>,
+    workspace: &mut Workspace<F, Lodged>,
     now: u64,
     out: &mut [u8],
 ) -> Answer
@@ -169,25 +95,20 @@ pub(crate) fn tick<F: Family>(
     ensures none_left_out { tick_room F.Address.WIDTH link.old.config ≤ length out.old → result.unsent ≡ 0 }
 {
     link.is_well_formed();
-    match Moment::from_ms(now) {
-        Some(now) => match &mut link.bare {
-            HeapOrLent::Heap(link) => match &mut workspace.workspace {
-                HeapOrLent::Heap(workspace) => tick_at(link, workspace, now, out),
-                HeapOrLent::Lent(workspace) => tick_at(link, workspace, now, out),
-            },
-            HeapOrLent::Lent(lent) => match &mut workspace.workspace {
-                HeapOrLent::Heap(workspace) => tick_at(lent, workspace, now, out),
-                HeapOrLent::Lent(workspace) => tick_at(lent, workspace, now, out),
-            },
-        },
-        None => refused(MOMENT),
+    let Some(now) = Moment::from_ms(now) else {
+        return refused(MOMENT);
+    };
+    let mut queries = Queries::new(out);
+    match link.tick(workspace, now, &mut queries) {
+        Ok(()) => answer_to_tick(&queries),
+        Err(_) => refused(WORKSPACE),
     }
 }
 
 /// Takes a datagram, in a workspace; with as much memory as the room of a datagram, no query is left out.
 pub(crate) fn receive<F: Family>(
-    link: &mut AnyLink<F>,
-    workspace: &mut AnyWorkspace<F>,
+    link: &mut BareLink<F, Lodged>,
+    workspace: &mut Workspace<F, Lodged>,
     envelope: F::Envelope,
     body: &[u8],
     now: u64,
@@ -200,28 +121,16 @@ pub(crate) fn receive<F: Family>(
     ensures formed { IsWellFormed link.new.config link.new.state }
     ensures spent { Spends 0 (cost_of (length body.now) (held_of link.old.state)) link.old.spent link.new.spent }
     ensures moved { Spends 0 (most_moved (length body.now) (held_of link.old.state)) link.old.moved link.new.moved }
-    ensures none_left_out { receive_room F.Address.WIDTH link.old.config ≤ length out.old → length body.now ≤ longest_body → result.unsent ≡ 0 }
+    ensures none_left_out { (longest : ℕ) → receive_room F.Address.WIDTH longest link.old.config ≤ length out.old → length body.now ≤ longest → result.unsent ≡ 0 }
 {
+    link.config().is_faultless();
     link.is_well_formed();
-    match Moment::from_ms(now) {
-        Some(now) => match &mut link.bare {
-            HeapOrLent::Heap(link) => match &mut workspace.workspace {
-                HeapOrLent::Heap(workspace) => receive_at(
-                    link, workspace, &envelope, body, now, out,
-                ),
-                HeapOrLent::Lent(workspace) => receive_at(
-                    link, workspace, &envelope, body, now, out,
-                ),
-            },
-            HeapOrLent::Lent(lent) => match &mut workspace.workspace {
-                HeapOrLent::Heap(workspace) => receive_at(
-                    lent, workspace, &envelope, body, now, out,
-                ),
-                HeapOrLent::Lent(workspace) => receive_at(
-                    lent, workspace, &envelope, body, now, out,
-                ),
-            },
-        },
-        None => refused(MOMENT),
+    let Some(now) = Moment::from_ms(now) else {
+        return refused(MOMENT);
+    };
+    let mut queries = Queries::new(out);
+    match link.receive(workspace, &envelope, body, now, &mut queries) {
+        Ok(received) => answer_to(received, &queries),
+        Err(_) => refused(WORKSPACE),
     }
 }

@@ -1,52 +1,57 @@
 //! What a link has counted, as C has it.
 
 ghost use Rattle.std.specs.Prelude.{◌≡◌, ◌<◌, ◌^◌};
-ghost use Rattle.mq_c.specs.Counted.{counted};
+ghost use Rattle.mq_c.specs.Counted.{IsCounted, counted};
 
-use crate::forms::Counted;
 use mq_link::{Counts, DropReason, MessageKind, Refusal};
 
-/// All counters.
-pub(crate) fn counted(counts: &Counts) -> Counted
+/// How many counters there are.
+const COUNTERS: usize = 29;
+
+/// All counters, in the order of `mq_counts`.
+fn all(counts: &Counts) -> [u64; COUNTERS]
     ensures { result ≡ counted counts.now }
 {
-    Counted {
-        received: counts.received(),
-        dropped: counts.dropped(),
-        dropped_by: [
-            counts.dropped_by(DropReason::Truncated),
-            counts.dropped_by(DropReason::Checksum),
-            counts.dropped_by(DropReason::UnknownType),
-            counts.dropped_by(DropReason::QueryLength),
-            counts.dropped_by(DropReason::BadSource),
-            counts.dropped_by(DropReason::HopLimit),
-            counts.dropped_by(DropReason::NoAlert),
-            counts.dropped_by(DropReason::OwnOrZero),
-            counts.dropped_by(DropReason::OlderQuery),
-            counts.dropped_by(DropReason::BadGroup),
-        ],
-        spelled: [
-            counts.spelled(MessageKind::Query),
-            counts.spelled(MessageKind::OlderQuery),
-            counts.spelled(MessageKind::OlderReport),
-            counts.spelled(MessageKind::Leave),
-            counts.spelled(MessageKind::Report),
-        ],
-        applied: counts.applied(),
-        ignored: counts.ignored(),
-        refused: counts.refused(),
-        refused_by: [
-            counts.refused_by(Refusal::Long),
-            counts.refused_by(Refusal::Repeated),
-            counts.refused_by(Refusal::Groups),
-            counts.refused_by(Refusal::GroupSources),
-            counts.refused_by(Refusal::Sources),
-            counts.refused_by(Refusal::Scheduled),
-            counts.refused_by(Refusal::Memory),
-        ],
-        sent: counts.sent(),
-        unsent: counts.unsent(),
-    }
+    [
+        counts.received(),
+        counts.dropped(),
+        counts.dropped_by(DropReason::Truncated),
+        counts.dropped_by(DropReason::Checksum),
+        counts.dropped_by(DropReason::UnknownType),
+        counts.dropped_by(DropReason::QueryLength),
+        counts.dropped_by(DropReason::BadSource),
+        counts.dropped_by(DropReason::HopLimit),
+        counts.dropped_by(DropReason::NoAlert),
+        counts.dropped_by(DropReason::OwnOrZero),
+        counts.dropped_by(DropReason::OlderQuery),
+        counts.dropped_by(DropReason::BadGroup),
+        counts.spelled(MessageKind::Query),
+        counts.spelled(MessageKind::OlderQuery),
+        counts.spelled(MessageKind::OlderReport),
+        counts.spelled(MessageKind::Leave),
+        counts.spelled(MessageKind::Report),
+        counts.applied(),
+        counts.ignored(),
+        counts.refused(),
+        counts.refused_by(Refusal::Long),
+        counts.refused_by(Refusal::Repeated),
+        counts.refused_by(Refusal::Groups),
+        counts.refused_by(Refusal::GroupSources),
+        counts.refused_by(Refusal::Sources),
+        counts.refused_by(Refusal::Scheduled),
+        counts.refused_by(Refusal::Memory),
+        counts.sent(),
+        counts.unsent(),
+    ]
+}
+
+/// Writes the counters to the front, as many as there is room for; answers how many there are.
+pub(crate) fn put_counters(counts: &Counts, out: &mut [u64]) -> usize
+    ensures { IsCounted counts.now out.old out.new result }
+{
+    let room = out.len().min(COUNTERS);
+    out[..room].copy_from_slice(&all(counts)[..room]);
+    COUNTERS
 }
 
 /// A number that 32 bits hold; any other is told as the greatest.

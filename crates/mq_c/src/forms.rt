@@ -48,22 +48,6 @@ pub struct Answer {
     pub written: u64,
 }
 
-/// What a link has counted.
-#[repr(C)]
-#[derive(Clone, Copy)]
-pub struct Counted {
-    pub received: u64,
-    pub dropped: u64,
-    pub dropped_by: [u64; 10],
-    pub spelled: [u64; 5],
-    pub applied: u64,
-    pub ignored: u64,
-    pub refused: u64,
-    pub refused_by: [u64; 7],
-    pub sent: u64,
-    pub unsent: u64,
-}
-
 /// A group that is held by a link of IGMP.
 #[repr(C)]
 #[derive(Clone, Copy)]

@@ -1,29 +1,26 @@
-//! Links that are made for C.
+//! Links and workspaces that are made for C.
 
-ghost use Rattle.std.specs.Prelude.{ℕ, ◌≡◌, ◌+◌, ◌<◌, ◌≤◌, ◌^◌, Some, None, IfOk, IfErr, if◌then◌else◌};
+ghost use Rattle.std.specs.Prelude.{◌≡◌, ◌+◌, ◌<◌, ◌≤◌, ◌^◌, ℕ, IfOk, IfErr};
 ghost use Rattle.std.specs.Result.{MatchResult};
 ghost use Rattle.mq_arena.specs.Vectors.{IsSize};
 ghost use Rattle.mq_link.specs.Configuration.{IsFaultless};
-ghost use Rattle.mq_c.specs.Lent.{own_workspace};
-ghost use Rattle.mq_c.specs.Sizes.{IsTold, bytes_of_all, bytes_with_object};
 ghost use Rattle.mq_link.specs.Sizes.{bytes_of_workspace};
+ghost use Rattle.mq_c.specs.Sizes.{IsTold, bytes_lent, bytes_of_link_lent, bytes_with_object};
 ghost use Rattle.mq_c.specs.Making as spec;
 ghost use Rattle.mq_c.specs.Statuses.{memory as memory_status};
-ghost use Rattle.mq_c.specs.Making.{asked_of, IsConfigOrStatus, IsLinkOrStatus, IsMade, IsRefused, IsWorkspaceMade, IsWorkspaceRefused};
+ghost use Rattle.mq_c.specs.Making.{asked_of, IsConfigOrStatus, IsLinkRefused, IsMade, IsWorkspaceMade, IsWorkspaceRefused};
 
-use crate::any_workspace::AnyWorkspace;
-use crate::c_link::CLink;
 use crate::forms::Settings;
-use crate::heap_or_lent::HeapOrLent;
-use crate::loose::Loose;
 use crate::statuses::{MEMORY, MOMENT, status_of};
 use mq_arena::{Lodged, Unused, block_size, both_sizes, vector_size};
 use mq_count::Moment;
-use mq_link::{Config, Family, Limits, Workspace};
-use std::alloc::Global;
+use mq_link::{BareLink, Config, Family, Limits, Workspace};
 
-/// The most bytes that whole units of 16 may have.
-const GREATEST_SIZE: usize = isize::MAX as usize - 15;
+/// The most bytes that whole units of 16 may have, with those that aligning takes.
+const GREATEST_SIZE: usize = isize::MAX as usize - 31;
+
+/// What aligning takes at most, in a whole unit.
+const ALIGNING: usize = 16;
 
 /// The defaults of a family.
 pub(crate) fn default_settings<F: Family>() -> Settings
@@ -70,68 +67,20 @@ fn config_of<F: Family>(
     }
 }
 
-/// A link so configured that starts at a moment, with its own workspace or without one, or the status that says why there is
-/// none.
-fn link_of<F: Family>(
-    alloc: Global,
-    config: Config<F>,
-    start: u64,
-    has_own: bool,
-) -> Result<CLink<F>, u32>
-    ensures { IsLinkOrStatus start config (own_workspace config has_own) result }
-{
-    let Some(start) = Moment::from_ms(start) else {
-        return Err(MOMENT);
-    };
-    match CLink::new(alloc, config, start, has_own) {
-        Ok(link) => Ok(link),
-        Err(_) => Err(MEMORY),
-    }
-}
-
-/// A link so configured that starts at a moment, with its own workspace or without one, behind its pointer, or the status that
-/// says why there is none.
-pub(crate) fn made<F: Family>(
-    alloc: Global,
-    settings: Settings,
-    own: F::Address,
-    source_specific: u8,
-    start: u64,
-    has_own: bool,
-) -> Result<Loose<CLink<F>, Global>, u32>
-    ensures { let asked = asked_of F.FAMILY settings (F.Address.number own) source_specific in
-        MatchResult result (λ made. IsMade asked start (own_workspace asked has_own) made.value) (λ status. IsRefused asked start status) }
-{
-    let config = match config_of::<F>(settings, own, source_specific) {
-        Ok(config) => config,
-        Err(status) => return Err(status),
-    };
-    let link = match link_of(alloc, config, start, has_own) {
-        Ok(link) => link,
-        Err(status) => return Err(status),
-    };
-    match Box::new(alloc, link) {
-        Ok(link) => Ok(Loose::of(link)),
-        Err(_) => Err(MEMORY),
-    }
-}
-
-/// A link so configured that starts at a moment, with its own workspace or without one, in memory that is lent, or the status that
-/// says why there is none.
+/// A link so configured that starts at a moment, in memory that is lent, or the status that says why there is none.
 pub(crate) fn link_in<F: Family>(
     memory: &mut Unused,
     settings: Settings,
     own: F::Address,
     source_specific: u8,
     start: u64,
-    has_own: bool,
-) -> Result<CLink<F>, u32>
+) -> Result<BareLink<F, Lodged>, u32>
     ensures link { let asked = asked_of F.FAMILY settings (F.Address.number own) source_specific in
-        MatchResult result (λ made. IsMade asked start (own_workspace asked has_own) made) (λ status. IsRefused asked start status) }
+        MatchResult result (λ made. IsMade asked start made) (λ status. IsLinkRefused asked start status) }
     ensures granted { let asked = asked_of F.FAMILY settings (F.Address.number own) source_specific in
-        IfErr result (λ status. status ≡ memory_status → memory.old < bytes_of_all F.Address.row asked.limits has_own) }
+        IfErr result (λ status. status ≡ memory_status → memory.old < bytes_of_link_lent F.Address.row asked.limits) }
     ensures taken { let asked = asked_of F.FAMILY settings (F.Address.number own) source_specific in
-        IfOk result (λ _. memory.old ≤ memory.new + bytes_of_all F.Address.row asked.limits has_own) }
+        IfOk result (λ _. memory.old ≤ memory.new + bytes_of_link_lent F.Address.row asked.limits) }
 {
     let config = match config_of::<F>(settings, own, source_specific) {
         Ok(config) => config,
@@ -140,7 +89,7 @@ pub(crate) fn link_in<F: Family>(
     let Some(start) = Moment::from_ms(start) else {
         return Err(MOMENT);
     };
-    match CLink::new_in(memory, config, start, has_own) {
+    match BareLink::new_in(memory, config, start) {
         Ok(link) => Ok(link),
         Err(_) => Err(MEMORY),
     }
@@ -151,13 +100,12 @@ pub(crate) fn link_size<F: Family>(
     settings: Settings,
     own: F::Address,
     source_specific: u8,
-    has_own: bool,
 ) -> Option<usize>
     ensures { let asked = asked_of F.FAMILY settings (F.Address.number own) source_specific in
-        IsFaultless asked → IsSize (bytes_of_all F.Address.row asked.limits has_own) result }
+        IsFaultless asked → IsSize (bytes_of_link_lent F.Address.row asked.limits) result }
 {
     match config_of::<F>(settings, own, source_specific) {
-        Ok(config) => CLink::size(&config, has_own),
+        Ok(config) => BareLink::<F, Lodged>::size(&config),
         Err(_) => None,
     }
 }
@@ -168,7 +116,7 @@ pub(crate) fn workspace_in<F: Family>(
     settings: Settings,
     own: F::Address,
     source_specific: u8,
-) -> Result<AnyWorkspace<F>, u32>
+) -> Result<Workspace<F, Lodged>, u32>
     ensures workspace { let asked = asked_of F.FAMILY settings (F.Address.number own) source_specific in
         MatchResult result (λ made. IsWorkspaceMade asked made) (λ status. IsWorkspaceRefused asked status) }
     ensures granted { let asked = asked_of F.FAMILY settings (F.Address.number own) source_specific in
@@ -181,9 +129,7 @@ pub(crate) fn workspace_in<F: Family>(
         Err(status) => return Err(status),
     };
     match Workspace::with_room_in(memory, &config.limits()) {
-        Ok(workspace) => Ok(AnyWorkspace {
-            workspace: HeapOrLent::Lent(workspace),
-        }),
+        Ok(workspace) => Ok(workspace),
         Err(_) => Err(MEMORY),
     }
 }
@@ -203,39 +149,12 @@ pub(crate) fn workspace_size<F: Family>(
     }
 }
 
-/// A size with that of the object, in whole units; the greatest number, where no memory has as many bytes.
+/// A size with that of the object, in whole units, and what aligning takes; the greatest number, where no memory has as many bytes.
 pub(crate) fn with_object<T>(size: Option<usize>) -> usize
-    ensures { (a : ℕ) → IsSize a size → IsTold (bytes_with_object T.row a) result }
+    ensures { (a : ℕ) → IsSize a size → IsTold (bytes_lent (bytes_with_object T.row a)) result }
 {
     match both_sizes(size, vector_size::<T>(1)) {
-        Some(bytes) if bytes <= GREATEST_SIZE => block_size(bytes),
+        Some(bytes) if bytes <= GREATEST_SIZE => block_size(bytes) + ALIGNING,
         _ => usize::MAX,
-    }
-}
-
-/// A workspace for links so configured, behind its pointer, or the status that says why there is none.
-pub(crate) fn workspace_made<F: Family>(
-    alloc: Global,
-    settings: Settings,
-    own: F::Address,
-    source_specific: u8,
-) -> Result<Loose<AnyWorkspace<F>, Global>, u32>
-    ensures { let asked = asked_of F.FAMILY settings (F.Address.number own) source_specific in
-        MatchResult result (λ made. IsWorkspaceMade asked made.value) (λ status. IsWorkspaceRefused asked status) }
-{
-    let config = match config_of::<F>(settings, own, source_specific) {
-        Ok(config) => config,
-        Err(status) => return Err(status),
-    };
-    let workspace = match Workspace::with_room(alloc, &config.limits()) {
-        Ok(workspace) => workspace,
-        Err(_) => return Err(MEMORY),
-    };
-    let workspace = AnyWorkspace {
-        workspace: HeapOrLent::Heap(workspace),
-    };
-    match Box::new(alloc, workspace) {
-        Ok(workspace) => Ok(Loose::of(workspace)),
-        Err(_) => Err(MEMORY),
     }
 }

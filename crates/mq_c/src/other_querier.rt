@@ -5,9 +5,9 @@ ghost use Rattle.mq_sched.specs.Election.{is_querier, Other};
 ghost use Rattle.mq_c.specs.Milliseconds.{no_deadline};
 ghost use Rattle.mq_c.specs.OtherQuerier.{with_address, with_other_querier};
 
-use crate::any_link::AnyLink;
 use crate::milliseconds::{NONE, milliseconds};
-use mq_link::Family;
+use mq_arena::Lodged;
+use mq_link::{BareLink, Family};
 use mq_wire::WireKey;
 
 /// Writes an address to the front, where it fits.
@@ -20,7 +20,7 @@ fn put_address<K: WireKey>(address: K, out: &mut [u8])
 }
 
 /// Up to when another router is querier, whose address is written where it fits.
-pub(crate) fn other_querier<F: Family>(link: &AnyLink<F>, address: &mut [u8]) -> u64
+pub(crate) fn other_querier<F: Family>(link: &BareLink<F, Lodged>, address: &mut [u8]) -> u64
     ensures none { IsTrue (is_querier link.now.state.election.role) → result ≡ no_deadline }
     ensures deadline { (other deadline : ℕ) → link.now.state.election.role ≡ Other other deadline → result ≡ deadline }
     ensures address { address.new ≡ with_other_querier F.Address.WIDTH link.now.state.election.role address.old }

@@ -5,11 +5,12 @@ ghost use Rattle.mq_table.specs.Group.{group_deadline};
 ghost use Rattle.mq_c.specs.Milliseconds.{deadline_or_none};
 ghost use Rattle.mq_c.specs.Pages.{IsPage, ShowsGroup, group_form, source_form, stored_form};
 
-use crate::any_link::AnyLink;
 use crate::c_family::CFamily;
 use crate::forms::{Page, page_of};
 use crate::milliseconds::deadline_or_none;
+use mq_arena::Lodged;
 use mq_held::HeldGroup;
+use mq_link::BareLink;
 use mq_table::Source;
 
 /// A group as C has it.
@@ -45,7 +46,7 @@ fn put_sources<F: CFamily>(from: &[Source<F::Address>], out: &mut [F::Source])
 
 /// Writes the groups from a place on, as many as fit with all their sources.
 pub(crate) fn put_groups<F: CFamily>(
-    link: &AnyLink<F>,
+    link: &BareLink<F, Lodged>,
     first: u32,
     groups: &mut [F::Group],
     sources: &mut [F::Source],
@@ -73,7 +74,7 @@ pub(crate) fn put_groups<F: CFamily>(
 
 /// Writes a group, and its sources where there is room for all of them; nothing where it isn't held.
 pub(crate) fn put_group<F: CFamily>(
-    link: &AnyLink<F>,
+    link: &BareLink<F, Lodged>,
     group: F::Address,
     entry: &mut F::Group,
     sources: &mut [F::Source],

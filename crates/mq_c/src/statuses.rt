@@ -9,13 +9,13 @@ use mq_link::{ConfigFault, LimitName};
 pub(crate) const DONE: u32 = 0;
 
 /// Memory ran out.
-pub(crate) const MEMORY: u32 = 100;
+pub(crate) const MEMORY: u32 = 10;
 
 /// The moment is above 2^53, and nothing was done.
-pub(crate) const MOMENT: u32 = 101;
+pub(crate) const MOMENT: u32 = 11;
 
-/// The link has no workspace of its own, or the one that the call is lent is too small, and nothing was done.
-pub(crate) const WORKSPACE: u32 = 102;
+/// The workspace is too small for the link, and nothing was done.
+pub(crate) const WORKSPACE: u32 = 12;
 
 /// The status of a fault of a configuration.
 pub(crate) fn status_of(fault: ConfigFault) -> u32
@@ -28,11 +28,11 @@ pub(crate) fn status_of(fault: ConfigFault) -> u32
         ConfigFault::ResponseInterval => 3,
         ConfigFault::LastMember => 4,
         ConfigFault::Limit { which } => match which {
-            LimitName::Groups => 51,
-            LimitName::GroupSources => 52,
-            LimitName::Sources => 53,
-            LimitName::Scheduled => 54,
+            LimitName::Groups => 5,
+            LimitName::GroupSources => 6,
+            LimitName::Sources => 7,
+            LimitName::Scheduled => 8,
         },
-        ConfigFault::OwnAddress => 6,
+        ConfigFault::OwnAddress => 9,
     }
 }

@@ -1,0 +1,17 @@
+-- `lend` lends what is behind the pointer, and the object follows it.
+use Rattle.std.proofs.Common.{[], ◌∷◌, refl}
+use types.Kit.{‵, ◌$◌, ◌∵◌, !, qed, done}
+use denote.Follow.{follows}
+use denote.Triple.Walked.{says}
+use Rattle.mq_c.specs.Rows.{igmp_workspace_row}
+use Rattle.mq_c.specs.contracts.igmp_objects.IgmpWorkspace.{the_row}
+use Rattle.mq_c.specs.contracts.igmp_objects.IgmpWorkspace.lend as f
+use Rattle.mq_c.proofs.Pointers.{igmp_workspace}
+use Rattle.mq_c.proofs.PointerWalks.{lend_meets}
+use Rattle.mq_c.proofs.igmp_objects.IgmpWorkspace.lend.Statement.{statement}
+use Rattle.mq_c.proofs.igmp_objects.IgmpWorkspace.lend.Code as code
+
+pub lend_spec : {M : Type 1} → statement M
+lend_spec 𝓤 𝓛 𝓜 𝓡 wired =
+    lend_meets igmp_workspace_row igmp_workspace (λ d. d.kept) tt (λ d w. record d { kept = w }) (λ d w. refl) (λ d w. refl) 𝓤 𝓛 𝓜 𝓡 f.Key.name (f.clauses 𝓛 𝓜.mem 𝓡.returns)
+    (λ κs a g r e is. qed 𝓛 (‵ (follows the_row igmp_workspace_row a.0.ghost_name r.ghost_name (λ w. record a.0.now { kept = w })) ∷ []) ∵ says ! is $ done !) (code.unfolded 𝓤 𝓛.H 𝓜 𝓡 wired)
