@@ -102,11 +102,11 @@ size_t mq_mld_size(mq_mld_config config);
 size_t mq_igmp_workspace_size(mq_igmp_config config);
 size_t mq_mld_workspace_size(mq_mld_config config);
 
-/* The same as constants, for static arrays: at least that many bytes, and at most 160 bytes and 1/300 more. */
-#define MQ_IGMP_SIZE(groups, sources) (2288 + 200 * (size_t)(groups) + 80 * (size_t)(sources))
-#define MQ_MLD_SIZE(groups, sources) (2384 + 244 * (size_t)(groups) + 120 * (size_t)(sources))
-#define MQ_IGMP_WORKSPACE_SIZE(groups, group_sources) (528 + 30 * (size_t)(groups) + 76 * (size_t)(group_sources))
-#define MQ_MLD_WORKSPACE_SIZE(groups, group_sources) (480 + 90 * (size_t)(groups) + 144 * (size_t)(group_sources))
+/* The same as constants, for static arrays: never fewer bytes, and at most 1/20 and 150 bytes more. */
+#define MQ_IGMP_SIZE(groups, sources) (1904 + 200 * (size_t)(groups) + 80 * (size_t)(sources))
+#define MQ_MLD_SIZE(groups, sources) (1952 + 244 * (size_t)(groups) + 120 * (size_t)(sources))
+#define MQ_IGMP_WORKSPACE_SIZE(groups, group_sources) (512 + 30 * (size_t)(groups) + 76 * (size_t)(group_sources))
+#define MQ_MLD_WORKSPACE_SIZE(groups, group_sources) (464 + 90 * (size_t)(groups) + 144 * (size_t)(group_sources))
 
 /* Memory in whole units of 16 bytes, which begins at a multiple of 16 and has fewer than 2^63 bytes. */
 typedef struct { void *first; size_t units; } mq_units;
