@@ -16,8 +16,8 @@
    The time is in milliseconds of any clock that does not go back, at most MQ_LATEST. A time earlier than the previous one, or
    than `start`, is treated as the previous one. Addresses are in network order.
 
-   The archive for x86-64 needs a processor of level x86-64-v2: an older one stops it by an illegal instruction. `receive` uses at
-   most 24 KB of stack, any other call 8 KB. */
+   The archive for x86-64 needs a processor of level x86-64-v2: an older one stops it by an illegal instruction. A call uses at most
+   8 KB of stack, but `mq_mld_receive` and `mq_mld_tick` 20 KB. */
 #ifndef MQUERIER_H
 #define MQUERIER_H
 
