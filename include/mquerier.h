@@ -43,7 +43,7 @@ uint32_t mq_version(void);
 #define MQ_NONE UINT64_MAX
 #define MQ_LATEST (UINT64_C(1) << 53)
 
-/* Statuses. A call with another one than MQ_DONE has done nothing. */
+/* Statuses, numbered from 0 on. A call with another one than MQ_DONE has done nothing. */
 enum {
   MQ_DONE, MQ_ROBUSTNESS, MQ_QUERY_INTERVAL, MQ_RESPONSE_INTERVAL, MQ_LAST_MEMBER_INTERVAL, MQ_LIMIT_GROUPS,
   MQ_LIMIT_GROUP_SOURCES, MQ_LIMIT_SOURCES, MQ_LIMIT_SCHEDULED, MQ_OWN_ADDRESS, MQ_MEMORY, MQ_MOMENT, MQ_WORKSPACE
@@ -71,12 +71,12 @@ typedef struct {
   uint32_t sources;              /* most sources of all groups together, 1 to 65535 */
   uint32_t scheduled;            /* most schedules of specific queries, 1 to 65535; a group has up to two */
   uint8_t own[4];                /* the source address of queries; not 0.0.0.0, nor 224.0.0.0 or above */
-  uint8_t source_specific;       /* 1: 232.0.0.0/8 is kept for source-specific multicast (RFC 4604); 0: it is not */
+  uint8_t source_specific;       /* unless 0, 232.0.0.0/8 is kept for source-specific multicast (RFC 4604) */
 } mq_igmp_config;
 typedef struct {
   uint32_t robustness, query_interval, response_interval, last_member_interval, groups, group_sources, sources, scheduled;
   uint8_t own[16];         /* of fe80::/10 */
-  uint8_t source_specific; /* 1: ff3x::/32 is kept for source-specific multicast; 0: it is not */
+  uint8_t source_specific; /* unless 0, ff3x::/32 is kept for source-specific multicast */
 } mq_mld_config;
 
 /* Returns the defaults of RFC 3376 section 8 and RFC 3810 section 9, with these limits. */
@@ -121,7 +121,7 @@ static inline mq_units mq_units_of(void *memory, size_t size) {
 
 /* Makes a link in `size` bytes of memory, and sets `*link`. It begins as querier at `start`: its first query is due then, and a
    tick sends it. Returns MQ_DONE, or the first status that holds: a fault of the configuration, in the order of the statuses;
-   MQ_MOMENT; MQ_MEMORY, which is impossible with `mq_igmp_size` bytes. A call that fails takes no memory and leaves `*link`. */
+   MQ_MOMENT; MQ_MEMORY, which is impossible with `mq_igmp_size` bytes. A call that fails leaves `*link`, and takes no memory. */
 uint32_t mq_igmp_init_units(mq_igmp_config config, uint64_t start, mq_units memory, mq_igmp *link);
 uint32_t mq_mld_init_units(mq_mld_config config, uint64_t start, mq_units memory, mq_mld *link);
 static inline uint32_t mq_igmp_init(mq_igmp_config config, uint64_t start, void *memory, size_t size, mq_igmp *link) {
@@ -179,7 +179,7 @@ typedef struct {
   uint64_t written; /* bytes of `queries` that were written */
 } mq_answer;
 
-/* Why a datagram was dropped. */
+/* Why a datagram was dropped, numbered from 1 on. */
 enum {
   MQ_DROPPED_TRUNCATED = 1, MQ_DROPPED_CHECKSUM, MQ_DROPPED_UNKNOWN_TYPE, MQ_DROPPED_QUERY_LENGTH, MQ_DROPPED_SOURCE,
   MQ_DROPPED_HOP_LIMIT, MQ_DROPPED_NO_ALERT, MQ_DROPPED_OWN_OR_ZERO, MQ_DROPPED_IGMPV1_QUERY, MQ_DROPPED_GROUP
@@ -191,9 +191,9 @@ static inline const char *mq_dropped_text(uint32_t dropped) {
   return dropped < sizeof texts / sizeof *texts ? texts[dropped] : "not a reason";
 }
 
-/* Takes a datagram that came at `now`: its source, for MLD also its destination, its hop limit and whether it has the Router
-   Alert option, and its bytes without the IP header. First it does what a tick does. A query that does not fit into the rest of
-   `room` bytes is skipped; a later, shorter one may still fit. The bytes after `written` stay as they are. */
+/* Takes a datagram that came at `now`: its source, for MLD also its destination, its hop limit and whether it has the Router Alert
+   option, and the bytes after its IP header with options and extension headers. First it does what a tick does. A query that does
+   not fit into the rest of `room` bytes is skipped; a later, shorter one may still fit. The bytes after `written` stay. */
 mq_answer mq_igmp_receive(mq_igmp *link, mq_igmp_workspace *workspace, const uint8_t source[4], const uint8_t *body, size_t length,
                           uint64_t now, uint8_t *queries, size_t room);
 mq_answer mq_mld_receive(mq_mld *link, mq_mld_workspace *workspace, const uint8_t source[16], const uint8_t destination[16],
