@@ -5,24 +5,27 @@ SOURCES := crates.txt $(shell find crates/*/src crates/*/specs crates/*/proofs -
 FIRST_PATH := message igmp 1600f8faef010203
 VERSION := $(shell sed -n 's/^\#define MQ_VERSION_TEXT "\(.*\)"$$/\1/p' include/mquerier.h)
 
-# The processor that `make lib` is for, and where each archive stands. The one for aarch64 wants a cross compiler of C.
+# The processor that `make lib` is for, and where its archive and its shared library stand. The shared library for aarch64 needs a
+# cross compiler of C.
 TARGET := x86_64-unknown-linux-gnu
 CROSS_COMPILE ?= aarch64-linux-gnu-
 AARCH64 := lib/aarch64-unknown-linux-gnu
 archive_for_x86_64-unknown-linux-gnu := lib/libmquerier.a
 archive_for_aarch64-unknown-linux-gnu := $(AARCH64)/libmquerier.a
 ARCHIVE := $(archive_for_$(TARGET))
-LENT := $(ARCHIVE:.a=-lent.a)
+# The number is MQ_VERSION of the header.
+SONAME := libmquerier.so.$(VERSION)
+SHARED := $(dir $(ARCHIVE))$(SONAME)
 ifeq ($(ARCHIVE),)
 $(error TARGET=$(TARGET): the library is made for x86_64-unknown-linux-gnu and for aarch64-unknown-linux-gnu)
 endif
 ifneq ($(ARCHIVE),lib/libmquerier.a)
-ifneq ($(or $(filter-out lib lib-lent,$(MAKECMDGOALS)),$(if $(MAKECMDGOALS),,all)),)
-$(error TARGET=$(TARGET): only `make lib` and `make lib-lent` take another processor than that of this machine)
+ifneq ($(or $(filter-out lib,$(MAKECMDGOALS)),$(if $(MAKECMDGOALS),,all)),)
+$(error TARGET=$(TARGET): only `make lib` takes another processor than that of this machine)
 endif
 endif
 
-.PHONY: all run try lib lib-lent quick test kept live live-test conform-test page page-test arm-test mutants bench install dist clean
+.PHONY: all run try lib quick test kept live live-test conform-test page page-test arm-test mutants bench install dist clean
 
 # Both archives are of what is built in one folder, so one is made after the other. tools/build works side by side by itself.
 .NOTPARALLEL:
@@ -34,21 +37,21 @@ all: bin/mquerier
 needs-build:
 	@tools/needs rt bash python3
 needs-library:
-	@tools/needs rt bash python3 ar $(CC)
+	@tools/needs rt bash python3 $(CC)
 needs-cross:
-	@tools/needs rt bash python3 $(CROSS_COMPILE)gcc $(CROSS_COMPILE)ar
+	@tools/needs rt bash python3 $(CROSS_COMPILE)gcc
 needs-gate:
 	@tools/needs rt bash git python3
 needs-test:
-	@tools/needs rt bash git python3 cc c++ ar nm valgrind
+	@tools/needs rt bash git python3 cc c++ nm valgrind
 needs-live:
-	@tools/needs rt bash python3 ar $(CC) ip bridge nft setpriv
+	@tools/needs rt bash python3 $(CC) ip bridge nft setpriv
 needs-conform:
-	@tools/needs rt bash python3 ar $(CC) ip bridge chrt
+	@tools/needs rt bash python3 $(CC) ip bridge chrt
 needs-page:
 	@tools/needs rt bash python3 node chromium
 needs-arm:
-	@tools/needs rt bash python3 ar $(CC) $(CROSS_COMPILE)gcc $(CROSS_COMPILE)ar qemu-aarch64
+	@tools/needs rt bash python3 nm $(CC) $(CROSS_COMPILE)gcc qemu-aarch64
 
 # Proves the crates that the program stands on, builds it, and runs it once.
 bin/mquerier: $(SOURCES) | needs-build
@@ -62,53 +65,35 @@ run:
 try:
 	@tools/try $(ARGS)
 
-# The links as a library for C: lib/libmquerier.a, whose header is include/mquerier.h. `make lib TARGET=aarch64-unknown-linux-gnu`
-# makes it for that processor, of the same proofs, as lib/aarch64-unknown-linux-gnu/libmquerier.a.
-lib: $(ARCHIVE)
+# The links as a library for C, whose header is include/mquerier.h: the archive lib/libmquerier.a, and beside it the shared library
+# lib/libmquerier.so.2 for languages that load one. `make lib TARGET=aarch64-unknown-linux-gnu` makes them for that processor, of the
+# same proofs, in lib/aarch64-unknown-linux-gnu.
+lib: $(ARCHIVE) $(SHARED)
 
-# The archive of the crate mq_c, with what it needs of the kit inside: the kit lies where the page does that `rt doc` names.
+# The archive of the crate mq_c, as it is: it needs nothing of the toolchain.
 lib/libmquerier.a: $(SOURCES) | needs-library
 	@tools/build --library
-	@printf 'create $@.new\naddlib crates/mq_c/out/libmq_c.a\naddlib %s/c/liblibc_c.a\nsave\nend\n' "$$(dirname "$$(rt doc)")" | ar -M
-	@mv $@.new $@
+	@cp crates/mq_c/out/libmq_c.a $@
 	@echo "$@ is built"
 
-# The same library without a heap, for links in memory that the program has: lib/libmquerier-lent.a. It takes a TARGET too.
-lib-lent: $(LENT)
-
-lib/libmquerier-lent.a: lib/no_heap.o $(SOURCES) | needs-library
-	@tools/build --library
-	@printf 'create $@.new\naddlib crates/mq_c/out/libmq_c.a\naddmod $<\nsave\nend\n' | ar -M
-	@mv $@.new $@
-	@echo "$@ is built"
-
-lib/no_heap.o: trusted/no_heap.c | needs-library
-	@mkdir -p $(@D)
-	@$(CC) -std=c99 -O2 -fPIC -ffreestanding -Wall -Wextra -Werror -c $< -o $@
-
-# The kit has no heap for aarch64, so that archive has the one of this repository.
-$(AARCH64)/libmquerier.a: $(AARCH64)/heap.o $(SOURCES) | needs-cross
+$(AARCH64)/libmquerier.a: $(SOURCES) | needs-build
 	@tools/build --library aarch64-unknown-linux-gnu
-	@printf 'create $@.new\naddlib crates/mq_c/out/libmq_c.a\naddmod $<\nsave\nend\n' | $(CROSS_COMPILE)ar -M
-	@mv $@.new $@
+	@mkdir -p $(@D)
+	@cp crates/mq_c/out/libmq_c.a $@
 	@echo "$@ is built"
 
-$(AARCH64)/libmquerier-lent.a: $(AARCH64)/no_heap.o $(SOURCES) | needs-cross
-	@tools/build --library aarch64-unknown-linux-gnu
-	@printf 'create $@.new\naddlib crates/mq_c/out/libmq_c.a\naddmod $<\nsave\nend\n' | $(CROSS_COMPILE)ar -M
-	@mv $@.new $@
+# The calls of the header and no other symbol; the link without a number is what a linker looks for.
+SHARING = -shared -nostdlib -Wl,-soname,$(SONAME) -Wl,--version-script=include/libmquerier.map -Wl,-z,defs -Wl,-z,noexecstack \
+    -Wl,--whole-archive $(filter %.a,$^) -Wl,--no-whole-archive -lc -o $@
+lib/$(SONAME): lib/libmquerier.a include/libmquerier.map | needs-library
+	@$(CC) $(SHARING)
+	@ln -sf $(SONAME) $(@D)/libmquerier.so
 	@echo "$@ is built"
 
-$(AARCH64)/no_heap.o: trusted/no_heap.c | needs-cross
-	@mkdir -p $(@D)
-	@$(CROSS_COMPILE)gcc -std=c99 -O2 -fPIC -ffreestanding -Wall -Wextra -Werror -c $< -o $@
-
-$(AARCH64)/heap.o: trusted/heap.c | needs-cross
-	@printf '#include <stdlib.h>\n#ifndef __aarch64__\n#error\n#endif\n' | $(CROSS_COMPILE)gcc -fsyntax-only -x c - 2> /dev/null || \
-	    { echo '$(CROSS_COMPILE)gcc compiles no C for aarch64 here: on Debian install gcc-aarch64-linux-gnu and' \
-	    'libc6-dev-arm64-cross, or name another cross compiler, as CROSS_COMPILE=aarch64-none-linux-gnu-' >&2; exit 1; }
-	@mkdir -p $(@D)
-	@$(CROSS_COMPILE)gcc -std=c99 -O2 -fPIC -Wall -Wextra -Werror -c $< -o $@
+$(AARCH64)/$(SONAME): $(AARCH64)/libmquerier.a include/libmquerier.map | needs-cross
+	@$(CROSS_COMPILE)gcc $(SHARING)
+	@ln -sf $(SONAME) $(@D)/libmquerier.so
+	@echo "$@ is built"
 
 # Shows that it holds here: proofs, tests, and runs of the program with refused calls. The last line counts what passed.
 test: needs-test
@@ -138,7 +123,7 @@ bin/mquerier-live: $(LIVE) include/mquerier.h lib/libmquerier.a | needs-library
 # The examples in C do what docs/EMBEDDING.md says; the querier on an interface serves hosts of the Linux kernel, and does what the
 # vectors say that are played to it, those that end within SECONDS. The last two want to be root, and the last one the program.
 SECONDS := 600
-live-test: needs-live live lib/libmquerier-lent.a
+live-test: needs-live live
 	@examples/check
 	@examples/live/test
 	@conform/vectors --seconds $(SECONDS)
@@ -168,7 +153,7 @@ page-test: needs-page page bin/mquerier
 	@page/test
 
 # Programs of C over the library for aarch64, run by qemu, print what they print here.
-arm-test: needs-arm lib/libmquerier.a $(AARCH64)/libmquerier.a $(AARCH64)/libmquerier-lent.a
+arm-test: needs-arm lib/libmquerier.a $(AARCH64)/libmquerier.a $(AARCH64)/$(SONAME)
 	@CROSS_COMPILE=$(CROSS_COMPILE) tools/aarch64
 
 # How fast captures are listed and replayed, what hostile hosts cost, and how near datagrams come to the sum bound
@@ -181,19 +166,20 @@ bench: bin/mquerier
 	@bench/spent $(WRITE)
 	@bench/links $(WRITE)
 
-# The program, the libraries for C with their header and what pkg-config has to know of them, and the manual pages.
-install: bin/mquerier lib/libmquerier.a lib/libmquerier-lent.a
+# The program, the library for C as an archive and as a shared library, its header, its entry for pkg-config, and the manual pages.
+install: bin/mquerier lib/libmquerier.a lib/$(SONAME)
 	install -d $(DESTDIR)$(PREFIX)/bin $(DESTDIR)$(PREFIX)/include $(DESTDIR)$(PREFIX)/lib/pkgconfig
 	install -d $(DESTDIR)$(PREFIX)/share/man/man1 $(DESTDIR)$(PREFIX)/share/man/man3
 	install -m 755 bin/mquerier $(DESTDIR)$(PREFIX)/bin/mquerier
-	install -m 644 lib/libmquerier.a lib/libmquerier-lent.a $(DESTDIR)$(PREFIX)/lib
+	install -m 644 lib/libmquerier.a lib/$(SONAME) $(DESTDIR)$(PREFIX)/lib
+	ln -sf $(SONAME) $(DESTDIR)$(PREFIX)/lib/libmquerier.so
 	install -m 644 include/mquerier.h $(DESTDIR)$(PREFIX)/include/mquerier.h
 	sed 's|@PREFIX@|$(PREFIX)|; s|@VERSION@|$(VERSION)|' include/libmquerier.pc.in > $(DESTDIR)$(PREFIX)/lib/pkgconfig/libmquerier.pc
 	install -m 644 man/mquerier.1 $(DESTDIR)$(PREFIX)/share/man/man1/mquerier.1
 	install -m 644 man/libmquerier.3 $(DESTDIR)$(PREFIX)/share/man/man3/libmquerier.3
 
 # The release of this commit, as one archive with its sum: dist/mquerier-VERSION.tar.gz.
-dist: bin/mquerier lib/libmquerier.a lib/libmquerier-lent.a page
+dist: bin/mquerier lib/libmquerier.a lib/$(SONAME) page
 	@tools/dist
 
 clean:

@@ -1,7 +1,7 @@
 /* Many links that use one workspace in turn: links igmp|mld LINKS. Each may hold 128 groups, with 64 sources a group and 1,024
    in all, and hears Reports for 64 groups with four sources each: first those that make the groups, then, measured, the same
-   again. Prints how many bytes the links and their workspace asked of malloc, how many one link asks that has its own, how many
-   nanoseconds of the processor a Report took, and how many at one of these links alone. It is linked with -Wl,--wrap=malloc. */
+   again. Prints how many bytes the links and their workspace take, how many one link takes with a workspace of its own, how many
+   nanoseconds of the processor a Report took, and how many at one of these links alone. */
 #define _POSIX_C_SOURCE 199309L
 #include "mquerier.h"
 
@@ -11,16 +11,6 @@
 #include <time.h>
 
 enum { GROUPS = 64, SOURCES = 4, ROUNDS = 8, LONGEST = 128 };
-
-static size_t asked;
-
-void *__real_malloc(size_t bytes);
-void *__wrap_malloc(size_t bytes);
-
-void *__wrap_malloc(size_t bytes) {
-  asked += bytes;
-  return __real_malloc(bytes);
-}
 
 static void want(bool is_so, const char *otherwise) {
   if (is_so) return;
@@ -86,34 +76,30 @@ static mq_mld_config limits6(void) {
   return config;
 }
 
-static void make(size_t count) {
-  want(is_mld ? (mld = malloc(count * sizeof *mld)) != NULL : (igmp = malloc(count * sizeof *igmp)) != NULL, "no memory");
-  asked = 0;
-  want((is_mld ? mq_mld_workspace_new(limits6(), &workspace6) : mq_igmp_workspace_new(limits4(), &workspace4)) == MQ_DONE,
-       "no workspace");
-  for (size_t i = 0; i < count; i++)
-    want((is_mld ? mq_mld_new_bare(limits6(), 0, &mld[i]) : mq_igmp_new_bare(limits4(), 0, &igmp[i])) == MQ_DONE, "no link");
-}
+/* The bytes of one link, and of a workspace. */
+static size_t link_size, workspace_size;
 
-/* How many bytes a link with its own workspace asks. */
-static size_t alone(void) {
-  mq_igmp of_igmp;
-  mq_mld of_mld;
-  asked = 0;
-  want((is_mld ? mq_mld_new(limits6(), 0, &of_mld) : mq_igmp_new(limits4(), 0, &of_igmp)) == MQ_DONE, "no link");
-  if (is_mld)
-    mq_mld_free(of_mld);
-  else
-    mq_igmp_free(of_igmp);
-  return asked;
+/* All of them lie in one block, which stays to the end. */
+static void make(size_t count) {
+  link_size = is_mld ? mq_mld_size(limits6()) : mq_igmp_size(limits4());
+  workspace_size = is_mld ? mq_mld_workspace_size(limits6()) : mq_igmp_workspace_size(limits4());
+  uint8_t *memory = malloc(workspace_size + count * link_size), *at = memory;
+  want(is_mld ? (mld = malloc(count * sizeof *mld)) != NULL : (igmp = malloc(count * sizeof *igmp)) != NULL, "no memory");
+  want(memory != NULL, "no memory");
+  want((is_mld ? mq_mld_workspace_init(limits6(), at, workspace_size, &workspace6)
+               : mq_igmp_workspace_init(limits4(), at, workspace_size, &workspace4)) == MQ_DONE, "no workspace");
+  at += workspace_size;
+  for (size_t i = 0; i < count; i++, at += link_size)
+    want((is_mld ? mq_mld_init(limits6(), 0, at, link_size, &mld[i]) : mq_igmp_init(limits4(), 0, at, link_size, &igmp[i])) == MQ_DONE,
+         "no link");
 }
 
 static void hear(size_t link, int group, uint64_t now) {
   static uint8_t queries[4096];
   const uint8_t *body = reports[group];
-  mq_answer answer = is_mld ? mq_mld_receive_in(&mld[link], &workspace6, host6, routers6, 1, true, body, length, now, queries,
-                                                sizeof queries)
-                            : mq_igmp_receive_in(&igmp[link], &workspace4, host4, body, length, now, queries, sizeof queries);
+  mq_answer answer = is_mld ? mq_mld_receive(&mld[link], &workspace6, host6, routers6, 1, true, body, length, now, queries,
+                                             sizeof queries)
+                            : mq_igmp_receive(&igmp[link], &workspace4, host4, body, length, now, queries, sizeof queries);
   want(answer.status == MQ_DONE && !answer.dropped && answer.applied == 1, "a Report was not taken");
 }
 
@@ -142,10 +128,9 @@ int main(int argc, char **argv) {
   is_mld = strcmp(argv[1], "mld") == 0;
   for (int group = 0; group < GROUPS; group++) spell(reports[group], (uint8_t)group);
   make(count);
-  size_t bytes = asked, own = alone();
   for (int group = 0; group < GROUPS; group++)
     for (size_t link = 0; link < count; link++) hear(link, group, 0);
   double many = took(count, 1), one = took(1, 1 + ROUNDS);
-  printf("%zu %zu %.0f %.0f\n", bytes, own, many, one);
+  printf("%zu %zu %.0f %.0f\n", workspace_size + count * link_size, workspace_size + link_size, many, one);
   return 0;
 }

@@ -62,8 +62,8 @@ static void tell(uint64_t nanoseconds, uint64_t rounds) {
 
 /* A link of either family, at the default limits. */
 static bool is_mld;
-static mq_igmp igmp;
-static mq_mld mld;
+static mq_igmp_on_heap igmp;
+static mq_mld_on_heap mld;
 static const uint8_t OWN[16] = {0xfe, 0x80, [15] = 9}, HOST[16] = {0xfe, 0x80, [15] = 7};
 static const uint8_t ROUTERS[16] = {0xff, 2, [15] = 0x16};
 static uint8_t *queries;
@@ -74,7 +74,7 @@ static void begin(void) {
   mq_igmp_config of_igmp = mq_igmp_defaults((const uint8_t[]){10, 0, 0, 9});
   uint32_t status = is_mld ? mq_mld_new(of_mld, 0, &mld) : mq_igmp_new(of_igmp, 0, &igmp);
   want(status == 0, "the link wasn't made");
-  room = is_mld ? mq_mld_outlet_bytes(of_mld) : mq_igmp_outlet_bytes(of_igmp);
+  room = is_mld ? mq_mld_outlet_bytes(of_mld, 65535) : mq_igmp_outlet_bytes(of_igmp, 65535);
   queries = malloc(room);
   want(queries != NULL, "no memory");
 }
@@ -83,8 +83,9 @@ static void begin(void) {
 static void receive(struct part part, uint64_t now) {
   static const uint8_t host[4] = {10, 0, 0, 7};
   const uint8_t *to = part.bytes[0] == 131 ? part.bytes + 8 : ROUTERS;
-  mq_answer answer = is_mld ? mq_mld_receive(&mld, HOST, to, 1, true, part.bytes, part.length, now, queries, room)
-                            : mq_igmp_receive(&igmp, host, part.bytes, part.length, now, queries, room);
+  mq_answer answer =
+      is_mld ? mq_mld_receive(&mld.link, &mld.workspace, HOST, to, 1, true, part.bytes, part.length, now, queries, room)
+             : mq_igmp_receive(&igmp.link, &igmp.workspace, host, part.bytes, part.length, now, queries, room);
   want(answer.dropped == 0 && answer.refused == 0 && answer.ignored == 0, "a message wasn't taken");
 }
 

@@ -46,51 +46,51 @@ static const uint8_t own6[16] = {0xfe, 0x80, [15] = 9}, host6[16] = {0xfe, 0x80,
 static const uint8_t lower6[16] = {0xfe, 0x80, [15] = 1};
 static const uint8_t routers6[16] = {0xff, 2, [15] = 0x16}, nodes6[16] = {0xff, 2, [15] = 1};
 
-static mq_igmp igmp;
-static mq_mld mld;
+static mq_igmp_on_heap igmp;
+static mq_mld_on_heap mld;
 /* Queries that don't fit are lost, which changes no comparison. */
 static uint8_t queries[1 << 16];
 
 static void igmp_begin(void) {
   mq_igmp_config config = mq_igmp_defaults(own4);
   want(config.groups == GROUPS && config.sources == SOURCES && config.group_sources == 366, "other limits by default");
-  if (igmp.link) mq_igmp_free(igmp);
+  mq_igmp_free(&igmp);
   want(mq_igmp_new(config, 0, &igmp) == MQ_DONE, "no link");
 }
 
 static void mld_begin(void) {
   mq_mld_config config = mq_mld_defaults(own6);
   want(config.groups == GROUPS && config.sources == SOURCES && config.group_sources == 89, "other limits by default");
-  if (mld.link) mq_mld_free(mld);
+  mq_mld_free(&mld);
   want(mq_mld_new(config, 0, &mld) == MQ_DONE, "no link");
 }
 
 static mq_answer igmp_receive(bool is_query, const uint8_t *body, uint64_t now) {
-  return mq_igmp_receive(&igmp, is_query ? lower4 : host4, body, LENGTH, now, queries, sizeof queries);
+  return mq_igmp_receive(&igmp.link, &igmp.workspace, is_query ? lower4 : host4, body, LENGTH, now, queries, sizeof queries);
 }
 
 static mq_answer mld_receive(bool is_query, const uint8_t *body, uint64_t now) {
-  return mq_mld_receive(&mld, is_query ? lower6 : host6, is_query ? nodes6 : routers6, 1, true, body, LENGTH, now,
-                        queries, sizeof queries);
+  return mq_mld_receive(&mld.link, &mld.workspace, is_query ? lower6 : host6, is_query ? nodes6 : routers6, 1, true, body, LENGTH,
+                        now, queries, sizeof queries);
 }
 
-static uint64_t igmp_spent(void) { return mq_igmp_spent(&igmp); }
+static uint64_t igmp_spent(void) { return mq_igmp_spent(&igmp.link); }
 
-static uint64_t mld_spent(void) { return mq_mld_spent(&mld); }
+static uint64_t mld_spent(void) { return mq_mld_spent(&mld.link); }
 
 static uint64_t igmp_held(void) {
   static mq_igmp_group groups[GROUPS];
   static mq_igmp_source sources[SOURCES];
-  mq_page page = mq_igmp_groups(&igmp, 0, groups, GROUPS, sources, SOURCES);
-  want(page.groups == mq_igmp_len(&igmp), "not all groups in one page");
+  mq_page page = mq_igmp_groups(&igmp.link, 0, groups, GROUPS, sources, SOURCES);
+  want(page.groups == mq_igmp_len(&igmp.link), "not all groups in one page");
   return (uint64_t)page.groups + page.sources;
 }
 
 static uint64_t mld_held(void) {
   static mq_mld_group groups[GROUPS];
   static mq_mld_source sources[SOURCES];
-  mq_page page = mq_mld_groups(&mld, 0, groups, GROUPS, sources, SOURCES);
-  want(page.groups == mq_mld_len(&mld), "not all groups in one page");
+  mq_page page = mq_mld_groups(&mld.link, 0, groups, GROUPS, sources, SOURCES);
+  want(page.groups == mq_mld_len(&mld.link), "not all groups in one page");
   return (uint64_t)page.groups + page.sources;
 }
 

@@ -1,12 +1,15 @@
-/* A querier hears a host that joins a group, asks again at its moments, and forgets the host once it is silent. */
+/* A querier hears a host that joins a group, asks again in time, and forgets the host once it is silent. */
 #include "mquerier.h"
 
 #include <inttypes.h>
 #include <stdio.h>
-#include <stdlib.h>
+
+/* Memory for a link with the default limits, for its workspace, and for the queries of one call. */
+static uint8_t memory[MQ_IGMP_SIZE(MQ_GROUPS, MQ_SOURCES)], work[MQ_IGMP_WORKSPACE_SIZE(MQ_GROUPS, MQ_IGMP_GROUP_SOURCES)];
+static uint8_t queries[4096];
 
 /* A router sends each query in an IPv4 packet from its own address, with TTL 1 and Router Alert. */
-static void send_queries(const uint8_t *queries, mq_answer answer, uint64_t now) {
+static void send_queries(mq_answer answer, uint64_t now) {
   mq_query query;
   for (const uint8_t *at = queries; mq_igmp_next_query(&at, queries + answer.written, &query);) {
     const uint8_t *to = query.destination;
@@ -17,32 +20,26 @@ static void send_queries(const uint8_t *queries, mq_answer answer, uint64_t now)
 int main(void) {
   const uint8_t own[4] = {10, 0, 0, 9}, host[4] = {10, 0, 0, 1}, group[4] = {239, 1, 2, 3}, source[4] = {10, 0, 0, 5};
   const uint8_t report[8] = {0x16, 0, 0xf8, 0xfa, 239, 1, 2, 3}; /* of IGMPv2, without the IP header */
-  mq_igmp_config config = mq_igmp_defaults(own);
+  const mq_igmp_config config = mq_igmp_defaults(own);
   mq_igmp link;
-  uint32_t status = mq_igmp_new(config, 0, &link);
+  mq_igmp_workspace workspace;
+  uint32_t status = mq_igmp_init(config, 0, memory, sizeof memory, &link);
+  if (status == MQ_DONE) status = mq_igmp_workspace_init(config, work, sizeof work, &workspace);
   if (status != MQ_DONE) {
     fprintf(stderr, "no link: %s\n", mq_status_text(status));
     return 1;
   }
-  size_t room = mq_igmp_outlet_bytes(config); /* always enough for the queries of one call */
-  uint8_t *queries = malloc(room);
-  if (queries == NULL) {
-    mq_igmp_free(link);
-    return 1;
-  }
 
-  send_queries(queries, mq_igmp_tick(&link, 0, queries, room), 0); /* it starts as querier: a general query */
+  /* it begins as querier: the first tick sends a general query */
+  send_queries(mq_igmp_tick(&link, &workspace, 0, queries, sizeof queries), 0);
 
-  mq_answer answer = mq_igmp_receive(&link, host, report, sizeof report, 40, queries, room);
-  send_queries(queries, answer, 40);
+  mq_answer answer = mq_igmp_receive(&link, &workspace, host, report, sizeof report, 40, queries, sizeof queries);
+  send_queries(answer, 40);
   printf("%6d records applied %" PRIu32 ", dropped: %s\n", 40, answer.applied, mq_dropped_text(answer.dropped));
   printf("%6d forwarded: %d\n", 40, mq_igmp_forwards(&link, group, source));
 
   for (uint64_t now; (now = mq_igmp_next_deadline(&link)) <= 280000;) /* a router waits until then */
-    send_queries(queries, mq_igmp_tick(&link, now, queries, room), now);
+    send_queries(mq_igmp_tick(&link, &workspace, now, queries, sizeof queries), now);
   printf("%6d forwarded: %d\n", 280000, mq_igmp_forwards(&link, group, source));
-
-  mq_igmp_free(link);
-  free(queries);
-  return 0;
+  return 0; /* nothing has to be freed */
 }

@@ -1,4 +1,4 @@
-/* The same of MLD: addresses of 16 bytes, link-local ones for routers and hosts, and what the IPv6 packet says. */
+/* The first program for MLD, with memory from malloc: addresses of 16 bytes, and what the IPv6 packet says. */
 #include "mquerier.h"
 
 #include <arpa/inet.h>
@@ -22,35 +22,30 @@ int main(void) {
   const uint8_t group[16] = {0xff, 0x0e, [14] = 0x12, 0x34}, source[16] = {0x20, 0x01, 0x0d, 0xb8, [15] = 5};
   /* A Report of MLDv1 from the host, to the group. Its checksum covers both addresses. */
   const uint8_t report[24] = {131, 0, 0x5b, 0xa5, [8] = 0xff, 0x0e, [22] = 0x12, 0x34};
-  mq_mld_config config = mq_mld_defaults(own);
-  mq_mld link;
-  uint32_t status = mq_mld_new(config, 0, &link);
-  if (status != MQ_DONE) {
+  const mq_mld_config config = mq_mld_defaults(own);
+  const size_t room = mq_mld_outlet_bytes(config, 1480); /* enough for the queries of any call on Ethernet */
+  uint8_t *queries = malloc(room);
+  mq_mld_on_heap it; /* a link with its workspace */
+  uint32_t status = mq_mld_new(config, 0, &it);
+  if (status != MQ_DONE || queries == NULL) {
     fprintf(stderr, "no link: %s\n", mq_status_text(status));
     return 1;
   }
-  size_t room = mq_mld_outlet_bytes(config);
-  uint8_t *queries = malloc(room);
-  if (queries == NULL) {
-    mq_mld_free(link);
-    return 1;
-  }
 
-  send_queries(queries, mq_mld_tick(&link, 0, queries, room), 0);
+  send_queries(queries, mq_mld_tick(&it.link, &it.workspace, 0, queries, room), 0);
 
   uint8_t hop_limit = 1; /* of the packet, which had a Router Alert option */
   bool alert = true;
-  mq_answer answer =
-      mq_mld_receive(&link, host, group, hop_limit, alert, report, sizeof report, 40, queries, room);
+  mq_answer answer = mq_mld_receive(&it.link, &it.workspace, host, group, hop_limit, alert, report, sizeof report, 40, queries, room);
   send_queries(queries, answer, 40);
   printf("%6d records applied %" PRIu32 ", dropped: %s\n", 40, answer.applied, mq_dropped_text(answer.dropped));
-  printf("%6d forwarded: %d\n", 40, mq_mld_forwards(&link, group, source));
+  printf("%6d forwarded: %d\n", 40, mq_mld_forwards(&it.link, group, source));
 
-  for (uint64_t now; (now = mq_mld_next_deadline(&link)) <= 280000;)
-    send_queries(queries, mq_mld_tick(&link, now, queries, room), now);
-  printf("%6d forwarded: %d\n", 280000, mq_mld_forwards(&link, group, source));
+  for (uint64_t now; (now = mq_mld_next_deadline(&it.link)) <= 280000;)
+    send_queries(queries, mq_mld_tick(&it.link, &it.workspace, now, queries, room), now);
+  printf("%6d forwarded: %d\n", 280000, mq_mld_forwards(&it.link, group, source));
 
-  mq_mld_free(link);
+  mq_mld_free(&it);
   free(queries);
   return 0;
 }

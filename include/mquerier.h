@@ -1,450 +1,326 @@
-/* mquerier: the router side of IGMPv3 (RFC 3376) and MLDv2 (RFC 3810) for C99 and later, and for C++. `make lib` makes
-   lib/libmquerier.a.
+/* mquerier: the router side of IGMPv3 (RFC 3376) and MLDv2 (RFC 3810), for C99 and later, and for C++.
 
-   An object holds one link. Datagrams and moments go in; what is forwarded, and the queries to be sent, come out. The
-   library has no clock, no socket and no thread. Only `new`, `new_bare` and `workspace_new` take memory, from the heap; `new_in`
-   and its like make links in memory that the caller has, and `make lib-lent` a library without a heap.
+   A link is one interface of one family. The caller hands in datagrams and the time. The library writes the queries to be sent,
+   and says what to forward. It has no clock, no socket, no thread and no state of its own, and it never allocates. This header
+   follows a use: make, feed, send, wait, look. docs/EMBEDDING.md has whole programs, and a router's duties.
 
-   A router with many links may make one workspace for all of them, and links without one, which then take less memory: see
-   `mq_igmp_workspace_new`.
+   The caller keeps these rules, which nothing checks:
+   - A pointer points to as many elements as its prototype or its length says. It is null only where that length is 0.
+   - Memory that a call writes overlaps no other argument.
+   - A link or a workspace comes from a call that returned MQ_DONE, and is not used beside a copy of it.
+   - The memory of a link or a workspace belongs to the library until the last call on it: nobody else reads or writes it, and
+     it stays where it is. Afterwards the caller may free it, or make another link in it. There is nothing to close.
+   - One thread at a time uses a link or a workspace, and no signal handler does.
+   All other arguments are safe: no call stops, overflows, or reads or writes outside of what it was given.
 
-   What the caller must keep to, since nothing checks it:
-   - A pointer points to as many elements as its prototype or its length says, and is not null. A null pointer with
-     length 0 stands for no bytes.
-   - `queries`, `address`, `addresses`, `group`, `groups`, `sources` and `line` overlap neither each other nor the body nor the
-     object.
-   - An object comes from a `new`, a `new_bare` or a `workspace_new` of its kind that answered 0, or from one of these that ends
-     in `_in`, and is not used beside a copy of it. It is freed once, but for one that comes from an `_in`, which is never freed.
-     After a call that answered anything else there is nothing to free.
-   - The memory that such a call takes is the library's from then on, for good: nobody else reads or writes it, or hands it to
-     another call, and it doesn't go out of scope. It is an `mq_memory` that `mq_memory_of` answered, or one of whole units at a
-     multiple of 16, shorter than 2^63 bytes.
-   - One thread at a time uses an object, and no signal handler calls. So a workspace and all links that use it belong to one
-     thread at a time, or a lock keeps two calls that are lent it apart.
-   - malloc, realloc and free are of one allocator, and align a block to each power of two up to 16 that divides its
-     size.
-   Every other argument has an answer: none makes a call stop, overflow, or read or write outside of what it was given.
+   The time is in milliseconds of any clock that does not go back, at most MQ_LATEST. A time earlier than the previous one, or
+   than `start`, is treated as the previous one. Addresses are in network order.
 
-   Moments are milliseconds of a clock of the caller's, at most MQ_LATEST. A moment before the last one that was handed in,
-   or before the start, counts as that one. Addresses are in network order. */
+   The archive for x86-64 needs a processor of level x86-64-v2: an older one stops it by an illegal instruction. A call uses at most
+   8 KB of stack, but `mq_mld_receive` and `mq_mld_tick` 20 KB. */
 #ifndef MQUERIER_H
 #define MQUERIER_H
 
 #include <stdbool.h>
 #include <stddef.h>
 #include <stdint.h>
+#ifndef MQ_NO_STDLIB /* defined by a program without <stdlib.h>, which then has no `mq_igmp_new` and `mq_mld_new` */
+#include <stdlib.h>
+#endif
 
 #ifdef __cplusplus
 extern "C" {
 #endif
 
-/* The version of this header, as a number and as a text; mq_version answers that of the archive. */
-#define MQ_VERSION 1
-#define MQ_VERSION_TEXT "1"
+/* The version of this header; `mq_version` returns that of the archive. It rises when a compiled program would no longer work: when
+   a call, the layout of a struct or the meaning of a number changes, or when a size macro below counts too few bytes. Within a
+   version, calls and reasons may be added, and `mq_counts` may grow at its end (see there). No other struct grows. */
+#define MQ_VERSION 2
+#define MQ_VERSION_TEXT "2"
+uint32_t mq_version(void);
 
-/* No deadline. */
+/* No deadline; and the latest time that a call takes, 2^53 milliseconds. */
 #define MQ_NONE UINT64_MAX
-
-/* The latest moment that a call takes: 2^53 milliseconds. */
 #define MQ_LATEST (UINT64_C(1) << 53)
 
-/* Statuses. The faults of a configuration are tested in this order, but MQ_OWN_ADDRESS after the limits. */
-#define MQ_DONE 0
-#define MQ_ROBUSTNESS 1
-#define MQ_QUERY_INTERVAL 2
-#define MQ_RESPONSE_INTERVAL 3
-#define MQ_LAST_MEMBER_INTERVAL 4
-#define MQ_OWN_ADDRESS 6
-#define MQ_LIMIT_GROUPS 51
-#define MQ_LIMIT_GROUP_SOURCES 52
-#define MQ_LIMIT_SOURCES 53
-#define MQ_LIMIT_SCHEDULED 54
-#define MQ_MEMORY 100
-#define MQ_MOMENT 101
-#define MQ_WORKSPACE 102
+/* Statuses, numbered from 0 on. A call with another one than MQ_DONE has done nothing. */
+enum {
+  MQ_DONE, MQ_ROBUSTNESS, MQ_QUERY_INTERVAL, MQ_RESPONSE_INTERVAL, MQ_LAST_MEMBER_INTERVAL, MQ_LIMIT_GROUPS,
+  MQ_LIMIT_GROUP_SOURCES, MQ_LIMIT_SOURCES, MQ_LIMIT_SCHEDULED, MQ_OWN_ADDRESS, MQ_MEMORY, MQ_MOMENT, MQ_WORKSPACE
+};
+static inline const char *mq_status_text(uint32_t status) {
+  static const char *const texts[] = {"done", "the robustness variable is out of range", "the query interval is out of range",
+    "the response interval is out of range or not below the query interval", "the last member query interval is out of range",
+    "the limit of groups is out of range", "the limit of sources of a group is out of range",
+    "the limit of sources is out of range", "the limit of schedules is out of range",
+    "no router may send queries from the own address", "the memory is too small", "the time is later than 2^53 milliseconds",
+    "the workspace is too small for the link"};
+  return status < sizeof texts / sizeof *texts ? texts[status] : "not a status";
+}
 
-/* Why a datagram was dropped: `dropped` of an answer. The reason of the lowest number that holds is told. */
-#define MQ_DROPPED_TRUNCATED 1    /* a field is cut */
-#define MQ_DROPPED_CHECKSUM 2     /* the checksum is wrong */
-#define MQ_DROPPED_UNKNOWN_TYPE 3 /* no message of this family has the type */
-#define MQ_DROPPED_QUERY_LENGTH 4 /* a query of a length that no version has */
-#define MQ_DROPPED_SOURCE 5       /* MLD: the source is not link-local */
-#define MQ_DROPPED_HOP_LIMIT 6    /* MLD: the hop limit is not 1 */
-#define MQ_DROPPED_NO_ALERT 7     /* MLD: no Router Alert option */
-#define MQ_DROPPED_OWN_OR_ZERO 8  /* a query from the own address, or of IGMP from 0.0.0.0 */
-#define MQ_DROPPED_IGMPV1_QUERY 9 /* a query of IGMPv1 */
-#define MQ_DROPPED_GROUP 10       /* an older Report, Leave or Done for a group that hosts do not report */
-
-/* The places of `spelled` in mq_counts. */
-#define MQ_SPELLED_QUERY 0        /* a query of IGMPv3 or MLDv2 */
-#define MQ_SPELLED_OLDER_QUERY 1  /* a query of an older version */
-#define MQ_SPELLED_OLDER_REPORT 2 /* a Report of an older version */
-#define MQ_SPELLED_LEAVE 3        /* a Leave or a Done */
-#define MQ_SPELLED_REPORT 4       /* a Report of IGMPv3 or MLDv2 */
-
-/* The places of `refused_by` in mq_counts. */
-#define MQ_REFUSED_LONG 0          /* the record names more sources than `group_sources` */
-#define MQ_REFUSED_REPEATED 1      /* the fifth record of its datagram for a group that is held, or a later one */
-#define MQ_REFUSED_GROUPS 2        /* there would be more groups than `groups` */
-#define MQ_REFUSED_GROUP_SOURCES 3 /* the group would have more sources than `group_sources` */
-#define MQ_REFUSED_SOURCES 4       /* there would be more sources than `sources` */
-#define MQ_REFUSED_SCHEDULED 5     /* there would be more schedules than `scheduled` */
-#define MQ_REFUSED_MEMORY 6        /* always 0 */
-
-/* One link of IGMP, and one of MLD. */
-typedef struct {
-  void *link;
-} mq_igmp;
-
-typedef struct {
-  void *link;
-} mq_mld;
-
-/* What calls of links work in, for each family. */
-typedef struct {
-  void *workspace;
-} mq_igmp_workspace;
-
-typedef struct {
-  void *workspace;
-} mq_mld_workspace;
-
-/* What a link is configured with. Timers run by the exact intervals. On the wire an interval goes as the greatest value not
-   above it that its code can say: a response interval of 150 ms goes as 100 ms (IGMP counts tenths of a second), a query
-   interval of 135 s as 128 s.
-
-   What greater limits cost: memory, all of it at once (docs/EMBEDDING.md, "Memory"), and time in the calls that are handed
-   what a host says of full groups (docs/DECISIONS.md, "What greater limits cost"). */
+/* MAKE. The configuration of a link. Timers run by the exact intervals. A query rounds an interval down to the next value that its
+   code can express: for IGMP 150 ms to 100 ms, 135 s to 128 s. Greater limits cost memory, and more `groups` also time whenever
+   one is made or ends. */
 typedef struct {
   uint32_t robustness;           /* 1 to 7 */
   uint32_t query_interval;       /* seconds, 1 to 31744 */
-  uint32_t response_interval;    /* milliseconds, 100 to 3174400, below the query interval */
-  uint32_t last_member_interval; /* milliseconds, 100 to 3174400 */
-  uint32_t groups;               /* how many groups may be held, 1 to 65535 */
-  uint32_t group_sources;        /* how many sources a group may have, 1 to 1024 */
-  uint32_t sources;              /* how many sources all groups may have together, 1 to 65535 */
-  uint32_t scheduled;            /* how many schedules of specific queries there may be, 1 to 65535; a group has up to two */
-  uint8_t own[4];                /* the address from which queries are sent; not 0.0.0.0, nor 224.0.0.0 or above */
-  uint8_t source_specific;       /* 0: no; any other value: 232.0.0.0/8 is kept for source-specific multicast (RFC 4604) */
+  uint32_t response_interval;    /* milliseconds, 100 to 3174400, for MLD 1 to 8387584; below the query interval */
+  uint32_t last_member_interval; /* milliseconds, 100 to 3174400, for MLD 1 to 8387584 */
+  uint32_t groups;               /* most groups, 1 to 65535 */
+  uint32_t group_sources;        /* most sources of one group, 1 to 1024 */
+  uint32_t sources;              /* most sources of all groups together, 1 to 65535 */
+  uint32_t scheduled;            /* most schedules of specific queries, 1 to 65535; a group has up to two */
+  uint8_t own[4];                /* the source address of queries; not 0.0.0.0, nor 224.0.0.0 or above */
+  uint8_t source_specific;       /* unless 0, 232.0.0.0/8 is kept for source-specific multicast (RFC 4604) */
 } mq_igmp_config;
-
-/* The same for MLD, whose two intervals in milliseconds are 1 to 8387584, and go exactly up to 32767. */
 typedef struct {
-  uint32_t robustness;
-  uint32_t query_interval;
-  uint32_t response_interval;
-  uint32_t last_member_interval;
-  uint32_t groups;
-  uint32_t group_sources;
-  uint32_t sources;
-  uint32_t scheduled;
+  uint32_t robustness, query_interval, response_interval, last_member_interval, groups, group_sources, sources, scheduled;
   uint8_t own[16];         /* of fe80::/10 */
-  uint8_t source_specific; /* 0: no; any other value: ff3x::/32 is kept */
+  uint8_t source_specific; /* unless 0, ff3x::/32 is kept for source-specific multicast */
 } mq_mld_config;
 
-/* What a call did. */
+/* Returns the defaults of RFC 3376 section 8 and RFC 3810 section 9, with these limits. */
+mq_igmp_config mq_igmp_defaults(const uint8_t own[4]);
+mq_mld_config mq_mld_defaults(const uint8_t own[16]);
+#define MQ_GROUPS 1024
+#define MQ_IGMP_GROUP_SOURCES 366
+#define MQ_MLD_GROUP_SOURCES 89
+#define MQ_SOURCES 16384
+#define MQ_SCHEDULED 256
+
+/* A link; and a workspace, in which its calls work. One workspace serves any number of links, in any order, if its own
+   configuration allows at least their `groups` and `group_sources`. Threads need a workspace each. */
+typedef struct { void *link; } mq_igmp;
+typedef struct { void *link; } mq_mld;
+typedef struct { void *workspace; } mq_igmp_workspace;
+typedef struct { void *workspace; } mq_mld_workspace;
+
+/* Returns how many bytes of memory suffice for a link, and for a workspace, wherever that memory begins. The sizes depend on
+   `groups`, `group_sources` and `sources` alone, and mean nothing if the configuration has a fault. */
+size_t mq_igmp_size(mq_igmp_config config);
+size_t mq_mld_size(mq_mld_config config);
+size_t mq_igmp_workspace_size(mq_igmp_config config);
+size_t mq_mld_workspace_size(mq_mld_config config);
+
+/* The same as constants, for static arrays: never fewer bytes, and at most 1/20 and 150 bytes more. */
+#define MQ_IGMP_SIZE(groups, sources) (1904 + 200 * (size_t)(groups) + 80 * (size_t)(sources))
+#define MQ_MLD_SIZE(groups, sources) (1952 + 244 * (size_t)(groups) + 120 * (size_t)(sources))
+#define MQ_IGMP_WORKSPACE_SIZE(groups, group_sources) (512 + 30 * (size_t)(groups) + 76 * (size_t)(group_sources))
+#define MQ_MLD_WORKSPACE_SIZE(groups, group_sources) (464 + 90 * (size_t)(groups) + 144 * (size_t)(group_sources))
+
+/* Memory in whole units of 16 bytes, which begins at a multiple of 16 and has fewer than 2^63 bytes. */
+typedef struct { void *first; size_t units; } mq_units;
+
+/* Returns the whole units in `size` bytes. */
+static inline mq_units mq_units_of(void *memory, size_t size) {
+  const size_t before = (16 - (size_t)((uintptr_t)memory & 15)) & 15;
+  mq_units units = {(void *)(uintptr_t)16, 0};
+  if (before < size) units.first = (uint8_t *)memory + before, units.units = (size - before) / 16;
+  return units;
+}
+
+/* Makes a link in `size` bytes of memory, and sets `*link`. It begins as querier at `start`: its first query is due then, and a
+   tick sends it. Returns MQ_DONE, or the first status that holds: a fault of the configuration, in the order of the statuses;
+   MQ_MOMENT; MQ_MEMORY, which is impossible with `mq_igmp_size` bytes. A call that fails leaves `*link`, and takes no memory. */
+uint32_t mq_igmp_init_units(mq_igmp_config config, uint64_t start, mq_units memory, mq_igmp *link);
+uint32_t mq_mld_init_units(mq_mld_config config, uint64_t start, mq_units memory, mq_mld *link);
+static inline uint32_t mq_igmp_init(mq_igmp_config config, uint64_t start, void *memory, size_t size, mq_igmp *link) {
+  return mq_igmp_init_units(config, start, mq_units_of(memory, size), link);
+}
+static inline uint32_t mq_mld_init(mq_mld_config config, uint64_t start, void *memory, size_t size, mq_mld *link) {
+  return mq_mld_init_units(config, start, mq_units_of(memory, size), link);
+}
+
+/* Makes a workspace, with the same statuses but MQ_MOMENT. */
+uint32_t mq_igmp_workspace_init_units(mq_igmp_config config, mq_units memory, mq_igmp_workspace *workspace);
+uint32_t mq_mld_workspace_init_units(mq_mld_config config, mq_units memory, mq_mld_workspace *workspace);
+static inline uint32_t mq_igmp_workspace_init(mq_igmp_config config, void *memory, size_t size, mq_igmp_workspace *workspace) {
+  return mq_igmp_workspace_init_units(config, mq_units_of(memory, size), workspace);
+}
+static inline uint32_t mq_mld_workspace_init(mq_mld_config config, void *memory, size_t size, mq_mld_workspace *workspace) {
+  return mq_mld_workspace_init_units(config, mq_units_of(memory, size), workspace);
+}
+
+#ifndef MQ_NO_STDLIB
+/* A link and a workspace in one block of malloc. `new` returns as `init` does, and MQ_MEMORY also if malloc fails. */
+typedef struct { mq_igmp link; mq_igmp_workspace workspace; void *block; } mq_igmp_on_heap;
+typedef struct { mq_mld link; mq_mld_workspace workspace; void *block; } mq_mld_on_heap;
+static inline uint32_t mq_igmp_new(mq_igmp_config config, uint64_t start, mq_igmp_on_heap *it) {
+  const size_t size = mq_igmp_size(config), both = size + mq_igmp_workspace_size(config);
+  void *block = both > size ? malloc(both) : NULL;
+  uint32_t status = mq_igmp_init(config, start, block, block ? size : 0, &it->link);
+  if (status == MQ_DONE) status = mq_igmp_workspace_init(config, (uint8_t *)block + size, both - size, &it->workspace);
+  if (status != MQ_DONE) free(block);
+  it->block = status == MQ_DONE ? block : NULL;
+  return status;
+}
+static inline uint32_t mq_mld_new(mq_mld_config config, uint64_t start, mq_mld_on_heap *it) {
+  const size_t size = mq_mld_size(config), both = size + mq_mld_workspace_size(config);
+  void *block = both > size ? malloc(both) : NULL;
+  uint32_t status = mq_mld_init(config, start, block, block ? size : 0, &it->link);
+  if (status == MQ_DONE) status = mq_mld_workspace_init(config, (uint8_t *)block + size, both - size, &it->workspace);
+  if (status != MQ_DONE) free(block);
+  it->block = status == MQ_DONE ? block : NULL;
+  return status;
+}
+static inline void mq_igmp_free(mq_igmp_on_heap *it) { free(it->block), it->block = NULL; }
+static inline void mq_mld_free(mq_mld_on_heap *it) { free(it->block), it->block = NULL; }
+#endif
+
+/* FEED. What a call did. */
 typedef struct {
-  uint32_t status;  /* MQ_DONE, or MQ_MOMENT or MQ_WORKSPACE: then nothing was done, and all else is 0 */
-  uint32_t dropped; /* 0: the datagram was taken, or it was a tick; else MQ_DROPPED_..: why it was dropped */
-  uint32_t applied; /* of its records, those that were applied, */
-  uint32_t ignored; /* those that say nothing for this link, */
-  uint32_t refused; /* and those that met a limit. An older Report, a Leave or a Done is one record, a query none */
-  uint32_t sent;    /* queries that stand in `queries` */
-  uint32_t unsent;  /* queries that didn't fit there, and are lost as on a link that loses them */
+  uint32_t status;  /* MQ_DONE; or MQ_MOMENT or MQ_WORKSPACE: then the call did nothing, and all other fields are 0 */
+  uint32_t dropped; /* 0, or why the datagram was dropped: the lowest reason that holds */
+  uint32_t applied; /* records of the datagram that were applied, */
+  uint32_t ignored; /* that say nothing for this link, */
+  uint32_t refused; /* that would exceed a limit. An older Report, a Leave or a Done is a record too */
+  uint32_t sent;    /* queries in `queries` */
+  uint32_t unsent;  /* queries that did not fit, and are lost as on a link that loses them */
   uint64_t written; /* bytes of `queries` that were written */
 } mq_answer;
 
-/* A query to be sent. IGMP: to a destination of 4 bytes, with TTL 1 and the Router Alert option. MLD: of 16 bytes,
-   from the own address, with hop limit 1 and the Router Alert option. */
-typedef struct {
-  const uint8_t *destination;
-  const uint8_t *message; /* without the IP header */
-  size_t length;
-} mq_query;
-
-/* What a link has counted since it was made. A counter stays at its greatest value. */
-typedef struct {
-  uint64_t received;       /* datagrams */
-  uint64_t dropped;        /* datagrams that were dropped, */
-  uint64_t dropped_by[10]; /* and for which reason: [MQ_DROPPED_.. - 1] */
-  uint64_t spelled[5];     /* datagrams that could be read, by kind: [MQ_SPELLED_..]. Those that were dropped for reasons
-                              5 to 10 are among them */
-  uint64_t applied;        /* records */
-  uint64_t ignored;
-  uint64_t refused;
-  uint64_t refused_by[7]; /* and for which limit: [MQ_REFUSED_..] */
-  uint64_t sent;          /* queries */
-  uint64_t unsent;
-} mq_counts;
-
-/* A group that is held. Its sources stand in the page's sources, those of the groups before it first. */
-typedef struct {
-  uint8_t address[4];
-  uint32_t sources;  /* how many sources it has */
-  uint64_t deadline; /* in EXCLUDE up to when its timer runs; MQ_NONE: it is in INCLUDE */
-  uint64_t v1, v2;   /* up to when a host of that version is taken to be there, or MQ_NONE */
-} mq_igmp_group;
-
-typedef struct {
-  uint8_t address[4];
-  uint64_t deadline; /* up to when its timer runs; MQ_NONE: it is stopped, and the source is not forwarded */
-} mq_igmp_source;
-
-typedef struct {
-  uint8_t address[16];
-  uint32_t sources;
-  uint64_t deadline;
-  uint64_t v1; /* MLD has no v2 */
-} mq_mld_group;
-
-typedef struct {
-  uint8_t address[16];
-  uint64_t deadline;
-} mq_mld_source;
-
-/* How much of a page was written. */
-typedef struct {
-  uint32_t groups;
-  uint32_t sources;
-} mq_page;
-
-/* The archive's version: MQ_VERSION of the header that it was made with. */
-uint32_t mq_version(void);
-
-/* The defaults of RFC 3376 section 8 and RFC 3810 section 9, with this own address. */
-mq_igmp_config mq_igmp_defaults(const uint8_t own[4]);
-mq_mld_config mq_mld_defaults(const uint8_t own[16]);
-
-/* Makes a link that starts at a moment, as querier, with all the memory that it will ever take, and writes it to `link`.
-   Answers MQ_DONE. Or the first of these, and then `link` is as it was: a fault of the configuration, in the order of the
-   variables, the limits, the own address; MQ_MOMENT; MQ_MEMORY. */
-uint32_t mq_igmp_new(mq_igmp_config config, uint64_t start, mq_igmp *link);
-uint32_t mq_mld_new(mq_mld_config config, uint64_t start, mq_mld *link);
-
-/* Memory that a link is to have for good: so many units of 16 bytes, the first of which lies at a multiple of 16. */
-typedef struct {
-  void *first;
-  size_t units;
-} mq_memory;
-
-/* The whole units of 16 bytes that lie in `size` bytes: all of these, where `bytes` and `size` are multiples of 16. */
-static inline mq_memory mq_memory_of(void *bytes, size_t size) {
-  const size_t before = (16 - (size_t)((uintptr_t)bytes & 15)) & 15;
-  mq_memory memory = {(void *)(uintptr_t)16, 0};
-  if (before < size) {
-    memory.first = (uint8_t *)bytes + before;
-    memory.units = (size - before) / 16;
-  }
-  return memory;
+/* Why a datagram was dropped, numbered from 1 on. */
+enum {
+  MQ_DROPPED_TRUNCATED = 1, MQ_DROPPED_CHECKSUM, MQ_DROPPED_UNKNOWN_TYPE, MQ_DROPPED_QUERY_LENGTH, MQ_DROPPED_SOURCE,
+  MQ_DROPPED_HOP_LIMIT, MQ_DROPPED_NO_ALERT, MQ_DROPPED_OWN_OR_ZERO, MQ_DROPPED_IGMPV1_QUERY, MQ_DROPPED_GROUP
+};
+static inline const char *mq_dropped_text(uint32_t dropped) {
+  static const char *const texts[] = {"taken", "a field is truncated", "the checksum is wrong", "the type is unknown",
+    "a query of a length that no version has", "the source is not link-local", "the hop limit is not 1", "no Router Alert option",
+    "a query from the own address or from 0.0.0.0", "a query of IGMPv1", "a group that hosts do not report"};
+  return dropped < sizeof texts / sizeof *texts ? texts[dropped] : "not a reason";
 }
 
-/* How many bytes of memory suffice for a link of this configuration, with its own workspace: a multiple of 16. It depends on
-   `groups`, `group_sources` and `sources` alone. Where the configuration has a fault, so that there is no link, it means
-   nothing. */
-size_t mq_igmp_size(mq_igmp_config config);
-size_t mq_mld_size(mq_mld_config config);
+/* Takes a datagram that came at `now`: its source, for MLD also its destination, its hop limit and whether it has the Router Alert
+   option, and the bytes after its IP header with options and extension headers. First it does what a tick does. A query that does
+   not fit into the rest of `room` bytes is skipped; a later, shorter one may still fit. The bytes after `written` stay. */
+mq_answer mq_igmp_receive(mq_igmp *link, mq_igmp_workspace *workspace, const uint8_t source[4], const uint8_t *body, size_t length,
+                          uint64_t now, uint8_t *queries, size_t room);
+mq_answer mq_mld_receive(mq_mld *link, mq_mld_workspace *workspace, const uint8_t source[16], const uint8_t destination[16],
+                         uint8_t hop_limit, bool alert, const uint8_t *body, size_t length, uint64_t now, uint8_t *queries,
+                         size_t room);
 
-/* Makes a link as `new` does, in memory that the caller has, as in `mq_igmp_new_in(config, now, mq_memory_of(bytes, size),
-   &link)`. Answers as `new` does, but MQ_MEMORY only where the memory is smaller than `mq_igmp_size` says. The memory is lent
-   for good, also where there is no link: such a link is never freed. All other calls serve it as any link. */
-uint32_t mq_igmp_new_in(mq_igmp_config config, uint64_t start, mq_memory memory, mq_igmp *link);
-uint32_t mq_mld_new_in(mq_mld_config config, uint64_t start, mq_memory memory, mq_mld *link);
+/* Does what is due at `now` or before, however late. */
+mq_answer mq_igmp_tick(mq_igmp *link, mq_igmp_workspace *workspace, uint64_t now, uint8_t *queries, size_t room);
+mq_answer mq_mld_tick(mq_mld *link, mq_mld_workspace *workspace, uint64_t now, uint8_t *queries, size_t room);
 
-/* The same of a link without a workspace of its own, and of a workspace: they are used as those of `new_bare` and
-   `workspace_new`, together with any others, and never freed. */
-size_t mq_igmp_bare_size(mq_igmp_config config);
-size_t mq_mld_bare_size(mq_mld_config config);
-uint32_t mq_igmp_new_bare_in(mq_igmp_config config, uint64_t start, mq_memory memory, mq_igmp *link);
-uint32_t mq_mld_new_bare_in(mq_mld_config config, uint64_t start, mq_memory memory, mq_mld *link);
-size_t mq_igmp_workspace_size(mq_igmp_config config);
-size_t mq_mld_workspace_size(mq_mld_config config);
-uint32_t mq_igmp_workspace_new_in(mq_igmp_config config, mq_memory memory, mq_igmp_workspace *workspace);
-uint32_t mq_mld_workspace_new_in(mq_mld_config config, mq_memory memory, mq_mld_workspace *workspace);
+/* Returns a `room` with which `unsent` is always 0 if no body is longer than `longest_body`: 1480 bytes on Ethernet. It depends on
+   `groups`, `sources` and `scheduled` alone. Less room serves too, since hosts rarely ask for that much. */
+size_t mq_igmp_outlet_bytes(mq_igmp_config config, uint32_t longest_body);
+size_t mq_mld_outlet_bytes(mq_mld_config config, uint32_t longest_body);
 
-/* Gives back the memory of a link, also of one that was made by `new_bare`. */
-void mq_igmp_free(mq_igmp link);
-void mq_mld_free(mq_mld link);
+/* SEND. A query: its destination, of 4 bytes for IGMP and of 16 for MLD, and its message without the IP header. The caller sends
+   it from the own address, with a TTL or hop limit of 1 and the Router Alert option. */
+typedef struct { const uint8_t *destination, *message; size_t length; } mq_query;
 
-/* Takes a datagram that came at `now`: its source, of MLD also its destination, its hop limit and whether it has the
-   Router Alert option, and its bytes without the IP header. First it does what a tick does then. The queries that it
-   sends stand in `queries`, one after the other: the destination (4 or 16 bytes), the length of the message (2 bytes,
-   most significant first), the message. One that doesn't fit into what is left of `room` bytes is left out and counted in
-   `unsent`; a shorter one behind it may still fit. The bytes behind `written` stay as they were. */
-mq_answer mq_igmp_receive(mq_igmp *link, const uint8_t source[4], const uint8_t *body, size_t length, uint64_t now,
-                          uint8_t *queries, size_t room);
-mq_answer mq_mld_receive(mq_mld *link, const uint8_t source[16], const uint8_t destination[16], uint8_t hop_limit,
-                         bool alert, const uint8_t *body, size_t length, uint64_t now, uint8_t *queries, size_t room);
+/* Sets `*query` to the query at `*at`, and moves `*at` to the next one. Returns false if no query is left. `*at` begins at
+   `queries`, and `end` is `queries + written`, or `queries` if that is null. A query in there is its destination, of `width`
+   bytes, the length of its message in two bytes, and its message. */
+static inline bool mq_next_query(size_t width, const uint8_t **at, const uint8_t *end, mq_query *query) {
+  const size_t head = width + 2, left = *at == end ? 0 : (size_t)(end - *at);
+  if (left < head) return false;
+  query->destination = *at;
+  query->message = *at + head;
+  query->length = ((size_t)(*at)[width] << 8) | (*at)[width + 1];
+  if (left - head < query->length) return false;
+  *at += head + query->length;
+  return true;
+}
+static inline bool mq_igmp_next_query(const uint8_t **at, const uint8_t *end, mq_query *query) {
+  return mq_next_query(4, at, end, query);
+}
+static inline bool mq_mld_next_query(const uint8_t **at, const uint8_t *end, mq_query *query) {
+  return mq_next_query(16, at, end, query);
+}
 
-/* Does what is due at or before `now`, however late. */
-mq_answer mq_igmp_tick(mq_igmp *link, uint64_t now, uint8_t *queries, size_t room);
-mq_answer mq_mld_tick(mq_mld *link, uint64_t now, uint8_t *queries, size_t room);
-
-/* Makes a workspace for links of this configuration's limits, and of any limits that allow no more groups and no more sources
-   of a group. Answers as `new` does, but for the moment. */
-uint32_t mq_igmp_workspace_new(mq_igmp_config config, mq_igmp_workspace *workspace);
-uint32_t mq_mld_workspace_new(mq_mld_config config, mq_mld_workspace *workspace);
-
-/* Gives back the memory of a workspace. The links that used it stay. */
-void mq_igmp_workspace_free(mq_igmp_workspace workspace);
-void mq_mld_workspace_free(mq_mld_workspace workspace);
-
-/* Makes a link as `new` does, but without a workspace of its own: `tick` and `receive` answer MQ_WORKSPACE for it, `tick_in`
-   and `receive_in` are lent one, and all other calls serve it as any link. */
-uint32_t mq_igmp_new_bare(mq_igmp_config config, uint64_t start, mq_igmp *link);
-uint32_t mq_mld_new_bare(mq_mld_config config, uint64_t start, mq_mld *link);
-
-/* `receive` and `tick` in a workspace that they are lent, of a link with or without its own. One that is too small is answered
-   by MQ_WORKSPACE, after MQ_MOMENT. What it held before makes no difference: links may use it in any order. */
-mq_answer mq_igmp_receive_in(mq_igmp *link, mq_igmp_workspace *workspace, const uint8_t source[4], const uint8_t *body,
-                             size_t length, uint64_t now, uint8_t *queries, size_t room);
-mq_answer mq_mld_receive_in(mq_mld *link, mq_mld_workspace *workspace, const uint8_t source[16],
-                            const uint8_t destination[16], uint8_t hop_limit, bool alert, const uint8_t *body, size_t length,
-                            uint64_t now, uint8_t *queries, size_t room);
-mq_answer mq_igmp_tick_in(mq_igmp *link, mq_igmp_workspace *workspace, uint64_t now, uint8_t *queries, size_t room);
-mq_answer mq_mld_tick_in(mq_mld *link, mq_mld_workspace *workspace, uint64_t now, uint8_t *queries, size_t room);
-
-/* How many bytes of `queries` always suffice for one call at a link of this configuration, with a body of at most 65535
-   bytes: with as many or more, `unsent` is 0. It depends on `groups`, `sources` and `scheduled` alone, and is a number
-   also where the configuration has a fault, so that there is no link. */
-size_t mq_igmp_outlet_bytes(mq_igmp_config config);
-size_t mq_mld_outlet_bytes(mq_mld_config config);
-
-/* When a tick has something to do next. Right after a tick it is later than the tick's moment. Near the end of the clock it
-   may lie above MQ_LATEST, where no call can be made: then go on without ticks, since nothing is due up to MQ_LATEST. */
+/* WAIT. Returns when the next tick is due: after a tick, later than that tick. If it exceeds MQ_LATEST, no tick is due again. */
 uint64_t mq_igmp_next_deadline(const mq_igmp *link);
 uint64_t mq_mld_next_deadline(const mq_mld *link);
 
-/* Whether what a source sends to a group is forwarded, as of the last moment handed in. */
+/* LOOK. Returns whether traffic from a source to a group is forwarded, as of the last call. */
 bool mq_igmp_forwards(const mq_igmp *link, const uint8_t group[4], const uint8_t source[4]);
 bool mq_mld_forwards(const mq_mld *link, const uint8_t group[16], const uint8_t source[16]);
 
-/* Whether the link is querier. */
-bool mq_igmp_is_querier(const mq_igmp *link);
-bool mq_mld_is_querier(const mq_mld *link);
+/* Writes the groups whose filter the last `tick` or `receive` in this workspace changed, in ascending order, from the `first`th on
+   (0 is the lowest), and at most `room` of them. Returns how many changed in all. A group that begins or ends has changed, one
+   whose timers were only refreshed has not. A call that did nothing leaves this list. */
+uint32_t mq_igmp_changed(const mq_igmp_workspace *workspace, uint32_t first, uint8_t (*addresses)[4], size_t room);
+uint32_t mq_mld_changed(const mq_mld_workspace *workspace, uint32_t first, uint8_t (*addresses)[16], size_t room);
 
-/* Up to when another router is querier; its address is written to `address` where it fits in `room` bytes. It is the router
-   of a lower address than the own one whose query came last, and not the lowest that was heard. Where this link is
-   querier, MQ_NONE, and nothing is written. */
-uint64_t mq_igmp_other_querier(const mq_igmp *link, uint8_t *address, size_t room);
-uint64_t mq_mld_other_querier(const mq_mld *link, uint8_t *address, size_t room);
+/* A group, a source of it, and how many of both a call wrote. */
+typedef struct {
+  uint8_t address[4];
+  uint32_t sources;  /* how many it has */
+  uint64_t deadline; /* until when it is in EXCLUDE mode; MQ_NONE: it is in INCLUDE mode */
+  uint64_t v1, v2;   /* until when a host of IGMPv1, and of IGMPv2, is assumed, or MQ_NONE; MLD has only v1 */
+} mq_igmp_group;
+typedef struct { uint8_t address[16]; uint32_t sources; uint64_t deadline, v1; } mq_mld_group;
+typedef struct { uint8_t address[4]; uint64_t deadline; } mq_igmp_source; /* MQ_NONE: no timer runs; it is not forwarded */
+typedef struct { uint8_t address[16]; uint64_t deadline; } mq_mld_source;
+typedef struct { uint32_t groups, sources; } mq_page;
 
-/* How many comparisons of addresses and moments `tick` and `receive` have made. Calls that only ask are not counted. */
-uint64_t mq_igmp_spent(const mq_igmp *link);
-uint64_t mq_mld_spent(const mq_mld *link);
+/* Writes one group, and its sources in ascending order if all of them fit. Writes nothing if the link does not have the group. */
+mq_page mq_igmp_group_at(const mq_igmp *link, const uint8_t address[4], mq_igmp_group *group, mq_igmp_source *sources, size_t room);
+mq_page mq_mld_group_at(const mq_mld *link, const uint8_t address[16], mq_mld_group *group, mq_mld_source *sources, size_t room);
 
-/* How many items of lists `tick` and `receive` have moved to keep the groups. A tick before the next moment moves none. */
-uint64_t mq_igmp_moved(const mq_igmp *link);
-uint64_t mq_mld_moved(const mq_mld *link);
-
-mq_counts mq_igmp_counts(const mq_igmp *link);
-mq_counts mq_mld_counts(const mq_mld *link);
-
-/* How many groups are held. */
+/* `len` returns how many groups the link has. `groups` writes groups in ascending order from the `first`th on, as many as fit with
+   all their sources, which follow one another in `sources`. If it writes none though some are left, there was no room for a group
+   or for its sources, at most `group_sources`. A `tick` or `receive` between two pages may shift the groups. */
 uint32_t mq_igmp_len(const mq_igmp *link);
 uint32_t mq_mld_len(const mq_mld *link);
-
-/* Writes groups, ascending, from place `first` on (0 is the lowest group), as many as fit with all their sources, which
-   ascend too. Answers how many groups and sources were written; the memory behind them stays as it was. If no group was
-   written though `first` is below the number of groups, there was no room for that group or for its sources, which are at
-   most `group_sources`. Pages are not a snapshot: a tick or a datagram between two of them may make or end groups before
-   `first`, and then a group is missing or comes twice. */
 mq_page mq_igmp_groups(const mq_igmp *link, uint32_t first, mq_igmp_group *groups, size_t group_room, mq_igmp_source *sources,
                        size_t source_room);
 mq_page mq_mld_groups(const mq_mld *link, uint32_t first, mq_mld_group *groups, size_t group_room, mq_mld_source *sources,
                       size_t source_room);
 
-/* Writes one group, and its sources, ascending, where there is room for all of them. Answers 1 group where it is held, and how
-   many sources were written: none where there was no room for as many as `group->sources` says. Where it isn't held, nothing is
-   written. */
-mq_page mq_igmp_group_at(const mq_igmp *link, const uint8_t address[4], mq_igmp_group *group, mq_igmp_source *sources,
-                         size_t source_room);
-mq_page mq_mld_group_at(const mq_mld *link, const uint8_t address[16], mq_mld_group *group, mq_mld_source *sources,
-                        size_t source_room);
+/* `is_querier` returns whether this router is querier. `other_querier` returns until when another one is, and writes its address
+   if that fits in `room`; or it returns MQ_NONE. Of the routers with a lower address, it is the one whose query came last. */
+bool mq_igmp_is_querier(const mq_igmp *link);
+bool mq_mld_is_querier(const mq_mld *link);
+uint64_t mq_igmp_other_querier(const mq_igmp *link, uint8_t *address, size_t room);
+uint64_t mq_mld_other_querier(const mq_mld *link, uint8_t *address, size_t room);
 
-/* Writes the addresses of the groups that the last call of `tick` or `receive` changed, ascending, from place `first` on (0 is
-   the lowest), as many as fit in `room` addresses. Answers how many it changed in all; the memory behind those that were
-   written stays as it was. A group is changed where another filter is forwarded of it after the call's tick, or after one of
-   the datagram's records, than before: one that begins or ends is, one whose timers are refreshed isn't. How it is now
-   `group_at` shows; one that isn't held any more forwards nothing. A call that did nothing, for the reason that its status
-   says, leaves what the one before it changed.
+/* What a link has counted since it was made. A counter stays at its greatest value. */
+typedef struct {
+  uint64_t received, dropped;         /* datagrams; those that were dropped, */
+  uint64_t dropped_by[10];            /* and why: [MQ_DROPPED_.. - 1] */
+  uint64_t parsed[5];                 /* datagrams that were parsed, by kind, with those that were dropped for reasons 5 to 10 */
+  uint64_t applied, ignored, refused; /* records */
+  uint64_t refused_by[7];             /* records, by the limit that they would exceed */
+  uint64_t sent, unsent;              /* queries */
+} mq_counts;
+/* PARSED_LEAVE: or a Done. REFUSED_LONG: the record has more sources than `group_sources`; _REPEATED: it is the fifth record of its
+   datagram, or a later one, for a group that the link has; _MEMORY: never; the others: the link would exceed that limit. */
+enum { MQ_PARSED_QUERY, MQ_PARSED_OLDER_QUERY, MQ_PARSED_OLDER_REPORT, MQ_PARSED_LEAVE, MQ_PARSED_REPORT };
+enum {
+  MQ_REFUSED_LONG, MQ_REFUSED_REPEATED, MQ_REFUSED_GROUPS, MQ_REFUSED_GROUP_SOURCES, MQ_REFUSED_SOURCES, MQ_REFUSED_SCHEDULED,
+  MQ_REFUSED_MEMORY
+};
 
-   A workspace tells of the last call that it was lent to, of whichever link: so ask between two calls. `mq_igmp_changed` tells
-   of the link's own workspace, which knows of no call that was lent another one; of a link without its own it answers 0. */
-uint32_t mq_igmp_changed(const mq_igmp *link, uint32_t first, uint8_t (*addresses)[4], size_t room);
-uint32_t mq_mld_changed(const mq_mld *link, uint32_t first, uint8_t (*addresses)[16], size_t room);
-uint32_t mq_igmp_workspace_changed(const mq_igmp_workspace *workspace, uint32_t first, uint8_t (*addresses)[4], size_t room);
-uint32_t mq_mld_workspace_changed(const mq_mld_workspace *workspace, uint32_t first, uint8_t (*addresses)[16], size_t room);
+/* `counters` writes the first `count` counters, in the order of `mq_counts`, and returns how many the archive has. `counts` sets
+   all `size` bytes of `*counts`, which are `sizeof *counts`: a counter that the archive does not have is 0. */
+size_t mq_igmp_counters(const mq_igmp *link, uint64_t *counters, size_t count);
+size_t mq_mld_counters(const mq_mld *link, uint64_t *counters, size_t count);
+static inline void mq_igmp_counts(const mq_igmp *link, mq_counts *counts, size_t size) {
+  uint64_t *all = (uint64_t *)counts;
+  for (size_t at = mq_igmp_counters(link, all, size / sizeof *all); at < size / sizeof *all; at++) all[at] = 0;
+}
+static inline void mq_mld_counts(const mq_mld *link, mq_counts *counts, size_t size) {
+  uint64_t *all = (uint64_t *)counts;
+  for (size_t at = mq_mld_counters(link, all, size / sizeof *all); at < size / sizeof *all; at++) all[at] = 0;
+}
 
-/* The line of a message for logs, as `mquerier message` prints it, or of its fault, cut where the memory ends. Answers how
-   many bytes of the line stand there, without its end: where that is `room`, the line may be cut. Its end, a line feed,
-   stands behind them where there is room for it, and all bytes behind stay as they were. No zero byte is added. */
+/* Returns how many comparisons of addresses and times `tick` and `receive` made, and how many items of lists they moved. */
+uint64_t mq_igmp_spent(const mq_igmp *link);
+uint64_t mq_mld_spent(const mq_mld *link);
+uint64_t mq_igmp_moved(const mq_igmp *link);
+uint64_t mq_mld_moved(const mq_mld *link);
+
+/* Writes a line for logs: a message as `mquerier message` prints it, or its fault. Returns how many bytes it wrote before the line
+   feed, which it adds if there is room; if it returns `room`, the line may be truncated. It adds no zero byte. */
 size_t mq_igmp_line(const uint8_t *body, size_t length, uint8_t *line, size_t room);
-size_t mq_mld_line(const uint8_t source[16], const uint8_t destination[16], const uint8_t *body, size_t length,
-                   uint8_t *line, size_t room);
-
-/* What a status says. */
-static inline const char *mq_status_text(uint32_t status) {
-  switch (status) {
-  case MQ_DONE: return "done";
-  case MQ_ROBUSTNESS: return "the robustness variable is out of range";
-  case MQ_QUERY_INTERVAL: return "the query interval is out of range";
-  case MQ_RESPONSE_INTERVAL: return "the response interval is out of range or not below the query interval";
-  case MQ_LAST_MEMBER_INTERVAL: return "the last member query interval is out of range";
-  case MQ_OWN_ADDRESS: return "no router may send queries from the own address";
-  case MQ_LIMIT_GROUPS: return "the limit of groups is out of range";
-  case MQ_LIMIT_GROUP_SOURCES: return "the limit of sources of a group is out of range";
-  case MQ_LIMIT_SOURCES: return "the limit of sources is out of range";
-  case MQ_LIMIT_SCHEDULED: return "the limit of schedules is out of range";
-  case MQ_MEMORY: return "memory ran out";
-  case MQ_MOMENT: return "the moment is above 2^53 milliseconds";
-  case MQ_WORKSPACE: return "there is no workspace, or it is too small";
-  default: return "not a status";
-  }
-}
-
-/* Why a datagram was dropped, for `dropped` of an answer. */
-static inline const char *mq_dropped_text(uint32_t dropped) {
-  switch (dropped) {
-  case 0: return "taken";
-  case MQ_DROPPED_TRUNCATED: return "a field is cut";
-  case MQ_DROPPED_CHECKSUM: return "the checksum is wrong";
-  case MQ_DROPPED_UNKNOWN_TYPE: return "the type is unknown";
-  case MQ_DROPPED_QUERY_LENGTH: return "a query of a length that no version has";
-  case MQ_DROPPED_SOURCE: return "the source isn't link-local";
-  case MQ_DROPPED_HOP_LIMIT: return "the hop limit isn't 1";
-  case MQ_DROPPED_NO_ALERT: return "no Router Alert option";
-  case MQ_DROPPED_OWN_OR_ZERO: return "a query from the own address or from 0.0.0.0";
-  case MQ_DROPPED_IGMPV1_QUERY: return "a query of IGMPv1";
-  case MQ_DROPPED_GROUP: return "a group that hosts do not report";
-  default: return "not a reason";
-  }
-}
-
-/* The query at `*at`, whose destination has `width` bytes, and steps behind it; false where no whole one stands before
-   `end`. */
-static inline bool mq_next_query(size_t width, const uint8_t **at, const uint8_t *end, mq_query *query) {
-  size_t left, length;
-  if (*at == end) return false; /* both may be null */
-  left = (size_t)(end - *at);
-  if (left < width + 2) return false;
-  length = ((size_t)(*at)[width] << 8) | (*at)[width + 1];
-  if (left - width - 2 < length) return false;
-  query->destination = *at;
-  query->message = *at + width + 2;
-  query->length = length;
-  *at += width + 2 + length;
-  return true;
-}
-
-/* The next of the queries that a call wrote: `at` begins at `queries`, `end` is `queries + written`. Where `queries` is null
-   and `room` 0, nothing is written: use `queries` itself as `end`, since C has no sum of a null pointer and 0. */
-static inline bool mq_igmp_next_query(const uint8_t **at, const uint8_t *end, mq_query *query) {
-  return mq_next_query(4, at, end, query);
-}
-
-static inline bool mq_mld_next_query(const uint8_t **at, const uint8_t *end, mq_query *query) {
-  return mq_next_query(16, at, end, query);
-}
+size_t mq_mld_line(const uint8_t source[16], const uint8_t destination[16], const uint8_t *body, size_t length, uint8_t *line,
+                   size_t room);
 
 #ifdef __cplusplus
 }

@@ -12,6 +12,6 @@
    answers how many. */
 size_t changed_groups(const struct link *link, uint8_t (*groups)[LONG_ADDRESS]);
 /* What is forwarded of a group, as of the last moment handed in. Its sources stand until the next call. */
-struct filter filter_of(const struct link *link, const uint8_t *group);
+struct filter filter_of(const struct link *link, const uint8_t *address);
 
 #endif

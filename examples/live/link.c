@@ -4,55 +4,106 @@
 
 #include <inttypes.h>
 #include <stdlib.h>
+#include <string.h>
+
+/* The longest body that a frame carries. */
+enum { LONGEST_BODY = 65535 };
+
+/* An expression of which CALL makes the one for a family: CALL(igmp) or CALL(mld). */
+#define EITHER(is_mld, CALL) ((is_mld) ? CALL(mld) : CALL(igmp))
 
 union configuration link_defaults(bool is_mld, const uint8_t *own) {
-    union configuration configuration;
-    if (is_mld)
-        configuration.mld = mq_mld_defaults(own);
-    else
-        configuration.igmp = mq_igmp_defaults(own);
-    return configuration;
+#define DEFAULTS(family) (union configuration){.family = mq_##family##_defaults(own)}
+    return EITHER(is_mld, DEFAULTS);
 }
 
 uint32_t link_new(struct link *link, bool is_mld, union configuration configuration) {
+#define NEW(family) mq_##family##_new(configuration.family, 0, &link->family)
+#define ROOM(family) mq_##family##_outlet_bytes(configuration.family, LONGEST_BODY)
     link->is_mld = is_mld;
-    uint32_t status = is_mld ? mq_mld_new(configuration.mld, 0, &link->mld) : mq_igmp_new(configuration.igmp, 0, &link->igmp);
-    if (status != 0)
+    uint32_t status = EITHER(is_mld, NEW);
+    if (status != MQ_DONE)
         return status;
-    link->room = is_mld ? mq_mld_outlet_bytes(configuration.mld) : mq_igmp_outlet_bytes(configuration.igmp);
+    link->room = EITHER(is_mld, ROOM);
     link->queries = malloc(link->room);
     if (link->queries != NULL)
-        return 0;
+        return MQ_DONE;
     link_free(link);
     return MQ_MEMORY;
 }
 
 void link_free(struct link *link) {
-    if (link->is_mld)
-        mq_mld_free(link->mld);
-    else
-        mq_igmp_free(link->igmp);
+#define FREE(family) mq_##family##_free(&link->family)
+    EITHER(link->is_mld, FREE);
     free(link->queries);
 }
 
-mq_answer link_receive(struct link *link, const struct datagram *datagram, uint64_t now) {
+mq_answer link_receive(struct link *link, const struct datagram *it, uint64_t now) {
     if (link->is_mld)
-        return mq_mld_receive(&link->mld, datagram->source, datagram->destination, datagram->hop_limit, datagram->alert,
-                              datagram->body, datagram->length, now, link->queries, link->room);
-    return mq_igmp_receive(&link->igmp, datagram->source, datagram->body, datagram->length, now, link->queries, link->room);
+        return mq_mld_receive(&link->mld.link, &link->mld.workspace, it->source, it->destination, it->hop_limit, it->alert, it->body,
+                              it->length, now, link->queries, link->room);
+    return mq_igmp_receive(&link->igmp.link, &link->igmp.workspace, it->source, it->body, it->length, now, link->queries, link->room);
 }
 
 mq_answer link_tick(struct link *link, uint64_t now) {
-    return link->is_mld ? mq_mld_tick(&link->mld, now, link->queries, link->room)
-                        : mq_igmp_tick(&link->igmp, now, link->queries, link->room);
+#define TICK(family) mq_##family##_tick(&link->family.link, &link->family.workspace, now, link->queries, link->room)
+    return EITHER(link->is_mld, TICK);
 }
 
-uint64_t link_next_deadline(struct link *link) {
-    return link->is_mld ? mq_mld_next_deadline(&link->mld) : mq_igmp_next_deadline(&link->igmp);
+uint64_t link_next_deadline(const struct link *link) {
+#define NEXT_DEADLINE(family) mq_##family##_next_deadline(&link->family.link)
+    return EITHER(link->is_mld, NEXT_DEADLINE);
 }
 
 bool link_next_query(const struct link *link, const uint8_t **at, mq_answer answer, mq_query *query) {
     return mq_next_query(link->is_mld ? 16 : 4, at, link->queries + answer.written, query);
+}
+
+static void put_long(uint8_t *to, const uint8_t *address, size_t width) {
+    memset(to, 0, LONG_ADDRESS);
+    memcpy(to, address, width);
+}
+
+/* Reads the group of an address, or without one the groups from the `first`th on, and says how many there are; and writes a page of
+   the groups that the last call changed. */
+#define READING(family, width, v2_of) \
+    static size_t read_##family(const struct link *link, const uint8_t *address, size_t first, struct held *groups) { \
+        static mq_##family##_group read[PAGE_GROUPS]; \
+        static mq_##family##_source read_sources[PAGE_SOURCES]; \
+        static struct source sources[PAGE_SOURCES]; \
+        const mq_##family *it = &link->family.link; \
+        mq_page page = address != NULL ? mq_##family##_group_at(it, address, read, read_sources, PAGE_SOURCES) \
+                                       : mq_##family##_groups(it, (uint32_t)first, read, PAGE_GROUPS, read_sources, PAGE_SOURCES); \
+        for (size_t at = 0; at < page.sources; at++) { \
+            sources[at].deadline = read_sources[at].deadline; \
+            put_long(sources[at].address, read_sources[at].address, width); \
+        } \
+        const struct source *next = sources; \
+        for (size_t at = 0; at < page.groups; next += read[at++].sources) { \
+            groups[at] = (struct held){{0}, read[at].deadline, read[at].v1, v2_of(read[at]), next, read[at].sources}; \
+            put_long(groups[at].address, read[at].address, width); \
+        } \
+        return page.groups; \
+    } \
+    static size_t changed_##family(const struct link *link, size_t first, uint8_t (*groups)[LONG_ADDRESS]) { \
+        static uint8_t read[PAGE_GROUPS][width]; \
+        size_t left = mq_##family##_changed(&link->family.workspace, (uint32_t)first, read, PAGE_GROUPS) - first; \
+        size_t count = left < PAGE_GROUPS ? left : PAGE_GROUPS; \
+        for (size_t at = 0; at < count; at++) \
+            put_long(groups[at], read[at], width); \
+        return count; \
+    }
+#define V2_OF(group) (group).v2
+#define NO_V2(group) MQ_NONE
+READING(igmp, 4, V2_OF)
+READING(mld, 16, NO_V2)
+
+size_t link_changed(const struct link *link, size_t first, uint8_t (*groups)[LONG_ADDRESS]) {
+    return (link->is_mld ? changed_mld : changed_igmp)(link, first, groups);
+}
+
+bool link_group_at(const struct link *link, const uint8_t *address, struct held *group) {
+    return (link->is_mld ? read_mld : read_igmp)(link, address, 0, group) > 0;
 }
 
 char *link_put_address(const struct link *link, char *to, const uint8_t *address) {
@@ -64,76 +115,41 @@ static void print_address(const struct link *link, const uint8_t *address, FILE 
     fwrite(text, 1, (size_t)(link_put_address(link, text, address) - text), to);
 }
 
-/* The front of a group's line; then come its sources, and its older hosts. */
-static void print_group(const struct link *link, const uint8_t *address, uint64_t deadline, FILE *to) {
+static void print_source(const struct link *link, const struct source *source, FILE *to) {
+    fputs(source->deadline == MQ_NONE ? " !" : " ", to);
+    print_address(link, source->address, to);
+    if (source->deadline != MQ_NONE)
+        fprintf(to, "=%" PRIu64, source->deadline);
+}
+
+static void print_group(const struct link *link, const struct held *group, FILE *to) {
     fputs("group ", to);
-    print_address(link, address, to);
-    if (deadline == MQ_NONE)
+    print_address(link, group->address, to);
+    if (group->deadline == MQ_NONE)
         fputs(" include", to);
     else
-        fprintf(to, " exclude %" PRIu64, deadline);
-}
-
-static void print_source(const struct link *link, const uint8_t *address, uint64_t deadline, FILE *to) {
-    fputs(deadline == MQ_NONE ? " !" : " ", to);
-    print_address(link, address, to);
-    if (deadline != MQ_NONE)
-        fprintf(to, "=%" PRIu64, deadline);
-}
-
-static void print_older_hosts(uint64_t v1, uint64_t v2, FILE *to) {
-    if (v1 != MQ_NONE)
-        fprintf(to, " v1 %" PRIu64, v1);
-    if (v2 != MQ_NONE)
-        fprintf(to, " v2 %" PRIu64, v2);
+        fprintf(to, " exclude %" PRIu64, group->deadline);
+    for (size_t at = 0; at < group->count; at++)
+        print_source(link, &group->sources[at], to);
+    if (group->v1 != MQ_NONE)
+        fprintf(to, " v1 %" PRIu64, group->v1);
+    if (group->v2 != MQ_NONE)
+        fprintf(to, " v2 %" PRIu64, group->v2);
     putc('\n', to);
 }
 
-/* A page has room for the greatest group, so each page goes on. */
-enum { PAGE_GROUPS = 64, PAGE_SOURCES = 1024 };
-
-static void print_igmp_groups(struct link *link, FILE *to) {
-    static mq_igmp_group groups[PAGE_GROUPS];
-    static mq_igmp_source sources[PAGE_SOURCES];
-    uint32_t length = mq_igmp_len(&link->igmp);
-    for (uint32_t first = 0; first < length;) {
-        mq_page page = mq_igmp_groups(&link->igmp, first, groups, PAGE_GROUPS, sources, PAGE_SOURCES);
-        const mq_igmp_source *source = sources;
-        for (const mq_igmp_group *group = groups; group < groups + page.groups; group++) {
-            print_group(link, group->address, group->deadline, to);
-            for (const mq_igmp_source *end = source + group->sources; source < end; source++)
-                print_source(link, source->address, source->deadline, to);
-            print_older_hosts(group->v1, group->v2, to);
-        }
-        first += page.groups;
+void link_print_state(const struct link *link, uint64_t now, FILE *to) {
+#define IS_QUERIER(family) mq_##family##_is_querier(&link->family.link)
+#define COUNTS(family) mq_##family##_counts(&link->family.link, &counts, sizeof counts)
+    struct held groups[PAGE_GROUPS];
+    mq_counts counts;
+    fprintf(to, "end %" PRIu64 " %s\n", now, EITHER(link->is_mld, IS_QUERIER) ? "querier" : "other");
+    for (size_t first = 0, count = 1; count > 0; first += count) {
+        count = (link->is_mld ? read_mld : read_igmp)(link, NULL, first, groups);
+        for (size_t at = 0; at < count; at++)
+            print_group(link, &groups[at], to);
     }
-}
-
-static void print_mld_groups(struct link *link, FILE *to) {
-    static mq_mld_group groups[PAGE_GROUPS];
-    static mq_mld_source sources[PAGE_SOURCES];
-    uint32_t length = mq_mld_len(&link->mld);
-    for (uint32_t first = 0; first < length;) {
-        mq_page page = mq_mld_groups(&link->mld, first, groups, PAGE_GROUPS, sources, PAGE_SOURCES);
-        const mq_mld_source *source = sources;
-        for (const mq_mld_group *group = groups; group < groups + page.groups; group++) {
-            print_group(link, group->address, group->deadline, to);
-            for (const mq_mld_source *end = source + group->sources; source < end; source++)
-                print_source(link, source->address, source->deadline, to);
-            print_older_hosts(group->v1, MQ_NONE, to);
-        }
-        first += page.groups;
-    }
-}
-
-void link_print_state(struct link *link, uint64_t now, FILE *to) {
-    bool is_querier = link->is_mld ? mq_mld_is_querier(&link->mld) : mq_igmp_is_querier(&link->igmp);
-    fprintf(to, "end %" PRIu64 " %s\n", now, is_querier ? "querier" : "other");
-    if (link->is_mld)
-        print_mld_groups(link, to);
-    else
-        print_igmp_groups(link, to);
-    mq_counts counts = link->is_mld ? mq_mld_counts(&link->mld) : mq_igmp_counts(&link->igmp);
+    EITHER(link->is_mld, COUNTS);
     fprintf(to,
             "counts received %" PRIu64 " dropped %" PRIu64 " applied %" PRIu64 " ignored %" PRIu64 " refused %" PRIu64
             " sent %" PRIu64 " unsent %" PRIu64 "\n",

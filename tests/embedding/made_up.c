@@ -1,6 +1,10 @@
-/* Links over datagrams that are made up: made_up igmp|mld SEED EVENTS. Each event is a datagram or a tick at a link of small
-   limits; of an odd seed the link is lent its workspace. Prints the counters at the end, and a sum over all that the library
-   answered, so that the same words print the same on each processor. */
+/* Links over datagrams that are made up: made_up igmp|mld SEED EVENTS static|heap|remade|shared. Each event is a datagram or a tick
+   at a link of small limits. Prints the counters at the end, and a sum over all that the library returned: the same words print
+   the same on each processor, and the same whatever the last word is. It says where the link is:
+   - static: in a part of a static array that begins at any address and has exactly as many bytes as `size` says;
+   - heap: in a block of malloc, with its workspace;
+   - remade: in the memory of a link that heard all events before, in whose workspace it works too;
+   - shared: its workspace serves another link before each event. */
 #include "mquerier.h"
 
 #include <inttypes.h>
@@ -8,14 +12,17 @@
 #include <stdlib.h>
 #include <string.h>
 
-enum { ROOM = 65536, GROUPS = 32, SOURCES = 64 };
+enum { ROOM = 65536, GROUPS = 32, SOURCES = 64, MEMORY = 32768 };
 
 static const uint8_t own4[4] = {10, 0, 0, 9}, own6[16] = {0xfe, 0x80, [15] = 9}, routers6[16] = {0xff, 2, [15] = 0x16};
-static bool is_mld, is_lent;
-static mq_igmp igmp;
-static mq_mld mld;
+static bool is_mld;
+static mq_igmp igmp, other_igmp;
+static mq_mld mld, other_mld;
 static mq_igmp_workspace workspace4;
 static mq_mld_workspace workspace6;
+static mq_igmp_on_heap heap4;
+static mq_mld_on_heap heap6;
+static uint8_t memory[MEMORY], other_memory[MEMORY], work[MEMORY];
 
 static uint8_t source[16], body[2048], queries[ROOM];
 static size_t width, length;
@@ -163,17 +170,12 @@ static void make_up(void) {
 static mq_answer heard(uint64_t now, size_t room) {
   uint8_t hops = one_in(32) ? 2 : 1;
   bool alert = !one_in(32);
-  if (!is_mld && is_lent) return mq_igmp_receive_in(&igmp, &workspace4, source, body, length, now, queries, room);
-  if (!is_mld) return mq_igmp_receive(&igmp, source, body, length, now, queries, room);
-  return is_lent ? mq_mld_receive_in(&mld, &workspace6, source, routers6, hops, alert, body, length, now, queries, room)
-                 : mq_mld_receive(&mld, source, routers6, hops, alert, body, length, now, queries, room);
+  return is_mld ? mq_mld_receive(&mld, &workspace6, source, routers6, hops, alert, body, length, now, queries, room)
+                : mq_igmp_receive(&igmp, &workspace4, source, body, length, now, queries, room);
 }
 
 static mq_answer ticked(uint64_t now, size_t room) {
-  if (is_lent)
-    return is_mld ? mq_mld_tick_in(&mld, &workspace6, now, queries, room)
-                  : mq_igmp_tick_in(&igmp, &workspace4, now, queries, room);
-  return is_mld ? mq_mld_tick(&mld, now, queries, room) : mq_igmp_tick(&igmp, now, queries, room);
+  return is_mld ? mq_mld_tick(&mld, &workspace6, now, queries, room) : mq_igmp_tick(&igmp, &workspace4, now, queries, room);
 }
 
 static uint64_t next_deadline(void) { return is_mld ? mq_mld_next_deadline(&mld) : mq_igmp_next_deadline(&igmp); }
@@ -256,38 +258,74 @@ static void add_page(void) {
 /* How many groups the calls have changed. */
 static uint64_t changed;
 
-static uint32_t changed_page(uint32_t first, uint8_t (*page4)[4], uint8_t (*page6)[16], size_t room) {
-  if (is_lent)
-    return is_mld ? mq_mld_workspace_changed(&workspace6, first, page6, room)
-                  : mq_igmp_workspace_changed(&workspace4, first, page4, room);
-  return is_mld ? mq_mld_changed(&mld, first, page6, room) : mq_igmp_changed(&igmp, first, page4, room);
-}
-
 /* A page of the groups that the last call changed. */
+static uint8_t page4[GROUPS][4], page6[GROUPS][16];
 static void add_changed(void) {
-  static uint8_t page4[GROUPS][4], page6[GROUPS][16];
   uint32_t first = (uint32_t)below(3);
   size_t room = below(GROUPS + 1);
-  uint32_t count = changed_page(first, page4, page6, room);
+  uint32_t count = is_mld ? mq_mld_changed(&workspace6, first, page6, room) : mq_igmp_changed(&workspace4, first, page4, room);
   changed += count;
   add(count);
   add_bytes(is_mld ? page6[0] : page4[0], GROUPS * width);
 }
 
-static void make(void) {
-  mq_igmp_config config4 = mq_igmp_defaults(own4);
-  mq_mld_config config6 = mq_mld_defaults(own6);
-  config4.groups = config6.groups = 24;
-  config4.group_sources = config6.group_sources = 16;
-  config4.sources = config6.sources = 64;
-  config4.scheduled = config6.scheduled = 4;
-  config4.source_specific = config6.source_specific = 1;
-  uint32_t status = !is_lent ? MQ_DONE : is_mld ? mq_mld_workspace_new(config6, &workspace6) : mq_igmp_workspace_new(config4, &workspace4);
-  if (status == MQ_DONE && is_mld) status = is_lent ? mq_mld_new_bare(config6, 0, &mld) : mq_mld_new(config6, 0, &mld);
-  if (status == MQ_DONE && !is_mld) status = is_lent ? mq_igmp_new_bare(config4, 0, &igmp) : mq_igmp_new(config4, 0, &igmp);
+static void want(uint32_t status) {
   if (status == MQ_DONE) return;
   fprintf(stderr, "made_up: no link: %s\n", mq_status_text(status));
   exit(1);
+}
+
+static mq_igmp_config config4(void) {
+  mq_igmp_config config = mq_igmp_defaults(own4);
+  config.groups = 24, config.group_sources = 16, config.sources = 64, config.scheduled = 4, config.source_specific = 1;
+  return config;
+}
+
+static mq_mld_config config6(void) {
+  mq_mld_config config = mq_mld_defaults(own6);
+  config.groups = 24, config.group_sources = 16, config.sources = 64, config.scheduled = 4, config.source_specific = 1;
+  return config;
+}
+
+/* Makes the link, which begins at an address that the seed says. */
+static void make(size_t before) {
+  if (is_mld)
+    want(mq_mld_init(config6(), 0, memory + before, mq_mld_size(config6()), &mld));
+  else
+    want(mq_igmp_init(config4(), 0, memory + before, mq_igmp_size(config4()), &igmp));
+}
+
+static void make_workspace(size_t before) {
+  if (is_mld)
+    want(mq_mld_workspace_init(config6(), work + before, mq_mld_workspace_size(config6()), &workspace6));
+  else
+    want(mq_igmp_workspace_init(config4(), work + before, mq_igmp_workspace_size(config4()), &workspace4));
+}
+
+static void make_on_heap(void) {
+  want(is_mld ? mq_mld_new(config6(), 0, &heap6) : mq_igmp_new(config4(), 0, &heap4));
+  mld = heap6.link, workspace6 = heap6.workspace;
+  igmp = heap4.link, workspace4 = heap4.workspace;
+}
+
+/* Another link, of fewer groups and sources. */
+static bool is_shared;
+static void make_other(void) {
+  mq_igmp_config less4 = config4();
+  mq_mld_config less6 = config6();
+  less4.groups = less6.groups = 7, less4.group_sources = less6.group_sources = 5, less4.sources = less6.sources = 20;
+  want(is_mld ? mq_mld_init(less6, 0, other_memory, sizeof other_memory, &other_mld)
+              : mq_igmp_init(less4, 0, other_memory, sizeof other_memory, &other_igmp));
+  is_shared = true;
+}
+
+/* It hears the last datagram again. */
+static void work_for_other(uint64_t now) {
+  static uint8_t room[ROOM];
+  if (is_mld)
+    mq_mld_receive(&other_mld, &workspace6, source, routers6, 1, true, body, length, now, room, ROOM);
+  else
+    mq_igmp_receive(&other_igmp, &workspace4, source, body, length, now, room, ROOM);
 }
 
 static uint64_t later(uint64_t now) {
@@ -297,9 +335,12 @@ static uint64_t later(uint64_t now) {
 }
 
 static void play(uint64_t events) {
+  memset(page4, 0, sizeof page4);
+  memset(page6, 0, sizeof page6);
   for (uint64_t now = 0; events; events--) {
     now = later(now);
     size_t room = one_in(8) ? below(400) : ROOM;
+    if (is_shared) work_for_other(now);
     if (one_in(8)) {
       add_answer(ticked(now, room));
     } else {
@@ -327,11 +368,15 @@ static bool told(const char *name, const uint64_t *counters, int count, unsigned
 
 /* Prints all counters and the sum. Answers whether all has happened that can happen in this family. */
 static bool tell(void) {
-  mq_counts it = is_mld ? mq_mld_counts(&mld) : mq_igmp_counts(&igmp);
+  mq_counts it;
+  if (is_mld)
+    mq_mld_counts(&mld, &it, sizeof it);
+  else
+    mq_igmp_counts(&igmp, &it, sizeof it);
   const uint64_t records[] = {it.applied, it.ignored}, sendings[] = {it.sent, it.unsent}, all[] = {changed};
   unsigned not_dropped = is_mld ? 1u << (MQ_DROPPED_IGMPV1_QUERY - 1) : 7u << (MQ_DROPPED_SOURCE - 1);
   bool is_all = told("dropped", it.dropped_by, 10, not_dropped);
-  is_all &= told("read", it.spelled, 5, 0);
+  is_all &= told("read", it.parsed, 5, 0);
   is_all &= told("applied and ignored", records, 2, 0);
   is_all &= told("refused", it.refused_by, 7, 1u << MQ_REFUSED_MEMORY);
   is_all &= told("sent and unsent", sendings, 2, 0);
@@ -341,20 +386,28 @@ static bool tell(void) {
 }
 
 int main(int count, char **words) {
-  if (count != 4) return 2;
+  if (count != 5) return 2;
+  const char *where = words[4];
+  uint64_t seed = strtoull(words[2], NULL, 10), events = strtoull(words[3], NULL, 10), start = seed * UINT64_C(0x9e3779b97f4a7c15) + 1;
   is_mld = strcmp(words[1], "mld") == 0;
   width = is_mld ? 16 : 4;
-  state = strtoull(words[2], NULL, 10);
-  is_lent = state % 2;
-  state = state * UINT64_C(0x9e3779b97f4a7c15) + 1;
-  make();
-  play(strtoull(words[3], NULL, 10));
+  state = start;
+  if (strcmp(where, "heap") == 0) {
+    make_on_heap();
+  } else {
+    make_workspace(seed % 16);
+    make(seed % 16);
+  }
+  if (strcmp(where, "shared") == 0) make_other();
+  if (strcmp(where, "remade") == 0) {
+    const uint64_t none = sum;
+    play(events);
+    state = start, sum = none, changed = 0;
+    make(seed % 16);
+  }
+  play(events);
   bool is_all = tell();
-  if (is_mld)
-    mq_mld_free(mld);
-  else
-    mq_igmp_free(igmp);
-  if (is_lent && is_mld) mq_mld_workspace_free(workspace6);
-  if (is_lent && !is_mld) mq_igmp_workspace_free(workspace4);
+  if (strcmp(where, "heap") == 0 && is_mld) mq_mld_free(&heap6);
+  if (strcmp(where, "heap") == 0 && !is_mld) mq_igmp_free(&heap4);
   return !is_all;
 }
