@@ -16,8 +16,8 @@
    The time is in milliseconds of any clock that does not go back, at most MQ_LATEST. A time earlier than the previous one, or
    than `start`, is treated as the previous one. Addresses are in network order.
 
-   The archive for x86-64 needs a processor of level x86-64-v2: an older one stops it by an illegal instruction. A call uses at most
-   8 KB of stack, but `mq_mld_receive` and `mq_mld_tick` 20 KB. */
+   The archive calls memcpy, memmove and memset, and nothing else. For x86-64 it needs a processor of level x86-64-v2: an older one
+   stops it by an illegal instruction. A call uses at most 8 KB of stack, but `mq_mld_receive` and `mq_mld_tick` 20 KB. */
 #ifndef MQUERIER_H
 #define MQUERIER_H
 
@@ -27,14 +27,13 @@
 #ifndef MQ_NO_STDLIB /* defined by a program without <stdlib.h>, which then has no `mq_igmp_new` and `mq_mld_new` */
 #include <stdlib.h>
 #endif
-
 #ifdef __cplusplus
 extern "C" {
 #endif
 
-/* The version of this header; `mq_version` returns that of the archive. It rises when a compiled program would no longer work: when
-   a call, the layout of a struct or the meaning of a number changes, or when a size macro below counts too few bytes. Within a
-   version, calls and reasons may be added, and `mq_counts` may grow at its end (see there). No other struct grows. */
+/* The version of this header; a program checks once that `mq_version`, that of the archive, returns the same. It rises when a
+   compiled program would no longer work: when a call, the layout of a struct or the meaning of a number changes, or a size macro
+   below counts too few bytes. Within a version calls and reasons may be added, and `mq_counts` may grow at its end. */
 #define MQ_VERSION 2
 #define MQ_VERSION_TEXT "2"
 uint32_t mq_version(void);
@@ -64,12 +63,12 @@ static inline const char *mq_status_text(uint32_t status) {
 typedef struct {
   uint32_t robustness;           /* 1 to 7 */
   uint32_t query_interval;       /* seconds, 1 to 31744 */
-  uint32_t response_interval;    /* milliseconds, 100 to 3174400, for MLD 1 to 8387584; below the query interval */
+  uint32_t response_interval;    /* milliseconds, 100 to 3174400, for MLD 1 to 8387584; less than the query interval */
   uint32_t last_member_interval; /* milliseconds, 100 to 3174400, for MLD 1 to 8387584 */
   uint32_t groups;               /* most groups, 1 to 65535 */
   uint32_t group_sources;        /* most sources of one group, 1 to 1024 */
   uint32_t sources;              /* most sources of all groups together, 1 to 65535 */
-  uint32_t scheduled;            /* most schedules of specific queries, 1 to 65535; a group has up to two */
+  uint32_t scheduled;            /* most schedules of repeated specific queries, 1 to 65535; a group has up to two */
   uint8_t own[4];                /* the source address of queries; not 0.0.0.0, nor 224.0.0.0 or above */
   uint8_t source_specific;       /* unless 0, 232.0.0.0/8 is kept for source-specific multicast (RFC 4604) */
 } mq_igmp_config;
@@ -88,8 +87,8 @@ mq_mld_config mq_mld_defaults(const uint8_t own[16]);
 #define MQ_SOURCES 16384
 #define MQ_SCHEDULED 256
 
-/* A link; and a workspace, in which its calls work. One workspace serves any number of links, in any order, if its own
-   configuration allows at least their `groups` and `group_sources`. Threads need a workspace each. */
+/* A link; and a workspace, in which its calls work. One workspace serves any number of links of its family, in any order, if its
+   own configuration, of which no more counts, allows at least their `groups` and `group_sources`. Threads need one each. */
 typedef struct { void *link; } mq_igmp;
 typedef struct { void *link; } mq_mld;
 typedef struct { void *workspace; } mq_igmp_workspace;
@@ -102,16 +101,14 @@ size_t mq_mld_size(mq_mld_config config);
 size_t mq_igmp_workspace_size(mq_igmp_config config);
 size_t mq_mld_workspace_size(mq_mld_config config);
 
-/* The same as constants, for static arrays: never fewer bytes, and at most 1/20 and 150 bytes more. */
+/* The same as constants, for static arrays, at any address: never fewer bytes, and at most 1/20 and 150 bytes more. */
 #define MQ_IGMP_SIZE(groups, sources) (1904 + 200 * (size_t)(groups) + 80 * (size_t)(sources))
 #define MQ_MLD_SIZE(groups, sources) (1952 + 244 * (size_t)(groups) + 120 * (size_t)(sources))
 #define MQ_IGMP_WORKSPACE_SIZE(groups, group_sources) (512 + 30 * (size_t)(groups) + 76 * (size_t)(group_sources))
 #define MQ_MLD_WORKSPACE_SIZE(groups, group_sources) (464 + 90 * (size_t)(groups) + 144 * (size_t)(group_sources))
 
-/* Memory in whole units of 16 bytes, which begins at a multiple of 16 and has fewer than 2^63 bytes. */
+/* Memory in whole units of 16 bytes, which begins at a multiple of 16 and has fewer than 2^63 bytes; and those of any memory. */
 typedef struct { void *first; size_t units; } mq_units;
-
-/* Returns the whole units in `size` bytes. */
 static inline mq_units mq_units_of(void *memory, size_t size) {
   const size_t before = (16 - (size_t)((uintptr_t)memory & 15)) & 15;
   mq_units units = {(void *)(uintptr_t)16, 0};
@@ -119,9 +116,10 @@ static inline mq_units mq_units_of(void *memory, size_t size) {
   return units;
 }
 
-/* Makes a link in `size` bytes of memory, and sets `*link`. It begins as querier at `start`: its first query is due then, and a
-   tick sends it. Returns MQ_DONE, or the first status that holds: a fault of the configuration, in the order of the statuses;
-   MQ_MOMENT; MQ_MEMORY, which is impossible with `mq_igmp_size` bytes. A call that fails leaves `*link`, and takes no memory. */
+/* `init` makes a link in `size` bytes of memory, whatever they hold, and sets `*link`; `init_units` is what it calls, for other
+   languages. The link begins as querier at `start`: its first query is due then, and a tick sends it. Returns MQ_DONE, or the first
+   status that holds: a fault of the configuration, in the order of the statuses; MQ_MOMENT; MQ_MEMORY, which is impossible with
+   `mq_igmp_size` bytes. A call that fails leaves `*link`, and takes no memory. */
 uint32_t mq_igmp_init_units(mq_igmp_config config, uint64_t start, mq_units memory, mq_igmp *link);
 uint32_t mq_mld_init_units(mq_mld_config config, uint64_t start, mq_units memory, mq_mld *link);
 static inline uint32_t mq_igmp_init(mq_igmp_config config, uint64_t start, void *memory, size_t size, mq_igmp *link) {
@@ -192,30 +190,32 @@ static inline const char *mq_dropped_text(uint32_t dropped) {
 }
 
 /* Takes a datagram that came at `now`: its source, for MLD also its destination, its hop limit and whether it has the Router Alert
-   option, and the bytes after its IP header with options and extension headers. First it does what a tick does. A query that does
-   not fit into the rest of `room` bytes is skipped; a later, shorter one may still fit. The bytes after `written` stay. */
+   option, and its bytes from the type of IGMP or ICMPv6 on, whose checksum is checked. First it does what a tick does, so that none
+   is needed before. A query that does not fit into the rest of `room` bytes is skipped for good; a later, shorter one may still fit.
+   The bytes after `written` stay. Of IGMP any TTL and any options are taken: what a router wants of them it checks itself. */
 mq_answer mq_igmp_receive(mq_igmp *link, mq_igmp_workspace *workspace, const uint8_t source[4], const uint8_t *body, size_t length,
                           uint64_t now, uint8_t *queries, size_t room);
 mq_answer mq_mld_receive(mq_mld *link, mq_mld_workspace *workspace, const uint8_t source[16], const uint8_t destination[16],
                          uint8_t hop_limit, bool alert, const uint8_t *body, size_t length, uint64_t now, uint8_t *queries,
                          size_t room);
 
-/* Does what is due at `now` or before, however late. */
+/* Does what is due at `now` or before, however late. Missed general queries go once, and the next one counts from `now`. */
 mq_answer mq_igmp_tick(mq_igmp *link, mq_igmp_workspace *workspace, uint64_t now, uint8_t *queries, size_t room);
 mq_answer mq_mld_tick(mq_mld *link, mq_mld_workspace *workspace, uint64_t now, uint8_t *queries, size_t room);
 
-/* Returns a `room` with which `unsent` is always 0 if no body is longer than `longest_body`: 1480 bytes on Ethernet. It depends on
-   `groups`, `sources` and `scheduled` alone. Less room serves too, since hosts rarely ask for that much. */
+/* Returns a `room` with which `unsent` is always 0 if no body is longer than `longest_body`: on Ethernet 1480 bytes, for MLD 1460.
+   With the default limits that is 357 KB, for MLD 1.4 MB. Less serves too, since hosts rarely ask for that much: a general query
+   takes 18 bytes, for MLD 46. Of the configuration it depends on `groups`, `sources` and `scheduled` alone. */
 size_t mq_igmp_outlet_bytes(mq_igmp_config config, uint32_t longest_body);
 size_t mq_mld_outlet_bytes(mq_mld_config config, uint32_t longest_body);
 
-/* SEND. A query: its destination, of 4 bytes for IGMP and of 16 for MLD, and its message without the IP header. The caller sends
-   it from the own address, with a TTL or hop limit of 1 and the Router Alert option. */
+/* SEND. A query: its destination, of 4 bytes for IGMP and of 16 for MLD, and its message with its checksum, without the IP header.
+   The caller sends it from the own address, with a TTL or hop limit of 1 and the Router Alert option. */
 typedef struct { const uint8_t *destination, *message; size_t length; } mq_query;
 
-/* Sets `*query` to the query at `*at`, and moves `*at` to the next one. Returns false if no query is left. `*at` begins at
-   `queries`, and `end` is `queries + written`, or `queries` if that is null. A query in there is its destination, of `width`
-   bytes, the length of its message in two bytes, and its message. */
+/* Sets `*query` to the query at `*at`, and moves `*at` to the next one. Returns false if no query is left. So begin with `const
+   uint8_t *at = queries`, and let `end` be `queries + answer.written`, or `queries` if that is null. A query in there is its
+   destination, of `width` bytes, the length of its message in two bytes, and its message. */
 static inline bool mq_next_query(size_t width, const uint8_t **at, const uint8_t *end, mq_query *query) {
   const size_t head = width + 2, left = *at == end ? 0 : (size_t)(end - *at);
   if (left < head) return false;
@@ -237,17 +237,18 @@ static inline bool mq_mld_next_query(const uint8_t **at, const uint8_t *end, mq_
 uint64_t mq_igmp_next_deadline(const mq_igmp *link);
 uint64_t mq_mld_next_deadline(const mq_mld *link);
 
-/* LOOK. Returns whether traffic from a source to a group is forwarded, as of the last call. */
+/* LOOK. Returns whether traffic from a source to a group is forwarded, as of the last call: not if the link lacks the group. */
 bool mq_igmp_forwards(const mq_igmp *link, const uint8_t group[4], const uint8_t source[4]);
 bool mq_mld_forwards(const mq_mld *link, const uint8_t group[16], const uint8_t source[16]);
 
 /* Writes the groups whose filter the last `tick` or `receive` in this workspace changed, in ascending order, from the `first`th on
    (0 is the lowest), and at most `room` of them. Returns how many changed in all. A group that begins or ends has changed, one
-   whose timers were only refreshed has not. A call that did nothing leaves this list. */
+   whose timers were only refreshed has not. If links share the workspace, look before the next call of any. A call that did
+   nothing leaves this list. */
 uint32_t mq_igmp_changed(const mq_igmp_workspace *workspace, uint32_t first, uint8_t (*addresses)[4], size_t room);
 uint32_t mq_mld_changed(const mq_mld_workspace *workspace, uint32_t first, uint8_t (*addresses)[16], size_t room);
 
-/* A group, a source of it, and how many of both a call wrote. */
+/* A group, a source of it, and how many of both a call wrote. What has a deadline ends at it. */
 typedef struct {
   uint8_t address[4];
   uint32_t sources;  /* how many it has */
@@ -255,17 +256,17 @@ typedef struct {
   uint64_t v1, v2;   /* until when a host of IGMPv1, and of IGMPv2, is assumed, or MQ_NONE; MLD has only v1 */
 } mq_igmp_group;
 typedef struct { uint8_t address[16]; uint32_t sources; uint64_t deadline, v1; } mq_mld_group;
-typedef struct { uint8_t address[4]; uint64_t deadline; } mq_igmp_source; /* MQ_NONE: no timer runs; it is not forwarded */
+typedef struct { uint8_t address[4]; uint64_t deadline; } mq_igmp_source; /* MQ_NONE, only in EXCLUDE mode: it is not forwarded */
 typedef struct { uint8_t address[16]; uint64_t deadline; } mq_mld_source;
 typedef struct { uint32_t groups, sources; } mq_page;
 
-/* Writes one group, and its sources in ascending order if all of them fit. Writes nothing if the link does not have the group. */
+/* Writes one group, and its sources in ascending order if all of them fit, else none of them. Without such a group, nothing. */
 mq_page mq_igmp_group_at(const mq_igmp *link, const uint8_t address[4], mq_igmp_group *group, mq_igmp_source *sources, size_t room);
 mq_page mq_mld_group_at(const mq_mld *link, const uint8_t address[16], mq_mld_group *group, mq_mld_source *sources, size_t room);
 
 /* `len` returns how many groups the link has. `groups` writes groups in ascending order from the `first`th on, as many as fit with
    all their sources, which follow one another in `sources`. If it writes none though some are left, there was no room for a group
-   or for its sources, at most `group_sources`. A `tick` or `receive` between two pages may shift the groups. */
+   or for its sources, at most `group_sources`. The next page begins at `first + page.groups`; a call between may shift groups. */
 uint32_t mq_igmp_len(const mq_igmp *link);
 uint32_t mq_mld_len(const mq_mld *link);
 mq_page mq_igmp_groups(const mq_igmp *link, uint32_t first, mq_igmp_group *groups, size_t group_room, mq_igmp_source *sources,
@@ -298,7 +299,7 @@ enum {
 };
 
 /* `counters` writes the first `count` counters, in the order of `mq_counts`, and returns how many the archive has. `counts` sets
-   all `size` bytes of `*counts`, which are `sizeof *counts`: a counter that the archive does not have is 0. */
+   all of `*counts` if `size` is `sizeof *counts`: a counter that the archive does not have is 0. */
 size_t mq_igmp_counters(const mq_igmp *link, uint64_t *counters, size_t count);
 size_t mq_mld_counters(const mq_mld *link, uint64_t *counters, size_t count);
 static inline void mq_igmp_counts(const mq_igmp *link, mq_counts *counts, size_t size) {
@@ -325,5 +326,4 @@ size_t mq_mld_line(const uint8_t source[16], const uint8_t destination[16], cons
 #ifdef __cplusplus
 }
 #endif
-
 #endif
