@@ -1,5 +1,6 @@
 """What is found of a case: by `mquerier check` and `mquerier replay` over its capture, and by rules of its own."""
 
+import collections
 import dataclasses
 import os
 import re
@@ -261,6 +262,12 @@ class Judge:
                 if times != number:
                     found.append(Finding(0, "asks", f"{text_of(group)} {text_of(source)} was asked for {times} times, wanted {number}"))
         return found
+
+    def own_at_most(self, cast, frames, began):
+        """No group is asked for more often than the Last Member Query Count, whenever that is: other cases judge the moments."""
+        times = collections.Counter(it.message.group for _, it in self.seen(cast, frames, began) if not it.is_general())
+        most = cast.names["RV"]
+        return [Finding(0, "asks", f"{text_of(it)} was asked for {number} times, at most {most} wanted") for it, number in times.items() if number > most]
 
     def own_general(self, cast, frames, began):
         """General queries a Query Interval apart, and a fiftieth of it earlier or later: of which there have to be two."""

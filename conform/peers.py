@@ -4,6 +4,7 @@ import os
 import re
 import shutil
 import subprocess
+import threading
 import time
 
 from lab import OWN, TOP, Failed, run
@@ -16,6 +17,9 @@ FRR = {
     "igmp": "ip pim rp 10.9.9.254\ninterface q0\n ip igmp\n ip pim\ninterface u0\n ip pim\n",
     "mld": "interface q0\n ipv6 mld\ninterface u0\n ipv6 pim\n",
 }
+# What of Debian 13 is unpacked for pim6d, besides what is there.
+FRR_13 = "frr libcares2 libjson-c5 liblua5.3-0 libpcre2-8-0 libprotobuf-c1 libreadline8t64 libunwind8 libxxhash0 libyang3"
+MAKING = threading.Lock()
 PIMD = """phyint q0 enable igmpv3
 phyint u0 enable
 igmp-query-interval 125
@@ -108,20 +112,39 @@ def live_bridge(lab, family):
     return ["--upstream", "v0"]
 
 
+def debian_13():
+    """A folder with Debian 13 and its FRR, made where it is missing: that of Debian 12 has no pim6d."""
+    place = f"{UNPACKED}/trixie"
+    with MAKING:
+        if not os.path.exists(f"{place}/usr/lib/frr/pim6d"):
+            installed("debootstrap", "/usr/sbin/debootstrap")
+            shutil.rmtree(place, ignore_errors=True)
+            os.makedirs(UNPACKED, exist_ok=True)
+            run("debootstrap", "--variant=minbase", "trixie", place, "http://deb.debian.org/debian")
+            words = f"apt-get update -q; apt-get download -q {FRR_13}; for it in *.deb; do dpkg -x $it /; done; rm *.deb; groupadd -r frrvty; usermod -aG frrvty root"
+            run("chroot", place, "sh", "-ec", f"cd /root; {words}")
+    return place
+
+
 def frr(lab, family):
-    """FRR's pimd, of IGMP alone."""
-    daemon = "/usr/lib/frr/pimd" if family == "igmp" else "/usr/lib/frr/pim6d"
-    if not installed("frr", daemon):
-        raise Failed(f"{daemon} is not there: Debian's frr {version_of('frr')} has none")
+    """FRR: its pimd of Debian 12, its pim6d of Debian 13."""
+    daemon = f"/usr/lib/frr/{'pimd' if family == 'igmp' else 'pim6d'}"
+    root = "" if family == "igmp" else debian_13()
+    if not root and not installed("frr", daemon):
+        raise Failed(f"{daemon} is not there")
     lab.both()
-    files = [put(lab, "zebra.conf", ""), put(lab, "pimd.conf", FRR[family])]
     place = f"/tmp/{lab.space}.frr"
-    os.makedirs(place, exist_ok=True)
-    shutil.chown(place, "frr", "frr")
-    how = ["-z", f"{place}/zebra", "--vty_socket", place, "-P", "0"]
-    lab.start("/usr/lib/frr/zebra", *how, "-i", f"{place}/zebra.pid", "-f", files[0])
-    wait_for(f"{place}/zebra")
-    lab.start(daemon, *how, "-i", f"{place}/pimd.pid", "-f", files[1])
+    os.makedirs(f"{root}{place}", exist_ok=True)
+    for name, text in (("zebra", ""), ("pim", FRR[family])):
+        with open(f"{root}{place}/{name}.conf", "w", encoding="utf-8") as it:
+            it.write(text)
+    if not root:
+        shutil.chown(place, "frr", "frr")
+    inside = ["unshare", "--mount", "sh", "-c", f'mount -t proc proc {root}/proc; exec chroot {root} "$@"', "chroot"] if root else []
+    how = ["-z", f"{place}/zebra.sock", "--vty_socket", place, "-P", "0", *(["-u", "root", "-g", "root"] if root else [])]
+    lab.start(*inside, "/usr/lib/frr/zebra", *how, "-i", f"{place}/zebra.pid", "-f", f"{place}/zebra.conf")
+    wait_for(f"{root}{place}/zebra.sock")
+    lab.start(*inside, daemon, *how, "-i", f"{place}/pim.pid", "-f", f"{place}/pim.conf")
     return ["--upstream", "v0"] if family == "igmp" else []
 
 
