@@ -210,8 +210,8 @@ install: bin/mquerier lib/libmquerier.a lib/$(SONAME)
 	install -m 644 man/mquerier.1 $(DESTDIR)$(PREFIX)/share/man/man1/mquerier.1
 	install -m 644 man/libmquerier.3 $(DESTDIR)$(PREFIX)/share/man/man3/libmquerier.3
 
-# The release of this commit, as one archive with its sum: dist/mquerier-VERSION.tar.gz.
-dist: bin/mquerier lib/libmquerier.a lib/$(SONAME) page
+# The release of this commit: an archive and the wheel, with their sums in dist/mquerier-VERSION.sha256.
+dist: bin/mquerier lib/libmquerier.a lib/$(SONAME) page wheel
 	@tools/dist
 
 clean:

@@ -7,7 +7,7 @@ import threading
 from typing import Any, List, Optional, Tuple
 
 from ._arguments import AddressLike, config_of, family_named, moment, octets, packed, within
-from ._library import COUNTERS, NONE, Family, Handle, Units
+from ._library import COUNTERS, LATEST, NONE, Family, Handle, Units
 from ._types import Address, Answer, Counts, Dropped, Group, Parsed, Query, Refused, Source
 from .faults import Fault
 
@@ -93,7 +93,8 @@ class Link:
     def next_deadline(self) -> Optional[int]:
         """When the next tick is due; None if never again."""
         with self._lock:
-            return or_none(self._family.next_deadline(ctypes.byref(self._link)))
+            deadline = int(self._family.next_deadline(ctypes.byref(self._link)))
+        return deadline if deadline <= LATEST else None
 
     def forwards(self, group: AddressLike, source: AddressLike) -> bool:
         """Returns whether traffic from a source to a group is forwarded, as of the last call."""
