@@ -37,12 +37,9 @@ def path() -> Optional[str]:
 def library() -> Any:
     calls = ctypes.CDLL(path() or NAME)
     ends: List[Any] = [c_char_p, c_size_t, Units, c_void_p, c_size_t]
-    for name in ("show", "convert"):
-        calls[f"page_{name}"].argtypes = ends
-    for name in ("replay_igmp", "replay_mld", "check_igmp", "check_mld"):
-        calls[f"page_{name}"].argtypes = [c_char_p, POINTER(Settings), *ends]
     for name in ("show", "convert", "replay_igmp", "replay_mld", "check_igmp", "check_mld"):
-        calls[f"page_{name}"].restype = Answer
+        call = getattr(calls, f"page_{name}")
+        call.restype, call.argtypes = Answer, [c_char_p, POINTER(Settings), *ends] if "_" in name else ends
     return calls
 
 
@@ -68,7 +65,7 @@ def run(call: str, data: bytes, asked: Optional[Asked]) -> Outcome:
     while True:
         text, size = Lent(room), work + (room + UNIT - 1) // UNIT * UNIT
         memory = Lent(size)
-        answer = library()[f"page_{name}"](*querier, data, len(data), Units(memory.at, size // UNIT), text.at, room)
+        answer = getattr(library(), f"page_{name}")(*querier, data, len(data), Units(memory.at, size // UNIT), text.at, room)
         if answer.status == FULL:
             room *= 2
         elif answer.status == MEMORY and work < 1 << 34:
