@@ -25,7 +25,8 @@ $(error TARGET=$(TARGET): only `make lib` takes another processor than that of t
 endif
 endif
 
-.PHONY: all run try lib quick test kept live live-test conform-test page page-test arm-test mutants bench install dist clean
+.PHONY: all run try lib wheel quick test kept live live-test conform-test page page-test bindings-test arm-test mutants bench install
+.PHONY: dist clean
 
 # Both archives are of what is built in one folder, so one is made after the other. tools/build works side by side by itself.
 .NOTPARALLEL:
@@ -33,7 +34,7 @@ endif
 all: bin/mquerier
 
 # Each names the commands that it lacks, before anything is built.
-.PHONY: needs-build needs-library needs-cross needs-gate needs-test needs-live needs-conform needs-page needs-arm
+.PHONY: needs-build needs-library needs-cross needs-gate needs-test needs-live needs-conform needs-page needs-arm needs-wheel needs-bindings
 needs-build:
 	@tools/needs rt bash python3
 needs-library:
@@ -52,6 +53,11 @@ needs-page:
 	@tools/needs rt bash python3 node chromium
 needs-arm:
 	@tools/needs rt bash python3 nm $(CC) $(CROSS_COMPILE)gcc qemu-aarch64
+
+needs-wheel:
+	@tools/needs git pip3
+needs-bindings:
+	@tools/needs git pip3 pytest-3 scapy cargo rustc cargo-clippy valgrind
 
 # Proves the crates that the program stands on, builds it, and runs it once.
 bin/mquerier: $(SOURCES) | needs-build
@@ -93,6 +99,28 @@ lib/$(SONAME): lib/libmquerier.a include/libmquerier.map | needs-library
 $(AARCH64)/$(SONAME): $(AARCH64)/libmquerier.a include/libmquerier.map | needs-cross
 	@$(CROSS_COMPILE)gcc $(SHARING)
 	@ln -sf $(SONAME) $(@D)/libmquerier.so
+	@echo "$@ is built"
+
+# The package for Python, with the shared library inside and the program, which reads captures. `make wheel CAPTURES=$(CAPTURED)` has
+# the shared library of the page's crate inside instead of the program (bindings/python/README.md).
+PYTHON ?= /usr/bin/python3
+CAPTURES ?= bin/mquerier
+WHEEL := dist/mquerier-$(VERSION)-py3-none-manylinux_2_34_x86_64.whl
+wheel: $(WHEEL)
+
+$(WHEEL): lib/$(SONAME) $(CAPTURES) $(wildcard bindings/python/* bindings/python/mquerier/*.py) tools/wheel | needs-wheel
+	@PYTHON=$(PYTHON) tools/wheel lib/$(SONAME) $(CAPTURES)
+	@echo "$@ is built"
+
+# The crate of the page for this processor, as a shared library: its calls over captures.
+CAPTURED := lib/libmquerier-captures.so.$(VERSION)
+lib/libmq_page.a: $(SOURCES) | needs-build
+	@tools/build --captures
+	@cp crates/mq_page/out/libmq_page.a $@
+
+$(CAPTURED): lib/libmq_page.a include/libmquerier-captures.map | needs-library
+	@$(CC) -shared -nostdlib -Wl,-soname,$(@F) -Wl,--version-script=include/libmquerier-captures.map -Wl,-z,defs -Wl,-z,noexecstack \
+	    -Wl,--whole-archive $< -Wl,--no-whole-archive -lc -o $@
 	@echo "$@ is built"
 
 # Shows that it holds here: proofs, tests, and runs of the program with refused calls. The last line counts what passed.
@@ -152,6 +180,10 @@ page-test: needs-page page bin/mquerier
 	@page/module-test
 	@page/test
 
+# The packages for Python and Rust, built from a clean folder: their tests, and links of both beside the model.
+bindings-test: needs-bindings $(WHEEL)
+	@PYTHON=$(PYTHON) bindings/test $(WHEEL)
+
 # Programs of C over the library for aarch64, run by qemu, print what they print here.
 arm-test: needs-arm lib/libmquerier.a $(AARCH64)/libmquerier.a $(AARCH64)/$(SONAME)
 	@CROSS_COMPILE=$(CROSS_COMPILE) tools/aarch64
@@ -178,8 +210,8 @@ install: bin/mquerier lib/libmquerier.a lib/$(SONAME)
 	install -m 644 man/mquerier.1 $(DESTDIR)$(PREFIX)/share/man/man1/mquerier.1
 	install -m 644 man/libmquerier.3 $(DESTDIR)$(PREFIX)/share/man/man3/libmquerier.3
 
-# The release of this commit, as one archive with its sum: dist/mquerier-VERSION.tar.gz.
-dist: bin/mquerier lib/libmquerier.a lib/$(SONAME) page
+# The release of this commit: an archive and the wheel, with their sums in dist/mquerier-VERSION.sha256.
+dist: bin/mquerier lib/libmquerier.a lib/$(SONAME) page wheel
 	@tools/dist
 
 clean:

@@ -1,0 +1,17 @@
+"""The router side of IGMPv3 (RFC 3376) and MLDv2 (RFC 3810), over a library that is proved.
+
+`Link` is one interface of one family: it takes datagrams and the time, and returns the queries to be sent. `show`, `replay`, `check`
+and `convert` read captures. Times are whole milliseconds of any clock that does not go back.
+"""
+
+from ._link import Link, message_line
+from ._types import Answer, Counts, Dropped, Group, Parsed, Query, Refused, Source
+from .captures import Converted, Findings, Lines, captures_by, check, convert, replay, show
+from .faults import CaptureFault, Fault
+from .lines import Change, End, Finding, Packet, Received, Sent, Skipped, Totals
+
+__all__ = [
+    "Answer", "CaptureFault", "Change", "Converted", "Counts", "Dropped", "End", "Fault", "Finding", "Findings", "Group", "Lines",
+    "Link", "Packet", "Parsed", "Query", "Received", "Refused", "Sent", "Skipped", "Source", "Totals", "captures_by", "check",
+    "convert", "message_line", "replay", "show",
+]  # fmt: skip

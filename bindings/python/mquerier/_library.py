@@ -1,0 +1,106 @@
+"""The shared library: where it is, and its calls as ctypes declares them. include/mquerier.h says what each does."""
+
+from __future__ import annotations
+
+import ctypes
+import functools
+import os
+from ctypes import POINTER, c_bool, c_char_p, c_size_t, c_uint8, c_uint32, c_uint64, c_void_p
+from ipaddress import IPv4Address, IPv6Address
+from typing import Any, Dict, List, Tuple, Type
+
+VERSION = 2
+NONE, LATEST = 2**64 - 1, 2**53
+VARIABLES = (
+    "robustness", "query_interval", "response_interval", "last_member_interval", "groups", "group_sources", "sources", "scheduled",
+)  # fmt: skip
+COUNTERS = 29
+NATIVE = os.path.join(os.path.dirname(os.path.abspath(__file__)), "native")
+
+
+def found(name: str) -> str:
+    """Returns the path of a library: in the folder MQUERIER_LIB, or in the package, or else the name alone, for the system's loader."""
+    folders = [it for it in (os.environ.get("MQUERIER_LIB"), NATIVE) if it]
+    paths = [os.path.join(folder, name) for folder in folders]
+    return next((path for path in paths if os.path.exists(path)), name)
+
+
+class Units(ctypes.Structure):
+    """Memory in whole units of 16 bytes."""
+
+    _fields_ = [("first", c_void_p), ("units", c_size_t)]
+
+
+class RawAnswer(ctypes.Structure):
+    _fields_ = [(name, c_uint32) for name in ("status", "dropped", "applied", "ignored", "refused", "sent", "unsent")] + [
+        ("written", c_uint64)
+    ]
+
+
+class Page(ctypes.Structure):
+    _fields_ = [("groups", c_uint32), ("sources", c_uint32)]
+
+
+class Handle(ctypes.Structure):
+    """A link, or a workspace."""
+
+    _fields_ = [("it", c_void_p)]
+
+
+def structure(name: str, fields: List[Tuple[str, Any]]) -> Type[Any]:
+    return type(name, (ctypes.Structure,), {"_fields_": fields})
+
+
+def signatures(family: Family) -> Dict[str, Tuple[Any, List[Any]]]:
+    """The calls of a family by their names without its prefix, each with its result and its arguments."""
+    config, handle, buffer, address = family.Config, POINTER(Handle), c_void_p, c_char_p
+    envelope: List[Any] = [address] if family.width == 4 else [address, address, c_uint8, c_bool]
+    ends = [] if family.width == 4 else [address, address]
+    return {
+        "defaults": (config, [address]),
+        "size": (c_size_t, [config]),
+        "workspace_size": (c_size_t, [config]),
+        "init_units": (c_uint32, [config, c_uint64, Units, handle]),
+        "workspace_init_units": (c_uint32, [config, Units, handle]),
+        "outlet_bytes": (c_size_t, [config, c_uint32]),
+        "receive": (RawAnswer, [handle, handle, *envelope, c_char_p, c_size_t, c_uint64, buffer, c_size_t]),
+        "tick": (RawAnswer, [handle, handle, c_uint64, buffer, c_size_t]),
+        "next_deadline": (c_uint64, [handle]),
+        "forwards": (c_bool, [handle, address, address]),
+        "changed": (c_uint32, [handle, c_uint32, buffer, c_size_t]),
+        "group_at": (Page, [handle, address, buffer, buffer, c_size_t]),
+        "len": (c_uint32, [handle]),
+        "groups": (Page, [handle, c_uint32, buffer, c_size_t, buffer, c_size_t]),
+        "is_querier": (c_bool, [handle]),
+        "other_querier": (c_uint64, [handle, buffer, c_size_t]),
+        "counters": (c_size_t, [handle, buffer, c_size_t]),
+        "line": (c_size_t, [*ends, c_char_p, c_size_t, buffer, c_size_t]),
+    }
+
+
+class Family:
+    """What the two families differ in: addresses, structs, and calls, which are attributes."""
+
+    def __init__(self, library: Any, name: str, width: int, address: Any) -> None:
+        self.name, self.width, self.address = name, width, address
+        octets = c_uint8 * width
+        numbers = [(it, c_uint32) for it in VARIABLES]
+        self.Config = structure("Config", [*numbers, ("own", octets), ("source_specific", c_uint8)])
+        hosts = [("v1", c_uint64), ("v2", c_uint64)][: 2 if width == 4 else 1]
+        self.RawGroup = structure("RawGroup", [("address", octets), ("sources", c_uint32), ("deadline", c_uint64), *hosts])
+        self.RawSource = structure("RawSource", [("address", octets), ("deadline", c_uint64)])
+        for call, (result, arguments) in signatures(self).items():
+            function = library[f"mq_{name}_{call}"]
+            function.restype, function.argtypes = result, arguments
+            setattr(self, call, function)
+
+    def __getattr__(self, call: str) -> Any:
+        raise AttributeError(call)
+
+
+@functools.lru_cache(None)
+def families() -> Dict[str, Family]:
+    library = ctypes.CDLL(found(f"libmquerier.so.{VERSION}"))
+    if library.mq_version() != VERSION:
+        raise ImportError(f"libmquerier has version {library.mq_version()}, and this package is for version {VERSION}")
+    return {"igmp": Family(library, "igmp", 4, IPv4Address), "mld": Family(library, "mld", 16, IPv6Address)}

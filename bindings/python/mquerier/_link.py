@@ -1,0 +1,190 @@
+"""A link: one interface of one family."""
+
+from __future__ import annotations
+
+import ctypes
+import threading
+from typing import Any, List, Optional, Tuple
+
+from ._arguments import AddressLike, config_of, family_named, moment, octets, packed, within
+from ._library import COUNTERS, LATEST, NONE, Family, Handle, Units
+from ._types import Address, Answer, Counts, Dropped, Group, Parsed, Query, Refused, Source
+from .faults import Fault
+
+LONGEST_BODY = 65535
+GROUPS_A_PAGE = 64
+
+
+def or_none(deadline: int) -> Optional[int]:
+    return None if deadline == NONE else deadline
+
+
+class Block:
+    """Memory that stays where it is, and its whole units of 16 bytes."""
+
+    def __init__(self, size: int) -> None:
+        self.memory = ctypes.create_string_buffer(size)
+        before = -ctypes.addressof(self.memory) % 16
+        self.units = Units(ctypes.addressof(self.memory) + before, (size - before) // 16)
+
+
+class Link:
+    """A querier on one interface. It begins at `start`, as querier: its first query is due then, and a tick sends it.
+
+    `own` is the source address of queries. The variables are `robustness`, `query_interval` (seconds), `response_interval` and
+    `last_member_interval` (milliseconds), the limits `groups`, `group_sources`, `sources` and `scheduled`, and `source_specific`.
+    Those that are not given are the standards' defaults. Threads may share a link: it serves one call at a time.
+    """
+
+    def __init__(self, family: str, own: AddressLike, *, start: int = 0, **variables: int) -> None:
+        self._family = it = family_named(family)
+        config = config_of(it, "own", own, variables)
+        self._lock = threading.Lock()
+        self._memory, self._work = Block(it.size(config)), Block(it.workspace_size(config))
+        self._link, self._workspace = Handle(), Handle()
+        self._group_sources = config.group_sources
+        self._queries = ctypes.create_string_buffer(it.outlet_bytes(config, LONGEST_BODY))
+        self._made(it.init_units(config, moment("start", start), self._memory.units, ctypes.byref(self._link)))
+        self._made(it.workspace_init_units(config, self._work.units, ctypes.byref(self._workspace)))
+
+    def __reduce__(self) -> Any:
+        raise TypeError("a link cannot be copied: its memory stays where it is")
+
+    @staticmethod
+    def _made(status: int) -> None:
+        if status:
+            raise Fault.of_status(status)
+
+    def receive(
+        self,
+        source: AddressLike,
+        body: bytes,
+        now: int,
+        *,
+        destination: Optional[AddressLike] = None,
+        hop_limit: int = 1,
+        alert: bool = True,
+    ) -> Answer:
+        """Takes a datagram: the source of its packet and the bytes after the IP header. For MLD also the destination, the hop limit
+        and whether the packet has the Router Alert option; IGMP does not look at these. First it does what `tick` does."""
+        it, data = self._family, octets("body", body)
+        envelope: List[Any] = [packed(it, "source", source)]
+        if it.name == "mld":
+            if destination is None:
+                raise TypeError("destination: a datagram of MLD needs it")
+            envelope += [packed(it, "destination", destination), within("hop_limit", hop_limit, 255), bool(alert)]
+        return self._call(it.receive, *envelope, data, len(data), moment("now", now))
+
+    def tick(self, now: int) -> Answer:
+        """Does what is due at `now` or before."""
+        return self._call(self._family.tick, moment("now", now))
+
+    def _call(self, call: Any, *arguments: Any) -> Answer:
+        with self._lock:
+            room = len(self._queries)
+            raw = call(ctypes.byref(self._link), ctypes.byref(self._workspace), *arguments, self._queries, room)
+            written = ctypes.string_at(self._queries, raw.written)
+        if raw.status:
+            raise Fault.of_status(raw.status)
+        dropped = Dropped(raw.dropped) if raw.dropped else None
+        return Answer(dropped, raw.applied, raw.ignored, raw.refused, queries_in(self._family, written), raw.unsent)
+
+    @property
+    def next_deadline(self) -> Optional[int]:
+        """When the next tick is due; None if never again."""
+        with self._lock:
+            deadline = int(self._family.next_deadline(ctypes.byref(self._link)))
+        return deadline if deadline <= LATEST else None
+
+    def forwards(self, group: AddressLike, source: AddressLike) -> bool:
+        """Returns whether traffic from a source to a group is forwarded, as of the last call."""
+        it = self._family
+        addresses = packed(it, "group", group), packed(it, "source", source)
+        with self._lock:
+            return bool(it.forwards(ctypes.byref(self._link), *addresses))
+
+    @property
+    def changed(self) -> Tuple[Address, ...]:
+        """The groups whose filter the last `receive` or `tick` changed, in ascending order."""
+        it = self._family
+        with self._lock:
+            count = it.changed(ctypes.byref(self._workspace), 0, None, 0)
+            addresses = ctypes.create_string_buffer(it.width * count)
+            it.changed(ctypes.byref(self._workspace), 0, addresses, count)
+        return tuple(it.address(addresses.raw[at : at + it.width]) for at in range(0, it.width * count, it.width))
+
+    def group(self, address: AddressLike) -> Optional[Group]:
+        """Returns a group, or None if the link does not have it."""
+        it, raw = self._family, self._family.RawGroup()
+        sources = (it.RawSource * self._group_sources)()
+        wanted = packed(it, "group", address)
+        with self._lock:
+            page = it.group_at(ctypes.byref(self._link), wanted, ctypes.byref(raw), sources, len(sources))
+        return group_of(it, raw, sources[: page.sources]) if page.groups else None
+
+    def groups(self) -> List[Group]:
+        """Returns all groups in ascending order, each with its sources in ascending order."""
+        it = self._family
+        said: List[Group] = []
+        groups, sources = (it.RawGroup * GROUPS_A_PAGE)(), (it.RawSource * max(4096, self._group_sources))()
+        with self._lock:
+            while len(said) < it.len(ctypes.byref(self._link)):
+                page = it.groups(ctypes.byref(self._link), len(said), groups, len(groups), sources, len(sources))
+                at = 0
+                for raw in groups[: page.groups]:
+                    said.append(group_of(it, raw, sources[at : at + raw.sources]))
+                    at += raw.sources
+        return said
+
+    @property
+    def is_querier(self) -> bool:
+        with self._lock:
+            return bool(self._family.is_querier(ctypes.byref(self._link)))
+
+    @property
+    def other_querier(self) -> Optional[Tuple[Address, int]]:
+        """The querier with a lower address, and until when it is assumed; None while this router is querier."""
+        address = ctypes.create_string_buffer(self._family.width)
+        with self._lock:
+            until = self._family.other_querier(ctypes.byref(self._link), address, len(address))
+        return None if until == NONE else (self._family.address(address.raw), until)
+
+    @property
+    def counts(self) -> Counts:
+        numbers = (ctypes.c_uint64 * COUNTERS)()
+        with self._lock:
+            self._family.counters(ctypes.byref(self._link), numbers, COUNTERS)
+        received, dropped, *rest = numbers
+        by_reason, rest = dict(zip(Dropped, rest)), rest[len(Dropped) :]
+        parsed, rest = dict(zip(Parsed, rest)), rest[len(Parsed) :]
+        applied, ignored, refused, *by_limit, sent, unsent = rest
+        limits = dict(zip(Refused, by_limit))
+        return Counts(received, dropped, by_reason, parsed, applied, ignored, refused, limits, sent, unsent)
+
+
+def queries_in(family: Family, written: bytes) -> Tuple[Query, ...]:
+    """Returns the queries in memory: each is its destination, the length of its message in two bytes, and its message."""
+    found, at = [], 0
+    while at < len(written):
+        head = at + family.width + 2
+        end = head + int.from_bytes(written[head - 2 : head], "big")
+        found.append(Query(family.address(written[at : head - 2]), written[head:end]))
+        at = end
+    return tuple(found)
+
+
+def group_of(family: Family, raw: Any, sources: List[Any]) -> Group:
+    each = tuple(Source(family.address(bytes(it.address)), or_none(it.deadline)) for it in sources)
+    hosts = [or_none(getattr(raw, name, NONE)) for name in ("v1", "v2")]
+    return Group(family.address(bytes(raw.address)), or_none(raw.deadline), each, *hosts)
+
+
+def message_line(
+    family: str, body: bytes, source: Optional[AddressLike] = None, destination: Optional[AddressLike] = None
+) -> str:
+    """Returns a message as one line, or the line of its fault. The addresses are those of its packet; IGMP does not need them."""
+    it, data = family_named(family), octets("body", body)
+    ends = [] if it.name == "igmp" else [packed(it, "source", source or ""), packed(it, "destination", destination or "")]
+    room = 256 + 64 * len(data)
+    line = ctypes.create_string_buffer(room)
+    return ctypes.string_at(line, it.line(*ends, data, len(data), line, room)).decode()

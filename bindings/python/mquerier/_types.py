@@ -1,0 +1,104 @@
+"""What a link returns."""
+
+from __future__ import annotations
+
+import dataclasses
+import enum
+from ipaddress import IPv4Address, IPv6Address
+from typing import Dict, Optional, Tuple, Union
+
+Address = Union[IPv4Address, IPv6Address]
+
+
+class Dropped(enum.IntEnum):
+    """Why a datagram was dropped: the lowest reason that holds."""
+
+    TRUNCATED = 1
+    CHECKSUM = 2
+    UNKNOWN_TYPE = 3
+    QUERY_LENGTH = 4
+    SOURCE = 5
+    HOP_LIMIT = 6
+    NO_ALERT = 7
+    OWN_OR_ZERO = 8
+    IGMPV1_QUERY = 9
+    GROUP = 10
+
+
+class Parsed(enum.IntEnum):
+    """The kinds of datagrams that were parsed. LEAVE is also a Done."""
+
+    QUERY = 0
+    OLDER_QUERY = 1
+    OLDER_REPORT = 2
+    LEAVE = 3
+    REPORT = 4
+
+
+class Refused(enum.IntEnum):
+    """The limit that a record would exceed."""
+
+    LONG = 0
+    REPEATED = 1
+    GROUPS = 2
+    GROUP_SOURCES = 3
+    SOURCES = 4
+    SCHEDULED = 5
+    MEMORY = 6
+
+
+@dataclasses.dataclass(frozen=True)
+class Query:
+    """A query to be sent from the own address: its destination, and its message without the IP header."""
+
+    destination: Address
+    message: bytes
+
+
+@dataclasses.dataclass(frozen=True)
+class Answer:
+    """What a call did: counts of a datagram's records, or why it was dropped; and the queries to be sent, in order. `unsent` counts
+    queries that did not fit, which happens only to a body of more than 65535 bytes."""
+
+    dropped: Optional[Dropped]
+    applied: int
+    ignored: int
+    refused: int
+    queries: Tuple[Query, ...]
+    unsent: int
+
+
+@dataclasses.dataclass(frozen=True)
+class Source:
+    """A source of a group. `deadline` is None if no timer runs; the source is not forwarded then."""
+
+    address: Address
+    deadline: Optional[int]
+
+
+@dataclasses.dataclass(frozen=True)
+class Group:
+    """A group. `deadline` is the end of EXCLUDE mode, or None in INCLUDE mode. Hosts of older versions are assumed until `v1` and
+    `v2`, or None."""
+
+    address: Address
+    deadline: Optional[int]
+    sources: Tuple[Source, ...]
+    v1: Optional[int] = None
+    v2: Optional[int] = None
+
+
+@dataclasses.dataclass(frozen=True)
+class Counts:
+    """What a link has counted since it was made."""
+
+    received: int
+    dropped: int
+    dropped_by: Dict[Dropped, int]
+    parsed: Dict[Parsed, int]
+    applied: int
+    ignored: int
+    refused: int
+    refused_by: Dict[Refused, int]
+    sent: int
+    unsent: int

@@ -1,0 +1,125 @@
+"""Captures: listed, replayed to a querier, checked, converted."""
+
+from __future__ import annotations
+
+import dataclasses
+import os
+from typing import Any, Callable, Generic, List, Optional, Sequence, TypeVar, Union, overload
+
+from . import _by_library, _by_program
+from ._arguments import AddressLike, any_address, config_of, family_named, moment, within
+from ._asked import Asked, Outcome
+from .faults import CaptureFault
+from .lines import Event, Finding, Packet, event_of, finding_of, packet_of
+
+# A capture: its bytes, or the path of its file.
+Capture = Union[bytes, bytearray, memoryview, str, "os.PathLike[str]"]
+T = TypeVar("T")
+Read = TypeVar("Read", bound="Lines[Any]")
+
+
+class Lines(Sequence[T], Generic[T]):
+    """The lines of a text as objects. `text` is the text itself, byte for byte that of the program `mquerier`."""
+
+    def __init__(self, text: str, lines: List[str], read: Callable[[str], T]) -> None:
+        self.text = text
+        self._all = [read(it) for it in lines]
+
+    @overload
+    def __getitem__(self, at: int) -> T: ...
+    @overload
+    def __getitem__(self, at: slice) -> List[T]: ...
+    def __getitem__(self, at: Union[int, slice]) -> Union[T, List[T]]:
+        return self._all[at]
+
+    def __len__(self) -> int:
+        return len(self._all)
+
+    def __repr__(self) -> str:
+        return f"<{len(self)} of {self.text.count(chr(10))} lines>\n{self.text}"
+
+
+class Findings(Lines[Finding]):
+    """The findings of a check, and how many general and specific queries of the querier were in the capture."""
+
+    def __init__(self, text: str) -> None:
+        lines = text.splitlines()
+        last = lines.pop().split() if lines and lines[-1].startswith("checked") else ["", "", "0", "", "0:"]
+        super().__init__(text, lines, finding_of)
+        self.general, self.specific = int(last[2]), int(last[4].rstrip(":"))
+
+
+@dataclasses.dataclass(frozen=True)
+class Converted:
+    """A classic capture of Ethernet, and how many of its packets have a link type that is not read."""
+
+    data: bytes
+    unread: int
+
+
+def captures_by() -> str:
+    """Returns the path of what reads captures: the shared library libmquerier-captures, or if that is not there, the program `mquerier`."""
+    return _by_library.path() or _by_program.path()
+
+
+def run(call: str, capture: Capture, asked: Optional[Asked] = None) -> Outcome:
+    if isinstance(capture, (str, os.PathLike)):
+        with open(capture, "rb") as file:
+            data = file.read()
+    else:
+        data = bytes(memoryview(capture))
+    return (_by_library.run if _by_library.path() else _by_program.run)(call, data, asked)
+
+
+def whole(outcome: Outcome, lines: Read) -> Read:
+    if outcome.fault:
+        raise CaptureFault(outcome.fault, lines)
+    return lines
+
+
+def asked_of(field: str, own: AddressLike, until: Optional[int], variables: Any, **more: Any) -> Asked:
+    address = any_address(field, own)
+    family = family_named("igmp" if address.version == 4 else "mld")
+    config = config_of(family, field, address, variables)
+    return Asked(family.name, address, config, None if until is None else moment("until", until), **more)
+
+
+def show(capture: Capture) -> Lines[Packet]:
+    """Lists a capture: a `Packet` for each record."""
+    outcome = run("show", capture)
+    text = outcome.text.decode()
+    return whole(outcome, Lines(text, text.splitlines(), packet_of))
+
+
+def replay(
+    capture: Capture, own: AddressLike, *, until: Optional[int] = None, changes: bool = False, **variables: int
+) -> Lines[Event]:
+    """Replays a capture to a querier at the address `own`, of the family of that address. With `changes`, a `Change` follows each
+    event for each group whose filter it changed. The variables are those of a `Link`."""
+    outcome = run("replay", capture, asked_of("own", own, until, variables, changes=bool(changes)))
+    text = outcome.text.decode()
+    return whole(outcome, Lines(text, text.splitlines(), event_of))
+
+
+def check(
+    capture: Capture,
+    querier: AddressLike,
+    *,
+    tolerance: int = 100,
+    cite: bool = True,
+    until: Optional[int] = None,
+    **variables: int,
+) -> Findings:
+    """Holds the querier at an address to the standards: returns what it does otherwise than is wanted, within a tolerance. The
+    variables are those of a `Link`. Without `cite` no finding has a section."""
+    most = within("tolerance", tolerance, 2**32 - 1)
+    outcome = run("check", capture, asked_of("querier", querier, until, variables, within=most, cite=bool(cite)))
+    return whole(outcome, Findings(outcome.text.decode()))
+
+
+def convert(capture: Capture) -> Converted:
+    """Returns all packets of a capture of any kind, pcapng too, as one classic capture of Ethernet."""
+    outcome = run("convert", capture)
+    if outcome.fault:
+        raise CaptureFault(outcome.fault, [])
+    return Converted(outcome.text, outcome.count)

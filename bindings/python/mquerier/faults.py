@@ -1,0 +1,43 @@
+"""Faults: of an argument, which is named, and of a capture."""
+
+from __future__ import annotations
+
+from typing import Any, Sequence
+
+# The statuses of the header from 1 on: the field that each names, and its words.
+STATUSES = [
+    ("robustness", "the robustness variable is out of range"),
+    ("query_interval", "the query interval is out of range"),
+    ("response_interval", "the response interval is out of range or not below the query interval"),
+    ("last_member_interval", "the last member query interval is out of range"),
+    ("groups", "the limit of groups is out of range"),
+    ("group_sources", "the limit of sources of a group is out of range"),
+    ("sources", "the limit of sources is out of range"),
+    ("scheduled", "the limit of schedules is out of range"),
+    ("own", "no router may send queries from the own address"),
+    ("memory", "the memory is too small"),
+    ("now", "the time is later than 2^53 milliseconds"),
+    ("workspace", "the workspace is too small for the link"),
+]
+FIELDS = [field for field, _ in STATUSES]
+MEMORY, MOMENT = FIELDS.index("memory") + 1, FIELDS.index("now") + 1
+
+
+class Fault(ValueError):
+    """An argument that no link takes. `field` is its name."""
+
+    def __init__(self, field: str, why: str) -> None:
+        super().__init__(f"{field}: {why}")
+        self.field = field
+
+    @classmethod
+    def of_status(cls, status: int) -> Fault:
+        return cls(*STATUSES[status - 1])
+
+
+class CaptureFault(ValueError):
+    """Why a capture was not read to its end, in the words of docs/FORMATS.md. `lines` has what was read before."""
+
+    def __init__(self, why: str, lines: Sequence[Any]) -> None:
+        super().__init__(why)
+        self.lines = lines

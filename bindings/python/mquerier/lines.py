@@ -1,0 +1,169 @@
+"""The lines of captures as objects. docs/FORMATS.md has each line."""
+
+from __future__ import annotations
+
+import dataclasses
+import ipaddress
+import re
+from typing import List, Optional, Tuple, Union
+
+from ._types import Address, Dropped, Group, Source
+
+
+@dataclasses.dataclass(frozen=True)
+class Packet:
+    """A record of a capture. `message` is the line of its message or of the message's fault; or `other`, `cut` or `fragment`, without
+    a family and a source."""
+
+    number: int
+    time: int
+    family: Optional[str]
+    source: Optional[Address]
+    message: str
+
+
+@dataclasses.dataclass(frozen=True)
+class Sent:
+    """A query that the querier sends."""
+
+    time: int
+    destination: Address
+    message: bytes
+
+
+@dataclasses.dataclass(frozen=True)
+class Received:
+    """A datagram: how many of its records were applied, ignored and refused, or why it was dropped."""
+
+    time: int
+    number: int
+    source: Address
+    applied: int = 0
+    ignored: int = 0
+    refused: int = 0
+    dropped: Optional[Dropped] = None
+
+
+@dataclasses.dataclass(frozen=True)
+class Skipped:
+    """A record that is no message of the family: `other`, `cut` or `fragment`."""
+
+    time: int
+    number: int
+    why: str
+
+
+@dataclasses.dataclass(frozen=True)
+class Change:
+    """A group whose filter changed. `filter` is `none`; `include`: only `sources` are forwarded; or `exclude`: all but `sources`."""
+
+    time: int
+    group: Address
+    filter: str
+    sources: Tuple[Address, ...]
+
+
+@dataclasses.dataclass(frozen=True)
+class End:
+    """The end of a replay. A `Group` follows for each group, and then `Totals`."""
+
+    time: int
+    is_querier: bool
+
+
+@dataclasses.dataclass(frozen=True)
+class Totals:
+    """What the link counted."""
+
+    received: int
+    dropped: int
+    applied: int
+    ignored: int
+    refused: int
+    sent: int
+    unsent: int
+
+
+Event = Union[Sent, Received, Skipped, Change, End, Group, Totals]
+
+
+@dataclasses.dataclass(frozen=True)
+class Finding:
+    """What a querier does otherwise than is wanted. `kind` is `missing`, `extra`, `differs` or `general`; `detail` has the field or the
+    interval; `section` is None if it was not asked for."""
+
+    time: int
+    kind: str
+    group: Optional[Address]
+    source: Optional[Address]
+    section: Optional[str]
+    detail: str = ""
+
+
+FINDING = re.compile(
+    r"(?P<time>\d+) (?:"
+    r"(?P<kind>missing|extra) (?P<asked>[^ (]+(?: [^ (]+)?)"
+    r"|(?P<differs>differs) (?P<of>.+?): (?P<detail>\w.*?)"
+    r"|(?P<general>general) (?P<interval>.*?)"
+    r")(?: \((?P<section>[^)]*)\))?"
+)
+
+
+def packet_of(line: str) -> Packet:
+    number, time, *rest = line.split(" ", 4)
+    if len(rest) == 1:
+        return Packet(int(number), int(time), None, None, rest[0])
+    return Packet(int(number), int(time), rest[1], ipaddress.ip_address(rest[0]), rest[2])
+
+
+def event_of(line: str) -> Event:
+    words = line.split(" ")
+    if words[0] == "end":
+        return End(int(words[1]), words[2] == "querier")
+    if words[0] == "group":
+        return group_of(words[1:])
+    if words[0] == "counts":
+        return Totals(**dict(zip(words[1::2], map(int, words[2::2]))))
+    time, kind, rest = int(words[0]), words[1], words[2:]
+    if kind == "send":
+        return Sent(time, ipaddress.ip_address(rest[0]), bytes.fromhex(rest[1]))
+    if kind == "skip":
+        return Skipped(time, int(rest[0]), rest[1])
+    if kind == "change":
+        sources = tuple(ipaddress.ip_address(it.lstrip("!")) for it in rest[2:])
+        return Change(time, ipaddress.ip_address(rest[0]), rest[1], sources)
+    number, source, numbers = int(rest[0]), ipaddress.ip_address(rest[1]), list(map(int, rest[3:]))
+    if rest[2] == "dropped":
+        return Received(time, number, source, dropped=Dropped(numbers[0]))
+    applied, ignored, refused = numbers
+    return Received(time, number, source, applied, ignored, refused)
+
+
+def group_of(words: List[str]) -> Group:
+    """The group of a line, by its words after the first."""
+    address, mode, *rest = words
+    deadline = int(rest.pop(0)) if mode == "exclude" else None
+    hosts = {}
+    while len(rest) > 1 and rest[-2] in ("v1", "v2"):
+        hosts[rest[-2]] = int(rest[-1])
+        del rest[-2:]
+    sources = tuple(source_of(it) for it in rest)
+    return Group(ipaddress.ip_address(address), deadline, sources, hosts.get("v1"), hosts.get("v2"))
+
+
+def source_of(word: str) -> Source:
+    if word.startswith("!"):
+        return Source(ipaddress.ip_address(word[1:]), None)
+    address, _, deadline = word.partition("=")
+    return Source(ipaddress.ip_address(address), int(deadline))
+
+
+def finding_of(line: str) -> Finding:
+    found = FINDING.fullmatch(line)
+    if found is None:
+        raise ValueError(f"not a line of a check: {line}")
+    it = found.groupdict()
+    asked = [ipaddress.ip_address(word) for word in (it["asked"] or it["of"] or "").split()]
+    group, source = [*asked, None, None][:2]
+    kind = it["kind"] or it["differs"] or it["general"]
+    return Finding(int(it["time"]), kind, group, source, it["section"], it["detail"] or it["interval"] or "")

@@ -1,0 +1,184 @@
+"""Links: what they return, faults, wrong arguments, memory and threads."""
+
+import copy
+import gc
+import ipaddress
+import pickle
+import re
+import threading
+
+import mquerier
+import pytest
+from conftest import TOP
+from mquerier import Dropped, Fault, Link, faults
+
+HOST, GROUP = "10.0.0.1", "239.1.2.3"
+JOIN = bytes.fromhex("1600f8faef010203")
+HEADER = open(f"{TOP}/include/mquerier.h", encoding="utf-8").read()
+
+
+def made(**more):
+    return Link("igmp", own="10.0.0.9", **more)
+
+
+def test_a_use():
+    link = made()
+    first = link.tick(0)
+    assert [str(it.destination) for it in first.queries] == ["224.0.0.1"] and link.next_deadline == 31250
+    answer = link.receive(HOST, JOIN, 40)
+    assert (answer.dropped, answer.applied, answer.queries) == (None, 1, ())
+    assert link.changed == (ipaddress.ip_address(GROUP),) and link.forwards(GROUP, "10.0.0.5")
+    assert link.group(GROUP).deadline == 260040 and link.group(GROUP).v2 == 260040 and link.group("239.1.2.4") is None
+    assert link.receive(HOST, JOIN[:-1], 50).dropped is Dropped.CHECKSUM
+    assert link.counts.received == 2 and link.counts.dropped_by[Dropped.CHECKSUM] == 1
+    assert link.counts.parsed[mquerier.Parsed.OLDER_REPORT] == 1
+    while link.next_deadline <= 280000:
+        link.tick(link.next_deadline)
+    assert not link.forwards(GROUP, "10.0.0.5") and link.groups() == []
+
+
+def test_another_querier():
+    link = Link("mld", own="fe80::9")
+    query = bytes.fromhex("8200ca4d27100000") + bytes(16) + bytes.fromhex("027d0000")
+    assert "checksum" in mquerier.message_line("mld", query, "fe80::2", "ff02::1")
+    total = sum(int.from_bytes(it[at : at + 2], "big") for it in (ip("fe80::2"), ip("ff02::1"), query) for at in range(0, len(it), 2))
+    rest = (total + len(query) + 58 - 0xCA4D) % 0xFFFF
+    query = query[:2] + (0xFFFF - rest).to_bytes(2, "big") + query[4:]
+    assert mquerier.message_line("mld", query, "fe80::2", "ff02::1").startswith("query v2 group :: response 10000")
+    assert link.is_querier and link.other_querier is None
+    assert link.receive("fe80::2", query, 5, destination="ff02::1").dropped is None
+    assert not link.is_querier and link.other_querier == (ipaddress.ip_address("fe80::2"), 255005)
+    assert link.receive("fe80::2", query, 5, destination="ff02::1", hop_limit=2).dropped is Dropped.HOP_LIMIT
+    assert link.receive("fe80::2", query, 5, destination="ff02::1", alert=False).dropped is Dropped.NO_ALERT
+
+
+def ip(text):
+    return ipaddress.ip_address(text).packed
+
+
+@pytest.mark.parametrize(
+    "field, value",
+    [
+        ("robustness", 0), ("robustness", 8), ("robustness", -1), ("query_interval", 31745), ("response_interval", 125000),
+        ("last_member_interval", 99), ("groups", 0), ("groups", 65536), ("group_sources", 1025), ("sources", 0), ("scheduled", 2**32),
+        ("own", "0.0.0.0"), ("own", "224.0.0.1"), ("own", "fe80::9"), ("own", "10.0.0"), ("own", b"123"), ("start", 2**53 + 1),
+        ("start", -1), ("family", "ipv4"),
+    ],
+)  # fmt: skip
+def test_fault_names_its_field(field, value):
+    words = {"family": "igmp", "own": "10.0.0.9", field: value}
+    with pytest.raises(Fault) as fault:
+        Link(**words)
+    assert fault.value.field == field and str(fault.value).startswith(field)
+
+
+def test_faults_of_calls():
+    link = made()
+    for field, call in [
+        ("now", lambda: link.tick(2**53 + 1)),
+        ("now", lambda: link.receive(HOST, JOIN, -1)),
+        ("source", lambda: link.receive("fe80::1", JOIN, 0)),
+        ("source", lambda: link.receive(b"\x0a\0\0", JOIN, 0)),
+        ("group", lambda: link.forwards("ff02::1", HOST)),
+        ("group", lambda: link.group("239.1.2")),
+        ("hop_limit", lambda: Link("mld", "fe80::9").receive("fe80::1", b"", 0, destination="ff02::1", hop_limit=256)),
+    ]:
+        with pytest.raises(Fault) as fault:
+            call()
+        assert fault.value.field == field
+    assert link.counts.received == 0 and link.next_deadline == 0
+
+
+@pytest.mark.parametrize(
+    "call",
+    [
+        lambda link: link.tick(1.5),
+        lambda link: link.tick(None),
+        lambda link: link.tick("1"),
+        lambda link: link.receive(HOST, "text", 0),
+        lambda link: link.receive(HOST, 8, 0),
+        lambda link: link.receive(HOST, None, 0),
+        lambda link: link.receive(167772161, JOIN, 0),
+        lambda link: link.forwards(GROUP, None),
+        lambda link: made(robustness="2"),
+        lambda link: made(nothing=2),
+        lambda link: Link("mld", "fe80::9").receive("fe80::1", JOIN, 0),
+        copy.copy,
+        copy.deepcopy,
+        pickle.dumps,
+    ],
+)
+def test_wrong_types(call):
+    with pytest.raises(TypeError):
+        call(made())
+
+
+@pytest.mark.parametrize("length", [0, 1, 3, 7, 9, 1480, 65535, 1 << 20])
+def test_any_length(length):
+    assert made().receive(HOST, bytes(length), 0).dropped in (Dropped.TRUNCATED, Dropped.CHECKSUM)
+
+
+def test_anything_with_bytes():
+    for body in (bytearray(JOIN), memoryview(JOIN), memoryview(JOIN + b"more")[:8]):
+        assert made().receive(HOST, body, 0).applied == 1
+
+
+def test_texts_and_fields_are_those_of_the_header():
+    texts = HEADER[HEADER.index("mq_status_text") :].partition("};")[0]
+    assert [text for _, text in faults.STATUSES] == re.findall(r'"([^"]+)"', texts)[1:]
+    reasons = re.findall(r"MQ_DROPPED_(\w+)(?: = 1)?[,\s]", HEADER[HEADER.index("MQ_DROPPED_TRUNCATED = 1") :].partition("}")[0])
+    assert [it.name for it in Dropped] == reasons
+    for kind, prefix in ((mquerier.Parsed, "MQ_PARSED_"), (mquerier.Refused, "MQ_REFUSED_")):
+        names = HEADER[HEADER.index(f"enum {{ {prefix}") if prefix == "MQ_PARSED_" else HEADER.index(f"  {prefix}LONG") :]
+        assert [it.name for it in kind] == re.findall(rf"{prefix}(\w+)", names.partition("}")[0])
+
+
+def resident():
+    with open("/proc/self/statm", encoding="ascii") as it:
+        return int(it.read().split()[1]) * 4096
+
+
+def test_a_million_calls_take_no_memory():
+    link = made()
+    for now in range(1_000_000):
+        link.receive(HOST, JOIN, now) if now % 2 else link.tick(now)
+        if now == 100_000:
+            before = resident()
+    assert resident() - before < 1 << 20
+
+
+def test_links_that_end_give_their_memory_back():
+    for number in range(300):
+        made().tick(0)
+        if number == 20:
+            gc.collect()
+            before = resident()
+    gc.collect()
+    assert resident() - before < 8 << 20
+
+
+def played(link, seen):
+    for now in range(0, 300_000, 50):
+        answer = link.receive(HOST, JOIN, now) if now % 3 else link.tick(now)
+        seen.extend((now, it.message) for it in answer.queries)
+
+
+def test_threads_with_a_link_each():
+    alone, each = [], [[] for _ in range(8)]
+    played(made(), alone)
+    threads = [threading.Thread(target=played, args=(made(), it)) for it in each]
+    for it in threads:
+        it.start()
+    for it in threads:
+        it.join()
+    assert all(it == alone for it in each)
+
+
+def test_threads_that_share_a_link():
+    link, seen = made(), [[] for _ in range(8)]
+    threads = [threading.Thread(target=played, args=(link, it)) for it in seen]
+    for it in threads:
+        it.start()
+    for it in threads:
+        it.join()
+    assert link.counts.sent == sum(map(len, seen)) and link.counts.dropped == 0

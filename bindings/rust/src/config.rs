@@ -1,0 +1,92 @@
+//! The configuration of a link.
+
+use crate::raw::{self, mq_version, VERSION};
+use crate::Family;
+
+/// The configuration of a link: the standards' defaults, unless a call of the builder sets another value. What is out of range is
+/// reported when a link is made.
+#[derive(Debug)]
+pub struct Config<F: Family> {
+    pub(crate) raw: raw::Config<F::Address>,
+}
+
+impl<F: Family> Clone for Config<F> {
+    fn clone(&self) -> Self {
+        *self
+    }
+}
+
+impl<F: Family> Copy for Config<F> {}
+
+macro_rules! setters {
+    ($($(#[$doc:meta])* $name:ident)*) => {
+        $(
+            $(#[$doc])*
+            #[must_use]
+            pub fn $name(mut self, $name: u32) -> Self {
+                self.raw.$name = $name;
+                self
+            }
+        )*
+    };
+}
+
+impl<F: Family> Config<F> {
+    /// Returns the defaults of RFC 3376 section 8 and RFC 3810 section 9. `own` is the source address of queries: for IGMP not 0.0.0.0, nor
+    /// 224.0.0.0 or above; for MLD of fe80::/10.
+    ///
+    /// # Panics
+    ///
+    /// If the archive has another version than this crate is for.
+    pub fn new(own: F::Address) -> Self {
+        // "Header and archive must be of one version"; all other calls need a configuration.
+        // SAFETY: "A pointer points to as many elements as its prototype says": `own` is one address.
+        let (version, raw) = unsafe { (mq_version(), (F::CALLS.defaults)(&own)) };
+        assert_eq!(version, VERSION, "libmquerier has another version than this crate is for");
+        Config { raw }
+    }
+
+    setters! {
+        /// Sets the Robustness Variable, 1 to 7.
+        robustness
+        /// Sets the Query Interval in seconds, 1 to 31744.
+        query_interval
+        /// Sets the Query Response Interval in milliseconds, 100 to 3174400, for MLD 1 to 8387584; below the query interval.
+        response_interval
+        /// Sets the Last Member Query Interval in milliseconds, 100 to 3174400, for MLD 1 to 8387584.
+        last_member_interval
+        /// Sets how many groups the link may have, 1 to 65535.
+        groups
+        /// Sets how many sources a group may have, 1 to 1024.
+        group_sources
+        /// Sets how many sources all groups may have together, 1 to 65535.
+        sources
+        /// Sets how many schedules of specific queries there may be, 1 to 65535; a group has up to two.
+        scheduled
+    }
+
+    /// Keeps 232.0.0.0/8 or ff3x::/32 for source-specific multicast (RFC 4604).
+    #[must_use]
+    pub fn source_specific(mut self, is_kept: bool) -> Self {
+        self.raw.source_specific = is_kept.into();
+        self
+    }
+
+    /// Returns how many bytes suffice for a link, wherever they begin.
+    pub fn size(&self) -> usize {
+        // SAFETY: "All other arguments are safe".
+        unsafe { (F::CALLS.size)(self.raw) }
+    }
+
+    /// Returns how many bytes suffice for a workspace, wherever they begin.
+    pub fn workspace_size(&self) -> usize {
+        // SAFETY: "All other arguments are safe".
+        unsafe { (F::CALLS.workspace_size)(self.raw) }
+    }
+
+    /// Returns how much room for queries suffices for each call, if no body is longer than `longest_body`: 1480 bytes on Ethernet.
+    pub fn outlet_bytes(&self, longest_body: u32) -> usize {
+        // SAFETY: "All other arguments are safe".
+        unsafe { (F::CALLS.outlet_bytes)(self.raw, longest_body) }
+    }
+}

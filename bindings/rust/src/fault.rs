@@ -1,0 +1,74 @@
+//! Why a call did nothing.
+
+use core::fmt;
+
+/// Why a call did nothing: a fault of the configuration, a memory that is too small, or a time out of range.
+#[derive(Clone, Copy, Debug, PartialEq, Eq, Hash)]
+#[non_exhaustive]
+pub enum Fault {
+    Robustness,
+    QueryInterval,
+    ResponseInterval,
+    LastMemberInterval,
+    Groups,
+    GroupSources,
+    Sources,
+    Scheduled,
+    OwnAddress,
+    /// The memory is too small, or the heap has none left.
+    Memory,
+    /// The time is later than [`LATEST`](crate::LATEST).
+    Moment,
+    /// The workspace was made for smaller limits than the link has.
+    Workspace,
+    /// A status that this crate does not know.
+    Unknown,
+}
+
+impl Fault {
+    const ALL: [Fault; 12] = [
+        Fault::Robustness,
+        Fault::QueryInterval,
+        Fault::ResponseInterval,
+        Fault::LastMemberInterval,
+        Fault::Groups,
+        Fault::GroupSources,
+        Fault::Sources,
+        Fault::Scheduled,
+        Fault::OwnAddress,
+        Fault::Memory,
+        Fault::Moment,
+        Fault::Workspace,
+    ];
+
+    /// Returns what a status of the header says.
+    pub(crate) fn of_status(status: u32) -> Result<(), Fault> {
+        match status {
+            crate::raw::DONE => Ok(()),
+            _ => Err(Fault::ALL.get(status as usize - 1).copied().unwrap_or(Fault::Unknown)),
+        }
+    }
+}
+
+impl fmt::Display for Fault {
+    fn fmt(&self, to: &mut fmt::Formatter<'_>) -> fmt::Result {
+        to.write_str(match self {
+            Fault::Robustness => "the robustness variable is out of range",
+            Fault::QueryInterval => "the query interval is out of range",
+            Fault::ResponseInterval => "the response interval is out of range or not below the query interval",
+            Fault::LastMemberInterval => "the last member query interval is out of range",
+            Fault::Groups => "the limit of groups is out of range",
+            Fault::GroupSources => "the limit of sources of a group is out of range",
+            Fault::Sources => "the limit of sources is out of range",
+            Fault::Scheduled => "the limit of schedules is out of range",
+            Fault::OwnAddress => "no router may send queries from the own address",
+            Fault::Memory => "the memory is too small",
+            Fault::Moment => "the time is later than 2^53 milliseconds",
+            Fault::Workspace => "the workspace is too small for the link",
+            Fault::Unknown => "not a status",
+        })
+    }
+}
+
+#[cfg(feature = "std")]
+impl std::error::Error for Fault {}

@@ -1,0 +1,146 @@
+//! Links: what calls return, faults, memory, threads.
+
+use mquerier::{
+    Config, Counts, Dropped, Envelope, Fault, Group, Igmp, Link, Mld, Parsed, Refused, Source, Workspace, LATEST,
+};
+
+const OWN: [u8; 4] = [10, 0, 0, 9];
+const HOST: [u8; 4] = [10, 0, 0, 1];
+const GROUP: [u8; 4] = [239, 1, 2, 3];
+const JOIN: [u8; 8] = [0x16, 0, 0xf8, 0xfa, 239, 1, 2, 3];
+/// IS_IN of 10.0.0.5, TO_EX {} for 239.1.2.4.
+const REPORT: [u8; 28] =
+    [0x22, 0, 0xea, 0xec, 0, 0, 0, 2, 4, 0, 0, 0, 239, 1, 2, 4, 3, 0, 0, 1, 239, 1, 2, 3, 10, 0, 0, 5];
+
+fn made() -> (Link<'static, Igmp>, Workspace<'static, Igmp>) {
+    let config = Config::<Igmp>::new(OWN);
+    (Link::new(&config, 0).unwrap(), Workspace::new(&config).unwrap())
+}
+
+#[test]
+fn groups_and_counts() {
+    let (mut link, mut workspace) = made();
+    let answer = link.receive(&mut workspace, HOST, &REPORT, 40, &mut []).unwrap();
+    assert_eq!((answer.applied, answer.sent, answer.unsent), (2, 0, 1));
+    assert!(workspace.changed().eq([GROUP, [239, 1, 2, 4]]));
+    let all = link.groups();
+    assert_eq!((all.len(), link.len()), (2, 2));
+    let (group, sources) = link.group(GROUP).unwrap();
+    assert_eq!((group.address(), group.deadline(), group.v1(), group.v2()), (GROUP, None, None, None));
+    assert_eq!((sources[0].address(), sources[0].deadline()), ([10, 0, 0, 5], Some(260_040)));
+    assert_eq!(link.group([239, 1, 2, 4]).unwrap().0.deadline(), Some(260_040));
+    assert!(link.group([239, 1, 2, 5]).is_none());
+
+    let (mut groups, mut sources) = ([Group::default(); 1], [Source::default(); 4]);
+    assert_eq!(link.groups_into(0, &mut groups, &mut sources), (1, 1));
+    assert_eq!(link.groups_into(1, &mut groups, &mut sources), (1, 0));
+    assert_eq!(link.groups_into(2, &mut groups, &mut sources), (0, 0));
+    assert_eq!(link.groups_into(usize::MAX, &mut groups, &mut []), (0, 0));
+    assert_eq!(link.group_into(GROUP, &mut []).unwrap().sources(), 1);
+
+    link.receive(&mut workspace, HOST, &JOIN[..7], 50, &mut []).unwrap();
+    let counts: Counts = link.counts();
+    assert_eq!((counts.received, counts.dropped, counts.applied, counts.unsent), (2, 1, 2, 1));
+    assert_eq!((counts.dropped_by(Dropped::Checksum), counts.dropped_by(Dropped::Other)), (1, 0));
+    assert_eq!((counts.parsed(Parsed::Report), counts.refused_by(Refused::Long)), (1, 0));
+}
+
+#[test]
+fn another_querier() {
+    let (mut link, mut workspace) = made();
+    let query = [0x11, 0x64, 0xec, 0x1e, 0, 0, 0, 0, 2, 125, 0, 0];
+    assert!(link.is_querier() && link.other_querier().is_none());
+    link.receive(&mut workspace, [10, 0, 0, 2], &query, 5, &mut []).unwrap();
+    assert!(!link.is_querier());
+    assert_eq!(link.other_querier(), Some(([10, 0, 0, 2], 255_005)));
+}
+
+#[test]
+fn faults() {
+    let good = Config::<Igmp>::new(OWN);
+    for (config, fault) in [
+        (good.robustness(0), Fault::Robustness),
+        (good.query_interval(0), Fault::QueryInterval),
+        (good.response_interval(125_000), Fault::ResponseInterval),
+        (good.last_member_interval(99), Fault::LastMemberInterval),
+        (good.groups(0), Fault::Groups),
+        (good.group_sources(1025), Fault::GroupSources),
+        (good.sources(u32::MAX), Fault::Sources),
+        (good.scheduled(65536), Fault::Scheduled),
+        (Config::new([0; 4]), Fault::OwnAddress),
+    ] {
+        assert_eq!(Link::new(&config, 0).unwrap_err(), fault);
+        assert_eq!(Workspace::new(&config).unwrap_err(), fault);
+        assert!(fault.to_string().len() > 20);
+    }
+    assert_eq!(Link::new(&good, LATEST + 1).unwrap_err(), Fault::Moment);
+    assert_eq!(Link::init(&good, 0, &mut [0; 64]).unwrap_err(), Fault::Memory);
+    assert_eq!(Workspace::init(&good, &mut []).unwrap_err(), Fault::Memory);
+    let (mut link, mut workspace) = made();
+    assert_eq!(link.tick(&mut workspace, LATEST + 1, &mut []).unwrap_err(), Fault::Moment);
+    let mut small = Workspace::new(&good.groups(1)).unwrap();
+    assert_eq!(link.receive(&mut small, HOST, &JOIN, 0, &mut []).unwrap_err(), Fault::Workspace);
+    assert_eq!(link.counts(), Counts::default());
+}
+
+#[test]
+fn texts_are_those_of_the_header() {
+    let folder = std::env::var("MQUERIER_LIB").expect("MQUERIER_LIB is lib/ of the repository");
+    let header = std::fs::read_to_string(folder + "/../include/mquerier.h").unwrap();
+    for text in [Fault::ResponseInterval.to_string(), Fault::Workspace.to_string(), Dropped::Group.to_string()] {
+        assert!(header.contains(&format!("\"{text}\"")), "{text}");
+    }
+}
+
+#[test]
+fn memory_of_any_beginning() {
+    let config = Config::<Mld>::new([0xfe, 0x80, 0, 0, 0, 0, 0, 0, 0, 0, 0, 0, 0, 0, 0, 9])
+        .groups(4)
+        .sources(8)
+        .group_sources(4);
+    assert!(config.size() <= Mld::size(4, 8) && config.workspace_size() <= Mld::workspace_size(4, 4));
+    for before in 0..17 {
+        let (mut memory, mut work) = (vec![7; before + config.size()], vec![7; before + config.workspace_size()]);
+        let mut link = Link::init(&config, 0, &mut memory[before..]).unwrap();
+        let mut workspace = Workspace::init(&config, &mut work[before..]).unwrap();
+        let mut queries = vec![0; config.outlet_bytes(1480)];
+        let answer = link.tick(&mut workspace, 0, &mut queries).unwrap();
+        assert_eq!(answer.queries().map(|it| it.message.len()).collect::<Vec<_>>(), [28]);
+        let envelope = Envelope { source: [0; 16], destination: [0; 16], hop_limit: 1, alert: true };
+        for length in 0..40 {
+            let body = vec![131; length];
+            assert!(link.receive(&mut workspace, &envelope, &body, 1, &mut queries).unwrap().dropped.is_some());
+        }
+    }
+}
+
+#[test]
+fn lines() {
+    let mut room = [0; 100];
+    assert_eq!(mquerier::igmp_line(&JOIN, &mut room), "report v2 group 239.1.2.3");
+    assert_eq!(mquerier::igmp_line(&JOIN, &mut room[..6]), "report");
+    assert_eq!(mquerier::igmp_line(&[], &mut room), "fault 1 truncated at 0");
+    assert_eq!(mquerier::mld_line([0; 16], [0; 16], &JOIN, &mut room), "fault 2 checksum");
+}
+
+#[test]
+fn threads_with_a_link_each() {
+    let played = |(mut link, mut workspace): (Link<Igmp>, Workspace<Igmp>)| {
+        let (mut queries, mut sent) = ([0; 4096], vec![]);
+        for now in (0..300_000).step_by(50) {
+            let answer = link.receive(&mut workspace, HOST, &REPORT, now, &mut queries).unwrap();
+            sent.extend(answer.queries().map(|it| (now, it.destination, it.message.to_vec())));
+        }
+        sent
+    };
+    let alone = played(made());
+    let mut threads = vec![];
+    for _ in 0..8 {
+        let here = made();
+        threads.push(std::thread::spawn(move || played(here)));
+    }
+    for it in threads {
+        assert_eq!(it.join().unwrap(), alone);
+    }
+    assert!(alone.len() > 2);
+}
