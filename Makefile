@@ -113,7 +113,7 @@ mutants: needs-gate
 	@tools/gate mutants
 
 # A querier on an interface of Linux, over the library: an example in C, outside of the proofs.
-LIVE := $(wildcard examples/live/*.c examples/live/*.h)
+LIVE := $(wildcard daemon/*.c daemon/*.h)
 live: bin/mquerier-live
 
 bin/mquerier-live: $(LIVE) include/mquerier.h lib/libmquerier.a | needs-library
@@ -125,7 +125,7 @@ bin/mquerier-live: $(LIVE) include/mquerier.h lib/libmquerier.a | needs-library
 SECONDS := 600
 live-test: needs-live live
 	@examples/check
-	@examples/live/test
+	@daemon/test
 	@conform/vectors --seconds $(SECONDS)
 
 # conform, which holds any router to the standards (docs/CONFORM.md), held to routers here: faulty ones of its own, each of which

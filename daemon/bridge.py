@@ -334,7 +334,7 @@ def refused_databases(lab):
         (1, [], ["br0", "a-name-that-no-port-has"], "a-name-that-no-port-has: No such device"),
         (1, weak, ["br0", PORT], "br0: Operation not permitted"),
     ]:
-        command = [*before, PROGRAM, PORT, "igmp", "--own", "10.0.0.1", "--mdb", *words]
+        command = [*before, PROGRAM, "interface", PORT, "igmp", "--own", "10.0.0.1", "--mdb", *words]
         command = ["ip", "netns", "exec", lab.switch, *command]
         ran = subprocess.run(command, capture_output=True, text=True, timeout=10, check=False)
         is_true(ran.returncode == status and ran.stdout == "" and why in ran.stderr, f"{words}: {ran}")

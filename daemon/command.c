@@ -12,7 +12,7 @@
 #include <string.h>
 
 static const char HELP[] =
-    "Usage: mquerier-live INTERFACE igmp|mld --own ADDR [OPTION]..\n"
+    "Usage: mquerier-live interface INTERFACE igmp|mld --own ADDR [OPTION]..\n"
     "\n"
     "Is the multicast querier of the link at INTERFACE, an Ethernet interface of Linux: hears the IGMP or MLD messages\n"
     "there, sends queries, and prints what it does. It has to be root, or have the capability CAP_NET_RAW (with --mdb\n"
@@ -32,7 +32,7 @@ static const char HELP[] =
     "  --changes            print what is forwarded of a group whenever that changes\n"
     "  --mdb BRIDGE PORT    have the bridge BRIDGE of Linux forward to its port PORT what is forwarded of each group, by\n"
     "                       entries of its multicast database. INTERFACE is PORT, or BRIDGE where all hosts are at one\n"
-    "                       port. examples/live/README.md says how the bridge has to be set\n"
+    "                       port. daemon/README.md says how the bridge has to be set\n"
     "\n"
     "Lines on standard output, T in milliseconds from the start, ADDR an address:\n"
     "  T send ADDR HEX               a query that it sends to ADDR, without its IP header\n"

@@ -8,7 +8,7 @@ import threading
 import time
 
 HERE = os.path.dirname(os.path.abspath(__file__))
-PROGRAM = os.path.join(os.path.dirname(os.path.dirname(HERE)), "bin", "mquerier-live")
+PROGRAM = os.path.join(os.path.dirname(HERE), "bin", "mquerier-live")
 ADDRESSES = {"igmp": "10.0.0.{}", "mld": "fe80::{:x}"}
 # Milliseconds: the Last Member Query Time and the Group Membership Interval that come of SHORT.
 SHORT = ["--qi", "2", "--qri", "1000", "--lmqi", "500"]
@@ -56,7 +56,7 @@ class Querier:
     """A running mquerier-live."""
 
     def __init__(self, space, interface, family, own, *options):
-        words = ["ip", "netns", "exec", space, PROGRAM, interface, family, "--own", own, *SHORT, *options]
+        words = ["ip", "netns", "exec", space, PROGRAM, "interface", interface, family, "--own", own, *SHORT, *options]
         # pylint: disable-next=consider-using-with
         self.process = subprocess.Popen(words, stdout=subprocess.PIPE, stderr=subprocess.PIPE, text=True)
         self.lines, self.errors, self.news = [], [], threading.Condition()

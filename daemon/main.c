@@ -274,7 +274,9 @@ static void run(struct live *live, const sigset_t *waiting) {
 
 int main(int count, char **words) {
     static struct live live;
-    struct command command = read_command(count, words);
+    if (count < 2 || strcmp(words[1], "interface") != 0)
+        fail(STATUS_USAGE, "the first word is needed", "interface");
+    struct command command = read_command(count - 1, words + 1);
     live.interface = command.interface;
     memcpy(live.own, command.own, sizeof live.own);
     sigset_t waiting = handle_signals();
