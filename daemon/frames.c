@@ -10,10 +10,16 @@ enum {
     IPV6 = 40,
     HOP_BY_HOP = 8,
     PROTOCOL_IGMP = 2,
+    PROTOCOL_PIM = 103,
+    NO_PROTOCOL = 256,
     NEXT_HOP_BY_HOP = 0,
     NEXT_ICMPV6 = 58,
     OPTION_PAD1 = 0,
     OPTION_ALERT = 5,
+    PIM = 4, /* the head of a message of PIM */
+    PIM_HELLO = 0x20,
+    PIM_HOLDTIME = 1,
+    PIM_DEFAULT_SECONDS = 105,
 };
 
 static size_t word_at(const uint8_t *bytes) {
@@ -35,22 +41,20 @@ static size_t header_checksum(const uint8_t *header, size_t length) {
     return sum ^ 0xffff;
 }
 
-bool read_igmp_frame(const uint8_t *frame, size_t length, struct datagram *datagram) {
-    if (length < ETHERNET + IPV4 || word_at(frame + 12) != 0x0800)
-        return false;
-    const uint8_t *packet = frame + ETHERNET;
+/* Reads an IPv4 packet. Returns its protocol, or NO_PROTOCOL if it is malformed or a fragment. */
+static unsigned read_ipv4(const uint8_t *packet, size_t length, struct datagram *datagram) {
+    if (length < IPV4 || packet[0] >> 4 != 4)
+        return NO_PROTOCOL;
     size_t header = 4 * (size_t)(packet[0] & 0x0f), total = word_at(packet + 2);
-    if (packet[0] >> 4 != 4 || packet[9] != PROTOCOL_IGMP)
-        return false;
-    if (header < IPV4 || total < header || total > length - ETHERNET || header_checksum(packet, header) != 0)
-        return false;
+    if (header < IPV4 || total < header || total > length || header_checksum(packet, header) != 0)
+        return NO_PROTOCOL;
     if (word_at(packet + 6) & 0x3fff) /* more fragments, or an offset */
-        return false;
+        return NO_PROTOCOL;
     memcpy(datagram->source, packet + 12, 4);
     memcpy(datagram->destination, packet + 16, 4);
-    datagram->body = packet + header; /* behind the options */
+    datagram->body = packet + header; /* after the options */
     datagram->length = total - header;
-    return true;
+    return packet[9];
 }
 
 /* Whether a Router Alert option for MLD stands in the options of a hop-by-hop header. */
@@ -74,31 +78,54 @@ static bool is_mld(const uint8_t *body, size_t length) {
     return length > 0 && ((body[0] >= 130 && body[0] <= 132) || body[0] == 143);
 }
 
-bool read_mld_frame(const uint8_t *frame, size_t length, struct datagram *datagram) {
-    if (length < ETHERNET + IPV6 || word_at(frame + 12) != 0x86dd)
-        return false;
-    const uint8_t *packet = frame + ETHERNET, *body = packet + IPV6;
-    size_t payload = word_at(packet + 4), next = packet[6];
-    if (packet[0] >> 4 != 6 || payload > length - ETHERNET - IPV6)
-        return false;
+/* Reads an IPv6 packet. Returns the header that follows those that are read, or NO_PROTOCOL if the packet is malformed. */
+static unsigned read_ipv6(const uint8_t *packet, size_t length, struct datagram *datagram) {
+    if (length < IPV6 || packet[0] >> 4 != 6 || word_at(packet + 4) > length - IPV6)
+        return NO_PROTOCOL;
+    const uint8_t *body = packet + IPV6;
+    size_t payload = word_at(packet + 4);
+    unsigned next = packet[6];
     datagram->alert = false;
     if (next == NEXT_HOP_BY_HOP) {
         size_t options = payload < HOP_BY_HOP ? 0 : 8 + 8 * (size_t)body[1];
         if (options == 0 || options > payload)
-            return false;
+            return NO_PROTOCOL;
         next = body[0];
         datagram->alert = has_alert(body + 2, options - 2);
         body += options;
         payload -= options;
     }
-    if (next != NEXT_ICMPV6 || !is_mld(body, payload)) /* a fragment has another next header */
-        return false;
     memcpy(datagram->source, packet + 8, 16);
     memcpy(datagram->destination, packet + 24, 16);
     datagram->hop_limit = packet[7];
     datagram->body = body;
     datagram->length = payload;
-    return true;
+    return next;
+}
+
+enum carried read_frame(const uint8_t *frame, size_t length, struct datagram *datagram) {
+    size_t ethertype = length < ETHERNET ? 0 : word_at(frame + 12);
+    if (ethertype != 0x0800 && ethertype != 0x86dd)
+        return CARRIED_NOTHING;
+    datagram->is_ipv6 = ethertype == 0x86dd;
+    unsigned next = (datagram->is_ipv6 ? read_ipv6 : read_ipv4)(frame + ETHERNET, length - ETHERNET, datagram);
+    if (next == PROTOCOL_PIM && datagram->length >= PIM && datagram->body[0] == PIM_HELLO)
+        return CARRIED_HELLO;
+    if (datagram->is_ipv6 ? next == NEXT_ICMPV6 && is_mld(datagram->body, datagram->length) : next == PROTOCOL_IGMP)
+        return CARRIED_DATAGRAM;
+    return CARRIED_NOTHING;
+}
+
+unsigned hello_seconds(const struct datagram *hello) {
+    for (size_t at = PIM; hello->length - at >= 6;) {
+        size_t length = 4 + word_at(hello->body + at + 2);
+        if (word_at(hello->body + at) == PIM_HOLDTIME)
+            return (unsigned)word_at(hello->body + at + 4);
+        if (length > hello->length - at)
+            break;
+        at += length;
+    }
+    return PIM_DEFAULT_SECONDS;
 }
 
 static size_t whole_frame(uint8_t *frame, size_t length) {
@@ -108,8 +135,8 @@ static size_t whole_frame(uint8_t *frame, size_t length) {
 }
 
 /* RFC 3376 section 4: TTL 1, Type of Service 0xc0, Router Alert. The packet says that it may not be fragmented. */
-size_t write_igmp_frame(const uint8_t mac[MAC], const uint8_t *own, const uint8_t *destination, const uint8_t *message,
-                        size_t length, uint8_t *frame) {
+static size_t write_igmp_frame(const uint8_t mac[MAC], const uint8_t *own, const uint8_t *destination, const uint8_t *message,
+                               size_t length, uint8_t *frame) {
     static const uint8_t start[IPV4_ALERT] = {0x46, 0xc0, 0, 0, 0, 0, 0x40, 0, 1, PROTOCOL_IGMP, [20] = 0x94, 4, 0, 0};
     const uint8_t group[3] = {0x01, 0x00, 0x5e};
     memcpy(frame, group, 3); /* RFC 1112 section 6.4: and the low 23 bits of the address */
@@ -128,8 +155,8 @@ size_t write_igmp_frame(const uint8_t mac[MAC], const uint8_t *own, const uint8_
 }
 
 /* RFC 3810 section 5: hop limit 1, Router Alert in a hop-by-hop header, which PadN fills up. */
-size_t write_mld_frame(const uint8_t mac[MAC], const uint8_t *own, const uint8_t *destination, const uint8_t *message,
-                       size_t length, uint8_t *frame) {
+static size_t write_mld_frame(const uint8_t mac[MAC], const uint8_t *own, const uint8_t *destination, const uint8_t *message,
+                              size_t length, uint8_t *frame) {
     static const uint8_t options[HOP_BY_HOP] = {NEXT_ICMPV6, 0, OPTION_ALERT, 2, 0, 0, 1, 0};
     memset(frame, 0x33, 2); /* and the low 32 bits of the address */
     memcpy(frame + 2, destination + 12, 4);
@@ -146,4 +173,9 @@ size_t write_mld_frame(const uint8_t mac[MAC], const uint8_t *own, const uint8_t
     memcpy(packet + IPV6, options, HOP_BY_HOP);
     memcpy(packet + IPV6 + HOP_BY_HOP, message, length);
     return whole_frame(frame, ETHERNET + IPV6 + HOP_BY_HOP + length);
+}
+
+size_t write_frame(bool is_mld, const uint8_t mac[MAC], const uint8_t *own, const uint8_t *destination, const uint8_t *message,
+                   size_t length, uint8_t *frame) {
+    return (is_mld ? write_mld_frame : write_igmp_frame)(mac, own, destination, message, length, frame);
 }

@@ -6,17 +6,25 @@
 #include <stdbool.h>
 #include <string.h>
 #include <sys/socket.h>
+#include <sys/time.h>
 #include <unistd.h>
 
-int netlink_open(void) {
-    const int is_on = 1;
-    struct sockaddr_nl any = {.nl_family = AF_NETLINK};
-    int netlink = socket(AF_NETLINK, SOCK_RAW | SOCK_CLOEXEC, NETLINK_ROUTE);
+enum { RECEIVE_ROOM = 1 << 20 };
+
+int netlink_open(uint32_t groups) {
+    const int is_on = 1, room = RECEIVE_ROOM;
+    struct timeval patience = {.tv_sec = 2};
+    struct sockaddr_nl any = {.nl_family = AF_NETLINK, .nl_groups = groups};
+    int netlink = socket(AF_NETLINK, SOCK_RAW | SOCK_CLOEXEC | (groups != 0 ? SOCK_NONBLOCK : 0), NETLINK_ROUTE);
     if (netlink < 0)
         return -1;
-    /* The kernel says in words why it refuses, and doesn't send the request back. */
+    if (setsockopt(netlink, SOL_SOCKET, SO_RCVBUFFORCE, &room, sizeof room) < 0)
+        setsockopt(netlink, SOL_SOCKET, SO_RCVBUF, &room, sizeof room);
+    /* The kernel says in words why it refuses, doesn't send the request back, and dumps only what is asked for. */
     if (setsockopt(netlink, SOL_NETLINK, NETLINK_EXT_ACK, &is_on, sizeof is_on) == 0
         && setsockopt(netlink, SOL_NETLINK, NETLINK_CAP_ACK, &is_on, sizeof is_on) == 0
+        && setsockopt(netlink, SOL_NETLINK, NETLINK_GET_STRICT_CHK, &is_on, sizeof is_on) == 0
+        && setsockopt(netlink, SOL_SOCKET, SO_RCVTIMEO, &patience, sizeof patience) == 0
         && bind(netlink, (struct sockaddr *)&any, sizeof any) == 0)
         return netlink;
     int error = errno;
@@ -105,8 +113,9 @@ static int read_end(const struct nlmsghdr *message, struct answer *answer) {
     return refused(answer, -end->error, has_words ? attribute_find(behind, last, NLMSGERR_ATTR_MSG) : NULL);
 }
 
+static uint32_t number; /* of the last request */
+
 int netlink_ask(int netlink, struct request *request, struct answer *answer) {
-    static uint32_t number;
     static uint8_t bytes[2 * GREATEST_ANSWER] __attribute__((aligned(NLMSG_ALIGNTO)));
     size_t kept = 0; /* the length of the one message that may come before the end */
     answer->message = bytes;
@@ -131,12 +140,56 @@ int netlink_ask(int netlink, struct request *request, struct answer *answer) {
     }
 }
 
-int netlink_ask_interface(int netlink, int index, struct answer *answer, const uint8_t **at, const uint8_t **end) {
-    struct request request;
+/* Reads the messages of one part of a dump. Returns whether it was the last part, with `*error`. */
+static bool read_part(const uint8_t *bytes, size_t length, netlink_each *each, void *context, struct answer *answer, int *error) {
+    const struct nlmsghdr *message = (const void *)bytes;
+    for (size_t left = length; NLMSG_OK(message, left); message = NLMSG_NEXT(message, left)) {
+        if (message->nlmsg_seq != number)
+            continue; /* what is left of an earlier answer */
+        if (message->nlmsg_flags & NLM_F_DUMP_INTR)
+            *error = EINTR;
+        if (message->nlmsg_type == NLMSG_ERROR || message->nlmsg_type == NLMSG_DONE) {
+            int32_t code = 0;
+            memcpy(&code, NLMSG_DATA(message), message->nlmsg_len < NLMSG_LENGTH(sizeof code) ? 0 : sizeof code);
+            if (code != 0)
+                *error = refused(answer, -code, NULL);
+            return true;
+        }
+        each(context, message);
+    }
+    return false;
+}
+
+int netlink_dump(int netlink, struct request *request, netlink_each *each, void *context, struct answer *answer) {
+    static uint8_t bytes[GREATEST_ANSWER] __attribute__((aligned(NLMSG_ALIGNTO)));
+    int error = 0;
+    request->header.nlmsg_seq = ++number;
+    request->header.nlmsg_flags = NLM_F_REQUEST | NLM_F_DUMP;
+    if (send(netlink, request, request->header.nlmsg_len, 0) < 0)
+        return refused(answer, errno, NULL);
+    for (;;) {
+        ssize_t length = recv(netlink, bytes, sizeof bytes, 0);
+        if (length < 0)
+            return refused(answer, errno, NULL);
+        if (read_part(bytes, (size_t)length, each, context, answer, &error))
+            return error == EINTR ? refused(answer, error, NULL) : error;
+    }
+}
+
+void request_link(struct request *request, uint16_t type, uint16_t flags, int index) {
     struct ifinfomsg head = {.ifi_family = AF_UNSPEC, .ifi_index = index};
-    request_begin(&request, RTM_GETLINK, 0, &head, sizeof head);
-    int error = netlink_ask(netlink, &request, answer);
-    *at = answer->message + NLMSG_ALIGN(sizeof head);
-    *end = answer->message + answer->length;
-    return error;
+    request_begin(request, type, flags, &head, sizeof head);
+}
+
+bool attribute_number(const uint8_t *at, const uint8_t *end, uint16_t type, uint32_t *number_of) {
+    const struct nlattr *found = attribute_find(at, end, type);
+    size_t length = found == NULL ? 0 : (size_t)(attribute_end(found) - attribute_data(found));
+    uint8_t byte;
+    if (length == sizeof byte) {
+        memcpy(&byte, attribute_data(found), sizeof byte);
+        *number_of = byte;
+    } else if (length >= sizeof *number_of) {
+        memcpy(number_of, attribute_data(found), sizeof *number_of);
+    }
+    return length == sizeof byte || length >= sizeof *number_of;
 }

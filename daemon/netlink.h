@@ -1,8 +1,9 @@
-/* Requests to the kernel of Linux by rtnetlink, one at a time. */
+/* Requests to the kernel of Linux by rtnetlink, one at a time; and its notifications. */
 #ifndef NETLINK_H
 #define NETLINK_H
 
 #include <linux/netlink.h>
+#include <stdbool.h>
 #include <stddef.h>
 #include <stdint.h>
 
@@ -20,8 +21,8 @@ struct answer {
     size_t length;
 };
 
-/* A socket, or -1 with `errno`. */
-int netlink_open(void);
+/* Opens a socket for requests, or one that hears these groups of notifications and never waits: -1 with `errno`. */
+int netlink_open(uint32_t groups);
 
 /* A request is begun by its head, and then attributes are put behind it, within its room. One nest may stand in another. */
 void request_begin(struct request *request, uint16_t type, uint16_t flags, const void *head, size_t length);
@@ -32,13 +33,20 @@ void request_end_nest(struct request *request, size_t nest);
 /* Sends a request, and waits for what the kernel says: 0, or an error of <errno.h>. The answer stands until the next call. */
 int netlink_ask(int netlink, struct request *request, struct answer *answer);
 
-/* Asks for an interface: its attributes stand from `*at` to `*end`, until the next call. */
-int netlink_ask_interface(int netlink, int index, struct answer *answer, const uint8_t **at, const uint8_t **end);
+/* Sends a request for a dump, and hands each message to `each`, which sends no request: 0, or an error of <errno.h>, which is EINTR
+   if the dump may lack something. */
+typedef void netlink_each(void *context, const struct nlmsghdr *message);
+int netlink_dump(int netlink, struct request *request, netlink_each *each, void *context, struct answer *answer);
+
+/* Begins a request about an interface, or about all of them if `index` is 0. */
+void request_link(struct request *request, uint16_t type, uint16_t flags, int index);
 
 /* The attribute at `*at`, and steps behind it; NULL where no whole one stands before `end`. */
 const struct nlattr *attribute_next(const uint8_t **at, const uint8_t *end);
 /* The first attribute of a type from `at` on, or NULL. */
 const struct nlattr *attribute_find(const uint8_t *at, const uint8_t *end, uint16_t type);
+/* Reads an attribute that is a number of one or four bytes. Returns whether there is one. */
+bool attribute_number(const uint8_t *at, const uint8_t *end, uint16_t type, uint32_t *number);
 const uint8_t *attribute_data(const struct nlattr *attribute);
 const uint8_t *attribute_end(const struct nlattr *attribute);
 
