@@ -12,7 +12,10 @@ static uint64_t moment_at(const struct deadlines *it, size_t place) {
 }
 
 void deadlines_open(struct deadlines *it, size_t count) {
-    *it = (struct deadlines){take(count, sizeof *it->moments), take(count, sizeof *it->heap), take(count, sizeof *it->places), count};
+    *it = (struct deadlines){.count = count};
+    it->moments = take(count, sizeof *it->moments);
+    it->heap = take(count, sizeof *it->heap);
+    it->places = take(count, sizeof *it->places);
     for (size_t entry = 0; entry < count; entry++) {
         it->moments[entry] = UINT64_MAX;
         put(it, entry, entry);

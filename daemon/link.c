@@ -51,7 +51,8 @@ mq_answer link_receive(struct link *link, const struct datagram *it, uint64_t no
     if (link->family->is_mld)
         return mq_mld_receive(&link->mld, &link->family->mld, it->source, it->destination, it->hop_limit, it->alert, it->body,
                               it->length, now, link->family->queries, link->family->room);
-    return mq_igmp_receive(&link->igmp, &link->family->igmp, it->source, it->body, it->length, now, link->family->queries, link->family->room);
+    return mq_igmp_receive(&link->igmp, &link->family->igmp, it->source, it->body, it->length, now, link->family->queries,
+                           link->family->room);
 }
 
 mq_answer link_tick(struct link *link, uint64_t now) {

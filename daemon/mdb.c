@@ -193,9 +193,8 @@ struct dump {
 static void read_message(void *context, const struct nlmsghdr *message) {
     const struct dump *dump = context;
     const uint8_t *at = NLMSG_DATA(message), *end = (const uint8_t *)message + message->nlmsg_len;
-    const struct br_port_msg *head = (const void *)at;
-    if (message->nlmsg_len >= NLMSG_LENGTH(sizeof *head))
-        read_entries(at + NLMSG_ALIGN(sizeof *head), end, dump->each, dump->context);
+    if (message->nlmsg_len >= NLMSG_LENGTH(sizeof(struct br_port_msg)))
+        read_entries(at + NLMSG_ALIGN(sizeof(struct br_port_msg)), end, dump->each, dump->context);
 }
 
 bool mdb_dump(int netlink, mdb_each *each, void *context) {

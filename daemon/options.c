@@ -220,7 +220,8 @@ static const char *read_file(struct options *options) {
     text[length] = '\0';
     cut_comments(text);
     words[0] = name;
-    for (char *left = NULL, *word = strtok_r(text, " \t\n", &left); word != NULL && count < GREATEST_WORDS; word = strtok_r(NULL, " \t\n", &left))
+    char *left = NULL, *word = strtok_r(text, " \t\n", &left);
+    for (; word != NULL && count < GREATEST_WORDS; word = strtok_r(NULL, " \t\n", &left))
         words[count++] = word;
     size_t names = options->count;
     const char *why = read_words(options, count, words);

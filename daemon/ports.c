@@ -264,7 +264,8 @@ static bool concerns(struct querier *querier, const struct nlmsghdr *message) {
     if (port != NULL)
         return true;
     for (size_t at = 0; at < querier->bridges_count; at++)
-        if (querier->bridges[at].index == 0 || querier->bridges[at].index == found.index || querier->bridges[at].index == found.master)
+        if (querier->bridges[at].index == 0 || querier->bridges[at].index == found.index
+            || querier->bridges[at].index == found.master)
             return true;
     return false;
 }

@@ -94,7 +94,8 @@ static void send_query(struct querier *querier, const struct port *port, bool is
     static char line[2 * LONGEST_QUERY + 128];
     const struct bridge *bridge = port->bridge;
     if (querier->options->is_interface) {
-        char *to = link_put_address(&port->served[is_mld].link, put_text(put_number(line, now), " send "), query->destination);
+        char *to = put_text(put_number(line, now), " send ");
+        to = link_put_address(&port->served[is_mld].link, to, query->destination);
         *to++ = ' ';
         to = put_hexadecimal(to, query->message, query->length);
         *to++ = '\n';

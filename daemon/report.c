@@ -98,7 +98,9 @@ static void text_link(const struct port *port, bool is_mld, uint64_t now, FILE *
 
 static void text_timing(const struct querier *querier, FILE *to) {
     const union configuration *it = querier->options->configuration; /* both families have the same timing */
-    fprintf(to, "robustness %" PRIu32 ", query interval %" PRIu32 " s, response interval %" PRIu32 " ms, last member interval %" PRIu32 " ms\n",
+    fprintf(to,
+            "robustness %" PRIu32 ", query interval %" PRIu32 " s, response interval %" PRIu32 " ms, last member interval %" PRIu32
+            " ms\n",
             it->igmp.robustness, it->igmp.query_interval, it->igmp.response_interval, it->igmp.last_member_interval);
 }
 
@@ -151,7 +153,8 @@ static void json_link(const struct port *port, bool is_mld, uint64_t now, FILE *
     fprintf(to, "\"%s\":{\"on\":%s", family_names[is_mld], served->is_on ? "true" : "false");
     if (served->is_on) {
         uint64_t other = link_other_querier(&served->link, address);
-        fprintf(to, ",\"querier\":%s,\"entries\":%zu", link_is_querier(&served->link) ? "true" : "false", served->keeper.rows.count);
+        const char *is_querier = link_is_querier(&served->link) ? "true" : "false";
+        fprintf(to, ",\"querier\":%s,\"entries\":%zu", is_querier, served->keeper.rows.count);
         json_moment("settles", served->keeper.settles, now, to);
         json_moment("other_left", other, now, to);
         if (other != MQ_NONE)
@@ -167,8 +170,8 @@ static void json_link(const struct port *port, bool is_mld, uint64_t now, FILE *
 }
 
 static void json_port(const struct querier *querier, const struct port *port, bool is_first, uint64_t now, FILE *to) {
-    fprintf(to, "%s\n{\"port\":\"%s\",\"up\":%s,\"router_port\":%s", is_first ? "" : ",", port->name, port->is_up ? "true" : "false",
-            options_is_router(querier->options, port->name) ? "true" : "false");
+    fprintf(to, "%s\n{\"port\":\"%s\",\"up\":%s,\"router_port\":%s", is_first ? "" : ",", port->name,
+            port->is_up ? "true" : "false", options_is_router(querier->options, port->name) ? "true" : "false");
     json_moment("pim_left", port->hello_until > now ? port->hello_until : MQ_NONE, now, to);
     for (int family = 0; family < 2; family++) {
         if (!querier->options->serves[family])
@@ -223,7 +226,8 @@ static void metric(const struct querier *querier, const struct bridge *bridge, i
 
 static void report_metrics(const struct querier *querier, const struct bridge *bridge, FILE *to) {
     for (int at = 0; at < FAULT_KINDS; at++)
-        fprintf(to, "# TYPE mquerier_%s_total counter\nmquerier_%s_total %" PRIu64 "\n", fault_names[at], fault_names[at], fault_counts[at]);
+        fprintf(to, "# TYPE mquerier_%s_total counter\nmquerier_%s_total %" PRIu64 "\n", fault_names[at], fault_names[at],
+                fault_counts[at]);
     for (int which = 0; which < COUNTERS + 2; which++)
         metric(querier, bridge, which, to);
 }

@@ -117,7 +117,7 @@ bool ring_next(struct ring *ring, struct frame *frame) {
     for (;;) {
         if (ring->packet != NULL && ring->left == 0)
             end_block(ring);
-        if (!begin_block(ring))
+        if (!begin_block(ring) || ring->packet == NULL)
             return false;
         const uint8_t *head = (const uint8_t *)ring->packet;
         const struct sockaddr_ll *from = (const void *)(head + TPACKET_ALIGN(sizeof *ring->packet));

@@ -53,12 +53,12 @@ static void name_table(const struct bridge *bridge, char *name) {
 }
 
 /* Adds a chain that drops the messages of the families that are served at these ports. */
-static void put_chain(FILE *to, const struct querier *querier, const struct ruled *ports, const char *name, const char *hook,
+static void put_chain(FILE *to, const bool serves[2], const struct ruled *ports, const char *name, const char *hook,
                       const char *side) {
     static const char *const kinds[2] = {"ip protocol igmp", "icmpv6 type { 130, 131, 132, 143 }"};
     fprintf(to, "chain %s { type filter hook %s priority 0;", name, hook);
     for (int family = 0; family < 2; family++) {
-        if (!querier->options->serves[family])
+        if (!serves[family])
             continue;
         fprintf(to, " %s {", side);
         for (size_t at = 0; at < ports->count; at++)
@@ -69,7 +69,7 @@ static void put_chain(FILE *to, const struct querier *querier, const struct rule
 }
 
 /* Replaces the table of a bridge in one step. */
-static void replace_table(const struct querier *querier, const struct bridge *bridge, const struct ruled *ports) {
+static void replace_table(const bool serves[2], const struct bridge *bridge, const struct ruled *ports) {
     static char text[GREATEST_RULES];
     char table[LONGEST_NAME];
     name_table(bridge, table);
@@ -79,9 +79,9 @@ static void replace_table(const struct querier *querier, const struct bridge *br
     fprintf(to, "table bridge %s\ndelete table bridge %s\n", table, table);
     if (ports->count > 0) {
         fprintf(to, "table bridge %s {\n", table);
-        put_chain(to, querier, ports, "from_port", "prerouting", "iif");
-        put_chain(to, querier, ports, "to_port", "postrouting", "oif");
-        put_chain(to, querier, ports, "own_to_port", "output", "oif");
+        put_chain(to, serves, ports, "from_port", "prerouting", "iif");
+        put_chain(to, serves, ports, "to_port", "postrouting", "oif");
+        put_chain(to, serves, ports, "own_to_port", "output", "oif");
         fputs("}\n", to);
     }
     long length = ftell(to);
@@ -96,11 +96,12 @@ void rules_apply(struct querier *querier, const struct bridge *bridge) {
             now.indexes[now.count++] = querier->by_index[at].index;
     if (now.count == before->count && memcmp(now.indexes, before->indexes, now.count * sizeof *now.indexes) == 0)
         return;
-    replace_table(querier, bridge, &now);
+    replace_table(querier->options->serves, bridge, &now);
     *before = now;
 }
 
 void rules_remove(const struct bridge *bridge) {
     static const struct ruled none;
-    replace_table(NULL, bridge, &none);
+    static const bool serves[2];
+    replace_table(serves, bridge, &none);
 }

@@ -29,7 +29,8 @@ static const struct setting {
     [HASH_MAX] = {"mcast_hash_max", IFLA_BR_MCAST_HASH_MAX, 4, "with more entries it snoops no more"},
     [QUERIER] = {"mcast_querier", IFLA_BR_MCAST_QUERIER, 1, "it floods until it hears a querier"},
 };
-static const struct setting router = {"mcast_router", IFLA_BRPORT_MULTICAST_ROUTER, 1, "a query that is heard there brings all groups there"};
+static const struct setting router = {"mcast_router", IFLA_BRPORT_MULTICAST_ROUTER, 1,
+                                      "a query that is heard there brings all groups there"};
 enum { ROUTER_NEVER = 0, ROUTER_ALWAYS = 2, GREATEST_BEFORE = 1 << 16 };
 
 /* The least value that a setting has to have. */
