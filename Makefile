@@ -25,7 +25,7 @@ $(error TARGET=$(TARGET): only `make lib` takes another processor than that of t
 endif
 endif
 
-.PHONY: all run try lib quick test kept live live-test conform-test page page-test arm-test mutants bench install dist clean
+.PHONY: all run try lib quick test kept live live-checked live-test live-soak conform-test page page-test arm-test mutants bench install dist clean
 
 # Both archives are of what is built in one folder, so one is made after the other. tools/build works side by side by itself.
 .NOTPARALLEL:
@@ -112,21 +112,35 @@ kept: needs-gate
 mutants: needs-gate
 	@tools/gate mutants
 
-# A querier on an interface of Linux, over the library: an example in C, outside of the proofs.
+# A querier on Linux for an interface or for whole bridges, over the library, in C and outside of the proofs. `live-checked` is the
+# same with the compiler's checks of memory and of undefined behaviour, for tests.
 LIVE := $(wildcard daemon/*.c daemon/*.h)
+LIVE_FLAGS := -std=c99 -O2 -Wall -Wextra -Iinclude
+LIVE_CHECKS := -g -fno-omit-frame-pointer -fsanitize=address,undefined -fno-sanitize-recover
 live: bin/mquerier-live
+live-checked: bin/mquerier-live-checked
 
 bin/mquerier-live: $(LIVE) include/mquerier.h lib/libmquerier.a | needs-library
 	@mkdir -p bin
-	$(CC) -std=c99 -O2 -Wall -Wextra -Iinclude $(filter %.c,$^) lib/libmquerier.a -o $@
+	$(CC) $(LIVE_FLAGS) $(filter %.c,$^) lib/libmquerier.a -o $@
+
+bin/mquerier-live-checked: $(LIVE) include/mquerier.h lib/libmquerier.a | needs-library
+	@mkdir -p bin
+	$(CC) $(LIVE_FLAGS) $(LIVE_CHECKS) $(filter %.c,$^) lib/libmquerier.a -o $@
 
 # The examples in C do what docs/EMBEDDING.md says; the querier on an interface serves hosts of the Linux kernel, and does what the
 # vectors say that are played to it, those that end within SECONDS. The last two want to be root, and the last one the program.
 SECONDS := 600
-live-test: needs-live live
+live-test: needs-live live live-checked
 	@examples/check
 	@daemon/test
+	@daemon/switches
 	@conform/vectors --seconds $(SECONDS)
+
+# So many seconds of random joins and leaves at the ports of two bridges. It wants to be root, and the program.
+SOAK := 3600
+live-soak: needs-live live-checked bin/mquerier
+	@LIVE=bin/mquerier-live-checked daemon/soak $(SOAK)
 
 # conform, which holds any router to the standards (docs/CONFORM.md), held to routers here: faulty ones of its own, each of which
 # has to be found by the cases that name its fault, and bin/mquerier-live, a bridge of the kernel and routers of Debian, which are

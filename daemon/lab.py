@@ -8,7 +8,9 @@ import threading
 import time
 
 HERE = os.path.dirname(os.path.abspath(__file__))
-PROGRAM = os.path.join(os.path.dirname(HERE), "bin", "mquerier-live")
+TOP = os.path.dirname(HERE)
+# LIVE names another build of the program.
+PROGRAM = os.path.join(TOP, os.environ.get("LIVE", "bin/mquerier-live"))
 ADDRESSES = {"igmp": "10.0.0.{}", "mld": "fe80::{:x}"}
 # Milliseconds: the Last Member Query Time and the Group Membership Interval that come of SHORT.
 SHORT = ["--qi", "2", "--qri", "1000", "--lmqi", "500"]

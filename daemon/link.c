@@ -23,10 +23,14 @@ uint32_t family_open(struct family *it, bool is_mld, union configuration configu
 #define WORKSPACE_SIZE(family) mq_##family##_workspace_size(configuration.family)
 #define WORKSPACE(family) mq_##family##_workspace_init(configuration.family, it->memory, size, &it->family)
 #define ROOM(family) mq_##family##_outlet_bytes(configuration.family, LONGEST_BODY)
-    size_t size = EITHER(is_mld, WORKSPACE_SIZE);
-    *it = (struct family){.is_mld = is_mld, .configuration = configuration, .memory = calloc(1, size)};
-    size = it->memory == NULL ? 0 : size; /* a size means nothing if the configuration has a fault */
+    size_t size = 0;
+    *it = (struct family){.is_mld = is_mld, .configuration = configuration};
     uint32_t status = EITHER(is_mld, WORKSPACE);
+    if (status != MQ_MEMORY) /* a size means nothing if the configuration has a fault */
+        return status;
+    size = EITHER(is_mld, WORKSPACE_SIZE);
+    it->memory = take(size, 1);
+    status = EITHER(is_mld, WORKSPACE);
     if (status != MQ_DONE)
         return status;
     it->groups = is_mld ? configuration.mld.groups : configuration.igmp.groups;

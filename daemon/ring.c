@@ -9,8 +9,8 @@
 #include <sys/socket.h>
 
 /* A block that isn't full is handed over after a millisecond, or one beat of the kernel's clock. So the blocks last for at least
-   128 beats, half a second at 250 Hz, in which the program may do something else. */
-enum { BLOCKS = 128, BLOCK = 1 << 16, FRAME = 1 << 11, HANDED_OVER_MS = 1 };
+   256 beats, a second at 250 Hz, in which the program may do something else. */
+enum { BLOCKS = 256, BLOCK = 1 << 16, FRAME = 1 << 11, HANDED_OVER_MS = 1 };
 enum { KEPT_BYTES = BLOCK }; /* of a frame */
 
 static struct tpacket_block_desc *block_of(const struct ring *ring) {
