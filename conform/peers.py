@@ -108,6 +108,19 @@ def live_bridge(lab, family):
     return ["--upstream", "v0"]
 
 
+def live_switch(lab, family):
+    """bin/mquerier-live as the querier of all ports of a bridge, which it sets up itself."""
+    if not os.access(LIVE, os.X_OK):
+        raise Failed("bin/mquerier-live is not there: `make live` builds it")
+    a_bridge(lab, "mcast_querier 0")
+    lab.address("br0", "10.0.0.9/24", "fe80::9/64")
+    own = "--own6" if family == "mld" else "--own"
+    place = f"/tmp/{lab.space}.run"
+    lab.start(LIVE, "bridge", "br0", "--setup", "--family", family, own, OWN[family], *LIMITS, "--ports", "2", "--run", place)
+    wait_for(f"{place}/br0/status")
+    return ["--upstream", "v0"]
+
+
 def frr(lab, family):
     """FRR's pimd, of IGMP alone."""
     daemon = "/usr/lib/frr/pimd" if family == "igmp" else "/usr/lib/frr/pim6d"
@@ -157,6 +170,7 @@ PEERS = {
     "live": live,
     "bridge": bridge,
     "live-bridge": live_bridge,
+    "live-switch": live_switch,
     "frr": frr,
     "pimd": pimd,
     "igmpproxy": igmpproxy,

@@ -4,7 +4,6 @@
 #include "text.h"
 
 #include <inttypes.h>
-#include <stdlib.h>
 #include <string.h>
 
 /* The longest body that a frame carries. */
@@ -18,27 +17,27 @@ union configuration family_defaults(bool is_mld, const uint8_t *own) {
     return EITHER(is_mld, DEFAULTS);
 }
 
-uint32_t family_open(struct family *it, bool is_mld, union configuration configuration) {
+uint32_t family_check(bool is_mld, union configuration configuration) {
+#define CHECK(family) mq_##family##_workspace_init(configuration.family, NULL, 0, &(mq_##family##_workspace){NULL})
+    uint32_t status = EITHER(is_mld, CHECK); /* the library looks at the configuration first */
+    return status == MQ_MEMORY ? MQ_DONE : status;
+}
+
+void family_open(struct family *it, bool is_mld, union configuration configuration) {
 #define SIZE(family) mq_##family##_size(configuration.family)
 #define WORKSPACE_SIZE(family) mq_##family##_workspace_size(configuration.family)
 #define WORKSPACE(family) mq_##family##_workspace_init(configuration.family, it->memory, size, &it->family)
 #define ROOM(family) mq_##family##_outlet_bytes(configuration.family, LONGEST_BODY)
-    size_t size = 0;
-    *it = (struct family){.is_mld = is_mld, .configuration = configuration};
+    size_t size = EITHER(is_mld, WORKSPACE_SIZE);
+    *it = (struct family){.is_mld = is_mld, .configuration = configuration, .memory = take(size, 1)};
     uint32_t status = EITHER(is_mld, WORKSPACE);
-    if (status != MQ_MEMORY) /* a size means nothing if the configuration has a fault */
-        return status;
-    size = EITHER(is_mld, WORKSPACE_SIZE);
-    it->memory = take(size, 1);
-    status = EITHER(is_mld, WORKSPACE);
     if (status != MQ_DONE)
-        return status;
+        fail(STATUS_FAILED, "configuration", mq_status_text(status));
     it->groups = is_mld ? configuration.mld.groups : configuration.igmp.groups;
     it->entries = it->groups + (is_mld ? configuration.mld.sources : configuration.igmp.sources);
     it->link_size = EITHER(is_mld, SIZE);
     it->room = EITHER(is_mld, ROOM);
     it->queries = take(it->room, 1);
-    return MQ_DONE;
 }
 
 uint32_t link_begin(struct link *link, const uint8_t *own, uint64_t now) {

@@ -50,8 +50,10 @@ struct link {
 
 /* Returns the defaults of the standards, at an own address. */
 union configuration family_defaults(bool is_mld, const uint8_t *own);
-/* Takes the memory that the links of a family share. Returns MQ_DONE, or the status of the library. */
-uint32_t family_open(struct family *family, bool is_mld, union configuration configuration);
+/* Returns MQ_DONE, or the status that says what is wrong with a configuration. */
+uint32_t family_check(bool is_mld, union configuration configuration);
+/* Takes the memory that the links of a family share. Its configuration has no fault. */
+void family_open(struct family *family, bool is_mld, union configuration configuration);
 /* Makes a link at an own address in its memory, without groups. It begins as querier at `now`. */
 uint32_t link_begin(struct link *link, const uint8_t *own, uint64_t now);
 

@@ -52,6 +52,8 @@ static void reload(struct querier *querier, int count, char **words) {
     static struct options options;
     struct options *used = querier->options;
     const char *why = options_read(&options, count, words);
+    if (why == NULL)
+        why = querier_fault(&options);
     if (why != NULL) {
         fault(FAULT_MISSING, "reload", why);
         return;

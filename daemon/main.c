@@ -92,13 +92,22 @@ static void open_interface(void) {
         open_database();
 }
 
+static void make_folder(const char *name) {
+    if (mkdir(name, 0755) < 0 && errno != EEXIST)
+        fail(STATUS_FAILED, name, strerror(errno));
+}
+
 /* Finds the bridges, and opens what belongs to each. */
 static void open_bridges(void) {
     struct interface found;
+    char folder[4096];
     for (size_t at = 0; at < querier.bridges_count; at++)
         mdb_try(querier.netlink, index_of(options.names[at], &found), options.names[at]);
-    if (mkdir(options.run, 0755) < 0 && errno != EEXIST)
-        fail(STATUS_FAILED, options.run, strerror(errno));
+    make_folder(options.run);
+    for (size_t at = 0; at < querier.bridges_count; at++) {
+        snprintf(folder, sizeof folder, "%s/%s", options.run, options.names[at]);
+        make_folder(folder);
+    }
     setup_open(&querier);
     status_open(&querier);
 }

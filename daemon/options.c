@@ -48,7 +48,7 @@ static const char HELP[] =
     "  --ports N            how many ports all bridges may have, up to 1024 (64). Memory is taken for so many\n"
     "  --setup              set the bridges up, and put back at the end what was there\n"
     "  --router-port PORT   forward all multicast to this port. May be given up to 64 times\n"
-    "  --run DIR            the folder of its sockets (/run/mquerier-live)\n"
+    "  --run DIR            the folder of its files (/run/mquerier-live)\n"
     "  --options FILE       read options from this file too: words, and comments from # to the end of a line. SIGHUP has it\n"
     "                       read again\n"
     "\n"

@@ -22,7 +22,7 @@ struct options {
     uint32_t ports;            /* the most ports of all bridges */
     const char *routers[GREATEST_ROUTERS];
     size_t router_count;
-    const char *run, *file; /* the folder of its sockets, and the file of options or NULL */
+    const char *run, *file; /* the folder of its files, and the file of options or NULL */
 };
 
 /* Reads the words after `mquerier-live`. Returns NULL, or what is wrong with them. Prints the help and ends if that is asked for. */

@@ -22,6 +22,9 @@ void ports_open(struct querier *querier) {
         fail(STATUS_FAILED, "netlink", strerror(errno));
 }
 
+/* So many notifications are read before what they are about. */
+enum { NEWS = 256 };
+
 static void read_interface(const struct nlmsghdr *message, struct interface *interface) {
     const struct ifinfomsg *head = NLMSG_DATA(message);
     *interface = (struct interface){
@@ -248,14 +251,22 @@ void ports_refresh(struct querier *querier, uint64_t now) {
     setup_apply(querier);
 }
 
+/* Whether an interface is a bridge that is served, or may be one that is missing. */
+static bool is_bridge(const struct querier *querier, int index) {
+    for (size_t at = 0; at < querier->bridges_count; at++)
+        if (querier->bridges[at].index == 0 || querier->bridges[at].index == index)
+            return true;
+    return false;
+}
+
 /* Whether a notification concerns a bridge or a port. A port that leaves a bridge loses its entries, also if it comes back at
    once. */
 static bool concerns(struct querier *querier, const struct nlmsghdr *message) {
     struct interface found;
-    if (message->nlmsg_type == RTM_NEWADDR || message->nlmsg_type == RTM_DELADDR)
-        return true;
     if (message->nlmsg_len < NLMSG_LENGTH(sizeof(struct ifinfomsg)))
         return false;
+    if (message->nlmsg_type == RTM_NEWADDR || message->nlmsg_type == RTM_DELADDR)
+        return is_bridge(querier, (int)((const struct ifaddrmsg *)NLMSG_DATA(message))->ifa_index);
     read_interface(message, &found);
     struct port *port = querier_port(querier, found.index);
     bool has_left = message->nlmsg_type == RTM_DELLINK && port != NULL && port->index == found.index;
@@ -263,23 +274,20 @@ static bool concerns(struct querier *querier, const struct nlmsghdr *message) {
         lose_port(querier, port);
     if (port != NULL)
         return true;
-    for (size_t at = 0; at < querier->bridges_count; at++)
-        if (querier->bridges[at].index == 0 || querier->bridges[at].index == found.index
-            || querier->bridges[at].index == found.master)
-            return true;
-    return false;
+    return is_bridge(querier, found.index) || is_bridge(querier, found.master);
 }
 
 bool ports_read_news(struct querier *querier) {
     static uint8_t bytes[GREATEST_ANSWER] __attribute__((aligned(NLMSG_ALIGNTO)));
     bool is_concerned = false;
-    for (ssize_t length; (length = recv(querier->news, bytes, sizeof bytes, 0)) != 0;) {
+    for (int count = 0; count < NEWS; count++) {
+        ssize_t length = recv(querier->news, bytes, sizeof bytes, 0);
         if (length < 0 && errno == ENOBUFS) {
             fault(FAULT_OVERRUN, "netlink", "notifications were lost: all is read anew");
             querier->was_overrun = true;
             continue;
         }
-        if (length < 0)
+        if (length <= 0)
             break;
         const struct nlmsghdr *message = (const void *)bytes;
         for (size_t left = (size_t)length; NLMSG_OK(message, left); message = NLMSG_NEXT(message, left))

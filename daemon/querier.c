@@ -29,25 +29,35 @@ uint64_t moment(void) {
     return (uint64_t)((seconds * 1000000000 + nanoseconds) / 1000000);
 }
 
-static void open_family(struct querier *querier, bool is_mld) {
-    const struct options *options = querier->options;
+/* The configuration of a family, with the own address of the options if there is one. */
+static union configuration configured(const struct options *options, bool is_mld) {
     union configuration configuration = options->configuration[is_mld];
     if (options->has_own[is_mld] && is_mld)
         memcpy(configuration.mld.own, options->own[is_mld], sizeof configuration.mld.own);
     else if (options->has_own[is_mld])
         memcpy(configuration.igmp.own, options->own[is_mld], sizeof configuration.igmp.own);
-    uint32_t status = family_open(&querier->families[is_mld], is_mld, configuration);
-    if (status != MQ_DONE)
-        fail(status == MQ_MEMORY ? STATUS_FAILED : STATUS_USAGE, "configuration", mq_status_text(status));
+    return configuration;
+}
+
+const char *querier_fault(const struct options *options) {
+    for (int at = 0; at < 2; at++) {
+        uint32_t status = options->serves[at] ? family_check(at == 1, configured(options, at == 1)) : MQ_DONE;
+        if (status != MQ_DONE)
+            return mq_status_text(status);
+    }
+    return NULL;
 }
 
 void querier_open(struct querier *querier, struct options *options) {
     size_t groups = 0;
+    const char *why = querier_fault(options);
+    if (why != NULL)
+        fail(STATUS_USAGE, "configuration", why);
     *querier = (struct querier){.options = options, .room = options->ports};
     for (int at = 0; at < 2; at++) {
         if (!options->serves[at])
             continue;
-        open_family(querier, at == 1);
+        family_open(&querier->families[at], at == 1, configured(options, at == 1));
         if (groups < querier->families[at].groups)
             groups = querier->families[at].groups;
     }

@@ -67,6 +67,8 @@ struct querier {
 /* The moments beside those of links. */
 enum { DEADLINE_REPAIR, DEADLINE_SECOND, DEADLINES_BESIDE };
 
+/* Returns NULL, or what is wrong with the configuration of a family that is served. */
+const char *querier_fault(const struct options *options);
 /* Takes all memory. Ends the program if there is none, or if the configuration has a fault. */
 void querier_open(struct querier *querier, struct options *options);
 /* Milliseconds since the first call, on a clock that runs on while the machine sleeps. */

@@ -185,7 +185,7 @@ void setup_open(struct querier *querier) {
     char name[4096];
     for (size_t at = 0; at < querier->bridges_count; at++) {
         struct bridge *bridge = &querier->bridges[at];
-        snprintf(name, sizeof name, "%s/%s.before", querier->options->run, bridge->name);
+        snprintf(name, sizeof name, "%s/%s/before", querier->options->run, bridge->name);
         bridge->before = open(name, O_RDWR | O_CREAT | O_APPEND | O_CLOEXEC, 0600);
         if (bridge->before < 0)
             fail(STATUS_FAILED, name, strerror(errno));

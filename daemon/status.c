@@ -23,7 +23,7 @@ static int readers;
 /* Writes the address of a bridge's socket; false if the name is too long. */
 static bool name_socket(const char *run, const char *bridge, struct sockaddr_un *at) {
     *at = (struct sockaddr_un){.sun_family = AF_UNIX};
-    return (size_t)snprintf(at->sun_path, sizeof at->sun_path, "%s/%s.status", run, bridge) < sizeof at->sun_path;
+    return (size_t)snprintf(at->sun_path, sizeof at->sun_path, "%s/%s/status", run, bridge) < sizeof at->sun_path;
 }
 
 void status_open(struct querier *querier) {

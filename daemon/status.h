@@ -4,7 +4,7 @@
 
 #include "querier.h"
 
-/* Opens the socket of each bridge: DIR/BRIDGE.status. Ends the program if that fails. */
+/* Opens the socket of each bridge: DIR/BRIDGE/status. Ends the program if that fails. */
 void status_open(struct querier *querier);
 /* Answers one reader of a bridge's socket, by a process of its own, which has all as it is now. */
 void status_answer(struct querier *querier, const struct bridge *bridge, uint64_t now);
