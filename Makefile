@@ -1,6 +1,8 @@
 # Builds, runs and tests `mquerier`. `rt` is the command of the Rattle toolchain.
 
 PREFIX ?= /usr/local
+SYSCONFDIR ?= /etc
+UNITDIR ?= $(PREFIX)/lib/systemd/system
 SOURCES := crates.txt $(shell find crates/*/src crates/*/specs crates/*/proofs -type f)
 FIRST_PATH := message igmp 1600f8faef010203
 VERSION := $(shell sed -n 's/^\#define MQ_VERSION_TEXT "\(.*\)"$$/\1/p' include/mquerier.h)
@@ -180,10 +182,12 @@ bench: bin/mquerier
 	@bench/spent $(WRITE)
 	@bench/links $(WRITE)
 
-# The program, the library for C as an archive and as a shared library, its header, its entry for pkg-config, and the manual pages.
-install: bin/mquerier lib/libmquerier.a lib/$(SONAME)
+# The program, the library for C as an archive and as a shared library, its header, its entry for pkg-config, the querier of bridges
+# with its service and its file of options, which isn't replaced, and the manual pages.
+install: bin/mquerier lib/libmquerier.a lib/$(SONAME) bin/mquerier-live
 	install -d $(DESTDIR)$(PREFIX)/bin $(DESTDIR)$(PREFIX)/include $(DESTDIR)$(PREFIX)/lib/pkgconfig
-	install -d $(DESTDIR)$(PREFIX)/share/man/man1 $(DESTDIR)$(PREFIX)/share/man/man3
+	install -d $(DESTDIR)$(PREFIX)/share/man/man1 $(DESTDIR)$(PREFIX)/share/man/man3 $(DESTDIR)$(PREFIX)/share/man/man8
+	install -d $(DESTDIR)$(PREFIX)/sbin $(DESTDIR)$(SYSCONFDIR)/mquerier-live $(DESTDIR)$(UNITDIR)
 	install -m 755 bin/mquerier $(DESTDIR)$(PREFIX)/bin/mquerier
 	install -m 644 lib/libmquerier.a lib/$(SONAME) $(DESTDIR)$(PREFIX)/lib
 	ln -sf $(SONAME) $(DESTDIR)$(PREFIX)/lib/libmquerier.so
@@ -191,6 +195,10 @@ install: bin/mquerier lib/libmquerier.a lib/$(SONAME)
 	sed 's|@PREFIX@|$(PREFIX)|; s|@VERSION@|$(VERSION)|' include/libmquerier.pc.in > $(DESTDIR)$(PREFIX)/lib/pkgconfig/libmquerier.pc
 	install -m 644 man/mquerier.1 $(DESTDIR)$(PREFIX)/share/man/man1/mquerier.1
 	install -m 644 man/libmquerier.3 $(DESTDIR)$(PREFIX)/share/man/man3/libmquerier.3
+	install -m 755 bin/mquerier-live $(DESTDIR)$(PREFIX)/sbin/mquerier-live
+	sed 's|@PREFIX@|$(PREFIX)|; s|@SYSCONFDIR@|$(SYSCONFDIR)|' daemon/mquerier-live@.service.in > $(DESTDIR)$(UNITDIR)/mquerier-live@.service
+	test -e $(DESTDIR)$(SYSCONFDIR)/mquerier-live/options || install -m 644 daemon/options.example $(DESTDIR)$(SYSCONFDIR)/mquerier-live/options
+	install -m 644 man/mquerier-live.8 $(DESTDIR)$(PREFIX)/share/man/man8/mquerier-live.8
 
 # The release of this commit, as one archive with its sum: dist/mquerier-VERSION.tar.gz.
 dist: bin/mquerier lib/libmquerier.a lib/$(SONAME) page

@@ -90,11 +90,11 @@ class Host:
 class Querier:
     """A running `mquerier-live bridge`."""
 
-    def __init__(self, fabric, *options):
-        words = [PROGRAM, "bridge", *fabric.bridges, *SHORT, "--run", fabric.run, *options]
+    def __init__(self, fabric, *options, before=(), env=None):
+        words = [*before, PROGRAM, "bridge", *fabric.bridges, *SHORT, "--run", fabric.run, *options]
         self.fabric, self.errors = fabric, []
         # pylint: disable-next=consider-using-with
-        self.process = subprocess.Popen(["ip", "netns", "exec", fabric.near, *words], stderr=subprocess.PIPE, text=True)
+        self.process = subprocess.Popen(["ip", "netns", "exec", fabric.near, *words], env={**os.environ, **(env or {})}, stderr=subprocess.PIPE, text=True)
         self.reading = threading.Thread(target=self.listen, daemon=True)
         self.reading.start()
 
@@ -193,9 +193,9 @@ class Fabric:
             is_true(time.monotonic() < limit, f"no link-local address: {shown}")
             time.sleep(0.1)
 
-    def querier(self, *options):
+    def querier(self, *options, **how):
         self.ready()
-        self.queriers.append(Querier(self, *self.options, *options))
+        self.queriers.append(Querier(self, *self.options, *options, **how))
         return self.queriers[-1]
 
     def entries(self):
