@@ -128,7 +128,7 @@ int netlink_ask(int netlink, struct request *request, struct answer *answer) {
         if (length < 0 || length > GREATEST_ANSWER)
             return refused(answer, length < 0 ? errno : EMSGSIZE, NULL);
         const struct nlmsghdr *message = (const void *)(bytes + kept);
-        if (!NLMSG_OK(message, (size_t)length) || message->nlmsg_seq != number)
+        if (!NLMSG_OK(message, (int)length) || message->nlmsg_seq != number)
             continue; /* what is left of an earlier answer */
         if (message->nlmsg_type == NLMSG_ERROR)
             return read_end(message, answer);
@@ -143,7 +143,7 @@ int netlink_ask(int netlink, struct request *request, struct answer *answer) {
 /* Reads the messages of one part of a dump. Returns whether it was the last part, with `*error`. */
 static bool read_part(const uint8_t *bytes, size_t length, netlink_each *each, void *context, struct answer *answer, int *error) {
     const struct nlmsghdr *message = (const void *)bytes;
-    for (size_t left = length; NLMSG_OK(message, left); message = NLMSG_NEXT(message, left)) {
+    for (int left = (int)length; NLMSG_OK(message, left); message = NLMSG_NEXT(message, left)) {
         if (message->nlmsg_seq != number)
             continue; /* what is left of an earlier answer */
         if (message->nlmsg_flags & NLM_F_DUMP_INTR)

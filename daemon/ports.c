@@ -290,7 +290,7 @@ bool ports_read_news(struct querier *querier) {
         if (length <= 0)
             break;
         const struct nlmsghdr *message = (const void *)bytes;
-        for (size_t left = (size_t)length; NLMSG_OK(message, left); message = NLMSG_NEXT(message, left))
+        for (int left = (int)length; NLMSG_OK(message, left); message = NLMSG_NEXT(message, left))
             is_concerned |= concerns(querier, message);
     }
     return is_concerned;
