@@ -47,7 +47,7 @@ needs-gate:
 needs-test:
 	@tools/needs rt bash git python3 cc c++ nm valgrind
 needs-live:
-	@tools/needs rt bash python3 $(CC) ip bridge nft setpriv
+	@tools/needs rt bash python3 $(CC) ip bridge tc nft setpriv
 needs-conform:
 	@tools/needs rt bash python3 $(CC) ip bridge chrt
 needs-page:

@@ -4,6 +4,7 @@
 #include "text.h"
 
 #include <inttypes.h>
+#include <stddef.h>
 #include <string.h>
 
 /* The longest body that a frame carries. */
@@ -38,6 +39,13 @@ void family_open(struct family *it, bool is_mld, union configuration configurati
     it->link_size = EITHER(is_mld, SIZE);
     it->room = EITHER(is_mld, ROOM);
     it->queries = take(it->room, 1);
+}
+
+bool family_retime(struct family *family, const union configuration *next) {
+    enum { TIMING = offsetof(mq_igmp_config, groups) }; /* the values of timing come first, in both families */
+    bool is_other = memcmp(&family->configuration, next, TIMING) != 0;
+    memcpy(&family->configuration, next, TIMING);
+    return is_other;
 }
 
 uint32_t link_begin(struct link *link, const uint8_t *own, uint64_t now) {

@@ -54,6 +54,8 @@ union configuration family_defaults(bool is_mld, const uint8_t *own);
 uint32_t family_check(bool is_mld, union configuration configuration);
 /* Takes the memory that the links of a family share. Its configuration has no fault. */
 void family_open(struct family *family, bool is_mld, union configuration configuration);
+/* Takes over the timing of another configuration, for links that begin from now on. Returns whether it was otherwise. */
+bool family_retime(struct family *family, const union configuration *next);
 /* Makes a link at an own address in its memory, without groups. It begins as querier at `now`. */
 uint32_t link_begin(struct link *link, const uint8_t *own, uint64_t now);
 

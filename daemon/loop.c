@@ -59,14 +59,9 @@ static void reload(struct querier *querier, int count, char **words) {
         return;
     }
     for (size_t at = 0; at < 2; at++) {
-        struct family *family = &querier->families[at];
-        uint32_t *now = (uint32_t *)&family->configuration, *next = (uint32_t *)&options.configuration[at];
-        bool is_changed = used->serves[at] && memcmp(now, next, 4 * sizeof *now) != 0; /* the four values of timing come first */
-        if (!is_changed)
-            continue;
-        memcpy(now, next, 4 * sizeof *now);
-        memcpy(&used->configuration[at], next, 4 * sizeof *now);
-        for (size_t port = 0; port < querier->room; port++)
+        used->configuration[at] = options.configuration[at];
+        bool is_changed = used->serves[at] && family_retime(&querier->families[at], &options.configuration[at]);
+        for (size_t port = 0; port < querier->room && is_changed; port++)
             querier->ports[port].served[at].is_on = false; /* it begins anew below */
     }
     memcpy(used->own, options.own, sizeof used->own);

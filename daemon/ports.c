@@ -242,11 +242,13 @@ void ports_refresh(struct querier *querier, uint64_t now) {
     for (size_t at = 0; at < querier->bridges_count; at++)
         if (read_bridge(querier, &querier->bridges[at]))
             is_whole &= read_ports(querier, &querier->bridges[at], now);
-    for (size_t at = 0; at < querier->room && is_whole; at++)
-        if (querier->ports[at].index != 0 && !querier->ports[at].is_found)
-            lose_port(querier, querier->ports + at);
-    if (!is_whole)
-        querier->was_overrun = true; /* it is read again in a second */
+    for (size_t at = 0; at < querier->room && is_whole; at++) {
+        if (querier->ports[at].index == 0 || querier->ports[at].is_found)
+            continue;
+        lose_port(querier, querier->ports + at);
+        querier->was_overrun = true; /* no notification said so: all is read again in a second, since there is a free place now */
+    }
+    querier->was_overrun |= !is_whole;
     listen_at_ports(querier);
     setup_apply(querier);
 }

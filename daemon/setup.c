@@ -71,10 +71,10 @@ static void tell_setting(const char *name, const struct setting *it, uint32_t va
     fault(FAULT_MISSING, name, why);
 }
 
-/* Adds a line to the file with what was there before. */
-static void remember(const struct bridge *bridge, const char *port, const struct setting *it, uint32_t value) {
+/* Adds a line to the file with what was there before, of a port by its index, or of the bridge if that is 0. */
+static void remember(const struct bridge *bridge, int port, const struct setting *it, uint32_t value) {
     char line[128];
-    int length = snprintf(line, sizeof line, "%s %s %" PRIu32 "\n", port, it->name, value);
+    int length = snprintf(line, sizeof line, "%d %s %" PRIu32 "\n", port, it->name, value);
     if (bridge->before >= 0 && write(bridge->before, line, (size_t)length) != length)
         fault(FAULT_NETLINK, bridge->name, "what was there before --setup can't be written down");
 }
@@ -87,10 +87,10 @@ static char *read_before(const struct bridge *bridge) {
     return text;
 }
 
-/* Whether the file has a line about a setting of a port, or of the bridge, which is the port "-". */
-static bool is_remembered(const struct bridge *bridge, const char *port, const struct setting *it) {
+/* Whether the file has a line about a setting of a port, or of the bridge. */
+static bool is_remembered(const struct bridge *bridge, int port, const struct setting *it) {
     char start[64];
-    int length = snprintf(start, sizeof start, "%s %s ", port, it->name);
+    int length = snprintf(start, sizeof start, "%d %s ", port, it->name);
     for (const char *at = read_before(bridge); at != NULL && *at != '\0'; at = strchr(at, '\n'), at += at != NULL)
         if (strncmp(at, start, (size_t)length) == 0)
             return true;
@@ -110,8 +110,8 @@ static void apply_to_bridge(struct querier *querier, struct bridge *bridge, cons
         uint32_t least = wanted(querier, at);
         if (!has[at] || values[at] >= least)
             continue;
-        if (querier->options->sets_up && !is_remembered(bridge, "-", &settings[at]))
-            remember(bridge, "-", &settings[at], values[at]);
+        if (querier->options->sets_up && !is_remembered(bridge, 0, &settings[at]))
+            remember(bridge, 0, &settings[at], values[at]);
         if (querier->options->sets_up)
             set(querier, found.index, name, false, &settings[at], least);
         else if (tells)
@@ -130,8 +130,8 @@ static void apply_to_port(struct querier *querier, struct port *port, bool tells
             tell_setting(port->name, &router, port->router, value);
         return;
     }
-    if (!is_remembered(port->bridge, port->name, &router))
-        remember(port->bridge, port->name, &router, port->router);
+    if (!is_remembered(port->bridge, port->index, &router))
+        remember(port->bridge, port->index, &router, port->router);
     set(querier, port->index, port->name, true, &router, value);
 }
 
@@ -155,17 +155,17 @@ void setup_apply(struct querier *querier) {
 
 /* Puts back what a line of the file says. */
 static void put_back(struct querier *querier, const struct bridge *bridge, const char *line) {
-    char port[IF_NAMESIZE], name[32];
+    char name[32], port[IF_NAMESIZE];
+    int index;
     uint32_t value;
     struct interface found;
-    if (sscanf(line, "%15s %31s %" SCNu32, port, name, &value) != 3)
+    if (sscanf(line, "%d %31s %" SCNu32, &index, name, &value) != 3)
         return;
-    bool is_port = strcmp(port, "-") != 0;
-    if (!interface_read(querier->netlink, is_port ? port : bridge->name, &found))
+    if (index != 0 && strcmp(name, router.name) == 0 && if_indextoname((unsigned)index, port) != NULL)
+        set(querier, index, port, true, &router, value);
+    if (index != 0 || !interface_read(querier->netlink, bridge->name, &found))
         return;
-    if (is_port && strcmp(name, router.name) == 0)
-        set(querier, found.index, port, true, &router, value);
-    for (int at = 0; at < SETTINGS && !is_port; at++)
+    for (int at = 0; at < SETTINGS; at++)
         if (strcmp(name, settings[at].name) == 0)
             set(querier, found.index, bridge->name, false, &settings[at], value);
 }
