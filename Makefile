@@ -1,6 +1,8 @@
 # Builds, runs and tests `mquerier`. `rt` is the command of the Rattle toolchain.
 
 PREFIX ?= /usr/local
+SYSCONFDIR ?= /etc
+UNITDIR ?= $(PREFIX)/lib/systemd/system
 SOURCES := crates.txt $(shell find crates/*/src crates/*/specs crates/*/proofs -type f)
 FIRST_PATH := message igmp 1600f8faef010203
 VERSION := $(shell sed -n 's/^\#define MQ_VERSION_TEXT "\(.*\)"$$/\1/p' include/mquerier.h)
@@ -25,8 +27,8 @@ $(error TARGET=$(TARGET): only `make lib` takes another processor than that of t
 endif
 endif
 
-.PHONY: all run try lib wheel quick test kept live live-test conform-test page page-test bindings-test arm-test mutants bench install
-.PHONY: dist clean
+.PHONY: all run try lib wheel quick test kept live live-checked live-test live-soak conform-test page page-test bindings-test arm-test
+.PHONY: mutants bench install dist clean
 
 # Both archives are of what is built in one folder, so one is made after the other. tools/build works side by side by itself.
 .NOTPARALLEL:
@@ -46,7 +48,7 @@ needs-gate:
 needs-test:
 	@tools/needs rt bash git python3 cc c++ nm valgrind
 needs-live:
-	@tools/needs rt bash python3 $(CC) ip bridge nft setpriv
+	@tools/needs rt bash python3 $(CC) ip bridge tc nft setpriv
 needs-conform:
 	@tools/needs rt bash python3 $(CC) ip bridge chrt
 needs-page:
@@ -140,21 +142,35 @@ kept: needs-gate
 mutants: needs-gate
 	@tools/gate mutants
 
-# A querier on an interface of Linux, over the library: an example in C, outside of the proofs.
-LIVE := $(wildcard examples/live/*.c examples/live/*.h)
+# A querier on Linux for an interface or for whole bridges, over the library, in C and outside of the proofs. `live-checked` is the
+# same with the compiler's checks of memory and of undefined behaviour, for tests.
+LIVE := $(wildcard daemon/*.c daemon/*.h)
+LIVE_FLAGS := -std=c99 -O2 -Wall -Wextra -Iinclude
+LIVE_CHECKS := -g -fno-omit-frame-pointer -fsanitize=address,undefined -fno-sanitize-recover
 live: bin/mquerier-live
+live-checked: bin/mquerier-live-checked
 
 bin/mquerier-live: $(LIVE) include/mquerier.h lib/libmquerier.a | needs-library
 	@mkdir -p bin
-	$(CC) -std=c99 -O2 -Wall -Wextra -Iinclude $(filter %.c,$^) lib/libmquerier.a -o $@
+	$(CC) $(LIVE_FLAGS) $(filter %.c,$^) lib/libmquerier.a -o $@
+
+bin/mquerier-live-checked: $(LIVE) include/mquerier.h lib/libmquerier.a | needs-library
+	@mkdir -p bin
+	$(CC) $(LIVE_FLAGS) $(LIVE_CHECKS) $(filter %.c,$^) lib/libmquerier.a -o $@
 
 # The examples in C do what docs/EMBEDDING.md says; the querier on an interface serves hosts of the Linux kernel, and does what the
 # vectors say that are played to it, those that end within SECONDS. The last two want to be root, and the last one the program.
 SECONDS := 600
-live-test: needs-live live
+live-test: needs-live live live-checked
 	@examples/check
-	@examples/live/test
+	@daemon/test
+	@daemon/switches
 	@conform/vectors --seconds $(SECONDS)
+
+# So many seconds of random joins and leaves at the ports of two bridges. It wants to be root, and the program.
+SOAK := 3600
+live-soak: needs-live live-checked bin/mquerier
+	@LIVE=bin/mquerier-live-checked daemon/soak $(SOAK)
 
 # conform, which holds any router to the standards (docs/CONFORM.md), held to routers here: faulty ones of its own, each of which
 # has to be found by the cases that name its fault, and bin/mquerier-live, a bridge of the kernel and routers of Debian, which are
@@ -198,10 +214,12 @@ bench: bin/mquerier
 	@bench/spent $(WRITE)
 	@bench/links $(WRITE)
 
-# The program, the library for C as an archive and as a shared library, its header, its entry for pkg-config, and the manual pages.
-install: bin/mquerier lib/libmquerier.a lib/$(SONAME)
+# The program, the library for C as an archive and as a shared library, its header, its entry for pkg-config, the querier of bridges
+# with its service and its file of options, which isn't replaced, and the manual pages.
+install: bin/mquerier lib/libmquerier.a lib/$(SONAME) bin/mquerier-live
 	install -d $(DESTDIR)$(PREFIX)/bin $(DESTDIR)$(PREFIX)/include $(DESTDIR)$(PREFIX)/lib/pkgconfig
-	install -d $(DESTDIR)$(PREFIX)/share/man/man1 $(DESTDIR)$(PREFIX)/share/man/man3
+	install -d $(DESTDIR)$(PREFIX)/share/man/man1 $(DESTDIR)$(PREFIX)/share/man/man3 $(DESTDIR)$(PREFIX)/share/man/man8
+	install -d $(DESTDIR)$(PREFIX)/sbin $(DESTDIR)$(SYSCONFDIR)/mquerier-live $(DESTDIR)$(UNITDIR)
 	install -m 755 bin/mquerier $(DESTDIR)$(PREFIX)/bin/mquerier
 	install -m 644 lib/libmquerier.a lib/$(SONAME) $(DESTDIR)$(PREFIX)/lib
 	ln -sf $(SONAME) $(DESTDIR)$(PREFIX)/lib/libmquerier.so
@@ -209,6 +227,10 @@ install: bin/mquerier lib/libmquerier.a lib/$(SONAME)
 	sed 's|@PREFIX@|$(PREFIX)|; s|@VERSION@|$(VERSION)|' include/libmquerier.pc.in > $(DESTDIR)$(PREFIX)/lib/pkgconfig/libmquerier.pc
 	install -m 644 man/mquerier.1 $(DESTDIR)$(PREFIX)/share/man/man1/mquerier.1
 	install -m 644 man/libmquerier.3 $(DESTDIR)$(PREFIX)/share/man/man3/libmquerier.3
+	install -m 755 bin/mquerier-live $(DESTDIR)$(PREFIX)/sbin/mquerier-live
+	sed 's|@PREFIX@|$(PREFIX)|; s|@SYSCONFDIR@|$(SYSCONFDIR)|' daemon/mquerier-live@.service.in > $(DESTDIR)$(UNITDIR)/mquerier-live@.service
+	test -e $(DESTDIR)$(SYSCONFDIR)/mquerier-live/options || install -m 644 daemon/options.example $(DESTDIR)$(SYSCONFDIR)/mquerier-live/options
+	install -m 644 man/mquerier-live.8 $(DESTDIR)$(PREFIX)/share/man/man8/mquerier-live.8
 
 # The release of this commit: an archive and the wheel, with their sums in dist/mquerier-VERSION.sha256.
 dist: bin/mquerier lib/libmquerier.a lib/$(SONAME) page wheel

@@ -79,7 +79,7 @@ def live(lab, family):
     if not os.access(LIVE, os.X_OK):
         raise Failed("bin/mquerier-live is not there: `make live` builds it")
     lab.both()
-    words = [LIVE, "q0", family, "--own", OWN[family], *LIMITS, "--ssm"]
+    words = [LIVE, "interface", "q0", family, "--own", OWN[family], *LIMITS, "--ssm"]
     place = put(lab, "restart", f"#!/bin/sh\nkill $(cat /tmp/{lab.space}.pid)\nsleep 0.3\nexec /bin/sh /tmp/{lab.space}.start\n")
     put(lab, "start", f"chrt -r 1 {' '.join(words)} < /dev/null > /tmp/{lab.space}.live 2>&1 &\necho $! > /tmp/{lab.space}.pid\n")
     run(*lab.words("sh", f"/tmp/{lab.space}.start"))
@@ -108,7 +108,20 @@ def live_bridge(lab, family):
     a_bridge(lab, "mcast_querier 0 mcast_hash_max 65536")
     lab.address("br0", "10.0.0.9/24", "fe80::9/64")
     lab.ip("link", "set", "q0", "type", "bridge_slave", "mcast_router", "0")
-    lab.start(LIVE, "br0", family, "--own", OWN[family], *LIMITS, "--mdb", "br0", "q0", until=" send ")
+    lab.start(LIVE, "interface", "br0", family, "--own", OWN[family], *LIMITS, "--mdb", "br0", "q0", until=" send ")
+    return ["--upstream", "v0"]
+
+
+def live_switch(lab, family):
+    """bin/mquerier-live as the querier of all ports of a bridge, which it sets up itself."""
+    if not os.access(LIVE, os.X_OK):
+        raise Failed("bin/mquerier-live is not there: `make live` builds it")
+    a_bridge(lab, "mcast_querier 0")
+    lab.address("br0", "10.0.0.9/24", "fe80::9/64")
+    own = "--own6" if family == "mld" else "--own"
+    place = f"/tmp/{lab.space}.run"
+    lab.start(LIVE, "bridge", "br0", "--setup", "--family", family, own, OWN[family], *LIMITS, "--ports", "2", "--run", place)
+    wait_for(f"{place}/br0/status")
     return ["--upstream", "v0"]
 
 
@@ -180,6 +193,7 @@ PEERS = {
     "live": live,
     "bridge": bridge,
     "live-bridge": live_bridge,
+    "live-switch": live_switch,
     "frr": frr,
     "pimd": pimd,
     "igmpproxy": igmpproxy,

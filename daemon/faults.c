@@ -1,0 +1,65 @@
+#define _GNU_SOURCE
+#include "faults.h"
+
+#include <inttypes.h>
+#include <stdio.h>
+#include <stdlib.h>
+#include <time.h>
+
+/* So many lines of a kind are printed at once, and then one for each second that has passed. */
+enum { LINES_AT_ONCE = 4 };
+
+const char *const fault_names[FAULT_KINDS] = {
+    [FAULT_LOST] = "frames_lost",         [FAULT_MALFORMED] = "frames_malformed",     [FAULT_UNSENT] = "queries_unsent",
+    [FAULT_REFUSED] = "entries_refused",  [FAULT_SOURCES] = "entries_without_sources", [FAULT_OTHERS] = "entries_of_others",
+    [FAULT_OVERRUN] = "netlink_overruns", [FAULT_NETLINK] = "netlink_refusals",       [FAULT_PORTS] = "ports_unserved",
+    [FAULT_MISSING] = "settings_missing", [FAULT_STATUS] = "status_refused",
+};
+uint64_t fault_counts[FAULT_KINDS];
+
+void tell(const char *what, const char *why) {
+    fprintf(stderr, "mquerier-live: %s: %s\n", what, why);
+}
+
+/* Whether a line of a kind may be printed now. */
+static int may_tell(enum fault kind) {
+    static int64_t earliest[FAULT_KINDS];
+    struct timespec now;
+    clock_gettime(CLOCK_BOOTTIME, &now);
+    int64_t second = now.tv_sec + LINES_AT_ONCE;
+    if (earliest[kind] < now.tv_sec)
+        earliest[kind] = now.tv_sec;
+    if (earliest[kind] >= second)
+        return 0;
+    earliest[kind]++;
+    return 1;
+}
+
+void fault_count(enum fault kind, uint64_t count, const char *what, const char *why) {
+    static uint64_t silent[FAULT_KINDS];
+    fault_counts[kind] += count;
+    if (!may_tell(kind)) {
+        silent[kind]++;
+    } else if (silent[kind] == 0) {
+        tell(what, why);
+    } else {
+        fprintf(stderr, "mquerier-live: %s: %s (and %" PRIu64 " lines left out)\n", what, why, silent[kind]);
+        silent[kind] = 0;
+    }
+}
+
+void fault(enum fault kind, const char *what, const char *why) {
+    fault_count(kind, 1, what, why);
+}
+
+void fail(int status, const char *what, const char *why) {
+    tell(what, why);
+    exit(status);
+}
+
+void *take(uint64_t count, uint64_t size) {
+    void *memory = calloc(count > 0 ? count : 1, size);
+    if (memory == NULL)
+        fail(STATUS_FAILED, "memory", "there is too little for --ports, --groups and --sources");
+    return memory;
+}

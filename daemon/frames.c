@@ -1,0 +1,181 @@
+#include "frames.h"
+
+#include <string.h>
+
+enum {
+    ETHERNET = 14,
+    SHORTEST_FRAME = 60,
+    IPV4 = 20,
+    IPV4_ALERT = 24, /* with a Router Alert option */
+    IPV6 = 40,
+    HOP_BY_HOP = 8,
+    PROTOCOL_IGMP = 2,
+    PROTOCOL_PIM = 103,
+    NO_PROTOCOL = 256,
+    NEXT_HOP_BY_HOP = 0,
+    NEXT_ICMPV6 = 58,
+    OPTION_PAD1 = 0,
+    OPTION_ALERT = 5,
+    PIM = 4, /* the head of a message of PIM */
+    PIM_HELLO = 0x20,
+    PIM_HOLDTIME = 1,
+    PIM_DEFAULT_SECONDS = 105,
+};
+
+static size_t word_at(const uint8_t *bytes) {
+    return (size_t)bytes[0] << 8 | bytes[1];
+}
+
+static void put_word(uint8_t *bytes, size_t word) {
+    bytes[0] = (uint8_t)(word >> 8);
+    bytes[1] = (uint8_t)word;
+}
+
+/* The checksum of an IPv4 header, whose length is even: 0 where the field in it is right (RFC 1071). */
+static size_t header_checksum(const uint8_t *header, size_t length) {
+    size_t sum = 0;
+    for (size_t at = 0; at < length; at += 2)
+        sum += word_at(header + at);
+    while (sum > 0xffff)
+        sum = (sum & 0xffff) + (sum >> 16);
+    return sum ^ 0xffff;
+}
+
+/* Reads an IPv4 packet. Returns its protocol, or NO_PROTOCOL if it is malformed or a fragment. */
+static unsigned read_ipv4(const uint8_t *packet, size_t length, struct datagram *datagram) {
+    if (length < IPV4 || packet[0] >> 4 != 4)
+        return NO_PROTOCOL;
+    size_t header = 4 * (size_t)(packet[0] & 0x0f), total = word_at(packet + 2);
+    if (header < IPV4 || total < header || total > length || header_checksum(packet, header) != 0)
+        return NO_PROTOCOL;
+    if (word_at(packet + 6) & 0x3fff) /* more fragments, or an offset */
+        return NO_PROTOCOL;
+    memcpy(datagram->source, packet + 12, 4);
+    memcpy(datagram->destination, packet + 16, 4);
+    datagram->body = packet + header; /* after the options */
+    datagram->length = total - header;
+    return packet[9];
+}
+
+/* Whether a Router Alert option for MLD stands in the options of a hop-by-hop header. */
+static bool has_alert(const uint8_t *options, size_t length) {
+    for (size_t at = 0; at < length;) {
+        if (options[at] == OPTION_PAD1) {
+            at += 1;
+            continue;
+        }
+        if (length - at < 2 || length - at - 2 < options[at + 1])
+            return false;
+        if (options[at] == OPTION_ALERT && options[at + 1] == 2 && word_at(options + at + 2) == 0)
+            return true;
+        at += 2 + (size_t)options[at + 1];
+    }
+    return false;
+}
+
+/* Whether an ICMPv6 message has a type of MLD: Query, Report and Done of version 1, Report of version 2. */
+static bool is_mld(const uint8_t *body, size_t length) {
+    return length > 0 && ((body[0] >= 130 && body[0] <= 132) || body[0] == 143);
+}
+
+/* Reads an IPv6 packet. Returns the header that follows those that are read, or NO_PROTOCOL if the packet is malformed. */
+static unsigned read_ipv6(const uint8_t *packet, size_t length, struct datagram *datagram) {
+    if (length < IPV6 || packet[0] >> 4 != 6 || word_at(packet + 4) > length - IPV6)
+        return NO_PROTOCOL;
+    const uint8_t *body = packet + IPV6;
+    size_t payload = word_at(packet + 4);
+    unsigned next = packet[6];
+    datagram->alert = false;
+    if (next == NEXT_HOP_BY_HOP) {
+        size_t options = payload < HOP_BY_HOP ? 0 : 8 + 8 * (size_t)body[1];
+        if (options == 0 || options > payload)
+            return NO_PROTOCOL;
+        next = body[0];
+        datagram->alert = has_alert(body + 2, options - 2);
+        body += options;
+        payload -= options;
+    }
+    memcpy(datagram->source, packet + 8, 16);
+    memcpy(datagram->destination, packet + 24, 16);
+    datagram->hop_limit = packet[7];
+    datagram->body = body;
+    datagram->length = payload;
+    return next;
+}
+
+enum carried read_frame(const uint8_t *frame, size_t length, struct datagram *datagram) {
+    size_t ethertype = length < ETHERNET ? 0 : word_at(frame + 12);
+    if (ethertype != 0x0800 && ethertype != 0x86dd)
+        return CARRIED_NOTHING;
+    datagram->is_ipv6 = ethertype == 0x86dd;
+    unsigned next = (datagram->is_ipv6 ? read_ipv6 : read_ipv4)(frame + ETHERNET, length - ETHERNET, datagram);
+    if (next == PROTOCOL_PIM && datagram->length >= PIM && datagram->body[0] == PIM_HELLO)
+        return CARRIED_HELLO;
+    if (datagram->is_ipv6 ? next == NEXT_ICMPV6 && is_mld(datagram->body, datagram->length) : next == PROTOCOL_IGMP)
+        return CARRIED_DATAGRAM;
+    return CARRIED_NOTHING;
+}
+
+unsigned hello_seconds(const struct datagram *hello) {
+    for (size_t at = PIM; hello->length - at >= 6;) {
+        size_t length = 4 + word_at(hello->body + at + 2);
+        if (word_at(hello->body + at) == PIM_HOLDTIME)
+            return (unsigned)word_at(hello->body + at + 4);
+        if (length > hello->length - at)
+            break;
+        at += length;
+    }
+    return PIM_DEFAULT_SECONDS;
+}
+
+static size_t whole_frame(uint8_t *frame, size_t length) {
+    if (length < SHORTEST_FRAME)
+        memset(frame + length, 0, SHORTEST_FRAME - length);
+    return length < SHORTEST_FRAME ? SHORTEST_FRAME : length;
+}
+
+/* RFC 3376 section 4: TTL 1, Type of Service 0xc0, Router Alert. The packet says that it may not be fragmented. */
+static size_t write_igmp_frame(const uint8_t mac[MAC], const uint8_t *own, const uint8_t *destination, const uint8_t *message,
+                               size_t length, uint8_t *frame) {
+    static const uint8_t start[IPV4_ALERT] = {0x46, 0xc0, 0, 0, 0, 0, 0x40, 0, 1, PROTOCOL_IGMP, [20] = 0x94, 4, 0, 0};
+    const uint8_t group[3] = {0x01, 0x00, 0x5e};
+    memcpy(frame, group, 3); /* RFC 1112 section 6.4: and the low 23 bits of the address */
+    memcpy(frame + 3, destination + 1, 3);
+    frame[3] &= 0x7f;
+    memcpy(frame + 6, mac, MAC);
+    put_word(frame + 12, 0x0800);
+    uint8_t *packet = frame + ETHERNET;
+    memcpy(packet, start, IPV4_ALERT);
+    put_word(packet + 2, IPV4_ALERT + length);
+    memcpy(packet + 12, own, 4);
+    memcpy(packet + 16, destination, 4);
+    put_word(packet + 10, header_checksum(packet, IPV4_ALERT));
+    memcpy(packet + IPV4_ALERT, message, length);
+    return whole_frame(frame, ETHERNET + IPV4_ALERT + length);
+}
+
+/* RFC 3810 section 5: hop limit 1, Router Alert in a hop-by-hop header, which PadN fills up. */
+static size_t write_mld_frame(const uint8_t mac[MAC], const uint8_t *own, const uint8_t *destination, const uint8_t *message,
+                              size_t length, uint8_t *frame) {
+    static const uint8_t options[HOP_BY_HOP] = {NEXT_ICMPV6, 0, OPTION_ALERT, 2, 0, 0, 1, 0};
+    memset(frame, 0x33, 2); /* and the low 32 bits of the address */
+    memcpy(frame + 2, destination + 12, 4);
+    memcpy(frame + 6, mac, MAC);
+    put_word(frame + 12, 0x86dd);
+    uint8_t *packet = frame + ETHERNET;
+    memset(packet, 0, IPV6);
+    packet[0] = 0x60;
+    put_word(packet + 4, HOP_BY_HOP + length);
+    packet[6] = NEXT_HOP_BY_HOP;
+    packet[7] = 1;
+    memcpy(packet + 8, own, 16);
+    memcpy(packet + 24, destination, 16);
+    memcpy(packet + IPV6, options, HOP_BY_HOP);
+    memcpy(packet + IPV6 + HOP_BY_HOP, message, length);
+    return whole_frame(frame, ETHERNET + IPV6 + HOP_BY_HOP + length);
+}
+
+size_t write_frame(bool is_mld, const uint8_t mac[MAC], const uint8_t *own, const uint8_t *destination, const uint8_t *message,
+                   size_t length, uint8_t *frame) {
+    return (is_mld ? write_mld_frame : write_igmp_frame)(mac, own, destination, message, length, frame);
+}

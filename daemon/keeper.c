@@ -1,0 +1,101 @@
+#include "keeper.h"
+
+#include "faults.h"
+
+#include <string.h>
+
+/* All groups may end in one call, and as many begin. */
+enum { ROWS_FOR_A_GROUP = 2 };
+
+void keeper_open(struct keeper *keeper, size_t groups) {
+    size_t room = ROWS_FOR_A_GROUP * groups;
+    *keeper = (struct keeper){{take(room, sizeof(struct row)), 0, room}, MQ_NONE};
+}
+
+void keeper_begin(struct keeper *keeper, uint64_t settles) {
+    for (size_t at = 0; at < keeper->rows.count; at++)
+        keeper->rows.all[at].is_inherited = true;
+    keeper->settles = settles;
+}
+
+/* The kernel forwards 224.0.0.0/24 always, and takes no entry for it. */
+static bool is_always_forwarded(const struct link *link, const uint8_t *group) {
+    return !link->family->is_mld && group[0] == 224 && group[1] == 0 && group[2] == 0;
+}
+
+void keeper_update(struct keeper *keeper, const struct link *link, const struct place *place, const uint8_t *group) {
+    struct row *row = rows_find(&keeper->rows, group);
+    struct filter filter = filter_of(link, group);
+    struct entry entry;
+    if (is_always_forwarded(link, group))
+        return;
+    if (row != NULL && row->is_inherited && mdb_read(place, group, &entry) && entry.maker == MAKER_US)
+        filter = filter_join(&filter, &entry.filter);
+    if (filter.mode == MODE_NONE) {
+        if (row != NULL && mdb_remove(place, group))
+            rows_remove(&keeper->rows, row);
+    } else if (row == NULL && keeper->rows.count == keeper->rows.room) {
+        fault(FAULT_REFUSED, "mdb", "too many entries of an earlier run");
+    } else if (mdb_set(place, group, &filter, row != NULL)) {
+        rows_put(&keeper->rows, group);
+    }
+}
+
+void keeper_settle(struct keeper *keeper, const struct link *link, const struct place *place) {
+    keeper->settles = MQ_NONE;
+    for (size_t left = keeper->rows.count; left > 0; left--) {
+        struct row *row = keeper->rows.all + left - 1; /* from the last on, since an update may remove it */
+        uint8_t group[LONG_ADDRESS];
+        if (!row->is_inherited)
+            continue;
+        row->is_inherited = false;
+        memcpy(group, row->group, sizeof group);
+        keeper_update(keeper, link, place, group);
+    }
+}
+
+void keeper_forget_seen(struct keeper *keeper) {
+    for (size_t at = 0; at < keeper->rows.count; at++)
+        keeper->rows.all[at].is_seen = false;
+}
+
+void keeper_note(struct keeper *keeper, const struct link *link, const struct entry *entry) {
+    bool is_known = rows_find(&keeper->rows, entry->group) != NULL;
+    struct row *row = rows_put(&keeper->rows, entry->group);
+    if (row == NULL)
+        return; /* the next repair has room for it */
+    struct filter wanted = {MODE_NONE, 0, NULL};
+    if (link != NULL)
+        wanted = filter_of(link, entry->group);
+    if (wanted.count > GREATEST_LIST)
+        wanted = filter_of_all;
+    row->is_seen = true;
+    row->is_right = filter_equal(&wanted, &entry->filter);
+    if (!is_known)
+        row->is_inherited = link == NULL || keeper->settles != MQ_NONE;
+}
+
+/* Makes the entries that are missing. */
+static void repair_missing(struct keeper *keeper, const struct link *link, const struct place *place) {
+    struct held groups[PAGE_GROUPS];
+    for (size_t first = 0, count = 1; count > 0; first += count) {
+        count = link_groups(link, first, groups);
+        for (size_t at = 0; at < count; at++)
+            if (rows_find(&keeper->rows, groups[at].address) == NULL)
+                keeper_update(keeper, link, place, groups[at].address);
+    }
+}
+
+void keeper_repair(struct keeper *keeper, const struct link *link, const struct place *place, bool is_whole) {
+    for (size_t left = keeper->rows.count; left > 0; left--) {
+        struct row *row = keeper->rows.all + left - 1;
+        uint8_t group[LONG_ADDRESS];
+        memcpy(group, row->group, sizeof group);
+        if (!row->is_seen && is_whole)
+            rows_remove(&keeper->rows, row);
+        else if (row->is_seen && !row->is_right && !row->is_inherited && link != NULL)
+            keeper_update(keeper, link, place, group);
+    }
+    if (link != NULL)
+        repair_missing(keeper, link, place);
+}

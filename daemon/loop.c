@@ -1,0 +1,172 @@
+#define _GNU_SOURCE
+#include "loop.h"
+
+#include "faults.h"
+#include "ports.h"
+#include "service.h"
+#include "status.h"
+
+#include <errno.h>
+#include <signal.h>
+#include <stdio.h>
+#include <string.h>
+#include <sys/epoll.h>
+#include <sys/signalfd.h>
+#include <sys/socket.h>
+#include <sys/timerfd.h>
+#include <time.h>
+#include <unistd.h>
+
+enum { READY = 16, EVERY = 1000 };
+
+static int waiting, timer, signals;
+static bool is_over, is_asked;
+
+static void wait_for(int file) {
+    struct epoll_event event = {.events = EPOLLIN, .data.fd = file};
+    if (file < 0 || epoll_ctl(waiting, EPOLL_CTL_ADD, file, &event) < 0)
+        fail(STATUS_FAILED, "epoll", strerror(errno));
+}
+
+void loop_open(struct querier *querier) {
+    sigset_t handled;
+    sigemptyset(&handled);
+    static const int numbers[] = {SIGTERM, SIGINT, SIGHUP, SIGUSR1, SIGCHLD};
+    for (size_t at = 0; at < sizeof numbers / sizeof *numbers; at++)
+        sigaddset(&handled, numbers[at]);
+    sigprocmask(SIG_BLOCK, &handled, NULL);
+    signal(SIGPIPE, SIG_IGN);
+    waiting = epoll_create1(EPOLL_CLOEXEC);
+    signals = signalfd(-1, &handled, SFD_CLOEXEC | SFD_NONBLOCK);
+    timer = timerfd_create(CLOCK_BOOTTIME, TFD_CLOEXEC | TFD_NONBLOCK);
+    wait_for(signals);
+    wait_for(timer);
+    wait_for(querier->ring.packets);
+    wait_for(querier->news);
+    for (size_t at = 0; at < querier->bridges_count && !querier->options->is_interface; at++)
+        wait_for(querier->bridges[at].listening);
+}
+
+/* Reads the options again. Those that memory or sockets depend on stay; each link begins anew if its timing changed. */
+static void reload(struct querier *querier, int count, char **words) {
+    static struct options options;
+    struct options *used = querier->options;
+    const char *why = options_read(&options, count, words);
+    if (why == NULL)
+        why = querier_fault(&options);
+    if (why != NULL) {
+        fault(FAULT_MISSING, "reload", why);
+        return;
+    }
+    for (size_t at = 0; at < 2; at++) {
+        used->configuration[at] = options.configuration[at];
+        bool is_changed = used->serves[at] && family_retime(&querier->families[at], &options.configuration[at]);
+        for (size_t port = 0; port < querier->room && is_changed; port++)
+            querier->ports[port].served[at].is_on = false; /* it begins anew below */
+    }
+    memcpy(used->own, options.own, sizeof used->own);
+    memcpy(used->has_own, options.has_own, sizeof used->has_own);
+    memcpy(used->routers, options.routers, sizeof used->routers);
+    used->router_count = options.router_count;
+    ports_refresh(querier, moment());
+}
+
+static void read_signals(struct querier *querier, int count, char **words) {
+    struct signalfd_siginfo info;
+    while (read(signals, &info, sizeof info) == sizeof info) {
+        switch (info.ssi_signo) {
+        case SIGCHLD: status_reap(); break;
+        case SIGUSR1: is_asked = true; break;
+        case SIGHUP:
+            if (!querier->options->is_interface)
+                reload(querier, count, words);
+            break;
+        default: is_over = true;
+        }
+    }
+}
+
+/* Reads ports anew, and the databases too if something was lost. */
+static void refresh(struct querier *querier) {
+    bool was_overrun = querier->was_overrun;
+    querier->was_overrun = false;
+    ports_refresh(querier, moment());
+    if (querier->options->is_interface && querier->bridges[0].index == 0)
+        fail(STATUS_FAILED, querier->bridges[0].name, strerror(ENODEV));
+    if (was_overrun)
+        querier_repair(querier, moment());
+}
+
+/* Handles what is ready at one file. */
+static void handle(struct querier *querier, int file, int count, char **words) {
+    uint64_t expired;
+    if (file == querier->ring.packets) {
+        int error; /* reading an error clears it; frames are handled by the loop */
+        socklen_t length = sizeof error;
+        getsockopt(file, SOL_SOCKET, SO_ERROR, &error, &length);
+    } else if (file == querier->news) {
+        if (ports_read_news(querier))
+            refresh(querier);
+    } else if (file == signals) {
+        read_signals(querier, count, words);
+    } else if (file == timer) {
+        if (read(timer, &expired, sizeof expired) < 0 && errno != EAGAIN)
+            fail(STATUS_FAILED, "timer", strerror(errno));
+    } else {
+        for (size_t at = 0; at < querier->bridges_count; at++)
+            if (querier->bridges[at].listening == file)
+                status_answer(querier, &querier->bridges[at], moment());
+    }
+}
+
+/* Sets the timer to the earliest moment. */
+static void set_timer(const struct querier *querier, uint64_t now) {
+    static uint64_t set = MQ_NONE;
+    uint64_t next = querier->deadlines.moments[deadlines_first(&querier->deadlines)], wait = next > now ? next - now : 0;
+    if (next == set && next > now)
+        return;
+    set = next;
+    struct itimerspec after = {.it_value = {(time_t)(wait / 1000), (long)(wait % 1000) * 1000000 + 1}};
+    if (next == MQ_NONE)
+        after.it_value = (struct timespec){0};
+    if (timerfd_settime(timer, 0, &after, NULL) < 0)
+        fail(STATUS_FAILED, "timer", strerror(errno));
+}
+
+/* What is done at most once a second. */
+static void look_around(struct querier *querier, uint64_t now) {
+    static uint64_t next, next_word;
+    uint64_t interval = service_interval();
+    if (now < next)
+        return;
+    next = now + EVERY;
+    if (querier->was_overrun)
+        refresh(querier);
+    if (interval != 0 && now >= next_word) {
+        service_notify("WATCHDOG=1");
+        next_word = now + (interval > EVERY ? interval - EVERY : 0);
+    }
+}
+
+void loop_run(struct querier *querier, int count, char **words) {
+    struct epoll_event ready[READY];
+    while (!is_over) {
+        uint64_t now = moment();
+        querier_hear(querier, now); /* before what is due, which it does too: a late Report still counts */
+        querier_tick(querier, now);
+        look_around(querier, now);
+        if (is_asked && querier->options->is_interface) {
+            querier_tick_all(querier, now);
+            link_print_state(&querier->ports->served[!querier->options->serves[false]].link, now, stdout);
+        }
+        is_asked = false;
+        if (fflush(stdout) != 0)
+            fail(STATUS_FAILED, "standard output", strerror(errno));
+        set_timer(querier, moment());
+        int found = epoll_wait(waiting, ready, READY, -1);
+        if (found < 0 && errno != EINTR)
+            fail(STATUS_FAILED, "epoll", strerror(errno));
+        for (int at = 0; at < found; at++)
+            handle(querier, ready[at].data.fd, count, words);
+    }
+}

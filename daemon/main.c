@@ -1,0 +1,150 @@
+/* A multicast querier on Linux, for one interface or for all ports of bridges, over the library `mquerier`. The library's decisions
+   are proved; sockets, clock, headers, the database of a bridge and this program are plain C. */
+#define _GNU_SOURCE
+#include "faults.h"
+#include "loop.h"
+#include "ports.h"
+#include "service.h"
+#include "setup.h"
+#include "status.h"
+
+#include <errno.h>
+#include <grp.h>
+#include <linux/capability.h>
+#include <stdio.h>
+#include <stdlib.h>
+#include <string.h>
+#include <sys/prctl.h>
+#include <sys/stat.h>
+#include <sys/syscall.h>
+#include <unistd.h>
+
+enum { NOBODY = 65534 };
+/* So much is printed at once. */
+enum { PRINTED = 1 << 16 };
+
+static struct querier querier;
+static struct options options;
+
+/* From here on the process is nobody, without capabilities but what a bridge's database asks for, and gains none by what it might
+   execute. What `--setup` executes keeps that one. */
+static void drop_privileges(bool keeps_database) {
+    struct __user_cap_header_struct header = {.version = _LINUX_CAPABILITY_VERSION_3};
+    struct __user_cap_data_struct left[_LINUX_CAPABILITY_U32S_3] = {{0}};
+    if (keeps_database)
+        left[0].effective = left[0].permitted = 1u << CAP_NET_ADMIN;
+    if (options.sets_up)
+        left[0].inheritable = 1u << CAP_NET_ADMIN;
+    bool is_kept = !keeps_database || prctl(PR_SET_KEEPCAPS, 1, 0, 0, 0) == 0;
+    bool is_done = geteuid() != 0 || (setgroups(0, NULL) == 0 && setgid(NOBODY) == 0 && setuid(NOBODY) == 0);
+    if (!is_kept || !is_done || syscall(SYS_capset, &header, left) < 0 || prctl(PR_SET_NO_NEW_PRIVS, 1, 0, 0, 0) < 0)
+        fail(STATUS_FAILED, "privileges can't be dropped", strerror(errno));
+    if (options.sets_up && prctl(PR_CAP_AMBIENT, PR_CAP_AMBIENT_RAISE, CAP_NET_ADMIN, 0, 0) < 0)
+        fail(STATUS_FAILED, "capabilities", strerror(errno));
+}
+
+/* Removes all entries of ours of the ports that are served. */
+static void remove_entries(void) {
+    struct place place;
+    for (size_t at = 0; at < 2 * querier.room; at++) {
+        const struct port *port = querier.ports + at / 2;
+        bool is_there = port->index != 0 && options.serves[at % 2];
+        if (is_there && querier_place(&querier, port, at % 2, &place))
+            mdb_remove_all(&place);
+    }
+}
+
+/* At the program's end, however it ends but by a signal that it doesn't handle. */
+static void end(void) {
+    if (options.sets_up || options.router_count > 0)
+        for (size_t at = 0; at < querier.bridges_count; at++)
+            setup_undo(&querier, &querier.bridges[at]);
+    remove_entries();
+}
+
+static int index_of(const char *name, struct interface *found) {
+    if (!interface_read(querier.netlink, name, found))
+        fail(STATUS_FAILED, name, strerror(ENODEV));
+    return found->index;
+}
+
+/* Finds the bridge and the port of --mdb. */
+static void open_database(void) {
+    struct interface bridge, port;
+    int bridge_index = index_of(options.bridge, &bridge), port_index = index_of(options.port, &port);
+    mdb_try(querier.netlink, bridge_index, options.bridge);
+    index_of(options.port, &port);
+    if (port.master != bridge_index)
+        fail(STATUS_FAILED, options.port, "it is no port of the bridge");
+    querier.kept_bridge = bridge_index;
+    querier.kept_port = port_index;
+}
+
+/* Finds the interface that is served alone. */
+static void open_interface(void) {
+    struct interface found;
+    int index = index_of(options.names[0], &found);
+    if (!found.is_ethernet)
+        fail(STATUS_FAILED, options.names[0], "not an Ethernet interface");
+    if (ring_join(&querier.ring, index) < 0)
+        fail(STATUS_FAILED, options.names[0], strerror(errno));
+    if (options.bridge != NULL)
+        open_database();
+}
+
+static void make_folder(const char *name) {
+    if (mkdir(name, 0755) < 0 && errno != EEXIST)
+        fail(STATUS_FAILED, name, strerror(errno));
+}
+
+/* Finds the bridges, and opens what belongs to each. */
+static void open_bridges(void) {
+    struct interface found;
+    char folder[4096];
+    for (size_t at = 0; at < querier.bridges_count; at++)
+        mdb_try(querier.netlink, index_of(options.names[at], &found), options.names[at]);
+    make_folder(options.run);
+    for (size_t at = 0; at < querier.bridges_count; at++) {
+        snprintf(folder, sizeof folder, "%s/%s", options.run, options.names[at]);
+        make_folder(folder);
+    }
+    setup_open(&querier);
+    status_open(&querier);
+}
+
+static void run(int count, char **words) {
+    static char printed[PRINTED];
+    const char *why = options_read(&options, count, words);
+    if (why != NULL) {
+        fprintf(stderr, "mquerier-live: %s\n", why);
+        exit(STATUS_USAGE);
+    }
+    querier_open(&querier, &options);
+    ports_open(&querier);
+    if (ring_open(&querier.ring) < 0)
+        fail(STATUS_FAILED, "packets", strerror(errno));
+    for (size_t at = 0; at < options.count; at++)
+        querier.bridges[querier.bridges_count++] = (struct bridge){.name = options.names[at], .before = -1, .listening = -1};
+    if (options.is_interface)
+        open_interface();
+    else
+        open_bridges();
+    loop_open(&querier);
+    drop_privileges(!options.is_interface || options.bridge != NULL);
+    ports_refresh(&querier, moment());
+    querier_repair(&querier, moment());
+    if (!options.is_interface || options.bridge != NULL)
+        atexit(end);
+    deadlines_set(&querier.deadlines, 2 * querier.room + DEADLINE_SECOND, moment());
+    setvbuf(stdout, printed, _IOFBF, sizeof printed); /* what is ready is written at once, by the loop */
+    service_notify("READY=1");
+    loop_run(&querier, count, words);
+    service_notify("STOPPING=1");
+}
+
+int main(int count, char **words) {
+    if (count > 1 && strcmp(words[1], "status") == 0)
+        return status_print(count - 1, words + 1);
+    run(count - 1, words + 1);
+    return 0;
+}

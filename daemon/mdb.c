@@ -1,0 +1,245 @@
+#define _GNU_SOURCE
+#include "mdb.h"
+
+#include "faults.h"
+#include "netlink.h"
+#include "text.h"
+
+#include <arpa/inet.h>
+#include <errno.h>
+#include <linux/if_bridge.h>
+#include <linux/rtnetlink.h>
+#include <net/if.h>
+#include <netinet/in.h>
+#include <stdlib.h>
+#include <string.h>
+
+/* What Linux has in <linux/if_bridge.h> and older headers haven't: what stands beside an entry, and in its list of sources. */
+enum { BESIDE_SOURCES = 2, BESIDE_MODE = 3, BESIDE_PROTOCOL = 4, LISTED_SOURCE = 1, SOURCE_ADDRESS = 1 };
+/* Who made an entry, as the database has it: this program has a number for each family. */
+enum { PROTOCOL_IGMP = 211, PROTOCOL_MLD = 212 };
+/* No program has this number: removing its entries changes nothing. */
+enum { PROTOCOL_NOBODY = 213 };
+const struct filter filter_of_all = {.mode = MODE_EXCLUDE};
+
+static uint8_t own_protocol(const struct place *place) {
+    return place->is_mld ? PROTOCOL_MLD : PROTOCOL_IGMP;
+}
+
+static size_t address_bytes(const struct place *place) {
+    return place->is_mld ? 16 : 4;
+}
+
+/* Counts what went wrong at one entry. */
+static void fault_of(enum fault kind, const struct place *place, const uint8_t *group, const char *why) {
+    char what[LONGEST_ADDRESS + IF_NAMESIZE + 16], port[IF_NAMESIZE] = "?", *to = put_text(what, "mdb ");
+    if_indextoname((unsigned)place->port, port);
+    to = put_text((place->is_mld ? put_ipv6_address : put_ipv4_address)(to, group), " at ");
+    *put_text(to, port) = '\0';
+    fault(kind, what, why);
+}
+
+/* Begins a request about the entry of a group at a port, or about all of a port where there is no group. */
+static void begin(const struct place *place, struct request *request, uint16_t type, uint16_t flags, const uint8_t *group,
+                  int port) {
+    struct br_port_msg head = {.family = AF_BRIDGE, .ifindex = (uint32_t)place->bridge};
+    struct br_mdb_entry entry = {.ifindex = (uint32_t)port};
+    if (group != NULL) {
+        memcpy(&entry.addr.u, group, address_bytes(place));
+        entry.addr.proto = htons(place->is_mld ? ETH_P_IPV6 : ETH_P_IP);
+    }
+    if (type == RTM_NEWMDB)
+        entry.state = MDB_PERMANENT;
+    request_begin(request, type, flags, &head, sizeof head);
+    request_put(request, MDBA_SET_ENTRY, &entry, sizeof entry);
+}
+
+static void put_sources(const struct place *place, struct request *request, const struct filter *filter) {
+    size_t list = request_begin_nest(request, BESIDE_SOURCES);
+    for (size_t at = 0; at < filter->count; at++) {
+        size_t listed = request_begin_nest(request, LISTED_SOURCE);
+        request_put(request, SOURCE_ADDRESS, filter->sources[at], address_bytes(place));
+        request_end_nest(request, listed);
+    }
+    request_end_nest(request, list);
+}
+
+/* Says who makes an entry, or whose entries are meant; and the filter, where there is one. */
+static void put_beside(const struct place *place, struct request *request, const struct filter *filter) {
+    uint8_t protocol = own_protocol(place);
+    size_t beside = request_begin_nest(request, MDBA_SET_ENTRY_ATTRS);
+    request_put(request, BESIDE_PROTOCOL, &protocol, sizeof protocol);
+    if (filter != NULL) {
+        uint8_t mode = filter->mode == MODE_INCLUDE ? MCAST_INCLUDE : MCAST_EXCLUDE;
+        request_put(request, BESIDE_MODE, &mode, sizeof mode);
+        if (filter->count > 0)
+            put_sources(place, request, filter);
+    }
+    request_end_nest(request, beside);
+}
+
+void mdb_try(int netlink, int bridge, const char *name) {
+    struct request request;
+    struct answer answer;
+    struct place place = {.netlink = netlink, .bridge = bridge};
+    uint8_t protocol = PROTOCOL_NOBODY;
+    begin(&place, &request, RTM_DELMDB, NLM_F_BULK, NULL, 0);
+    size_t beside = request_begin_nest(&request, MDBA_SET_ENTRY_ATTRS);
+    request_put(&request, BESIDE_PROTOCOL, &protocol, sizeof protocol);
+    request_end_nest(&request, beside);
+    if (netlink_ask(netlink, &request, &answer) != 0)
+        fail(STATUS_FAILED, name, answer.why);
+}
+
+void mdb_remove_all(const struct place *place) {
+    struct request request;
+    struct answer answer;
+    begin(place, &request, RTM_DELMDB, NLM_F_BULK, NULL, place->port);
+    put_beside(place, &request, NULL);
+    int error = netlink_ask(place->netlink, &request, &answer);
+    if (error != 0 && error != ENODEV)
+        fault(FAULT_REFUSED, "mdb", answer.why);
+}
+
+static int by_address(const void *one, const void *other) {
+    return memcmp(one, other, LONG_ADDRESS);
+}
+
+/* Reads the list of an entry's sources, in ascending order. */
+static struct filter read_filter(const uint8_t *at, const uint8_t *end, size_t width) {
+    static uint8_t sources[PAGE_SOURCES][LONG_ADDRESS];
+    struct filter filter = {MODE_EXCLUDE, 0, (const uint8_t(*)[LONG_ADDRESS])sources};
+    uint32_t mode = MCAST_EXCLUDE;
+    attribute_number(at, end, MDBA_MDB_EATTR_GROUP_MODE, &mode);
+    const struct nlattr *list = attribute_find(at, end, MDBA_MDB_EATTR_SRC_LIST), *one;
+    const uint8_t *next = list == NULL ? NULL : attribute_data(list);
+    while (list != NULL && (one = attribute_next(&next, attribute_end(list))) != NULL && filter.count < PAGE_SOURCES) {
+        const struct nlattr *address = attribute_find(attribute_data(one), attribute_end(one), MDBA_MDB_SRCATTR_ADDRESS);
+        if (address == NULL || (size_t)(attribute_end(address) - attribute_data(address)) < width)
+            continue;
+        memset(sources[filter.count], 0, LONG_ADDRESS);
+        memcpy(sources[filter.count++], attribute_data(address), width);
+    }
+    qsort(sources, filter.count, LONG_ADDRESS, by_address);
+    if (mode == MCAST_INCLUDE)
+        filter.mode = filter.count > 0 ? MODE_INCLUDE : MODE_NONE;
+    return filter;
+}
+
+/* Reads one entry of a message; false if it is none of a group, as one of a source beside it. */
+static bool read_entry(const struct nlattr *found, struct entry *entry) {
+    const uint8_t *at = attribute_data(found), *end = attribute_end(found);
+    const struct br_mdb_entry *head = (const void *)at;
+    if ((size_t)(end - at) < sizeof *head || (head->addr.proto != htons(ETH_P_IP) && head->addr.proto != htons(ETH_P_IPV6)))
+        return false;
+    at += NLMSG_ALIGN(sizeof *head);
+    if (attribute_find(at, end, MDBA_MDB_EATTR_SOURCE) != NULL)
+        return false;
+    uint32_t protocol = 0;
+    attribute_number(at, end, MDBA_MDB_EATTR_RTPROT, &protocol);
+    *entry = (struct entry){.port = (int)head->ifindex, .is_mld = head->addr.proto == htons(ETH_P_IPV6)};
+    size_t width = entry->is_mld ? 16 : 4;
+    memcpy(entry->group, &head->addr.u, width);
+    entry->maker = protocol == (entry->is_mld ? PROTOCOL_MLD : PROTOCOL_IGMP) ? MAKER_US
+                   : protocol == RTPROT_KERNEL                                ? MAKER_KERNEL
+                                                                              : MAKER_OTHER;
+    entry->filter = read_filter(at, end, width);
+    return true;
+}
+
+/* Hands each entry from `at` to `end` to `each`. */
+static void read_entries(const uint8_t *at, const uint8_t *end, mdb_each *each, void *context) {
+    struct entry entry;
+    const struct nlattr *all = attribute_find(at, end, MDBA_MDB), *group, *found;
+    const uint8_t *next = all == NULL ? NULL : attribute_data(all);
+    while (all != NULL && (group = attribute_next(&next, attribute_end(all))) != NULL) {
+        const uint8_t *beside = attribute_data(group);
+        while ((found = attribute_next(&beside, attribute_end(group))) != NULL)
+            if (read_entry(found, &entry))
+                each(context, &entry);
+    }
+}
+
+struct search {
+    int port;
+    bool is_found;
+    struct entry *entry;
+};
+
+static void compare_port(void *context, const struct entry *entry) {
+    struct search *search = context;
+    if (search->is_found || entry->port != search->port)
+        return;
+    *search->entry = *entry;
+    search->is_found = true;
+}
+
+bool mdb_read(const struct place *place, const uint8_t *group, struct entry *entry) {
+    struct request request;
+    struct answer answer;
+    struct search search = {.port = place->port, .entry = entry};
+    begin(place, &request, RTM_GETMDB, 0, group, 0);
+    if (netlink_ask(place->netlink, &request, &answer) != 0)
+        return false;
+    read_entries(answer.message + NLMSG_ALIGN(sizeof(struct br_port_msg)), answer.message + answer.length, compare_port, &search);
+    return search.is_found;
+}
+
+struct dump {
+    mdb_each *each;
+    void *context;
+};
+
+static void read_message(void *context, const struct nlmsghdr *message) {
+    const struct dump *dump = context;
+    const uint8_t *at = NLMSG_DATA(message), *end = (const uint8_t *)message + message->nlmsg_len;
+    if (message->nlmsg_len >= NLMSG_LENGTH(sizeof(struct br_port_msg)))
+        read_entries(at + NLMSG_ALIGN(sizeof(struct br_port_msg)), end, dump->each, dump->context);
+}
+
+bool mdb_dump(int netlink, mdb_each *each, void *context) {
+    struct request request;
+    struct answer answer;
+    struct dump dump = {each, context};
+    struct br_port_msg head = {.family = AF_BRIDGE};
+    request_begin(&request, RTM_GETMDB, 0, &head, sizeof head);
+    int error = netlink_dump(netlink, &request, read_message, &dump, &answer);
+    if (error != 0 && error != EINTR)
+        fault(FAULT_NETLINK, "mdb", answer.why);
+    return error == 0;
+}
+
+static int put_entry(const struct place *place, const uint8_t *group, const struct filter *filter, uint16_t flag,
+                     struct answer *answer) {
+    struct request request;
+    begin(place, &request, RTM_NEWMDB, NLM_F_CREATE | flag, group, place->port);
+    put_beside(place, &request, filter);
+    return netlink_ask(place->netlink, &request, answer);
+}
+
+bool mdb_set(const struct place *place, const uint8_t *group, const struct filter *filter, bool is_ours) {
+    struct answer answer;
+    struct entry found;
+    if (filter->count > GREATEST_LIST) {
+        fault_of(FAULT_SOURCES, place, group, "more sources than the kernel takes: all are forwarded");
+        filter = &filter_of_all;
+    }
+    int error = put_entry(place, group, filter, is_ours ? NLM_F_REPLACE : NLM_F_EXCL, &answer);
+    if (error == EEXIST && mdb_read(place, group, &found) && found.maker != MAKER_OTHER)
+        error = put_entry(place, group, filter, NLM_F_REPLACE, &answer);
+    if (error == EEXIST)
+        fault_of(FAULT_OTHERS, place, group, "there is an entry of another's, which stays");
+    else if (error != 0)
+        fault_of(FAULT_REFUSED, place, group, answer.why);
+    return is_ours || error == 0;
+}
+
+bool mdb_remove(const struct place *place, const uint8_t *group) {
+    struct request request;
+    struct answer answer;
+    begin(place, &request, RTM_DELMDB, 0, group, place->port);
+    int error = netlink_ask(place->netlink, &request, &answer);
+    if (error != 0 && error != ENOENT && error != ENODEV)
+        fault_of(FAULT_REFUSED, place, group, answer.why);
+    return error == 0 || error == ENOENT || error == ENODEV;
+}

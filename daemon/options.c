@@ -1,0 +1,276 @@
+#define _GNU_SOURCE
+#include "options.h"
+
+#include "faults.h"
+#include "ring.h"
+
+#include <arpa/inet.h>
+#include <errno.h>
+#include <fcntl.h>
+#include <getopt.h>
+#include <stddef.h>
+#include <stdio.h>
+#include <stdlib.h>
+#include <string.h>
+#include <unistd.h>
+
+static const char HELP[] =
+    "Usage: mquerier-live interface INTERFACE igmp|mld --own ADDR [OPTION]..\n"
+    "       mquerier-live bridge BRIDGE.. [OPTION]..\n"
+    "       mquerier-live status BRIDGE [--json | --metrics] [--run DIR]\n"
+    "\n"
+    "A multicast querier on Linux: it hears the IGMP or MLD messages of hosts, and sends queries. `interface` serves one\n"
+    "link of one family and prints what it does. `bridge` serves all ports of these bridges, and has each bridge forward\n"
+    "to each port what the hosts there want. `status` prints what a running `bridge` holds.\n"
+    "It has to be root, or have the capability CAP_NET_RAW (with a bridge also CAP_NET_ADMIN). Once its sockets are open it\n"
+    "keeps no privileges (with a bridge CAP_NET_ADMIN alone). This program is not proved; the library's decisions are.\n"
+    "\n"
+    "  --own ADDR           the source of its queries: an address of the interface, for mld a link-local one. `bridge`\n"
+    "                       takes the addresses of the bridge if none is given\n"
+    "  --rv N               Robustness Variable, 1 to 7 (2)\n"
+    "  --qi S               Query Interval, 1 to 31744 seconds (125)\n"
+    "  --qri MS             Query Response Interval in milliseconds, below the Query Interval (10000)\n"
+    "  --lmqi MS            Last Member (Last Listener) Query Interval in milliseconds (1000)\n"
+    "  --groups N           how many groups a link may have, up to 65535 (1024)\n"
+    "  --group-sources N    how many sources a group may have, up to 1024 (igmp 366, mld 89)\n"
+    "  --sources N          how many sources all groups of a link may have together, up to 65535 (16384)\n"
+    "  --scheduled N        how many schedules of specific queries a link may have, two at most of a group, up to 65535 (256)\n"
+    "  --ssm                keep 232.0.0.0/8, or ff3x::/32, for source-specific multicast\n"
+    "  --changes            print what is forwarded of a group whenever that changes\n"
+    "\n"
+    "For `interface` only:\n"
+    "  --mdb BRIDGE PORT    have the bridge BRIDGE forward to its port PORT what is forwarded of each group, by entries of its\n"
+    "                       multicast database. INTERFACE is PORT, or BRIDGE if all hosts are at one port\n"
+    "\n"
+    "For `bridge` only:\n"
+    "  --own6 ADDR          the link-local source of the queries of MLD; then --own is that of IGMP\n"
+    "  --family F           serve only igmp, or only mld\n"
+    "  --ports N            how many ports all bridges may have, up to 1024 (64). Memory is taken for so many\n"
+    "  --setup              set the bridges up, and put back at the end what was there\n"
+    "  --router-port PORT   forward all multicast to this port. May be given up to 64 times\n"
+    "  --run DIR            the folder of its files (/run/mquerier-live)\n"
+    "  --options FILE       read options from this file too: words, and comments from # to the end of a line. SIGHUP has it\n"
+    "                       read again\n"
+    "\n"
+    "Lines of `interface` on standard output, T in milliseconds from the start, ADDR an address:\n"
+    "  T send ADDR HEX               a query that it sends to ADDR, without its IP header\n"
+    "  T receive N ADDR taken A I R  the N-th datagram, from ADDR: how many records were applied, ignored, refused\n"
+    "  T receive N ADDR dropped K    the same, dropped for reason K\n"
+    "  T change G include S ..       with --changes: of group G only these sources are forwarded\n"
+    "  T change G exclude !S ..      all sources but these\n"
+    "  T change G none               no source\n"
+    "On SIGUSR1 it prints what it holds, as `mquerier replay` ends with it: `end T querier` or `end T other`, a line for\n"
+    "each group, and `counts ..`. `mquerier replay --help` explains these lines and the reasons. `bridge` prints only lines\n"
+    "of changes, with the port after T.\n"
+    "\n"
+    "Not heard are fragments, damaged IPv4 headers, and frames with a VLAN tag (give the VLAN's own interface). Send it\n"
+    "SIGTERM to end it; then it removes what it made in the bridge. A line on standard error says what the kernel refused,\n"
+    "and it goes on. daemon/README.md says how a bridge has to be set.\n"
+    "\n"
+    "Status: 0 if a signal ended it, 1 if the interface, the bridge, memory or the output failed, 2 if the command line or\n"
+    "the configuration is faulty or help is asked for.\n";
+
+#define PLACE(field) {offsetof(mq_igmp_config, field), offsetof(mq_mld_config, field)}
+static const struct {
+    const char *name;
+    size_t places[2]; /* where the number stands in the configuration of each family */
+} NUMBERS[] = {
+    {"rv", PLACE(robustness)},
+    {"qi", PLACE(query_interval)},
+    {"qri", PLACE(response_interval)},
+    {"lmqi", PLACE(last_member_interval)},
+    {"groups", PLACE(groups)},
+    {"group-sources", PLACE(group_sources)},
+    {"sources", PLACE(sources)},
+    {"scheduled", PLACE(scheduled)},
+};
+enum { COUNT = sizeof NUMBERS / sizeof *NUMBERS };
+enum { OWN = COUNT, OWN6, FAMILY, SSM, CHANGES, MDB, PORTS, SETUP, ROUTER_PORT, RUN, FILE_OF, ASKED_HELP, OPTIONS };
+static const char *const FAMILIES[2] = {"igmp", "mld"};
+
+/* What is wrong, as a text that stands until the next call. */
+static const char *wrong(const char *what, const char *text) {
+    static char line[200];
+    snprintf(line, sizeof line, "%s%s (--help says more)", what, text);
+    return line;
+}
+
+static bool read_number(const char *text, uint32_t *number) {
+    char *end;
+    errno = 0;
+    unsigned long long read = strtoull(text, &end, 10);
+    *number = (uint32_t)read;
+    return *text >= '0' && *text <= '9' && *end == '\0' && errno == 0 && read <= UINT32_MAX;
+}
+
+static const char *read_address(struct options *options, bool is_mld, const char *text) {
+    options->has_own[is_mld] = true;
+    bool is_read = inet_pton(is_mld ? AF_INET6 : AF_INET, text, options->own[is_mld]) == 1;
+    return is_read ? NULL : wrong("not an address of the family: ", text);
+}
+
+static const char *read_family(struct options *options, const char *text) {
+    for (int at = 0; at < 2; at++)
+        options->serves[at] = strcmp(text, FAMILIES[at]) == 0;
+    return options->serves[0] || options->serves[1] ? NULL : wrong("the family is igmp or mld, not ", text);
+}
+
+/* Puts a number into the configurations of both families. */
+static const char *read_limit(struct options *options, int which, const char *text) {
+    uint32_t number;
+    if (!read_number(text, &number))
+        return wrong("not a number below 2^32: ", text);
+    for (int at = 0; at < 2; at++)
+        memcpy((uint8_t *)&options->configuration[at] + NUMBERS[which].places[at], &number, sizeof number);
+    return NULL;
+}
+
+/* Reads --mdb, whose port is the next word. */
+static const char *read_database(struct options *options, int count, char **words) {
+    if (optind >= count || words[optind][0] == '-')
+        return wrong("--mdb wants a bridge and a port of it", "");
+    options->bridge = optarg;
+    options->port = words[optind++];
+    return NULL;
+}
+
+static const char *read_router(struct options *options, const char *port) {
+    if (options->router_count == GREATEST_ROUTERS)
+        return wrong("too many ports of routers: ", port);
+    options->routers[options->router_count++] = port;
+    return NULL;
+}
+
+static const char *read_ports(struct options *options, const char *text) {
+    bool is_read = read_number(text, &options->ports) && options->ports >= 1 && options->ports <= GREATEST_PORTS;
+    return is_read ? NULL : wrong("--ports is from 1 to 1024, not ", text);
+}
+
+/* Reads one option of which the value is `optarg`. */
+static const char *read_option(struct options *options, int found, int count, char **words) {
+    if (found < COUNT)
+        return read_limit(options, found, optarg);
+    switch (found) {
+    case OWN: return read_address(options, !options->serves[false], optarg);
+    case OWN6: return read_address(options, true, optarg);
+    case FAMILY: return read_family(options, optarg);
+    case SSM: options->configuration[0].igmp.source_specific = options->configuration[1].mld.source_specific = true; break;
+    case CHANGES: options->prints_changes = true; break;
+    case MDB: return read_database(options, count, words);
+    case PORTS: return read_ports(options, optarg);
+    case SETUP: options->sets_up = true; break;
+    case ROUTER_PORT: return read_router(options, optarg);
+    case RUN: options->run = optarg; break;
+    case FILE_OF: options->file = optarg; break;
+    default: fputs(HELP, stderr); exit(STATUS_USAGE);
+    }
+    return NULL;
+}
+
+/* Reads options and names from words, the first of which is skipped. */
+static const char *read_words(struct options *options, int count, char **words) {
+    static const struct option others[] = {
+        {"own", required_argument, NULL, OWN},         {"own6", required_argument, NULL, OWN6},
+        {"family", required_argument, NULL, FAMILY},   {"ssm", no_argument, NULL, SSM},
+        {"changes", no_argument, NULL, CHANGES},       {"mdb", required_argument, NULL, MDB},
+        {"ports", required_argument, NULL, PORTS},     {"setup", no_argument, NULL, SETUP},
+        {"router-port", required_argument, NULL, ROUTER_PORT}, {"run", required_argument, NULL, RUN},
+        {"options", required_argument, NULL, FILE_OF}, {"help", no_argument, NULL, ASKED_HELP},
+    };
+    struct option all[OPTIONS + 1] = {{0}};
+    for (int at = 0; at < COUNT; at++)
+        all[at] = (struct option){NUMBERS[at].name, required_argument, NULL, at};
+    memcpy(all + COUNT, others, sizeof others);
+    opterr = 0;
+    optind = 0; /* begins anew */
+    for (int found; (found = getopt_long(count, words, "", all, NULL)) != -1;) {
+        const char *why = found == '?' ? wrong("no such option, or its value is missing: ", words[optind - 1])
+                                       : read_option(options, found, count, words);
+        if (why != NULL)
+            return why;
+    }
+    for (; optind < count; optind++) {
+        if (options->count == GREATEST_BRIDGES)
+            return wrong("too many names: ", words[optind]);
+        options->names[options->count++] = words[optind];
+    }
+    return NULL;
+}
+
+/* Ends the words of a line at its comment. */
+static void cut_comments(char *text) {
+    for (char *at; (at = strchr(text, '#')) != NULL;)
+        memset(at, ' ', strcspn(at, "\n"));
+}
+
+/* Reads the words of the file of options. They stand until the next call. */
+static const char *read_file(struct options *options) {
+    enum { GREATEST_FILE = 8192, GREATEST_WORDS = 512 };
+    static char texts[2][GREATEST_FILE + 1], name[] = "options";
+    static char *words[GREATEST_WORDS + 1];
+    static int used; /* the text of the options in force */
+    char *text = texts[!used];
+    const char *file_name = options->file;
+    int count = 1, file = open(file_name, O_RDONLY | O_CLOEXEC);
+    ssize_t length = file < 0 ? -1 : read(file, text, GREATEST_FILE);
+    if (file >= 0)
+        close(file);
+    if (length < 0)
+        return wrong("the file of options can't be read: ", file_name);
+    text[length] = '\0';
+    cut_comments(text);
+    words[0] = name;
+    char *left = NULL, *word = strtok_r(text, " \t\n", &left);
+    for (; word != NULL && count < GREATEST_WORDS; word = strtok_r(NULL, " \t\n", &left))
+        words[count++] = word;
+    size_t names = options->count;
+    const char *why = read_words(options, count, words);
+    if (why == NULL && options->count != names)
+        why = wrong("the file of options has a word that is none: ", options->names[names]);
+    used ^= why == NULL;
+    return why;
+}
+
+/* Reads the family of an interface, which is the word after its name. */
+static const char *finish_interface(struct options *options) {
+    if (options->count != 2)
+        return wrong("an interface and a family are needed, and nothing else", "");
+    options->count = 1;
+    options->ports = 1;
+    return options->has_own[!options->serves[0]] ? NULL : wrong("--own is needed", "");
+}
+
+const char *options_read(struct options *options, int count, char **words) {
+    static const uint8_t placeholders[2][16] = {{192, 0, 2, 1}, {0xfe, 0x80, [15] = 1}}; /* a bridge's own address comes later */
+    *options = (struct options){.serves = {true, true}, .ports = 64, .run = "/run/mquerier-live"};
+    for (int at = 0; at < 2; at++)
+        options->configuration[at] = family_defaults(at == 1, placeholders[at]);
+    options->is_interface = count > 0 && strcmp(words[0], "interface") == 0;
+    if (count > 0 && strcmp(words[0], "--help") == 0)
+        return read_option(options, ASKED_HELP, count, words);
+    if (!options->is_interface && (count == 0 || strcmp(words[0], "bridge") != 0))
+        return wrong("the first word is interface, bridge or status", "");
+    if (options->is_interface && count > 1 && words[count - 1] != NULL)
+        for (int at = 1; at < count; at++) /* the family stands among the words, and --own depends on it */
+            if (strcmp(words[at], "igmp") == 0 || strcmp(words[at], "mld") == 0)
+                read_family(options, words[at]);
+    const char *why = read_words(options, count, words);
+    if (why == NULL && options->file != NULL)
+        why = read_file(options);
+    if (why != NULL)
+        return why;
+    if (options->is_interface)
+        return options->count == 2 && strcmp(options->names[1], FAMILIES[!options->serves[0]]) != 0
+                   ? wrong("the family is igmp or mld, not ", options->names[1])
+                   : finish_interface(options);
+    if (options->bridge != NULL)
+        return wrong("--mdb is for an interface", "");
+    return options->count > 0 ? NULL : wrong("a bridge is needed", "");
+}
+
+bool options_is_router(const struct options *options, const char *port) {
+    for (size_t at = 0; at < options->router_count; at++)
+        if (strcmp(options->routers[at], port) == 0)
+            return true;
+    return false;
+}

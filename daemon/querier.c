@@ -1,0 +1,327 @@
+#define _GNU_SOURCE
+#include "querier.h"
+
+#include "faults.h"
+#include "text.h"
+
+#include <arpa/inet.h>
+#include <errno.h>
+#include <inttypes.h>
+#include <linux/if_ether.h>
+#include <stdio.h>
+#include <stdlib.h>
+#include <string.h>
+#include <sys/socket.h>
+#include <time.h>
+
+/* So many frames are handled before the loop looks at its other duties again. */
+enum { FRAMES = 1024, SECOND = 1000, LONGEST_QUERY = 65535 };
+/* The responses to the last query of a link that begins may come a little late. */
+enum { LATE = 500 };
+
+uint64_t moment(void) {
+    static struct timespec start;
+    struct timespec now;
+    clock_gettime(CLOCK_BOOTTIME, &now);
+    if (start.tv_sec == 0 && start.tv_nsec == 0)
+        start = now;
+    int64_t seconds = now.tv_sec - start.tv_sec, nanoseconds = now.tv_nsec - start.tv_nsec;
+    return (uint64_t)((seconds * 1000000000 + nanoseconds) / 1000000);
+}
+
+/* The configuration of a family, with the own address of the options if there is one. */
+static union configuration configured(const struct options *options, bool is_mld) {
+    union configuration configuration = options->configuration[is_mld];
+    if (options->has_own[is_mld] && is_mld)
+        memcpy(configuration.mld.own, options->own[is_mld], sizeof configuration.mld.own);
+    else if (options->has_own[is_mld])
+        memcpy(configuration.igmp.own, options->own[is_mld], sizeof configuration.igmp.own);
+    return configuration;
+}
+
+const char *querier_fault(const struct options *options) {
+    for (int at = 0; at < 2; at++) {
+        uint32_t status = options->serves[at] ? family_check(at == 1, configured(options, at == 1)) : MQ_DONE;
+        if (status != MQ_DONE)
+            return mq_status_text(status);
+    }
+    return NULL;
+}
+
+void querier_open(struct querier *querier, struct options *options) {
+    size_t groups = 0;
+    const char *why = querier_fault(options);
+    if (why != NULL)
+        fail(STATUS_USAGE, "configuration", why);
+    *querier = (struct querier){.options = options, .room = options->ports};
+    for (int at = 0; at < 2; at++) {
+        if (!options->serves[at])
+            continue;
+        family_open(&querier->families[at], at == 1, configured(options, at == 1));
+        if (groups < querier->families[at].groups)
+            groups = querier->families[at].groups;
+    }
+    querier->changed = take(2 * groups, LONG_ADDRESS); /* all groups may end in one call, and as many begin */
+    querier->ports = take(querier->room, sizeof *querier->ports);
+    querier->by_index = take(querier->room, sizeof *querier->by_index);
+    deadlines_open(&querier->deadlines, 2 * querier->room + DEADLINES_BESIDE);
+    for (size_t at = 0; at < 2 * querier->room; at++) {
+        struct family *family = &querier->families[at % 2];
+        struct served *served = &querier->ports[at / 2].served[at % 2];
+        if (!options->serves[at % 2])
+            continue;
+        served->link = (struct link){.family = family, .memory = take(family->link_size, 1)};
+        keeper_open(&served->keeper, family->groups);
+    }
+}
+
+struct port *querier_port(const struct querier *querier, int index) {
+    size_t first = 0, last = querier->ports_count;
+    while (first < last) {
+        size_t middle = first + (last - first) / 2;
+        if (querier->by_index[middle].index < index)
+            first = middle + 1;
+        else
+            last = middle;
+    }
+    bool is_there = first < querier->ports_count && querier->by_index[first].index == index;
+    return is_there ? querier->by_index[first].port : NULL;
+}
+
+bool querier_place(const struct querier *querier, const struct port *port, bool is_mld, struct place *place) {
+    bool is_interface = querier->options->is_interface;
+    *place = (struct place){querier->netlink, port->bridge->index, port->index, is_mld};
+    if (is_interface) {
+        place->bridge = querier->kept_bridge;
+        place->port = querier->kept_port;
+    }
+    return place->bridge != 0 && place->port != 0;
+}
+
+/* Sends a query at a port. One that is lost is lost as on the wire: queries are repeated. */
+static void send_query(struct querier *querier, const struct port *port, bool is_mld, const mq_query *query, uint64_t now) {
+    static uint8_t frame[GREATEST_FRAME];
+    static char line[2 * LONGEST_QUERY + 128];
+    const struct bridge *bridge = port->bridge;
+    if (querier->options->is_interface) {
+        char *to = put_text(put_number(line, now), " send ");
+        to = link_put_address(&port->served[is_mld].link, to, query->destination);
+        *to++ = ' ';
+        to = put_hexadecimal(to, query->message, query->length);
+        *to++ = '\n';
+        fwrite(line, 1, (size_t)(to - line), stdout);
+    }
+    if (!port->is_up)
+        return;
+    size_t length = write_frame(is_mld, bridge->mac, bridge->own[is_mld], query->destination, query->message, query->length, frame);
+    struct sockaddr_ll at = {
+        .sll_family = AF_PACKET, .sll_protocol = htons(is_mld ? ETH_P_IPV6 : ETH_P_IP), .sll_ifindex = port->index, .sll_halen = MAC};
+    memcpy(at.sll_addr, frame, MAC);
+    if (sendto(querier->ring.packets, frame, length, MSG_DONTWAIT, (struct sockaddr *)&at, sizeof at) < 0)
+        fault(FAULT_UNSENT, port->name, strerror(errno));
+    else
+        querier->sent++;
+}
+
+static void print_address(const struct link *link, const char *before, const uint8_t *address) {
+    char text[LONGEST_ADDRESS];
+    fputs(before, stdout);
+    fwrite(text, 1, (size_t)(link_put_address(link, text, address) - text), stdout);
+}
+
+/* `T change G none`, `T change G include S ..`, `T change G exclude !S ..`; with the port after T if there may be several. */
+static void print_change(const struct querier *querier, const struct port *port, const struct link *link, const uint8_t *group,
+                         uint64_t now) {
+    static const char *const modes[] = {[MODE_NONE] = " none", [MODE_INCLUDE] = " include", [MODE_EXCLUDE] = " exclude"};
+    struct filter filter = filter_of(link, group);
+    printf("%" PRIu64, now);
+    if (!querier->options->is_interface)
+        printf(" %s", port->name);
+    print_address(link, " change ", group);
+    fputs(modes[filter.mode], stdout);
+    for (size_t at = 0; at < filter.count; at++)
+        print_address(link, filter.mode == MODE_EXCLUDE ? " !" : " ", filter.sources[at]);
+    putchar('\n');
+}
+
+/* Sets when a link has to be looked at next. */
+static void set_deadline(struct querier *querier, const struct port *port, bool is_mld) {
+    const struct served *served = &port->served[is_mld];
+    uint64_t next = served->is_on ? link_next_deadline(&served->link) : MQ_NONE;
+    if (served->is_on && served->keeper.settles < next)
+        next = served->keeper.settles;
+    deadlines_set(&querier->deadlines, 2 * (size_t)(port - querier->ports) + is_mld, next);
+}
+
+/* Sends the queries of a call at a link. */
+static void send_queries(struct querier *querier, struct port *port, bool is_mld, mq_answer answer, uint64_t now) {
+    const struct link *link = &port->served[is_mld].link;
+    mq_query query;
+    for (const uint8_t *at = link->family->queries; link_next_query(link, &at, answer, &query);)
+        send_query(querier, port, is_mld, &query, now);
+}
+
+/* Follows the groups whose filters the last call at a link changed. */
+static void follow(struct querier *querier, struct port *port, bool is_mld, uint64_t now) {
+    struct served *served = &port->served[is_mld];
+    struct place place;
+    bool keeps = querier_place(querier, port, is_mld, &place), prints = querier->options->prints_changes;
+    size_t count = keeps || prints ? link_changed(&served->link, querier->changed) : 0;
+    for (size_t at = 0; at < count; at++) {
+        if (prints)
+            print_change(querier, port, &served->link, querier->changed[at], now);
+        if (keeps)
+            keeper_update(&served->keeper, &served->link, &place, querier->changed[at]);
+    }
+    set_deadline(querier, port, is_mld);
+}
+
+/* How long after its beginning a link knows what hosts want: they answered one of its first queries, of which all but the last
+   may be lost (RFC 3376 sections 8.6 and 8.7, RFC 3810 sections 9.6 and 9.7). */
+static uint64_t settling(const struct family *family) {
+    const mq_igmp_config *igmp = &family->configuration.igmp;
+    const mq_mld_config *mld = &family->configuration.mld;
+    uint64_t robustness = family->is_mld ? mld->robustness : igmp->robustness;
+    uint64_t interval = SECOND * (uint64_t)(family->is_mld ? mld->query_interval : igmp->query_interval) / 4;
+    return (robustness - 1) * interval + (family->is_mld ? mld->response_interval : igmp->response_interval) + LATE;
+}
+
+void querier_begin(struct querier *querier, struct port *port, bool is_mld, uint64_t now) {
+    struct served *served = &port->served[is_mld];
+    uint32_t status = link_begin(&served->link, port->bridge->own[is_mld], now);
+    served->is_on = status == MQ_DONE;
+    memcpy(served->own, port->bridge->own[is_mld], sizeof served->own);
+    if (!served->is_on)
+        fault(FAULT_MISSING, port->bridge->name, mq_status_text(status));
+    keeper_begin(&served->keeper, now + settling(served->link.family));
+    set_deadline(querier, port, is_mld);
+}
+
+void querier_forget(struct querier *querier, struct port *port) {
+    for (int at = 0; at < 2; at++) {
+        port->served[at].is_on = false;
+        port->served[at].keeper.rows.count = 0;
+        set_deadline(querier, port, at == 1);
+    }
+}
+
+/* Prints what a datagram did. */
+static void print_answer(const struct querier *querier, const struct link *link, const struct datagram *datagram, mq_answer answer,
+                         uint64_t now) {
+    char line[256], *to = put_number(put_text(put_number(line, now), " receive "), querier->heard);
+    *to++ = ' ';
+    to = link_put_address(link, to, datagram->source);
+    if (answer.dropped != 0) {
+        to = put_number(put_text(to, " dropped "), answer.dropped);
+    } else {
+        to = put_number(put_text(to, " taken "), answer.applied);
+        *to++ = ' ';
+        to = put_number(to, answer.ignored);
+        *to++ = ' ';
+        to = put_number(to, answer.refused);
+    }
+    *to++ = '\n';
+    fwrite(line, 1, (size_t)(to - line), stdout);
+}
+
+/* Handles one frame that came by a port. */
+static void hear(struct querier *querier, struct port *port, const struct frame *frame, uint64_t now) {
+    struct datagram datagram;
+    enum carried carried = read_frame(frame->bytes, frame->length, &datagram);
+    if (carried == CARRIED_HELLO)
+        port->hello_until = now + SECOND * (uint64_t)hello_seconds(&datagram);
+    if (carried == CARRIED_NOTHING && !querier->options->is_interface)
+        fault(FAULT_MALFORMED, port->name, "a frame without a whole message");
+    bool is_mld = carried == CARRIED_DATAGRAM && datagram.is_ipv6;
+    if (carried != CARRIED_DATAGRAM || !port->served[is_mld].is_on)
+        return;
+    mq_answer answer = link_receive(&port->served[is_mld].link, &datagram, now);
+    send_queries(querier, port, is_mld, answer, now);
+    querier->heard++;
+    if (querier->options->is_interface)
+        print_answer(querier, &port->served[is_mld].link, &datagram, answer, now);
+    follow(querier, port, is_mld, now);
+}
+
+void querier_hear(struct querier *querier, uint64_t now) {
+    struct frame frame;
+    for (int count = 0; count < FRAMES && ring_next(&querier->ring, &frame); count++) {
+        struct port *port = querier_port(querier, frame.index);
+        if (port != NULL)
+            hear(querier, port, &frame, now);
+    }
+}
+
+/* Does what is due at a link. */
+static void tick(struct querier *querier, struct port *port, bool is_mld, uint64_t now) {
+    struct served *served = &port->served[is_mld];
+    struct place place;
+    send_queries(querier, port, is_mld, link_tick(&served->link, now), now);
+    follow(querier, port, is_mld, now);
+    if (served->keeper.settles <= now && querier_place(querier, port, is_mld, &place))
+        keeper_settle(&served->keeper, &served->link, &place);
+    else if (served->keeper.settles <= now)
+        served->keeper.settles = MQ_NONE;
+    set_deadline(querier, port, is_mld);
+}
+
+void querier_tick_all(struct querier *querier, uint64_t now) {
+    for (size_t at = 0; at < 2 * querier->room; at++)
+        if (querier->ports[at / 2].served[at % 2].is_on)
+            tick(querier, querier->ports + at / 2, at % 2, now);
+}
+
+/* What is done about once a second while there is something to do. */
+static void count_lost(struct querier *querier) {
+    char why[80];
+    unsigned lost = ring_lost(&querier->ring);
+    if (lost == 0)
+        return;
+    snprintf(why, sizeof why, "the kernel dropped %u frames, since they came too fast", lost);
+    fault_count(FAULT_LOST, lost, "frames", why);
+}
+
+void querier_tick(struct querier *querier, uint64_t now) {
+    struct deadlines *deadlines = &querier->deadlines;
+    for (size_t first; deadlines->moments[first = deadlines_first(deadlines)] <= now;) {
+        if (first < 2 * querier->room) {
+            tick(querier, querier->ports + first / 2, first % 2, now);
+        } else if (first == 2 * querier->room + DEADLINE_REPAIR) {
+            querier_repair(querier, now);
+        } else {
+            count_lost(querier);
+            deadlines_set(deadlines, first, now + SECOND);
+        }
+    }
+}
+
+
+/* The part of the database that an entry belongs to, if it is kept. */
+static void note(void *context, const struct entry *entry) {
+    const struct querier *querier = context;
+    bool is_interface = querier->options->is_interface;
+    struct port *port = is_interface ? querier->ports : querier_port(querier, entry->port);
+    struct served *served = port == NULL ? NULL : &port->served[entry->is_mld];
+    bool is_ours = entry->maker == MAKER_US && querier->options->serves[entry->is_mld];
+    if (served != NULL && is_ours && (!is_interface || entry->port == querier->kept_port))
+        keeper_note(&served->keeper, served->is_on ? &served->link : NULL, entry);
+}
+
+/* Corrects the database of a port, of which a dump was noted. */
+static void repair(struct querier *querier, struct port *port, bool is_mld, bool is_whole) {
+    struct served *served = &port->served[is_mld];
+    struct place place;
+    if (port->index != 0 && querier->options->serves[is_mld] && querier_place(querier, port, is_mld, &place))
+        keeper_repair(&served->keeper, served->is_on ? &served->link : NULL, &place, is_whole);
+}
+
+void querier_repair(struct querier *querier, uint64_t now) {
+    const mq_igmp_config *igmp = &querier->options->configuration[false].igmp; /* both families have one Query Interval */
+    bool keeps = !querier->options->is_interface || querier->kept_port != 0;
+    for (size_t at = 0; at < 2 * querier->room; at++)
+        keeper_forget_seen(&querier->ports[at / 2].served[at % 2].keeper);
+    bool is_whole = !keeps || mdb_dump(querier->netlink, note, querier);
+    for (size_t at = 0; at < 2 * querier->room; at++)
+        repair(querier, querier->ports + at / 2, at % 2, is_whole);
+    deadlines_set(&querier->deadlines, 2 * querier->room + DEADLINE_REPAIR, now + SECOND * (uint64_t)igmp->query_interval);
+}

@@ -1,0 +1,242 @@
+#include "report.h"
+
+#include "faults.h"
+#include "text.h"
+
+#include <inttypes.h>
+#include <string.h>
+
+static const char *const family_names[2] = {"igmp", "mld"};
+
+/* The counters of a link, by name. */
+enum { COUNTERS = 7 };
+static const char *const counter_names[COUNTERS] = {"received", "dropped", "applied", "ignored", "refused", "sent", "unsent"};
+
+static void counters_of(const struct link *link, uint64_t counters[COUNTERS]) {
+    mq_counts counts;
+    link_counts(link, &counts);
+    const uint64_t found[COUNTERS] = {counts.received, counts.dropped, counts.applied, counts.ignored,
+                                      counts.refused,  counts.sent,    counts.unsent};
+    memcpy(counters, found, sizeof found);
+}
+
+static const char *address_text(const struct link *link, const uint8_t *address) {
+    static char text[LONGEST_ADDRESS + 1];
+    *link_put_address(link, text, address) = '\0';
+    return text;
+}
+
+/* What is left of a timer, in milliseconds. */
+static uint64_t left(uint64_t deadline, uint64_t now) {
+    return deadline > now ? deadline - now : 0;
+}
+
+/* Calls `each` for each group of a link, and returns how many there are. */
+static size_t walk_groups(const struct link *link, void (*each)(const struct link *, const struct held *, size_t, uint64_t, FILE *),
+                          uint64_t now, FILE *to) {
+    struct held groups[PAGE_GROUPS];
+    size_t first = 0;
+    for (size_t count = 1; count > 0; first += count) {
+        count = link_groups(link, first, groups);
+        for (size_t at = 0; at < count; at++)
+            each(link, &groups[at], first + at, now, to);
+    }
+    return first;
+}
+
+static bool has_link(const struct querier *querier, const struct port *port, const struct bridge *bridge) {
+    return port->index != 0 && port->bridge == bridge && querier->room > 0;
+}
+
+/* Where a general line ends: who is querier at a link. */
+static void text_role(const struct link *link, uint64_t now, FILE *to) {
+    uint8_t address[LONG_ADDRESS] = {0};
+    uint64_t until = link_other_querier(link, address);
+    if (link_is_querier(link) || until == MQ_NONE)
+        fputs("querier", to);
+    else
+        fprintf(to, "other querier %s for %" PRIu64 " ms", address_text(link, address), left(until, now));
+}
+
+static void text_group(const struct link *link, const struct held *group, size_t number, uint64_t now, FILE *to) {
+    (void)number;
+    fprintf(to, "    %s", address_text(link, group->address));
+    if (group->deadline == MQ_NONE)
+        fputs(" include", to);
+    else
+        fprintf(to, " exclude %" PRIu64 " ms", left(group->deadline, now));
+    for (size_t at = 0; at < group->count; at++) {
+        bool is_stopped = group->sources[at].deadline == MQ_NONE;
+        fprintf(to, " %s%s", is_stopped ? "!" : "", address_text(link, group->sources[at].address));
+        if (!is_stopped)
+            fprintf(to, "=%" PRIu64, left(group->sources[at].deadline, now));
+    }
+    if (group->v1 != MQ_NONE)
+        fprintf(to, " v1 %" PRIu64 " ms", left(group->v1, now));
+    if (group->v2 != MQ_NONE)
+        fprintf(to, " v2 %" PRIu64 " ms", left(group->v2, now));
+    putc('\n', to);
+}
+
+static void text_link(const struct port *port, bool is_mld, uint64_t now, FILE *to) {
+    const struct served *served = &port->served[is_mld];
+    uint64_t counters[COUNTERS];
+    fprintf(to, "  %s ", family_names[is_mld]);
+    if (!served->is_on) {
+        fputs("waits for an address\n", to);
+        return;
+    }
+    text_role(&served->link, now, to);
+    fprintf(to, ", entries %zu, ", served->keeper.rows.count);
+    if (served->keeper.settles != MQ_NONE)
+        fprintf(to, "settles in %" PRIu64 " ms, ", left(served->keeper.settles, now));
+    counters_of(&served->link, counters);
+    for (int at = 0; at < COUNTERS; at++)
+        fprintf(to, "%s %" PRIu64 "%s", counter_names[at], counters[at], at + 1 < COUNTERS ? " " : "\n");
+    walk_groups(&served->link, text_group, now, to);
+}
+
+static void text_timing(const struct querier *querier, FILE *to) {
+    const union configuration *it = querier->options->configuration; /* both families have the same timing */
+    fprintf(to,
+            "robustness %" PRIu32 ", query interval %" PRIu32 " s, response interval %" PRIu32 " ms, last member interval %" PRIu32
+            " ms\n",
+            it->igmp.robustness, it->igmp.query_interval, it->igmp.response_interval, it->igmp.last_member_interval);
+}
+
+static void report_text(const struct querier *querier, const struct bridge *bridge, uint64_t now, FILE *to) {
+    fprintf(to, "bridge %s, %" PRIu64 " ms since the start\n", bridge->name, now);
+    text_timing(querier, to);
+    fprintf(to, "datagrams %" PRIu64 ", queries %" PRIu64 "\n", querier->heard, querier->sent);
+    for (int at = 0; at < FAULT_KINDS; at++)
+        fprintf(to, "%s %" PRIu64 "%s", fault_names[at], fault_counts[at], at + 1 < FAULT_KINDS ? ", " : "\n");
+    for (size_t at = 0; at < querier->room; at++) {
+        const struct port *port = querier->ports + at;
+        if (!has_link(querier, port, bridge))
+            continue;
+        fprintf(to, "port %s%s", port->name, port->is_up ? "" : ", down");
+        if (options_is_router(querier->options, port->name))
+            fputs(", a router's by --router-port", to);
+        if (port->hello_until > now)
+            fprintf(to, ", a router of PIM for %" PRIu64 " ms", port->hello_until - now);
+        putc('\n', to);
+        for (int family = 0; family < 2; family++)
+            if (querier->options->serves[family])
+                text_link(port, family == 1, now, to);
+    }
+}
+
+static void json_moment(const char *name, uint64_t deadline, uint64_t now, FILE *to) {
+    if (deadline != MQ_NONE)
+        fprintf(to, ",\"%s\":%" PRIu64, name, left(deadline, now));
+}
+
+static void json_group(const struct link *link, const struct held *group, size_t number, uint64_t now, FILE *to) {
+    fprintf(to, "%s\n{\"group\":\"%s\",\"mode\":\"%s\"", number > 0 ? "," : "", address_text(link, group->address),
+            group->deadline == MQ_NONE ? "include" : "exclude");
+    json_moment("left", group->deadline, now, to);
+    json_moment("v1", group->v1, now, to);
+    json_moment("v2", group->v2, now, to);
+    fputs(",\"sources\":[", to);
+    for (size_t at = 0; at < group->count; at++) {
+        fprintf(to, "%s{\"source\":\"%s\"", at > 0 ? "," : "", address_text(link, group->sources[at].address));
+        json_moment("left", group->sources[at].deadline, now, to);
+        putc('}', to);
+    }
+    fputs("]}", to);
+}
+
+static void json_link(const struct port *port, bool is_mld, uint64_t now, FILE *to) {
+    const struct served *served = &port->served[is_mld];
+    uint8_t address[LONG_ADDRESS] = {0};
+    uint64_t counters[COUNTERS];
+    fprintf(to, "\"%s\":{\"on\":%s", family_names[is_mld], served->is_on ? "true" : "false");
+    if (served->is_on) {
+        uint64_t other = link_other_querier(&served->link, address);
+        const char *is_querier = link_is_querier(&served->link) ? "true" : "false";
+        fprintf(to, ",\"querier\":%s,\"entries\":%zu", is_querier, served->keeper.rows.count);
+        json_moment("settles", served->keeper.settles, now, to);
+        json_moment("other_left", other, now, to);
+        if (other != MQ_NONE)
+            fprintf(to, ",\"other\":\"%s\"", address_text(&served->link, address));
+        counters_of(&served->link, counters);
+        for (int at = 0; at < COUNTERS; at++)
+            fprintf(to, ",\"%s\":%" PRIu64, counter_names[at], counters[at]);
+        fputs(",\"groups\":[", to);
+        walk_groups(&served->link, json_group, now, to);
+        putc(']', to);
+    }
+    putc('}', to);
+}
+
+static void json_port(const struct querier *querier, const struct port *port, bool is_first, uint64_t now, FILE *to) {
+    fprintf(to, "%s\n{\"port\":\"%s\",\"up\":%s,\"router_port\":%s", is_first ? "" : ",", port->name,
+            port->is_up ? "true" : "false", options_is_router(querier->options, port->name) ? "true" : "false");
+    json_moment("pim_left", port->hello_until > now ? port->hello_until : MQ_NONE, now, to);
+    for (int family = 0; family < 2; family++) {
+        if (!querier->options->serves[family])
+            continue;
+        putc(',', to);
+        json_link(port, family == 1, now, to);
+    }
+    putc('}', to);
+}
+
+static void report_json(const struct querier *querier, const struct bridge *bridge, uint64_t now, FILE *to) {
+    const mq_igmp_config *it = &querier->options->configuration[0].igmp;
+    bool is_first = true;
+    fprintf(to, "{\"bridge\":\"%s\",\"now\":%" PRIu64 ",\"robustness\":%" PRIu32 ",\"query_interval\":%" PRIu32
+            ",\"response_interval\":%" PRIu32 ",\"last_member_interval\":%" PRIu32 ",\"datagrams\":%" PRIu64 ",\"queries\":%" PRIu64
+            ",\"faults\":{", bridge->name, now, it->robustness, it->query_interval, it->response_interval, it->last_member_interval,
+            querier->heard, querier->sent);
+    for (int at = 0; at < FAULT_KINDS; at++)
+        fprintf(to, "%s\"%s\":%" PRIu64, at > 0 ? "," : "", fault_names[at], fault_counts[at]);
+    fputs("},\"ports\":[", to);
+    for (size_t at = 0; at < querier->room; at++) {
+        if (!has_link(querier, querier->ports + at, bridge))
+            continue;
+        json_port(querier, querier->ports + at, is_first, now, to);
+        is_first = false;
+    }
+    fputs("]}\n", to);
+}
+
+static void count_group(const struct link *link, const struct held *group, size_t number, uint64_t now, FILE *to) {
+    (void)link, (void)group, (void)number, (void)now, (void)to;
+}
+
+/* Writes one metric of each link: `which` is a counter, COUNTERS for groups, or one more for entries. */
+static void metric(const struct querier *querier, const struct bridge *bridge, int which, FILE *to) {
+    const char *name = which < COUNTERS ? counter_names[which] : which == COUNTERS ? "groups" : "entries";
+    fprintf(to, "# TYPE mquerier_%s%s\n", name, which < COUNTERS ? "_total counter" : " gauge");
+    for (size_t at = 0; at < 2 * querier->room; at++) {
+        const struct port *port = querier->ports + at / 2;
+        const struct served *served = &port->served[at % 2];
+        uint64_t counters[COUNTERS];
+        if (!has_link(querier, port, bridge) || !served->is_on)
+            continue;
+        counters_of(&served->link, counters);
+        uint64_t value = which < COUNTERS    ? counters[which]
+                         : which == COUNTERS ? walk_groups(&served->link, count_group, 0, to)
+                                             : served->keeper.rows.count;
+        fprintf(to, "mquerier_%s%s{bridge=\"%s\",port=\"%s\",family=\"%s\"} %" PRIu64 "\n", name, which < COUNTERS ? "_total" : "",
+                bridge->name, port->name, family_names[at % 2], value);
+    }
+}
+
+static void report_metrics(const struct querier *querier, const struct bridge *bridge, FILE *to) {
+    for (int at = 0; at < FAULT_KINDS; at++)
+        fprintf(to, "# TYPE mquerier_%s_total counter\nmquerier_%s_total %" PRIu64 "\n", fault_names[at], fault_names[at],
+                fault_counts[at]);
+    for (int which = 0; which < COUNTERS + 2; which++)
+        metric(querier, bridge, which, to);
+}
+
+void report(const struct querier *querier, const struct bridge *bridge, char form, uint64_t now, FILE *to) {
+    if (form == 'j')
+        report_json(querier, bridge, now, to);
+    else if (form == 'm')
+        report_metrics(querier, bridge, to);
+    else
+        report_text(querier, bridge, now, to);
+}

@@ -1,0 +1,197 @@
+#define _GNU_SOURCE
+#include "setup.h"
+
+#include "faults.h"
+#include "ports.h"
+#include "rules.h"
+
+#include <errno.h>
+#include <fcntl.h>
+#include <inttypes.h>
+#include <linux/if_link.h>
+#include <linux/rtnetlink.h>
+#include <stdio.h>
+#include <stdlib.h>
+#include <string.h>
+#include <sys/file.h>
+#include <unistd.h>
+
+/* The settings of a bridge, and what happens if one is otherwise. */
+enum { SNOOPING, IGMP_VERSION, MLD_VERSION, HASH_MAX, QUERIER, SETTINGS };
+static const struct setting {
+    const char *name;
+    uint16_t type, width;
+    const char *otherwise;
+} settings[SETTINGS] = {
+    [SNOOPING] = {"mcast_snooping", IFLA_BR_MCAST_SNOOPING, 1, "it takes no entry, and floods"},
+    [IGMP_VERSION] = {"mcast_igmp_version", IFLA_BR_MCAST_IGMP_VERSION, 1, "it looks at no source"},
+    [MLD_VERSION] = {"mcast_mld_version", IFLA_BR_MCAST_MLD_VERSION, 1, "it looks at no source"},
+    [HASH_MAX] = {"mcast_hash_max", IFLA_BR_MCAST_HASH_MAX, 4, "with more entries it snoops no more"},
+    [QUERIER] = {"mcast_querier", IFLA_BR_MCAST_QUERIER, 1, "it floods until it hears a querier"},
+};
+static const struct setting router = {"mcast_router", IFLA_BRPORT_MULTICAST_ROUTER, 1,
+                                      "a query that is heard there brings all groups there"};
+enum { ROUTER_NEVER = 0, ROUTER_ALWAYS = 2, GREATEST_BEFORE = 1 << 16 };
+
+/* The least value that a setting has to have. */
+static uint32_t wanted(const struct querier *querier, int which) {
+    const bool *serves = querier->options->serves;
+    uint64_t entries = 0;
+    switch (which) {
+    case IGMP_VERSION: return serves[false] ? 3 : 0;
+    case MLD_VERSION: return serves[true] ? 2 : 0;
+    case QUERIER: return !querier->options->is_interface;
+    case HASH_MAX:
+        for (int at = 0; at < 2; at++)
+            entries += serves[at] ? querier->room * querier->families[at].entries : 0;
+        return entries > UINT32_MAX ? UINT32_MAX : (uint32_t)entries;
+    default: return 1;
+    }
+}
+
+/* Sets a number of a bridge, or of a port. */
+static void set(struct querier *querier, int index, const char *name, bool is_port, const struct setting *it, uint32_t value) {
+    struct request request;
+    struct answer answer;
+    uint8_t byte = (uint8_t)value;
+    request_link(&request, RTM_NEWLINK, 0, index);
+    size_t about = request_begin_nest(&request, IFLA_LINKINFO);
+    request_put(&request, is_port ? IFLA_INFO_SLAVE_KIND : IFLA_INFO_KIND, "bridge", strlen("bridge"));
+    size_t data = request_begin_nest(&request, is_port ? IFLA_INFO_SLAVE_DATA : IFLA_INFO_DATA);
+    request_put(&request, it->type, it->width == 1 ? (const void *)&byte : (const void *)&value, it->width);
+    request_end_nest(&request, data);
+    request_end_nest(&request, about);
+    if (netlink_ask(querier->netlink, &request, &answer) != 0)
+        fault(FAULT_NETLINK, name, answer.why);
+}
+
+static void tell_setting(const char *name, const struct setting *it, uint32_t value, uint32_t least) {
+    char why[160];
+    snprintf(why, sizeof why, "%s is %" PRIu32 ", and should be %" PRIu32 ": %s", it->name, value, least, it->otherwise);
+    fault(FAULT_MISSING, name, why);
+}
+
+/* Adds a line to the file with what was there before, of a port by its index, or of the bridge if that is 0. */
+static void remember(const struct bridge *bridge, int port, const struct setting *it, uint32_t value) {
+    char line[128];
+    int length = snprintf(line, sizeof line, "%d %s %" PRIu32 "\n", port, it->name, value);
+    if (bridge->before >= 0 && write(bridge->before, line, (size_t)length) != length)
+        fault(FAULT_NETLINK, bridge->name, "what was there before --setup can't be written down");
+}
+
+/* Reads the file with what was there before. Returns its text, which stands until the next call. */
+static char *read_before(const struct bridge *bridge) {
+    static char text[GREATEST_BEFORE + 1];
+    ssize_t length = bridge->before < 0 ? 0 : pread(bridge->before, text, GREATEST_BEFORE, 0);
+    text[length < 0 ? 0 : length] = '\0';
+    return text;
+}
+
+/* Whether the file has a line about a setting of a port, or of the bridge. */
+static bool is_remembered(const struct bridge *bridge, int port, const struct setting *it) {
+    char start[64];
+    int length = snprintf(start, sizeof start, "%d %s ", port, it->name);
+    for (const char *at = read_before(bridge); at != NULL && *at != '\0'; at = strchr(at, '\n'), at += at != NULL)
+        if (strncmp(at, start, (size_t)length) == 0)
+            return true;
+    return false;
+}
+
+/* Sets up a bridge, or says what stands in the way. */
+static void apply_to_bridge(struct querier *querier, struct bridge *bridge, const char *name, bool tells) {
+    struct interface found;
+    uint32_t values[SETTINGS];
+    bool has[SETTINGS];
+    if (!interface_read(querier->netlink, name, &found))
+        return;
+    for (int at = 0; at < SETTINGS; at++)
+        has[at] = interface_setting(&found, false, settings[at].type, &values[at]);
+    for (int at = 0; at < SETTINGS; at++) {
+        uint32_t least = wanted(querier, at);
+        if (!has[at] || values[at] >= least)
+            continue;
+        if (querier->options->sets_up && !is_remembered(bridge, 0, &settings[at]))
+            remember(bridge, 0, &settings[at], values[at]);
+        if (querier->options->sets_up)
+            set(querier, found.index, name, false, &settings[at], least);
+        else if (tells)
+            tell_setting(name, &settings[at], values[at], least);
+    }
+}
+
+/* Sets how a port forwards to routers, or says what stands in the way. */
+static void apply_to_port(struct querier *querier, struct port *port, bool tells) {
+    bool is_router = options_is_router(querier->options, port->name);
+    uint32_t value = is_router ? ROUTER_ALWAYS : ROUTER_NEVER;
+    if (port->router == value)
+        return;
+    if (!querier->options->sets_up && !is_router) {
+        if (tells)
+            tell_setting(port->name, &router, port->router, value);
+        return;
+    }
+    if (!is_remembered(port->bridge, port->index, &router))
+        remember(port->bridge, port->index, &router, port->router);
+    set(querier, port->index, port->name, true, &router, value);
+}
+
+void setup_apply(struct querier *querier) {
+    static int told[GREATEST_BRIDGES]; /* the bridge that lines were printed about */
+    const struct options *options = querier->options;
+    for (size_t at = 0; at < querier->bridges_count; at++) {
+        struct bridge *bridge = &querier->bridges[at];
+        bool tells = told[at] != bridge->index;
+        told[at] = bridge->index;
+        if (bridge->index == 0 || (options->is_interface && (!tells || options->bridge == NULL)))
+            continue;
+        apply_to_bridge(querier, bridge, options->is_interface ? options->bridge : bridge->name, tells);
+        for (size_t port = 0; port < querier->room && !options->is_interface; port++)
+            if (querier->ports[port].index != 0 && querier->ports[port].bridge == bridge)
+                apply_to_port(querier, querier->ports + port, tells);
+        if (options->sets_up)
+            rules_apply(querier, bridge);
+    }
+}
+
+/* Puts back what a line of the file says. */
+static void put_back(struct querier *querier, const struct bridge *bridge, const char *line) {
+    char name[32], port[IF_NAMESIZE];
+    int index;
+    uint32_t value;
+    struct interface found;
+    if (sscanf(line, "%d %31s %" SCNu32, &index, name, &value) != 3)
+        return;
+    if (index != 0 && strcmp(name, router.name) == 0 && if_indextoname((unsigned)index, port) != NULL)
+        set(querier, index, port, true, &router, value);
+    if (index != 0 || !interface_read(querier->netlink, bridge->name, &found))
+        return;
+    for (int at = 0; at < SETTINGS; at++)
+        if (strcmp(name, settings[at].name) == 0)
+            set(querier, found.index, bridge->name, false, &settings[at], value);
+}
+
+void setup_undo(struct querier *querier, struct bridge *bridge) {
+    char *left = NULL;
+    if (bridge->before < 0)
+        return;
+    for (char *line = strtok_r(read_before(bridge), "\n", &left); line != NULL; line = strtok_r(NULL, "\n", &left))
+        put_back(querier, bridge, line);
+    rules_remove(bridge);
+    if (ftruncate(bridge->before, 0) < 0)
+        fault(FAULT_NETLINK, bridge->name, strerror(errno));
+}
+
+void setup_open(struct querier *querier) {
+    char name[4096];
+    for (size_t at = 0; at < querier->bridges_count; at++) {
+        struct bridge *bridge = &querier->bridges[at];
+        snprintf(name, sizeof name, "%s/%s/before", querier->options->run, bridge->name);
+        bridge->before = open(name, O_RDWR | O_CREAT | O_APPEND | O_CLOEXEC, 0600);
+        if (bridge->before < 0)
+            fail(STATUS_FAILED, name, strerror(errno));
+        if (flock(bridge->before, LOCK_EX | LOCK_NB) < 0)
+            fail(STATUS_FAILED, bridge->name, "another mquerier-live serves it");
+        if (!querier->options->sets_up && *read_before(bridge) != '\0')
+            setup_undo(querier, bridge);
+    }
+}
