@@ -161,7 +161,7 @@ bin/mquerier-live-checked: $(LIVE) include/mquerier.h lib/libmquerier.a | needs-
 # The examples in C do what docs/EMBEDDING.md says; the querier on an interface serves hosts of the Linux kernel, and does what the
 # vectors say that are played to it, those that end within SECONDS. The last two want to be root, and the last one the program.
 SECONDS := 600
-live-test: needs-live live live-checked
+live-test: needs-live live
 	@examples/check
 	@daemon/test
 	@daemon/switches

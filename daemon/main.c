@@ -43,23 +43,13 @@ static void drop_privileges(bool keeps_database) {
         fail(STATUS_FAILED, "capabilities", strerror(errno));
 }
 
-/* Removes all entries of ours of the ports that are served. */
-static void remove_entries(void) {
-    struct place place;
-    for (size_t at = 0; at < 2 * querier.room; at++) {
-        const struct port *port = querier.ports + at / 2;
-        bool is_there = port->index != 0 && options.serves[at % 2];
-        if (is_there && querier_place(&querier, port, at % 2, &place))
-            mdb_remove_all(&place);
-    }
-}
-
 /* At the program's end, however it ends but by a signal that it doesn't handle. */
 static void end(void) {
     if (options.sets_up || options.router_count > 0)
         for (size_t at = 0; at < querier.bridges_count; at++)
             setup_undo(&querier, &querier.bridges[at]);
-    remove_entries();
+    for (size_t at = 0; at < querier.bridges_count; at++)
+        querier_remove_entries(&querier, &querier.bridges[at]);
 }
 
 static int index_of(const char *name, struct interface *found) {

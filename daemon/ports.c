@@ -109,16 +109,20 @@ static bool read_bridge(struct querier *querier, struct bridge *bridge) {
     struct interface found;
     uint32_t filters = 0;
     bool is_interface = querier->options->is_interface, was_there = bridge->index != 0;
-    bridge->index = 0;
     if (!interface_read(querier->netlink, bridge->name, &found)) {
         if (was_there)
             fault(FAULT_PORTS, bridge->name, "it is gone");
+        bridge->index = 0;
         return false;
     }
     if (!is_interface && interface_setting(&found, false, IFLA_BR_VLAN_FILTERING, &filters) && filters != 0) {
         fault(FAULT_PORTS, bridge->name, "it filters VLANs, which is not served: make a bridge for each VLAN");
+        if (was_there) /* until now it didn't */
+            querier_remove_entries(querier, bridge);
+        bridge->index = 0;
         return false;
     }
+    bridge->index = 0;
     if (!is_interface && !interface_setting(&found, false, IFLA_BR_MCAST_SNOOPING, &filters)) {
         fault(FAULT_PORTS, bridge->name, "it is no bridge, or the kernel can't snoop");
         return false;

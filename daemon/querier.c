@@ -98,6 +98,16 @@ bool querier_place(const struct querier *querier, const struct port *port, bool 
     return place->bridge != 0 && place->port != 0;
 }
 
+void querier_remove_entries(struct querier *querier, const struct bridge *bridge) {
+    struct place place;
+    for (size_t at = 0; at < 2 * querier->room; at++) {
+        const struct port *port = querier->ports + at / 2;
+        bool is_its = port->index != 0 && port->bridge == bridge && querier->options->serves[at % 2];
+        if (is_its && querier_place(querier, port, at % 2, &place))
+            mdb_remove_all(&place);
+    }
+}
+
 /* Sends a query at a port. One that is lost is lost as on the wire: queries are repeated. */
 static void send_query(struct querier *querier, const struct port *port, bool is_mld, const mq_query *query, uint64_t now) {
     static uint8_t frame[GREATEST_FRAME];

@@ -86,6 +86,8 @@ void querier_tick_all(struct querier *querier, uint64_t now);
 void querier_repair(struct querier *querier, uint64_t now);
 /* Has a family of a port forget its entries, as the kernel does if the port leaves the bridge. */
 void querier_forget(struct querier *querier, struct port *port);
+/* Removes all entries of ours of the ports of a bridge. */
+void querier_remove_entries(struct querier *querier, const struct bridge *bridge);
 /* Returns where the database of a port and family is; false if none is kept. */
 bool querier_place(const struct querier *querier, const struct port *port, bool is_mld, struct place *place);
 struct port *querier_port(const struct querier *querier, int index);

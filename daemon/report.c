@@ -87,7 +87,7 @@ static void text_link(const struct port *port, bool is_mld, uint64_t now, FILE *
         return;
     }
     text_role(&served->link, now, to);
-    fprintf(to, ", entries %zu, ", served->keeper.rows.count);
+    fprintf(to, ", own %s, entries %zu, ", address_text(&served->link, served->own), served->keeper.rows.count);
     if (served->keeper.settles != MQ_NONE)
         fprintf(to, "settles in %" PRIu64 " ms, ", left(served->keeper.settles, now));
     counters_of(&served->link, counters);
@@ -154,7 +154,8 @@ static void json_link(const struct port *port, bool is_mld, uint64_t now, FILE *
     if (served->is_on) {
         uint64_t other = link_other_querier(&served->link, address);
         const char *is_querier = link_is_querier(&served->link) ? "true" : "false";
-        fprintf(to, ",\"querier\":%s,\"entries\":%zu", is_querier, served->keeper.rows.count);
+        fprintf(to, ",\"own\":\"%s\",\"querier\":%s,\"entries\":%zu", address_text(&served->link, served->own), is_querier,
+                served->keeper.rows.count);
         json_moment("settles", served->keeper.settles, now, to);
         json_moment("other_left", other, now, to);
         if (other != MQ_NONE)
