@@ -11,6 +11,7 @@ import sys
 
 TOP = os.path.dirname(os.path.dirname(os.path.abspath(__file__)))
 sys.path[:0] = [f"{TOP}/vectors", f"{TOP}/tools"]
+sys.dont_write_bytecode = True
 
 import model  # noqa: E402
 from wire import FAMILIES  # noqa: E402
@@ -24,7 +25,6 @@ def module_of(file):
     return made
 
 
-sys.dont_write_bytecode = True
 made_up = module_of(f"{TOP}/tools/made-up")
 
 
