@@ -34,6 +34,7 @@ pub(crate) fn lent(memory: &mut [u8]) -> (Units, Block<'_>) {
 pub(crate) fn owned(size: usize) -> (Units, Block<'static>) {
     let mut room = Vec::<Unit>::new();
     let wanted = size / core::mem::size_of::<Unit>();
-    let units = if room.try_reserve_exact(wanted).is_ok() { wanted } else { 0 };
+    let fits = size <= isize::MAX as usize && room.try_reserve_exact(wanted).is_ok();
+    let units = if fits { wanted } else { 0 };
     (Units { first: room.as_mut_ptr().cast(), units }, Block { _lent: PhantomData, _owned: room })
 }
