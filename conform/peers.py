@@ -19,7 +19,8 @@ FRR = {
 }
 # What of Debian 13 is unpacked for pim6d, besides what is there.
 FRR_13 = "frr libcares2 libjson-c5 liblua5.3-0 libpcre2-8-0 libprotobuf-c1 libreadline8t64 libunwind8 libxxhash0 libyang3"
-MAKING = threading.Lock()
+# One at a time installs.
+MAKING = threading.RLock()
 PIMD = """phyint q0 enable igmpv3
 phyint u0 enable
 igmp-query-interval 125
@@ -37,24 +38,26 @@ phyint lo disabled
 
 def installed(package, program):
     """The program of a package of Debian, installed where it is missing; None where it can't be."""
-    if not os.path.exists(program):
-        quiet = {"env": {**os.environ, "DEBIAN_FRONTEND": "noninteractive", "RUNLEVEL": "1"}, "stdout": subprocess.DEVNULL, "stderr": subprocess.DEVNULL}
-        words = ["apt-get", "install", "-y", "-q", "--no-install-recommends", package]
-        if subprocess.run(words, check=False, **quiet).returncode:
-            subprocess.run(["apt-get", "update", "-q"], check=False, **quiet)
-            subprocess.run(words, check=False, **quiet)
+    with MAKING:
+        if not os.path.exists(program):
+            quiet = {"env": {**os.environ, "DEBIAN_FRONTEND": "noninteractive", "RUNLEVEL": "1"}, "stdout": subprocess.DEVNULL, "stderr": subprocess.DEVNULL}
+            words = ["apt-get", "install", "-y", "-q", "--no-install-recommends", package]
+            if subprocess.run(words, check=False, **quiet).returncode:
+                subprocess.run(["apt-get", "update", "-q"], check=False, **quiet)
+                subprocess.run(words, check=False, **quiet)
     return program if os.path.exists(program) else None
 
 
 def unpacked(package, program):
     """The program of a package that is unpacked and not installed."""
     place = f"{UNPACKED}/{package}"
-    if not os.path.exists(f"{place}{program}"):
-        os.makedirs(place, exist_ok=True)
-        subprocess.run(["apt-get", "download", "-q", package], cwd=place, capture_output=True, check=False)
-        for name in os.listdir(place):
-            if name.endswith(".deb"):
-                subprocess.run(["dpkg", "-x", f"{place}/{name}", place], capture_output=True, check=False)
+    with MAKING:
+        if not os.path.exists(f"{place}{program}"):
+            os.makedirs(place, exist_ok=True)
+            subprocess.run(["apt-get", "download", "-q", package], cwd=place, capture_output=True, check=False)
+            for name in os.listdir(place):
+                if name.endswith(".deb"):
+                    subprocess.run(["dpkg", "-x", f"{place}/{name}", place], capture_output=True, check=False)
     return f"{place}{program}" if os.path.exists(f"{place}{program}") else None
 
 
