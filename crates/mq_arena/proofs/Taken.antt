@@ -1,5 +1,5 @@
 -- Units of memory that are lent, and the two cases of what `Arena::take` gave: such units, or nothing. Assumes `Logic`.
-use Rattle.std.proofs.Common.{◌≡◌, ℕ, ◌*◌, ◌^◌, ◌<◌, ◌≤◌, List, [], ◌∷◌, ◌++◌, length, IfOk, Ok, Err, ap, ◌∙◌}
+use Rattle.std.proofs.Common.{◌≡◌, ℕ, ◌*◌, ◌^◌, ◌<◌, List, [], ◌∷◌, ◌++◌, length, IfOk, Ok, Err, ap, ◌∙◌}
 use seplogic.Ra.Ura.{Ura}
 use base.Fraction.{full_share}
 use base.Fml.{froom, flft}
@@ -16,6 +16,7 @@ use denote.Slice.{MutSlice, slice_val, mut_slice_at}
 use denote.Steps.{only}
 use Rattle.core.specs.contracts.result.Result as result
 use Rattle.core.specs.contracts.alloc.AllocError as error
+use Rattle.mq_arena.specs.Blocks.{size_of_block}
 use Rattle.mq_arena.proofs.Rooms.{units, places}
 
 abbrev pub Block : RattleType
@@ -25,7 +26,7 @@ abbrev pub Taken : RattleType
 Taken = result.the_row Block error.the_row
 
 abbrev pub Told : ℕ → Taken.Denot → Type 0
-Told n x = IfOk x (λ block. n ≤ 16 * length block.now)
+Told n x = IfOk x (λ block. 16 * length block.now ≡ size_of_block n)
 
 module _ {M : Type 1} {𝓤 : Ura M} {𝓛 : Logic 𝓤} {K : Type 0} {Γ : List (Item 𝓤)} {G : Goal 𝓤 𝓛.H} where
   -- units that are lent for good are room
@@ -39,7 +40,7 @@ module _ {M : Type 1} {𝓤 : Ura M} {𝓛 : Logic 𝓤} {K : Type 0} {Γ : List
       use1 𝓛 (‵ (froom (units (length r.now)) b o)) (places 𝓛 r.now b o) $ then p.0 p.1.0 p.1.1)
 
   pub taken : K → Soaks G → (n : ℕ) (x : Taken.Denot) (v : Val) → Told n x
-      → ((b o m : ℕ) → m < 2 ^ 64 → m * 16 < 2 ^ 63 → n ≤ 16 * m → v ≡ live 0 (of_list (slice_val (b, o) m ∷ [])) → Seq K 𝓛 (‵ (froom (units m) b o) ∷ Γ) G)
+      → ((b o m : ℕ) → m < 2 ^ 64 → m * 16 < 2 ^ 63 → 16 * m ≡ size_of_block n → v ≡ live 0 (of_list (slice_val (b, o) m ∷ [])) → Seq K 𝓛 (‵ (froom (units m) b o) ∷ Γ) G)
       → (v ≡ live 1 (of_list (vstruct vnil ∷ [])) → Seq K 𝓛 Γ G) → Seq K 𝓛 (‵ (Taken.own_val x (v ∷ [])) ∷ Γ) G
   taken t z n (Ok r) v told granted refused =
       fpick t (λ us. fsplit t $ feq_l t (λ e. fpick t (λ vss. fsplit t $ feq_l t (λ e'. fsplit t $ move t (1 ∷ []) $ drop t $

@@ -1,4 +1,4 @@
--- Memory that is lent as units of 16 bytes.
+-- Memory in units of 16 bytes.
 use Rattle.std.specs.Prelude.{ℕ, List}
 use base.Fraction.{full_share}
 use base.Fml.{Fml, fex}

@@ -1,12 +1,12 @@
-//! Memory as it comes from C.
+//! Memory from C.
 
 ghost use Rattle.std.specs.Prelude.{◌≡◌, ◌*◌, ◌^◌, ◌<◌, length};
 
 use std::marker::Model;
 use std::slice;
 
-/// Memory that C lends for good, as it hands it to an exported function: a pointer to the first unit, not null and aligned to
-/// 16 bytes, and how many units of 16 bytes there are, less than 2^63 bytes. They hold some bytes, whatever these are.
+/// Memory that C gives an exported function for good. It is a pointer to the first unit, not null and aligned to 16
+/// bytes, and the number of units of 16 bytes, together less than 2^63 bytes. The units may have any content.
 #[repr(C)]
 pub struct LentMemory {
     first: *mut u8,
@@ -21,7 +21,7 @@ impl Model for LentMemory {
 }
 
 impl LentMemory {
-    /// All of the units.
+    /// Returns all of the units.
     pub fn into_units(self) -> &'static mut [u128]
         ensures { length result.now ≡ self.units }
     {

@@ -1,4 +1,4 @@
-//! Vectors in lent memory, which have their room from the start and neither grow nor give it back.
+//! Vectors in caller-provided memory, with a fixed capacity.
 
 ghost use Rattle.std.specs.Prelude.{◌≡◌, ◌+◌, ◌*◌, ◌^◌, ◌<◌, ◌≤◌, [], length, IsOk, IfOk, IfErr, ◌↔◌, SomeIff, vec_capacity};
 ghost use Rattle.core.specs.Mem.{type_size};
@@ -10,14 +10,14 @@ use std::alloc::AllocError;
 use std::mem::size_of;
 use std_alloc::vec::{Lodged, lodge};
 
-// `size_of` of a type parameter, as a number.
+// Returns `size_of` of a type parameter, as a number.
 pub(crate) fn size_of_item<T>() -> usize
     ensures { result ≡ capped (type_size T.row) }
 {
     size_of::<T>()
 }
 
-// The bytes of as many items as are counted, where they are at most `most`, and the items fewer than 2^63.
+// Returns the bytes of `count` items, if they are at most `most` and the items fewer than 2^63.
 fn size_of_items<T>(count: usize, most: usize) -> Option<usize>
     requires { most < 2 ^ 63 }
     ensures { SomeIff result ((count * type_size T.row ≤ most) × (count < 2 ^ 63)) (count * type_size T.row) }
@@ -29,7 +29,7 @@ fn size_of_items<T>(count: usize, most: usize) -> Option<usize>
     Some(size)
 }
 
-// An empty vector in a block, which is the room that it has.
+// Returns an empty vector in a block, which is its capacity.
 fn vec_in<T>(block: &'static mut [u128], capacity: usize) -> Vec<T, Lodged>
     requires fits { capacity * type_size T.row ≤ 16 * length block.now }
     requires small { capacity < 2 ^ 63 }
@@ -39,8 +39,8 @@ fn vec_in<T>(block: &'static mut [u128], capacity: usize) -> Vec<T, Lodged>
 }
 
 impl Unused {
-    /// An empty vector with room for so many items, in a block from the front. It is refused exactly where the block would be
-    /// larger than what is left, or the capacity is 2^63 or more, which concerns only types of no bytes; then nothing is taken.
+    /// Takes an empty vector of this capacity from the front. Fails and takes nothing exactly if its block is larger
+    /// than the rest, or the capacity is 2^63 or more. The second concerns only types without bytes.
     pub fn vec_with_capacity<T>(&mut self, capacity: usize) -> Result<Vec<T, Lodged>, AllocError>
         ensures granted { IsOk result ↔ ((capacity * type_size T.row ≤ self.old) × (capacity < 2 ^ 63)) }
         ensures small { self.old < 2 ^ 63 }
@@ -53,8 +53,8 @@ impl Unused {
         Ok(vec_in(block, capacity))
     }
 
-    /// Puts a value into a block of its own, for good. It is refused exactly where the block would be larger than what is left;
-    /// then nothing is taken, and the value is dropped.
+    /// Puts a value into its own block, for good. Fails exactly if the block is larger than the rest. Then nothing is
+    /// taken, and the value is dropped.
     pub fn place<'a, T>(&mut self, value: T) -> Result<&'a mut T, AllocError>
     where
         T: Drop + 'a,

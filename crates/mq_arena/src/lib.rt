@@ -1,4 +1,4 @@
-//! An allocator over memory that its caller lends once.
+//! An allocator over caller-provided memory.
 //!
 //! ```text
 //! let arena = Arena::new(memory);                  // memory: &'static mut [u128]
@@ -6,16 +6,17 @@
 //! ```
 //!
 //! - The allocator: `Arena`.
-//! - Memory as it comes from C: `LentMemory`.
-//! - What is left of the memory, and which requests it grants: `Unused`.
-//! - A vector with all its room, or a value for good, in a block of what is left: `Unused::vec_with_capacity`, `place`.
-//! - How much to lend: `block_size`, and the law `granted_in_turn`.
-//! - What vectors are made of: `VectorSource`, of an allocator `OfAllocator`; the bytes that one takes: `vector_size`.
+//! - Memory from C: `LentMemory`.
+//! - The rest of the memory, and the requests that it grants: `Unused`.
+//! - A vector of fixed capacity, or a value for good, in a block of the rest: `Unused::vec_with_capacity`, `place`.
+//! - The sufficient size: `block_size`, and the law `granted_in_turn`.
+//! - Sources of vectors: `VectorSource`, for an allocator `OfAllocator`; the bytes of a vector: `vector_size`.
 #![tactic(auto)]
 
 mod arenas;
 mod lent_memory;
 mod lent_vectors;
+mod slot;
 mod unused_memory;
 mod vectors;
 

@@ -1,4 +1,4 @@
-//! What is left of lent memory, and the blocks that are taken from its front.
+//! The rest of caller-provided memory, and blocks from its front.
 
 ghost use Rattle.std.specs.Prelude.{◌≡◌, ◌+◌, ◌*◌, ◌^◌, ◌<◌, ◌≤◌, length, IsOk, IfOk, IfErr, ◌↔◌};
 ghost use Rattle.mq_arena.specs.Blocks.{size_of_block, Fits, GrantsInTurn};
@@ -10,7 +10,7 @@ use std::mem;
 /// The bytes of a unit, and the greatest alignment of a block.
 pub(crate) const UNIT: usize = 16;
 
-/// The memory that no block was taken from yet. A contract sees how many bytes it has.
+/// The memory without its granted blocks. A contract sees its bytes.
 #[derive(Drop)]
 pub struct Unused {
     units: &'static mut [u128],
@@ -25,14 +25,14 @@ impl Model for Unused {
 }
 
 impl Unused {
-    /// All of the memory.
+    /// Returns all of the memory.
     pub fn of(units: &'static mut [u128]) -> Unused
         ensures { result ≡ 16 * length units.old }
     {
         Unused { units }
     }
 
-    /// How many bytes are left.
+    /// Returns the number of bytes that are left.
     pub fn size(&self) -> usize
         ensures size { result ≡ self.now }
         ensures small { result < 2 ^ 63 }
@@ -40,8 +40,8 @@ impl Unused {
         UNIT * self.units.len()
     }
 
-    /// Takes a block of so many bytes from the front. It is refused exactly where it is larger than what is left, or its
-    /// alignment is above 16; then nothing is taken.
+    /// Takes a block of `size` bytes from the front. Fails and takes nothing exactly if the block is larger than the
+    /// rest, or its alignment is above 16.
     pub fn take(&mut self, size: usize, align: usize) -> Result<&'static mut [u128], AllocError>
         ensures granted { IsOk result ↔ Fits self.old (size, align) }
         ensures block { IfOk result (λ block. 16 * length block.now ≡ size_of_block size) }
@@ -58,7 +58,7 @@ impl Unused {
     }
 }
 
-/// How many bytes a block takes that is asked for with so many: they are rounded up to whole units of 16.
+/// Returns the bytes that a request takes: whole units of 16.
 pub fn block_size(size: usize) -> usize
     requires { size < 2 ^ 63 }
     ensures { result ≡ size_of_block size }
@@ -66,8 +66,8 @@ pub fn block_size(size: usize) -> usize
     size.div_ceil(UNIT) * UNIT
 }
 
-/// Where memory has as many bytes as the blocks of some requests take together, and no alignment is above 16, each of the
-/// requests is granted, one after another; with fewer bytes one of them is refused.
+/// The law `GrantsInTurn`: memory of at least the size of all blocks grants a list of requests in turn. With less
+/// memory, or an alignment above 16, a request fails.
 pub fn granted_in_turn()
     ensures { GrantsInTurn }
 {}

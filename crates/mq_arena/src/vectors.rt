@@ -1,4 +1,4 @@
-//! Vectors that are made once, of memory of which it may be known how much of it suffices.
+//! Vectors of fixed capacity, from memory whose sufficient size may be known.
 
 ghost use Rattle.std.specs.Prelude.{ℕ, ◌≡◌, ◌+◌, ◌*◌, ◌≤◌, [], IfOk, IsOk, is_ok, replicate, vec_capacity};
 ghost use Rattle.mq_arena.specs.Vectors.{bytes_for, IsSize, item_bytes, Takes};
@@ -11,12 +11,12 @@ use std_alloc::vec::Lodged;
 /// The most bytes that memory has.
 const GREATEST_SIZE: usize = isize::MAX as usize;
 
-/// What vectors are made of, which keep their capacity. Of some it is known how many bytes they grant.
+/// A source of vectors that keep their capacity. For some sources the granted size is known.
 pub trait VectorSource<A: Allocator> {
-    /// A vector is granted where its block has fewer bytes than these.
+    /// The limit of grants: a vector is granted if its block has fewer bytes.
     ghost less_than: { Self → ℕ };
 
-    /// An empty vector with room for so many items, or an error, where it was refused.
+    /// Returns an empty vector with this capacity, or an error if the source refuses it.
     fn with_capacity<T>(&mut self, capacity: usize) -> Result<Vec<T, A>, AllocError>
         ensures room { IfOk result (λ v. (v.items ≡ []) × (vec_capacity v ≡ capacity)) }
         ensures memory { Takes (bytes_for (item_bytes T.row) capacity) (less_than self.old) (less_than self.new) (is_ok result) };
@@ -43,7 +43,7 @@ impl VectorSource<Lodged> for Unused {
     }
 }
 
-/// A vector of so many copies of an item, or an error, where it was refused.
+/// Returns a vector of `count` copies of an item, or an error if the source refuses it.
 pub fn filled<T: Copy, A: Allocator, M: VectorSource<A>>(
     memory: &mut M,
     item: T,
@@ -57,7 +57,7 @@ pub fn filled<T: Copy, A: Allocator, M: VectorSource<A>>(
     Ok(items)
 }
 
-/// The bytes of the block for so many items; or none, where no memory has as many.
+/// Returns the bytes of the block of `count` items, or None if no memory is that large.
 #[tactic(auto, unfolding(crate::specs::Vectors::bytes_for))]
 pub fn vector_size<T>(count: usize) -> Option<usize>
     ensures { IsSize (bytes_for (item_bytes T.row) count) result }
@@ -69,7 +69,7 @@ pub fn vector_size<T>(count: usize) -> Option<usize>
     Some(bytes.div_ceil(UNIT) * UNIT)
 }
 
-/// Both sizes together; or none, where no memory has as many bytes.
+/// Adds two sizes. Returns None if no memory is that large.
 pub fn both_sizes(first: Option<usize>, second: Option<usize>) -> Option<usize>
     ensures { (a b : ℕ) → IsSize a first → IsSize b second → IsSize (a + b) result }
 {
@@ -81,7 +81,7 @@ pub fn both_sizes(first: Option<usize>, second: Option<usize>) -> Option<usize>
     Some(bytes)
 }
 
-/// So many times a size; or none, where no memory has as many bytes.
+/// Multiplies a size. Returns None if no memory is that large.
 pub fn times_size(count: usize, size: Option<usize>) -> Option<usize>
     ensures { (a : ℕ) → IsSize a size → IsSize (count * a) result }
 {

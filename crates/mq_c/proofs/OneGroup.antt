@@ -1,5 +1,5 @@
 -- One group in memory that is lent.
-use Rattle.std.proofs.Common.{◌≡◌, ℕ, ◌<◌, ◌≤◌, Bool, true, false, cond, nat_le, List, ◌++◌, length, take, drop, refl, sym, ap, ◌∙◌, arith}
+use Rattle.std.proofs.Common.{◌≡◌, ℕ, ◌≤◌, Bool, true, false, cond, nat_le, List, ◌++◌, length, take, drop, refl, sym, ap, ◌∙◌, arith}
 use Rattle.std.specs.Prelude.{map as list_map}
 use Rattle.std.proofs.lemmas.Bool.Decides.{nat_tests}
 use Rattle.std.proofs.lemmas.List.{take_all}
@@ -25,17 +25,6 @@ module _ {G S : Type 0} (group_form : Entry → G) (source_form : SourceEntry �
       nothing : (b : Bool) → ◌≡◌ {A = ℕ} 0 (cond b 0 0)
       nothing true = refl
       nothing false = refl
-
-  -- there is no room for its sources
-  pub shown_alone : (group new_group : G) (sources : List S) (page : Page) → map.contains_key held address ≡ true → length sources < sources_of (group_at held address) → new_group ≡ group_form (address, group_at held address) → page ≡ record { groups = 1; sources = 0 } → ShowsGroup group_form source_form held address group new_group sources sources page
-  shown_alone group new_group sources page here small written is =
-      let over : nat_le (sources_of (group_at held address)) (length sources) ≡ false = grind (arith, nat_tests, small) in
-      record {
-        count_is = rw (is, here) refl;
-        source_count_is = rw (is, over) refl;
-        group_is = rw (here, written) refl;
-        sources_are = rw is refl;
-      }
 
   -- it is written with its sources
   pub shown_whole : {K : Type 0} (number : K → ℕ) (row : List (Source K)) (group new_group : G) (sources new_sources : List S) (page : Page) → map.contains_key held address ≡ true → IsAscending (number_in number) row → (group_at held address).group.sources ≡ timers_in number row → length row ≡ sources_of (group_at held address) → length row ≤ length sources

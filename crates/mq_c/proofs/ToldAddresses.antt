@@ -1,7 +1,7 @@
 -- Addresses that are written to memory, one by one.
 use Rattle.std.proofs.Common.{◌≡◌, ℕ, ◌+◌, ◌-◌, ◌<◌, ◌≤◌, List, [], ◌∷◌, ◌++◌, length, take, drop, get_or, set, min, refl, sym, ap, ◌∙◌, arith, length-drop}
 use Rattle.std.specs.Prelude.{map as list_map}
-use Rattle.std.proofs.lemmas.List.{take-map, drop-map, length-map, take_all, drop_all, drop_min}
+use Rattle.std.proofs.lemmas.List.{take-map, drop-map, length-map, take_all, drop_min}
 use Rattle.mq_c.specs.Changed.{stored_octets}
 use Rattle.mq_c.proofs.ShownGroups.{one_more, all_put}
 
@@ -16,15 +16,6 @@ stand_more f from old out i d y is within room so_far = record {
   put = ap (set out i) is ∙ one_more f from old out i d within room so_far.put;
   within = omega (arith, room);
 }
-
--- the memory is full
-pub stand_full : {X Y : Type 0} (f : X → Y) (from : List X) (old out : List Y) (i : ℕ) → i < length from → length old ≤ i
-    → StandSoFar f from old out i → out ≡ list_map f (take (length old) from) ++ drop (length from) old
-stand_full f from old out i within full so_far =
-    let end : i ≡ length old = omega (arith, so_far.within) in
-    so_far.put
-    ∙ ap (λ (k : ℕ). list_map f (take k from) ++ drop i old) end
-    ∙ ap (λ (l : List _). list_map f (take (length old) from) ++ l) (drop_all i old full ∙ sym (drop_all (length from) old (omega arith)))
 
 -- all stand there
 pub stand_whole : {X Y : Type 0} (f : X → Y) (from : List X) (old out : List Y) (i : ℕ) → i ≤ length from → length from ≤ i

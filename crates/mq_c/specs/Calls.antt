@@ -1,4 +1,4 @@
--- What the calls of an object do.
+-- The calls of an object.
 use Rattle.std.specs.Prelude.{◌≡◌, ℕ, ◌<◌, ◌≤◌, ◌^◌, Bool, true, false, List}
 use Rattle.mq_link.specs.declared.answers.Received.{Received}
 use Rattle.mq_link.specs.declared.answers.Received.TheVariants.{Taken, Dropped}
@@ -10,7 +10,7 @@ use Rattle.mq_c.specs.declared.forms.Answer.{Answer}
 use Rattle.mq_c.specs.Queries.{Outbox, outbox_at, Puts}
 use Rattle.mq_c.specs.Statuses.{all_done, moment, workspace, reason_number}
 
--- the answer of a call that did nothing: the moment is out of range; there is no workspace that suffices
+-- The answer of a call that did nothing. The moment is out of range, or no workspace suffices.
 abbrev pub refused : (status : ℕ) → Answer
 refused status = record { status = status; dropped = 0; applied = 0; ignored = 0; refused = 0; sent = 0; unsent = 0; written = 0 }
 
@@ -20,7 +20,7 @@ refused_moment = refused moment
 abbrev pub refused_workspace : Answer
 refused_workspace = refused workspace
 
--- the answer to a tick, and to a datagram, with what was made of the memory
+-- the answers to a tick and to a datagram, with the outbox afterwards
 abbrev pub answer_to_tick : Outbox → Answer
 answer_to_tick box =
     record { status = all_done; dropped = 0; applied = 0; ignored = 0; refused = 0; sent = box.sent; unsent = box.unsent; written = box.written }
@@ -31,7 +31,7 @@ answer_to (Taken applied ignored refused) box =
 answer_to (Dropped reason) box =
     record { status = all_done; dropped = reason_number reason; applied = 0; ignored = 0; refused = 0; sent = box.sent; unsent = box.unsent; written = box.written }
 
--- A tick, whose queries were put into the memory.
+-- A tick, whose queries were written to the memory.
 pub record TicksInto (width now : ℕ) (before after : LinkValue) (old new : List ℕ) (answer : Answer) : Type 0 where
   pub messages : List Outgoing
   pub answers : List Bool
@@ -41,7 +41,7 @@ pub record TicksInto (width now : ℕ) (before after : LinkValue) (old new : Lis
   pub bytes_are : new ≡ box.bytes
   pub answer_is : answer ≡ answer_to_tick box
 
--- A datagram, whose queries were put there.
+-- A datagram, whose queries were written to the memory.
 pub record ReceivesInto (width : ℕ) (envelope : Envelope) (bytes : List ℕ) (now : ℕ) (before after : LinkValue) (old new : List ℕ) (answer : Answer) : Type 0 where
   pub received : Received
   pub messages : List Outgoing
@@ -58,8 +58,8 @@ pub record IsRefusedAs (refused : Answer) (before after : LinkValue) (old new : 
   pub memory : new ≡ old
   pub answer_is : answer ≡ refused
 
--- A call at a moment, that has a workspace that suffices or none: where the moment is out of range it does nothing, nor does
--- it without such a workspace.
+-- A call at a moment, with or without a workspace that suffices. If the moment is out of range, or no workspace
+-- suffices, it does nothing.
 pub record CallsAt (suffices : Bool) (now : ℕ) (calls : Type 0) (before after : LinkValue) (old new : List ℕ) (answer : Answer) : Type 0 where
   pub done : now ≤ 2 ^ 53 → suffices ≡ true → calls × (after.config ≡ before.config)
   pub too_late : 2 ^ 53 < now → IsRefusedAs refused_moment before after old new answer

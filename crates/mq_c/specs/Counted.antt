@@ -1,11 +1,11 @@
--- What a link has counted, as C has it.
+-- The counters of a link, as C has them.
 use Rattle.std.specs.Prelude.{◌≡◌, ℕ, List, [], ◌∷◌, ◌++◌, length, take, drop}
 use Rattle.mq_link.specs.declared.answers.DropReason.TheVariants as reason
 use Rattle.mq_link.specs.declared.answers.MessageKind.TheVariants as kind
 use Rattle.mq_link.specs.declared.answers.Refusal.TheVariants as refusal
 use Rattle.mq_link.specs.Counters.{Counters}
 
--- all counters, those by reason, by kind and by limit in the order of the numbers
+-- all counters; those by reason, by kind and by limit are in the order of the numbers
 abbrev pub counted : Counters → List ℕ
 counted c =
     c.received ∷ c.dropped
@@ -18,8 +18,8 @@ counted c =
     ∷ c.refused_by refusal.Sources ∷ c.refused_by refusal.Scheduled ∷ c.refused_by refusal.Memory
     ∷ c.sent ∷ c.unsent ∷ []
 
--- They stand at the front of the memory, as many as there is room for, and the memory behind them is as it was. The answer is
--- how many there are.
+-- The counters are at the front of the memory, as many as there is room for, and the memory after them is unchanged.
+-- The answer is the number of counters.
 pub record IsCounted (c : Counters) (old new : List ℕ) (answer : ℕ) : Type 0 where
   pub counters : new ≡ take (length old) (counted c) ++ drop answer old
   pub count : answer ≡ length (counted c)

@@ -1,4 +1,4 @@
--- What C hands over, and what it is handed, of IGMP.
+-- The data of IGMP that cross from C and to C.
 use Rattle.std.specs.Prelude.{ℕ, List, false}
 use Rattle.std.specs.Int.{w32, from_be_bytes, to_be_bytes}
 use Rattle.mq_wire.specs.Family.{Igmp}
@@ -9,11 +9,11 @@ use Rattle.mq_c.specs.declared.forms.IgmpGroup.{IgmpGroup}
 use Rattle.mq_c.specs.declared.forms.IgmpSource.{IgmpSource}
 use Rattle.mq_c.specs.Making.{asked_of}
 
--- the configuration that is asked for
+-- the requested configuration
 abbrev pub asked : IgmpConfig → Configuration
 asked c = asked_of Igmp c.settings (from_be_bytes w32 c.own) c.source_specific
 
--- what is known of a datagram beside its bytes
+-- the facts of a datagram beside its bytes
 abbrev pub envelope : (source : List ℕ) → Envelope
 envelope source = record { source = from_be_bytes w32 source; destination = 0; hop_limit = 0; alert = false }
 
@@ -21,7 +21,7 @@ envelope source = record { source = from_be_bytes w32 source; destination = 0; h
 abbrev pub octets_with : (address : ℕ) → List ℕ
 octets_with address = to_be_bytes w32 address
 
--- a group that is held, and a source of it
+-- a held group, and a source of it
 abbrev pub group_with : (address sources deadline v1 v2 : ℕ) → IgmpGroup
 group_with address sources deadline v1 v2 =
     record { address = to_be_bytes w32 address; sources = sources; deadline = deadline; v1 = v1; v2 = v2 }

@@ -1,4 +1,4 @@
--- Links that are made for C.
+-- The making of links for C.
 use Rattle.std.specs.Prelude.{◌≡◌, ◌⊎◌, ℕ, ◌<◌, ◌≤◌, ◌^◌, ◌==◌, not, Some, Result, Ok, Err, []}
 use Rattle.mq_wire.specs.Family.{Family}
 use Rattle.mq_link.specs.declared.configuration.ConfigFault.{ConfigFault}
@@ -11,14 +11,14 @@ use Rattle.mq_link.specs.Workspace.{WorkspaceState}
 use Rattle.mq_c.specs.declared.forms.Settings.{Settings}
 use Rattle.mq_c.specs.Statuses.{memory, moment, status_of}
 
--- the configuration that is asked for, of a family
+-- the requested configuration of a family
 abbrev pub asked_of : Family → Settings → (own source_specific : ℕ) → Configuration
 asked_of family s own source_specific =
     configured family (variables s.robustness s.query_interval s.response_interval s.last_member_interval)
     (record { groups = s.groups; group_sources = s.group_sources; sources = s.sources; scheduled = s.scheduled })
     own (not (source_specific == 0))
 
--- the defaults
+-- the default settings of a family
 abbrev pub default_settings : Family → Settings
 default_settings family =
     let d = defaults_of family in
@@ -33,12 +33,12 @@ default_settings family =
       scheduled = d.limits.scheduled;
     }
 
--- a configuration is given where it has no fault, and else the status of its fault
+-- the configuration is returned if it has no fault, and otherwise the status of its fault
 abbrev pub IsConfigOrStatus : (asked : Configuration) → Result Configuration ℕ → Type 0
 IsConfigOrStatus asked (Ok config) = IsFaultless asked × (config ≡ asked)
 IsConfigOrStatus asked (Err status) = (fault : ConfigFault) × (configuration_fault asked ≡ Some fault) × (status ≡ status_of fault) × (0 < status)
 
--- a link so configured at its start
+-- a link with this configuration at its start
 abbrev pub fresh_link : Configuration → ℕ → LinkValue
 fresh_link config start = record { config = config; state = link_at config start; spent = 0; moved = 0; changed = [] }
 
@@ -46,7 +46,7 @@ fresh_link config start = record { config = config; state = link_at config start
 abbrev pub IsLateOrMemory : (start status : ℕ) → Type 0
 IsLateOrMemory start status = ((2 ^ 53 < start) × (status ≡ moment)) ⊎ ((start ≤ 2 ^ 53) × (status ≡ memory))
 
--- What C asks for is made: a link at its start.
+-- The requested link is made, at its start.
 pub record IsMade (asked : Configuration) (start : ℕ) (made : LinkValue) : Type 0 where
   pub faultless : IsFaultless asked
   pub in_range : start ≤ 2 ^ 53
@@ -56,19 +56,21 @@ pub record IsMade (asked : Configuration) (start : ℕ) (made : LinkValue) : Typ
 abbrev pub IsFaultOf : (asked : Configuration) → (status : ℕ) → Type 0
 IsFaultOf asked status = (fault : ConfigFault) × (configuration_fault asked ≡ Some fault) × (status ≡ status_of fault)
 
--- It isn't, and the status says why: the first fault of the configuration, or where it has none the moment or memory.
+-- The link isn't made, and the status says why: the first fault of the configuration. If it has none, it is the moment
+-- or memory.
 abbrev pub IsLinkRefused : (asked : Configuration) → (start status : ℕ) → Type 0
 IsLinkRefused asked start status = (0 < status) × (IsFaultOf asked status ⊎ (IsFaultless asked × IsLateOrMemory start status))
 
--- the workspace that is made for links so configured
+-- the workspace that is made for links with this configuration
 abbrev pub workspace_for : Configuration → WorkspaceState
 workspace_for config = record { groups = config.limits.groups; group_sources = config.limits.group_sources; changed = [] }
 
--- A workspace is made for links so configured.
+-- A workspace is made for links with this configuration.
 pub record IsWorkspaceMade (asked : Configuration) (made : WorkspaceState) : Type 0 where
   pub faultless : IsFaultless asked
   pub room : made ≡ workspace_for asked
 
--- It isn't, and the status says why: the first fault of the configuration, or where it has none memory.
+-- The workspace isn't made, and the status says why: the first fault of the configuration. If it has none, it is
+-- memory.
 abbrev pub IsWorkspaceRefused : (asked : Configuration) → (status : ℕ) → Type 0
 IsWorkspaceRefused asked status = (0 < status) × (IsFaultOf asked status ⊎ (IsFaultless asked × (status ≡ memory)))

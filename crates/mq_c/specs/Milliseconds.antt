@@ -1,7 +1,7 @@
 -- Moments as C has them.
 use Rattle.std.specs.Prelude.{ℕ, ◌-◌, ◌^◌, Option, None, Some}
 
--- a deadline that there isn't
+-- the value for no deadline
 abbrev pub no_deadline : ℕ
 no_deadline = 2 ^ 64 - 1
 

@@ -1,4 +1,4 @@
--- What C hands over, and what it is handed, of MLD.
+-- The data of MLD that cross from C and to C.
 use Rattle.std.specs.Prelude.{ℕ, Bool, List}
 use Rattle.std.specs.Int.{w128, from_be_bytes, to_be_bytes}
 use Rattle.mq_wire.specs.Family.{Mld}
@@ -9,11 +9,11 @@ use Rattle.mq_c.specs.declared.forms.MldGroup.{MldGroup}
 use Rattle.mq_c.specs.declared.forms.MldSource.{MldSource}
 use Rattle.mq_c.specs.Making.{asked_of}
 
--- the configuration that is asked for
+-- the requested configuration
 abbrev pub asked : MldConfig → Configuration
 asked c = asked_of Mld c.settings (from_be_bytes w128 c.own) c.source_specific
 
--- what is known of a datagram beside its bytes
+-- the facts of a datagram beside its bytes
 abbrev pub envelope : (source destination : List ℕ) → (hop_limit : ℕ) → (alert : Bool) → Envelope
 envelope source destination hop_limit alert = record {
   source = from_be_bytes w128 source;
@@ -26,7 +26,7 @@ envelope source destination hop_limit alert = record {
 abbrev pub octets_with : (address : ℕ) → List ℕ
 octets_with address = to_be_bytes w128 address
 
--- a group that is held, and a source of it; MLD has no version 2 besides
+-- a held group, and a source of it; MLD has no deadline of version 2
 abbrev pub group_with : (address sources deadline v1 v2 : ℕ) → MldGroup
 group_with address sources deadline v1 v2 =
     record { address = to_be_bytes w128 address; sources = sources; deadline = deadline; v1 = v1 }

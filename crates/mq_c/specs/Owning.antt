@@ -1,4 +1,4 @@
--- What is owned by an object, and by a place for one.
+-- Ownership of an object, and of a place for one.
 use Rattle.std.specs.Prelude.{Option, None, Some}
 use base.Fml.{Fml, ftrue}
 use mir.Syntax.{Ty}
@@ -6,11 +6,11 @@ use denote.RattleType.{RattleType}
 use denote.RawPtr.{Ptr}
 use Rattle.std_alloc.specs.Box.Ownership.{box_owns}
 
--- no right to give memory back
+-- the absence of a right to give memory back
 abbrev pub no_freeing : Ty → Ptr → Fml
 no_freeing ty at = ftrue
 
--- the value behind its pointer, where an object was written there; and else nothing
+-- the value at its pointer if an object was written there, and otherwise nothing
 abbrev pub placed : (R : RattleType) → Ptr → Option R.Denot → Fml
 placed R at None = ftrue
 placed R at (Some value) = box_owns no_freeing R at value

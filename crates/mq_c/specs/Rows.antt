@@ -35,7 +35,7 @@ igmp_workspace_row = workspace.the_row igmp.the_row lodged.the_row addr4.the_row
 abbrev pub mld_workspace_row : RattleType
 mld_workspace_row = workspace.the_row mld.the_row lodged.the_row addr6.the_row mld_envelope.the_row mld_family.ghosts wire6.ghosts key6.ghosts default6.ghosts lodging.ghosts
 
--- how many bytes of lent memory suffice for a link, and for a workspace, where they begin at a multiple of 16
+-- the bytes of memory that suffice for a link, and for a workspace, if they begin at a multiple of 16
 abbrev pub igmp_bytes : Configuration → ℕ
 igmp_bytes config = bytes_with_object igmp_row (bytes_of_link_lent addr4.the_row config.limits)
 

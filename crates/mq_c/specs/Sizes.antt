@@ -1,4 +1,4 @@
--- How many bytes of lent memory suffice for a link, and for a workspace.
+-- The bytes of memory that suffice for a link, and for a workspace.
 use Rattle.std.specs.Prelude.{◌≡◌, ◌⊎◌, ℕ, ◌+◌, ◌-◌, ◌≤◌, ◌^◌}
 use denote.RattleType.{RattleType}
 use denote.Builtin.{u16}
@@ -10,18 +10,18 @@ use Rattle.mq_arena.specs.Vectors.{bytes_for, item_bytes}
 use Rattle.mq_link.specs.declared.configuration.Limits.{Limits}
 use Rattle.mq_link.specs.Sizes.{bytes_of_link}
 
--- what a link of these limits takes, by the row of an address
+-- the bytes of a link with these limits, by the row of an address
 abbrev pub bytes_of_link_lent : RattleType → Limits → ℕ
 bytes_of_link_lent K limits = bytes_of_link (vec.the_row u16 lodged.the_row lodging.ghosts) K limits
 
--- so many bytes and those of the object, by its row: whole units of 16
+-- these bytes and those of the object, by its row, in whole units of 16
 abbrev pub bytes_with_object : RattleType → ℕ → ℕ
 bytes_with_object R bytes = size_of_block (bytes + bytes_for (item_bytes R) 1)
 
--- so many bytes in whole units of 16, of memory that may begin anywhere
+-- these bytes in whole units of 16, of memory that may begin anywhere
 abbrev pub bytes_lent : ℕ → ℕ
 bytes_lent bytes = bytes + 16
 
--- A size is told as so many bytes; where no memory has as many, as the greatest number.
+-- A size is given in bytes; if no memory has as many, it is the greatest number.
 abbrev pub IsTold : (bytes told : ℕ) → Type 0
 IsTold bytes told = (told ≡ bytes) ⊎ ((2 ^ 63 ≤ bytes) × (told ≡ 2 ^ 64 - 1))

@@ -6,7 +6,7 @@ use Rattle.mq_link.specs.declared.configuration.ConfigFault.{ConfigFault}
 use Rattle.mq_link.specs.declared.configuration.ConfigFault.TheVariants.{Robustness, QueryInterval, ResponseInterval, LastMember, Limit, OwnAddress}
 pub use Rattle.mq_link.specs.Counters.{reason_number, refusal_number, kind_number}
 
--- all was done; memory ran out; the moment is above 2^53; the workspace is too small
+-- the statuses for success, for refused memory, for a moment above 2^53, and for a workspace that is too small
 abbrev pub all_done : ℕ
 all_done = 0
 
@@ -25,7 +25,7 @@ limit_status GroupSources = 6
 limit_status Sources = 7
 limit_status Scheduled = 8
 
--- a fault of a configuration
+-- the status of a fault of a configuration
 abbrev pub status_of : ConfigFault → ℕ
 status_of Robustness = 1
 status_of QueryInterval = 2

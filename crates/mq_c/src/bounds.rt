@@ -1,10 +1,10 @@
-//! How many bytes the queries of one call take at most.
+//! The most bytes of the queries of one call.
 
 ghost use Rattle.std.specs.Prelude.{◌≡◌, ◌+◌, ◌*◌, ◌/◌, ◌<◌, min};
 
-/// The bytes for a family: of an address and of a query without sources; and how many sources a query holds at most. With
-/// the limits of a link and the length of the longest body, this is the room of a datagram (`receive_room`), which is more
-/// than that of a tick.
+/// Returns the most bytes of the queries of a datagram (`receive_room`), which are more than those of a tick. The
+/// arguments are the bytes of an address and of a query without sources, and the most sources of a query. The others
+/// are the length of the longest body, and the limits of a link.
 pub(crate) fn outlet_bytes(
     width: u8,
     head: u8,

@@ -1,4 +1,4 @@
-//! What the families differ in as C has them.
+//! The differences of the families in the forms of C.
 
 ghost use Rattle.mq_c.specs.Igmp as igmp;
 ghost use Rattle.mq_c.specs.Mld as mld;
@@ -26,11 +26,11 @@ pub(crate) trait CFamily: Family {
 
     ghost source_with: { (address deadline : ℕ) → Self.Source };
 
-    /// An address, most significant octet first.
+    /// Returns an address, most significant octet first.
     fn octets_in_c(address: Self::Address) -> Self::Octets
         ensures { result ≡ octets_with (Self.Address.number address) };
 
-    /// A group with so many sources and these deadlines.
+    /// Returns a group with this number of sources and these deadlines.
     fn group_in_c(
         address: Self::Address,
         sources: u32,
@@ -40,7 +40,7 @@ pub(crate) trait CFamily: Family {
     ) -> Self::Group
         ensures { result ≡ group_with (Self.Address.number address) sources deadline v1 v2 };
 
-    /// A source with this deadline.
+    /// Returns a source with this deadline.
     fn source_in_c(address: Self::Address, deadline: u64) -> Self::Source
         ensures { result ≡ source_with (Self.Address.number address) deadline };
 }

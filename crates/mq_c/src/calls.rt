@@ -1,4 +1,4 @@
-//! The calls of a link that hand out queries, for both families.
+//! The calls of a link that send queries, for both families.
 
 ghost use Rattle.std.specs.Prelude.{◌≡◌, ℕ, ◌+◌, ◌*◌, ◌<◌, ◌≤◌, ◌^◌, length, true};
 ghost use Rattle.std.specs.FinMap as map;
@@ -22,7 +22,7 @@ use mq_arena::Lodged;
 use mq_count::Moment;
 use mq_link::{BareLink, Family, Received, Workspace};
 
-/// The answer of a call that did nothing, for the reason that its status says.
+/// Returns the answer of a call that did nothing, for the reason of its status.
 fn refused(status: u32) -> Answer
     ensures { result ≡ spec.refused status }
 {
@@ -38,7 +38,7 @@ fn refused(status: u32) -> Answer
     }
 }
 
-/// The answer to a tick.
+/// Returns the answer to a tick.
 fn answer_to_tick(queries: &Queries<'_>) -> Answer
     ensures { result ≡ spec.answer_to_tick (outbox_of queries.now) }
 {
@@ -54,7 +54,7 @@ fn answer_to_tick(queries: &Queries<'_>) -> Answer
     }
 }
 
-/// The answer to a datagram.
+/// Returns the answer to a datagram.
 fn answer_to(received: Received, queries: &Queries<'_>) -> Answer
     ensures { result ≡ spec.answer_to received (outbox_of queries.now) }
 {
@@ -76,7 +76,7 @@ fn answer_to(received: Received, queries: &Queries<'_>) -> Answer
     }
 }
 
-/// Does what is due, in a workspace; with as much memory as the room of a tick, no query is left out.
+/// Handles what is due, in a workspace. With as much memory as the room of a tick, no query is left out.
 pub(crate) fn tick<F: Family>(
     link: &mut BareLink<F, Lodged>,
     workspace: &mut Workspace<F, Lodged>,
@@ -105,7 +105,7 @@ pub(crate) fn tick<F: Family>(
     }
 }
 
-/// Takes a datagram, in a workspace; with as much memory as the room of a datagram, no query is left out.
+/// Receives a datagram, in a workspace. With as much memory as the room of a datagram, no query is left out.
 pub(crate) fn receive<F: Family>(
     link: &mut BareLink<F, Lodged>,
     workspace: &mut Workspace<F, Lodged>,

@@ -1,4 +1,4 @@
-//! The groups that a call changed, as the workspace that it worked in tells.
+//! The groups that a call changed, as its workspace lists them.
 
 ghost use Rattle.std.specs.Prelude.{◌≡◌, ◌++◌, length, take, drop, map as list_map};
 ghost use Rattle.mq_c.specs.Changed.{TellsChanged, stored_octets};
@@ -20,8 +20,8 @@ fn put_addresses<F: CFamily>(from: &[F::Address], out: &mut [F::Octets])
     }
 }
 
-/// Writes the addresses of the groups that the last call changed that the workspace was lent to, from a place on, as many as
-/// fit; answers how many these groups are.
+/// Writes the addresses of the groups that the last call with this workspace changed, and returns their number. It
+/// writes those from a place on, as many as fit.
 pub(crate) fn put_changed<F: CFamily>(
     workspace: &Workspace<F, Lodged>,
     first: u32,

@@ -1,14 +1,14 @@
-//! What a link has counted, as C has it.
+//! The counters of a link, as C has them.
 
 ghost use Rattle.std.specs.Prelude.{◌≡◌, ◌<◌, ◌^◌};
 ghost use Rattle.mq_c.specs.Counted.{IsCounted, counted};
 
 use mq_link::{Counts, DropReason, MessageKind, Refusal};
 
-/// How many counters there are.
+/// The number of counters.
 const COUNTERS: usize = 29;
 
-/// All counters, in the order of `mq_counts`.
+/// Returns all counters, in the order of `mq_counts`.
 fn all(counts: &Counts) -> [u64; COUNTERS]
     ensures { result ≡ counted counts.now }
 {
@@ -45,7 +45,7 @@ fn all(counts: &Counts) -> [u64; COUNTERS]
     ]
 }
 
-/// Writes the counters to the front, as many as there is room for; answers how many there are.
+/// Writes the counters to the front, as many as there is room for, and returns how many there are.
 pub(crate) fn put_counters(counts: &Counts, out: &mut [u64]) -> usize
     ensures { IsCounted counts.now out.old out.new result }
 {
@@ -54,7 +54,7 @@ pub(crate) fn put_counters(counts: &Counts, out: &mut [u64]) -> usize
     COUNTERS
 }
 
-/// A number that 32 bits hold; any other is told as the greatest.
+/// Returns a number if 32 bits hold it, and otherwise the greatest.
 pub(crate) fn few(number: usize) -> u32
     ensures { number < 2 ^ 32 → result ≡ number }
 {

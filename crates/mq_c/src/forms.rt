@@ -1,8 +1,9 @@
-//! What crosses beside the objects. The layouts are those of `include/mquerier.h`, which says what each field is.
+//! The data that cross beside the objects. Their layouts are those of `include/mquerier.h`, which says what each field
+//! is.
 
 ghost use Rattle.std.specs.Prelude.{◌≡◌, ◌<◌, ◌^◌};
 
-/// What a link is configured with, of both families alike.
+/// The settings of a link, for both families.
 #[repr(C)]
 #[derive(Clone, Copy)]
 pub struct Settings {
@@ -16,7 +17,7 @@ pub struct Settings {
     pub scheduled: u32,
 }
 
-/// What a link of IGMP is configured with.
+/// The configuration of an IGMP link.
 #[repr(C)]
 #[derive(Clone, Copy)]
 pub struct IgmpConfig {
@@ -25,7 +26,7 @@ pub struct IgmpConfig {
     pub source_specific: u8,
 }
 
-/// What a link of MLD is configured with.
+/// The configuration of an MLD link.
 #[repr(C)]
 #[derive(Clone, Copy)]
 pub struct MldConfig {
@@ -34,7 +35,7 @@ pub struct MldConfig {
     pub source_specific: u8,
 }
 
-/// What a call did.
+/// The result of a call.
 #[repr(C)]
 #[derive(Clone, Copy)]
 pub struct Answer {
@@ -48,7 +49,7 @@ pub struct Answer {
     pub written: u64,
 }
 
-/// A group that is held by a link of IGMP.
+/// A group that an IGMP link holds.
 #[repr(C)]
 #[derive(Clone, Copy)]
 pub struct IgmpGroup {
@@ -59,7 +60,7 @@ pub struct IgmpGroup {
     pub v2: u64,
 }
 
-/// A source of it.
+/// A source of a group that an IGMP link holds.
 #[repr(C)]
 #[derive(Clone, Copy)]
 pub struct IgmpSource {
@@ -67,7 +68,7 @@ pub struct IgmpSource {
     pub deadline: u64,
 }
 
-/// A group that is held by a link of MLD.
+/// A group that an MLD link holds.
 #[repr(C)]
 #[derive(Clone, Copy)]
 pub struct MldGroup {
@@ -77,7 +78,7 @@ pub struct MldGroup {
     pub v1: u64,
 }
 
-/// A source of it.
+/// A source of a group that an MLD link holds.
 #[repr(C)]
 #[derive(Clone, Copy)]
 pub struct MldSource {
@@ -85,7 +86,7 @@ pub struct MldSource {
     pub deadline: u64,
 }
 
-/// How much of a page was written.
+/// The number of groups and sources of a page that were written.
 #[repr(C)]
 #[derive(Clone, Copy)]
 pub struct Page {
@@ -93,7 +94,7 @@ pub struct Page {
     pub sources: u32,
 }
 
-/// A page of so many groups and sources.
+/// Returns a page of this many groups and sources.
 pub(crate) fn page_of(groups: usize, sources: usize) -> Page
     requires groups { groups < 2 ^ 32 }
     requires sources { sources < 2 ^ 32 }

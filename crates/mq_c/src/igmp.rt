@@ -47,7 +47,7 @@ use mq_count::Addr4;
 use mq_link::{BareLink, Igmp, IgmpEnvelope, Workspace};
 use std::marker::Brand;
 
-/// The defaults, with this own address.
+/// Returns the default configuration, with this own address.
 #[unsafe(no_mangle)]
 pub extern "C" fn mq_igmp_defaults(own: &[u8; 4]) -> IgmpConfig
     ensures { asked result ≡ configured_by_default family.Igmp (from_be_bytes w32 own.now) false }
@@ -59,7 +59,7 @@ pub extern "C" fn mq_igmp_defaults(own: &[u8; 4]) -> IgmpConfig
     }
 }
 
-/// How many bytes of memory suffice for a link, wherever it begins.
+/// Returns the bytes of memory that suffice for a link, wherever the memory begins.
 #[unsafe(no_mangle)]
 pub extern "C" fn mq_igmp_size(config: IgmpConfig) -> usize
     ensures { IsFaultless (asked config) → IsTold (bytes_lent (igmp_bytes (asked config))) result }
@@ -71,7 +71,7 @@ pub extern "C" fn mq_igmp_size(config: IgmpConfig) -> usize
     ))
 }
 
-/// Makes a link in memory that is lent, and writes its pointer to the place.
+/// Makes a link in memory of the caller, and writes its pointer to the place.
 #[unsafe(no_mangle)]
 pub extern "C" fn mq_igmp_init_units(
     config: IgmpConfig,
@@ -103,7 +103,7 @@ pub extern "C" fn mq_igmp_init_units(
     }
 }
 
-/// How many bytes of memory suffice for a workspace, wherever it begins.
+/// Returns the bytes of memory that suffice for a workspace, wherever the memory begins.
 #[unsafe(no_mangle)]
 pub extern "C" fn mq_igmp_workspace_size(config: IgmpConfig) -> usize
     ensures { IsFaultless (asked config) → IsTold (bytes_lent (igmp_workspace_bytes (asked config))) result }
@@ -115,7 +115,7 @@ pub extern "C" fn mq_igmp_workspace_size(config: IgmpConfig) -> usize
     ))
 }
 
-/// Makes a workspace in memory that is lent, and writes its pointer to the place.
+/// Makes a workspace in memory of the caller, and writes its pointer to the place.
 #[unsafe(no_mangle)]
 pub extern "C" fn mq_igmp_workspace_init_units(
     config: IgmpConfig,
@@ -145,7 +145,7 @@ pub extern "C" fn mq_igmp_workspace_init_units(
     }
 }
 
-/// Takes a datagram; with as much memory as the room of a datagram, no query is left out.
+/// Receives a datagram. With as much memory as the room of a datagram, no query is left out.
 #[unsafe(no_mangle)]
 pub extern "C" fn mq_igmp_receive(
     link: &mut IgmpLink,
@@ -175,7 +175,7 @@ pub extern "C" fn mq_igmp_receive(
     calls::receive(link.lend(), lent, envelope, body, now, queries)
 }
 
-/// Does what is due; with as much memory as the room of a tick, no query is left out.
+/// Handles what is due. With as much memory as the room of a tick, no query is left out.
 #[unsafe(no_mangle)]
 pub extern "C" fn mq_igmp_tick(
     link: &mut IgmpLink,
@@ -202,7 +202,7 @@ pub extern "C" fn mq_igmp_tick(
     calls::tick(link.lend(), lent, now, queries)
 }
 
-/// How much memory suffices for the queries of one call, where no body is longer than that.
+/// Returns the memory that suffices for the queries of one call, if no body is longer than `longest_body`.
 #[unsafe(no_mangle)]
 pub extern "C" fn mq_igmp_outlet_bytes(config: IgmpConfig, longest_body: u32) -> usize
     ensures bytes { result ≡ receive_room 4 longest_body (asked config) }
@@ -219,7 +219,7 @@ pub extern "C" fn mq_igmp_outlet_bytes(config: IgmpConfig, longest_body: u32) ->
     ) as usize
 }
 
-/// When a tick has something to do next.
+/// Returns the next moment at which a tick has something to do.
 #[unsafe(no_mangle)]
 pub extern "C" fn mq_igmp_next_deadline(link: &mut IgmpLink) -> u64
     ensures answer { result ≡ next_of link.old.kept.state }
@@ -229,7 +229,7 @@ pub extern "C" fn mq_igmp_next_deadline(link: &mut IgmpLink) -> u64
     milliseconds(link.lend().next_deadline())
 }
 
-/// Whether a source of a group is forwarded.
+/// Returns whether a source of a group is forwarded.
 #[unsafe(no_mangle)]
 pub extern "C" fn mq_igmp_forwards(link: &mut IgmpLink, group: &[u8; 4], source: &[u8; 4]) -> bool
     ensures answer { result ≡ state.forwards link.old.kept.state (from_be_bytes w32 group.now) (from_be_bytes w32 source.now) }
@@ -240,7 +240,7 @@ pub extern "C" fn mq_igmp_forwards(link: &mut IgmpLink, group: &[u8; 4], source:
         .forwards(Addr4::from_octets(*group), Addr4::from_octets(*source))
 }
 
-/// Whether the link is querier.
+/// Returns whether the link is querier.
 #[unsafe(no_mangle)]
 pub extern "C" fn mq_igmp_is_querier(link: &mut IgmpLink) -> bool
     ensures answer { result ≡ is_querier link.old.kept.state.election.role }
@@ -250,7 +250,7 @@ pub extern "C" fn mq_igmp_is_querier(link: &mut IgmpLink) -> bool
     link.lend().is_querier()
 }
 
-/// Up to when another router is querier, whose address is written where it fits.
+/// Returns the moment until which another router is querier. Its address is written if it fits.
 #[unsafe(no_mangle)]
 pub extern "C" fn mq_igmp_other_querier(link: &mut IgmpLink, address: &mut [u8]) -> u64
     ensures none { IsTrue (is_querier link.old.kept.state.election.role) → result ≡ no_deadline }
@@ -262,7 +262,7 @@ pub extern "C" fn mq_igmp_other_querier(link: &mut IgmpLink, address: &mut [u8])
     other_querier(link.lend(), address)
 }
 
-/// How many comparisons the calls have made.
+/// Returns the number of comparisons that the calls have made.
 #[unsafe(no_mangle)]
 pub extern "C" fn mq_igmp_spent(link: &mut IgmpLink) -> u64
     ensures answer { result ≡ link.old.kept.spent }
@@ -272,7 +272,7 @@ pub extern "C" fn mq_igmp_spent(link: &mut IgmpLink) -> u64
     link.lend().spent()
 }
 
-/// How many items of lists the calls have moved to keep the groups.
+/// Returns the number of list items that the calls have moved to keep the groups.
 #[unsafe(no_mangle)]
 pub extern "C" fn mq_igmp_moved(link: &mut IgmpLink) -> u64
     ensures answer { result ≡ link.old.kept.moved }
@@ -282,7 +282,7 @@ pub extern "C" fn mq_igmp_moved(link: &mut IgmpLink) -> u64
     link.lend().moved()
 }
 
-/// The counters, as many as there is room for; how many there are.
+/// Writes the counters, as many as there is room for, and returns how many there are.
 #[unsafe(no_mangle)]
 pub extern "C" fn mq_igmp_counters(link: &mut IgmpLink, counters: &mut [u64]) -> usize
     ensures counters { IsCounted link.old.kept.state.counters counters.old counters.new result }
@@ -292,7 +292,7 @@ pub extern "C" fn mq_igmp_counters(link: &mut IgmpLink, counters: &mut [u64]) ->
     put_counters(link.lend().counts(), counters)
 }
 
-/// How many groups are held.
+/// Returns the number of held groups.
 #[unsafe(no_mangle)]
 pub extern "C" fn mq_igmp_len(link: &mut IgmpLink) -> u32
     ensures answer { map.len link.old.kept.state.groups < 2 ^ 32 → result ≡ map.len link.old.kept.state.groups }
@@ -302,7 +302,7 @@ pub extern "C" fn mq_igmp_len(link: &mut IgmpLink) -> u32
     few(link.lend().len())
 }
 
-/// A page of the groups.
+/// Writes a page of the groups.
 #[unsafe(no_mangle)]
 pub extern "C" fn mq_igmp_groups(
     link: &mut IgmpLink,
@@ -316,7 +316,7 @@ pub extern "C" fn mq_igmp_groups(
     put_groups::<Igmp>(link.lend(), first, groups, sources)
 }
 
-/// A group, by its address.
+/// Writes a group, by its address.
 #[unsafe(no_mangle)]
 pub extern "C" fn mq_igmp_group_at(
     link: &mut IgmpLink,
@@ -330,7 +330,7 @@ pub extern "C" fn mq_igmp_group_at(
     put_group::<Igmp>(link.lend(), Addr4::from_octets(*address), group, sources)
 }
 
-/// The groups that the last call changed that the workspace was lent to.
+/// Writes the groups that the last call with this workspace changed.
 #[unsafe(no_mangle)]
 pub extern "C" fn mq_igmp_changed(
     workspace: &mut IgmpWorkspace,
@@ -343,7 +343,7 @@ pub extern "C" fn mq_igmp_changed(
     put_changed::<Igmp>(workspace.lend(), first, addresses)
 }
 
-/// The line of a message, or of its fault.
+/// Writes the line of a message, or of its fault.
 #[unsafe(no_mangle)]
 pub extern "C" fn mq_igmp_line(body: &[u8], line: &mut [u8]) -> usize
     ensures text { LineStands family.Igmp [] body.now line.old line.new result }

@@ -1,5 +1,5 @@
-//! What is lent of the objects of C. Once a loan ends, the object holds what was last written behind its pointer, which stands
-//! apart from the object, whose description it names.
+//! Loans of the objects of C. Once a loan ends, the object holds what was last written at its pointer. That value
+//! stands apart from the object, whose description it names.
 
 ghost use Rattle.std.specs.Prelude.{◌≡◌};
 ghost use types.Logic.{sem};

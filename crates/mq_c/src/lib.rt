@@ -1,10 +1,11 @@
 //! The links for C, as `include/mquerier.h` declares them.
 //!
-//! - as C calls them: `igmp` and `mld`, in which each call is one of those below;
-//! - the calls, for both families: `making`, `calls`, `bounds`; and the archive's `version`;
-//! - what is written to memory that C lends: `queries`, `pages`, `changed`, `counting`, `other_querier`, `line_room` and `lines`;
-//! - what crosses: `forms`, `statuses`, `milliseconds`, what the families differ in there: `c_family`; and the pointers that C
-//!   holds, with the places that it lends for new ones: `igmp_objects`, `mld_objects` and `lending`.
+//! - The functions that C calls: `igmp` and `mld`. Each calls one of the functions below.
+//! - The calls, for both families: `making`, `calls`, `bounds`; and the archive's `version`.
+//! - The results that are written to memory of the caller: `queries`, `pages`, `changed`, `counting`, `other_querier`,
+//!   `line_room` and `lines`.
+//! - The data that cross: `forms`, `statuses`, `milliseconds`. The differences of the families there: `c_family`.
+//! - The pointers that C holds, with its places for new ones: `igmp_objects`, `mld_objects` and `lending`.
 #![tactic(auto)]
 
 mod bounds;

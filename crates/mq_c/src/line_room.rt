@@ -1,11 +1,11 @@
-//! Memory that is lent, for one line.
+//! Memory of the caller, for one line.
 
 ghost use Rattle.std.specs.Prelude.{◌≡◌, ◌≤◌, ◌+◌, ◌++◌, IsTrue, length, take, drop, false};
 
 use mq_text::{LineFault, Output};
 use std::marker::{Brand, PhantomData};
 
-/// What stood in the memory when it was lent. Proofs alone know it; a call that passes `Brand` names it.
+/// The content of the memory when it was given. Only proofs know it; a call that passes `Brand` names it.
 pub(crate) trait Lent {
     ghost use Rattle.std.specs.Prelude.{ℕ, List};
 
@@ -18,8 +18,8 @@ impl Lent for Brand {
     ghost before = { [] };
 }
 
-/// The memory, how much of it is written, and whether there was more to write than there was room for. Behind what is
-/// written it is as it was lent.
+/// The memory, the number of bytes written, and whether there was more to write than there was room for. After the
+/// written bytes the memory is unchanged.
 #[derive(Drop)]
 pub(crate) struct LineRoom<'a, L: Lent> {
     out: &'a mut [u8],
@@ -33,7 +33,7 @@ pub(crate) struct LineRoom<'a, L: Lent> {
 }
 
 impl<'a, L: Lent> LineRoom<'a, L> {
-    /// Nothing is written yet.
+    /// Returns the memory with nothing written.
     pub(crate) fn new(out: &'a mut [u8]) -> LineRoom<'a, L>
         requires lent { out.old ≡ L.before }
         ensures same_out { result.out.ghost_name ≡ out.entry.ghost_name }
@@ -48,7 +48,7 @@ impl<'a, L: Lent> LineRoom<'a, L> {
         }
     }
 
-    /// How many bytes were written.
+    /// Returns the number of bytes written.
     pub(crate) fn written(&self) -> usize
         ensures { result ≡ self.now.written }
     {

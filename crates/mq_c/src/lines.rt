@@ -1,4 +1,4 @@
-//! The lines of messages, in memory that is lent.
+//! The lines of messages, in memory of the caller.
 
 ghost use Rattle.std.specs.Prelude.{◌≡◌, ◌-◌, [], is_ok, if◌then◌else◌, length};
 ghost use Rattle.mq_wire.specs.Family.{Igmp, Mld};
@@ -10,7 +10,7 @@ use mq_count::Addr6;
 use mq_lines::{igmp_line, mld_line};
 use mq_text::LineFault;
 
-/// The line of an IGMP message, as far as there is room for it.
+/// Writes the line of an IGMP message, as far as there is room for it.
 pub(crate) fn put_igmp_line<L: Lent>(body: &[u8], line: &mut [u8]) -> usize
     requires lent { line.old ≡ L.before }
     ensures text { LineStands Igmp [] body.now line.old line.new result }
@@ -20,7 +20,7 @@ pub(crate) fn put_igmp_line<L: Lent>(body: &[u8], line: &mut [u8]) -> usize
     without_end(room.written(), printed)
 }
 
-/// The line of an MLD message, as far as there is room for it.
+/// Writes the line of an MLD message, as far as there is room for it.
 pub(crate) fn put_mld_line<L: Lent>(
     source: Addr6,
     destination: Addr6,
@@ -35,7 +35,7 @@ pub(crate) fn put_mld_line<L: Lent>(
     without_end(room.written(), printed)
 }
 
-/// How many of the bytes that are written are the line's, without its end: where all was printed, the last one is the end.
+/// Returns the number of written bytes of the line, without its end. If all was printed, the last byte is the end.
 fn without_end(written: usize, printed: Result<bool, LineFault>) -> usize
     ensures { result ≡ (if is_ok printed then written - 1 else written) }
 {

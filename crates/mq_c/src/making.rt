@@ -1,4 +1,4 @@
-//! Links and workspaces that are made for C.
+//! The making of links and workspaces for C.
 
 ghost use Rattle.std.specs.Prelude.{◌≡◌, ◌+◌, ◌<◌, ◌≤◌, ◌^◌, ℕ, IfOk, IfErr};
 ghost use Rattle.std.specs.Result.{MatchResult};
@@ -16,13 +16,13 @@ use mq_arena::{Lodged, Unused, block_size, both_sizes, vector_size};
 use mq_count::Moment;
 use mq_link::{BareLink, Config, Family, Limits, Workspace};
 
-/// The most bytes that whole units of 16 may have, with those that aligning takes.
+/// The most bytes that whole units of 16 may have, with those for the alignment.
 const GREATEST_SIZE: usize = isize::MAX as usize - 31;
 
-/// What aligning takes at most, in a whole unit.
+/// The most bytes for the alignment, in a whole unit.
 const ALIGNING: usize = 16;
 
-/// The defaults of a family.
+/// Returns the defaults of a family.
 pub(crate) fn default_settings<F: Family>() -> Settings
     ensures { result ≡ spec.default_settings F.FAMILY }
 {
@@ -39,7 +39,7 @@ pub(crate) fn default_settings<F: Family>() -> Settings
     }
 }
 
-/// The configuration of what C hands over, or the status of its first fault.
+/// Returns the configuration of these settings, or the status of its first fault.
 fn config_of<F: Family>(
     settings: Settings,
     own: F::Address,
@@ -67,7 +67,8 @@ fn config_of<F: Family>(
     }
 }
 
-/// A link so configured that starts at a moment, in memory that is lent, or the status that says why there is none.
+/// Returns a link with this configuration that starts at a moment, in memory of the caller. Otherwise returns the
+/// status that says why there is none.
 pub(crate) fn link_in<F: Family>(
     memory: &mut Unused,
     settings: Settings,
@@ -95,7 +96,8 @@ pub(crate) fn link_in<F: Family>(
     }
 }
 
-/// How many bytes `link_in` takes at most; or none, where no memory has as many, or the configuration has a fault.
+/// Returns the most bytes that `link_in` allocates. Returns None if no memory has as many, or the configuration has a
+/// fault.
 pub(crate) fn link_size<F: Family>(
     settings: Settings,
     own: F::Address,
@@ -110,7 +112,8 @@ pub(crate) fn link_size<F: Family>(
     }
 }
 
-/// A workspace for links so configured, in memory that is lent, or the status that says why there is none.
+/// Returns a workspace for links with this configuration, in memory of the caller. Otherwise returns the status that
+/// says why there is none.
 pub(crate) fn workspace_in<F: Family>(
     memory: &mut Unused,
     settings: Settings,
@@ -134,7 +137,8 @@ pub(crate) fn workspace_in<F: Family>(
     }
 }
 
-/// How many bytes `workspace_in` takes at most; or none, where no memory has as many, or the configuration has a fault.
+/// Returns the most bytes that `workspace_in` allocates. Returns None if no memory has as many, or the configuration
+/// has a fault.
 pub(crate) fn workspace_size<F: Family>(
     settings: Settings,
     own: F::Address,
@@ -149,7 +153,8 @@ pub(crate) fn workspace_size<F: Family>(
     }
 }
 
-/// A size with that of the object, in whole units, and what aligning takes; the greatest number, where no memory has as many bytes.
+/// Returns a size with that of the object, in whole units, and the bytes for the alignment. Returns the greatest number
+/// if no memory has as many bytes.
 pub(crate) fn with_object<T>(size: Option<usize>) -> usize
     ensures { (a : ℕ) → IsSize a size → IsTold (bytes_lent (bytes_with_object T.row a)) result }
 {

@@ -5,11 +5,11 @@ ghost use Rattle.mq_c.specs.Milliseconds.{deadline_or_none};
 
 use mq_count::Moment;
 
-/// No deadline.
+/// The value for no deadline.
 pub(crate) const NONE: u64 = u64::MAX;
 
-/// The milliseconds of a moment, read from its digits: a moment hands out no number, so that within the router no two are
-/// compared uncounted.
+/// Returns the milliseconds of a moment, read from its digits. A moment gives no number, so within the router no two
+/// are compared uncounted.
 pub(crate) fn milliseconds(moment: Moment) -> u64
     ensures { result ≡ moment }
 {
@@ -24,7 +24,7 @@ pub(crate) fn milliseconds(moment: Moment) -> u64
     }
 }
 
-/// The milliseconds of a deadline, or `NONE`.
+/// Returns the milliseconds of a deadline, or `NONE`.
 pub(crate) fn deadline_or_none(deadline: Option<Moment>) -> u64
     ensures { result ≡ deadline_or_none deadline }
 {

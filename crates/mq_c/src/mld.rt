@@ -48,7 +48,7 @@ use mq_count::Addr6;
 use mq_link::{BareLink, Mld, MldEnvelope, Workspace};
 use std::marker::Brand;
 
-/// The defaults, with this own address.
+/// Returns the default configuration, with this own address.
 #[unsafe(no_mangle)]
 pub extern "C" fn mq_mld_defaults(own: &[u8; 16]) -> MldConfig
     ensures { asked result ≡ configured_by_default family.Mld (from_be_bytes w128 own.now) false }
@@ -60,7 +60,7 @@ pub extern "C" fn mq_mld_defaults(own: &[u8; 16]) -> MldConfig
     }
 }
 
-/// How many bytes of memory suffice for a link, wherever it begins.
+/// Returns the bytes of memory that suffice for a link, wherever the memory begins.
 #[unsafe(no_mangle)]
 pub extern "C" fn mq_mld_size(config: MldConfig) -> usize
     ensures { IsFaultless (asked config) → IsTold (bytes_lent (mld_bytes (asked config))) result }
@@ -72,7 +72,7 @@ pub extern "C" fn mq_mld_size(config: MldConfig) -> usize
     ))
 }
 
-/// Makes a link in memory that is lent, and writes its pointer to the place.
+/// Makes a link in memory of the caller, and writes its pointer to the place.
 #[unsafe(no_mangle)]
 pub extern "C" fn mq_mld_init_units(
     config: MldConfig,
@@ -104,7 +104,7 @@ pub extern "C" fn mq_mld_init_units(
     }
 }
 
-/// How many bytes of memory suffice for a workspace, wherever it begins.
+/// Returns the bytes of memory that suffice for a workspace, wherever the memory begins.
 #[unsafe(no_mangle)]
 pub extern "C" fn mq_mld_workspace_size(config: MldConfig) -> usize
     ensures { IsFaultless (asked config) → IsTold (bytes_lent (mld_workspace_bytes (asked config))) result }
@@ -116,7 +116,7 @@ pub extern "C" fn mq_mld_workspace_size(config: MldConfig) -> usize
     ))
 }
 
-/// Makes a workspace in memory that is lent, and writes its pointer to the place.
+/// Makes a workspace in memory of the caller, and writes its pointer to the place.
 #[unsafe(no_mangle)]
 pub extern "C" fn mq_mld_workspace_init_units(
     config: MldConfig,
@@ -146,7 +146,7 @@ pub extern "C" fn mq_mld_workspace_init_units(
     }
 }
 
-/// Takes a datagram; with as much memory as the room of a datagram, no query is left out.
+/// Receives a datagram. With as much memory as the room of a datagram, no query is left out.
 #[unsafe(no_mangle)]
 pub extern "C" fn mq_mld_receive(
     link: &mut MldLink,
@@ -182,7 +182,7 @@ pub extern "C" fn mq_mld_receive(
     calls::receive(link.lend(), lent, envelope, body, now, queries)
 }
 
-/// Does what is due; with as much memory as the room of a tick, no query is left out.
+/// Handles what is due. With as much memory as the room of a tick, no query is left out.
 #[unsafe(no_mangle)]
 pub extern "C" fn mq_mld_tick(
     link: &mut MldLink,
@@ -209,7 +209,7 @@ pub extern "C" fn mq_mld_tick(
     calls::tick(link.lend(), lent, now, queries)
 }
 
-/// How much memory suffices for the queries of one call, where no body is longer than that.
+/// Returns the memory that suffices for the queries of one call, if no body is longer than `longest_body`.
 #[unsafe(no_mangle)]
 pub extern "C" fn mq_mld_outlet_bytes(config: MldConfig, longest_body: u32) -> usize
     ensures bytes { result ≡ receive_room 16 longest_body (asked config) }
@@ -226,7 +226,7 @@ pub extern "C" fn mq_mld_outlet_bytes(config: MldConfig, longest_body: u32) -> u
     ) as usize
 }
 
-/// When a tick has something to do next.
+/// Returns the next moment at which a tick has something to do.
 #[unsafe(no_mangle)]
 pub extern "C" fn mq_mld_next_deadline(link: &mut MldLink) -> u64
     ensures answer { result ≡ next_of link.old.kept.state }
@@ -236,7 +236,7 @@ pub extern "C" fn mq_mld_next_deadline(link: &mut MldLink) -> u64
     milliseconds(link.lend().next_deadline())
 }
 
-/// Whether a source of a group is forwarded.
+/// Returns whether a source of a group is forwarded.
 #[unsafe(no_mangle)]
 pub extern "C" fn mq_mld_forwards(link: &mut MldLink, group: &[u8; 16], source: &[u8; 16]) -> bool
     ensures answer { result ≡ state.forwards link.old.kept.state (from_be_bytes w128 group.now) (from_be_bytes w128 source.now) }
@@ -247,7 +247,7 @@ pub extern "C" fn mq_mld_forwards(link: &mut MldLink, group: &[u8; 16], source: 
         .forwards(Addr6::from_octets(*group), Addr6::from_octets(*source))
 }
 
-/// Whether the link is querier.
+/// Returns whether the link is querier.
 #[unsafe(no_mangle)]
 pub extern "C" fn mq_mld_is_querier(link: &mut MldLink) -> bool
     ensures answer { result ≡ is_querier link.old.kept.state.election.role }
@@ -257,7 +257,7 @@ pub extern "C" fn mq_mld_is_querier(link: &mut MldLink) -> bool
     link.lend().is_querier()
 }
 
-/// Up to when another router is querier, whose address is written where it fits.
+/// Returns the moment until which another router is querier. Its address is written if it fits.
 #[unsafe(no_mangle)]
 pub extern "C" fn mq_mld_other_querier(link: &mut MldLink, address: &mut [u8]) -> u64
     ensures none { IsTrue (is_querier link.old.kept.state.election.role) → result ≡ no_deadline }
@@ -269,7 +269,7 @@ pub extern "C" fn mq_mld_other_querier(link: &mut MldLink, address: &mut [u8]) -
     other_querier(link.lend(), address)
 }
 
-/// How many comparisons the calls have made.
+/// Returns the number of comparisons that the calls have made.
 #[unsafe(no_mangle)]
 pub extern "C" fn mq_mld_spent(link: &mut MldLink) -> u64
     ensures answer { result ≡ link.old.kept.spent }
@@ -279,7 +279,7 @@ pub extern "C" fn mq_mld_spent(link: &mut MldLink) -> u64
     link.lend().spent()
 }
 
-/// How many items of lists the calls have moved to keep the groups.
+/// Returns the number of list items that the calls have moved to keep the groups.
 #[unsafe(no_mangle)]
 pub extern "C" fn mq_mld_moved(link: &mut MldLink) -> u64
     ensures answer { result ≡ link.old.kept.moved }
@@ -289,7 +289,7 @@ pub extern "C" fn mq_mld_moved(link: &mut MldLink) -> u64
     link.lend().moved()
 }
 
-/// The counters, as many as there is room for; how many there are.
+/// Writes the counters, as many as there is room for, and returns how many there are.
 #[unsafe(no_mangle)]
 pub extern "C" fn mq_mld_counters(link: &mut MldLink, counters: &mut [u64]) -> usize
     ensures counters { IsCounted link.old.kept.state.counters counters.old counters.new result }
@@ -299,7 +299,7 @@ pub extern "C" fn mq_mld_counters(link: &mut MldLink, counters: &mut [u64]) -> u
     put_counters(link.lend().counts(), counters)
 }
 
-/// How many groups are held.
+/// Returns the number of held groups.
 #[unsafe(no_mangle)]
 pub extern "C" fn mq_mld_len(link: &mut MldLink) -> u32
     ensures answer { map.len link.old.kept.state.groups < 2 ^ 32 → result ≡ map.len link.old.kept.state.groups }
@@ -309,7 +309,7 @@ pub extern "C" fn mq_mld_len(link: &mut MldLink) -> u32
     few(link.lend().len())
 }
 
-/// A page of the groups.
+/// Writes a page of the groups.
 #[unsafe(no_mangle)]
 pub extern "C" fn mq_mld_groups(
     link: &mut MldLink,
@@ -323,7 +323,7 @@ pub extern "C" fn mq_mld_groups(
     put_groups::<Mld>(link.lend(), first, groups, sources)
 }
 
-/// A group, by its address.
+/// Writes a group, by its address.
 #[unsafe(no_mangle)]
 pub extern "C" fn mq_mld_group_at(
     link: &mut MldLink,
@@ -337,7 +337,7 @@ pub extern "C" fn mq_mld_group_at(
     put_group::<Mld>(link.lend(), Addr6::from_octets(*address), group, sources)
 }
 
-/// The groups that the last call changed that the workspace was lent to.
+/// Writes the groups that the last call with this workspace changed.
 #[unsafe(no_mangle)]
 pub extern "C" fn mq_mld_changed(
     workspace: &mut MldWorkspace,
@@ -350,7 +350,7 @@ pub extern "C" fn mq_mld_changed(
     put_changed::<Mld>(workspace.lend(), first, addresses)
 }
 
-/// The line of a message, or of its fault.
+/// Writes the line of a message, or of its fault.
 #[unsafe(no_mangle)]
 pub extern "C" fn mq_mld_line(
     source: &[u8; 16],

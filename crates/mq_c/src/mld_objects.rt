@@ -1,4 +1,4 @@
-//! A link and a workspace of MLD as C has them, and the places where it wants them.
+//! The links and workspaces of MLD as C has them, and the places for their pointers.
 
 ghost use Rattle.std.specs.Prelude.{◌≡◌, Option, Some};
 ghost use Rattle.std.specs.Coded.{coded_option};
@@ -10,7 +10,7 @@ use mq_arena::Lodged;
 use mq_link::{BareLink, Mld, Workspace};
 use std::marker::Model;
 
-/// A link: a pointer that owns what is behind it.
+/// A link: a pointer that owns the link at its address.
 #[repr(C)]
 pub struct MldLink {
     pub(crate) at: *mut u8,
@@ -25,8 +25,8 @@ impl Model for MldLink {
     ghost also_owns = { λ h. box_owns no_freeing mld_row h.at h.kept };
 }
 
-/// The place where C wants a link: a pointer, which owns a link once one was written there. Nothing is asked of what stands
-/// there before, and it is forgotten.
+/// The place for a link's pointer. Once a pointer was written there, it owns a link. Its content before has no meaning,
+/// and is forgotten.
 #[repr(C)]
 #[derive(Drop)]
 pub struct MldLinkPlace {
@@ -42,7 +42,7 @@ impl Model for MldLinkPlace {
 }
 
 impl MldLinkPlace {
-    /// What stands there once a link is written: its pointer and the link, which are C's from now on.
+    /// Returns the place after a link is written: its pointer and the link, which are C's from now on.
     pub(crate) fn of(link: &'static mut BareLink<Mld, Lodged>) -> MldLinkPlace
         ensures { result.kept ≡ Some link.old }
     {
@@ -51,7 +51,7 @@ impl MldLinkPlace {
     }
 }
 
-/// A workspace: a pointer that owns what is behind it.
+/// A workspace: a pointer that owns the workspace at its address.
 #[repr(C)]
 pub struct MldWorkspace {
     pub(crate) at: *mut u8,
@@ -66,7 +66,7 @@ impl Model for MldWorkspace {
     ghost also_owns = { λ h. box_owns no_freeing mld_workspace_row h.at h.kept };
 }
 
-/// The place where C wants a workspace, as that of a link.
+/// The place for a workspace's pointer, like that of a link.
 #[repr(C)]
 #[derive(Drop)]
 pub struct MldWorkspacePlace {
@@ -82,7 +82,7 @@ impl Model for MldWorkspacePlace {
 }
 
 impl MldWorkspacePlace {
-    /// What stands there once a workspace is written: its pointer and the workspace, which are C's from now on.
+    /// Returns the place after a workspace is written: its pointer and the workspace, which are C's from now on.
     pub(crate) fn of(workspace: &'static mut Workspace<Mld, Lodged>) -> MldWorkspacePlace
         ensures { result.kept ≡ Some workspace.old }
     {

@@ -10,7 +10,7 @@ use mq_arena::Lodged;
 use mq_link::{BareLink, Family};
 use mq_wire::WireKey;
 
-/// Writes an address to the front, where it fits.
+/// Writes an address to the front, if it fits.
 fn put_address<K: WireKey>(address: K, out: &mut [u8])
     ensures { out.new ≡ with_address K.WIDTH (K.number address) out.old }
 {
@@ -19,7 +19,7 @@ fn put_address<K: WireKey>(address: K, out: &mut [u8])
     }
 }
 
-/// Up to when another router is querier, whose address is written where it fits.
+/// Returns the moment until which another router is querier. Its address is written if it fits.
 pub(crate) fn other_querier<F: Family>(link: &BareLink<F, Lodged>, address: &mut [u8]) -> u64
     ensures none { IsTrue (is_querier link.now.state.election.role) → result ≡ no_deadline }
     ensures deadline { (other deadline : ℕ) → link.now.state.election.role ≡ Other other deadline → result ≡ deadline }

@@ -13,7 +13,7 @@ use mq_held::HeldGroup;
 use mq_link::BareLink;
 use mq_table::Source;
 
-/// A group as C has it.
+/// Returns a group in the form of C.
 fn group_of<F: CFamily>(group: &HeldGroup<'_, F::Address>) -> F::Group
     requires few { length group.now.sources.now < 2 ^ 32 }
     ensures { result ≡ F.group_with (F.Address.number group.now.address) (length group.now.sources.now) (deadline_or_none (group_deadline group.now.mode)) (deadline_or_none group.now.v1) (deadline_or_none group.now.v2) }
@@ -27,7 +27,7 @@ fn group_of<F: CFamily>(group: &HeldGroup<'_, F::Address>) -> F::Group
     )
 }
 
-/// A source as C has it.
+/// Returns a source in the form of C.
 fn source_of<F: CFamily>(source: &Source<F::Address>) -> F::Source
     ensures { result ≡ stored_form F.Address.number F.source_with source.now }
 {
@@ -72,7 +72,7 @@ pub(crate) fn put_groups<F: CFamily>(
     page_of(groups.len(), used)
 }
 
-/// Writes a group, and its sources where there is room for all of them; nothing where it isn't held.
+/// Writes a group, and its sources if there is room for all of them. If the group isn't held, it writes nothing.
 pub(crate) fn put_group<F: CFamily>(
     link: &BareLink<F, Lodged>,
     group: F::Address,

@@ -1,4 +1,4 @@
-//! The queries of a call, in memory that C lends.
+//! The queries of a call, in memory of the caller.
 
 ghost use Rattle.std.specs.Prelude.{◌≡◌, ◌≤◌, ◌<◌, ◌+◌, ◌++◌, ◌^◌, length, drop};
 ghost use Rattle.mq_c.specs.Queries.{framed, outbox_at, outbox_of};
@@ -7,11 +7,11 @@ use byteorder::{BigEndian, ByteOrder};
 use mq_link::Outlet;
 use mq_wire::WireKey;
 
-/// The most bytes that a length of two bytes tells.
+/// The most bytes of a message, whose length has two bytes.
 const LONGEST: usize = 65535;
 
-/// The bytes that are lent, and what was written to them: each query with its destination and its length before it, in
-/// their order. One that doesn't fit is left out, and answered by false.
+/// The memory of the caller, and the queries written to it in order. Each comes after its destination and its length. A
+/// query that doesn't fit is left out, and answered by false.
 #[derive(Drop)]
 pub(crate) struct Queries<'a> {
     out: &'a mut [u8],
@@ -21,7 +21,7 @@ pub(crate) struct Queries<'a> {
 }
 
 impl<'a> Queries<'a> {
-    /// Nothing yet.
+    /// Returns the memory without queries.
     pub(crate) fn new(out: &'a mut [u8]) -> Queries<'a>
         ensures same_out { result.out.ghost_name ≡ out.entry.ghost_name }
         ensures empty { outbox_of result ≡ outbox_at out.old }
@@ -34,21 +34,21 @@ impl<'a> Queries<'a> {
         }
     }
 
-    /// How many bytes were written.
+    /// Returns the number of bytes written.
     pub(crate) fn written(&self) -> usize
         ensures { result ≡ self.now.written }
     {
         self.written
     }
 
-    /// How many queries these are.
+    /// Returns the number of queries written.
     pub(crate) fn sent(&self) -> u32
         ensures { result ≡ self.now.sent }
     {
         self.sent
     }
 
-    /// How many didn't fit.
+    /// Returns the number of queries that didn't fit.
     pub(crate) fn unsent(&self) -> u32
         ensures { result ≡ self.now.unsent }
     {

@@ -5,19 +5,19 @@ ghost use Rattle.mq_c.specs.Statuses as spec;
 
 use mq_link::{ConfigFault, LimitName};
 
-/// All was done.
+/// The status for success.
 pub(crate) const DONE: u32 = 0;
 
-/// Memory ran out.
+/// The status for refused memory.
 pub(crate) const MEMORY: u32 = 10;
 
-/// The moment is above 2^53, and nothing was done.
+/// The status for a moment above 2^53; nothing was done.
 pub(crate) const MOMENT: u32 = 11;
 
-/// The workspace is too small for the link, and nothing was done.
+/// The status for a workspace that is too small for the link; nothing was done.
 pub(crate) const WORKSPACE: u32 = 12;
 
-/// The status of a fault of a configuration.
+/// Returns the status of a fault of a configuration.
 pub(crate) fn status_of(fault: ConfigFault) -> u32
     ensures number { result ≡ spec.status_of fault }
     ensures some { 0 < result }

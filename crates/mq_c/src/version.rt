@@ -2,7 +2,7 @@
 
 ghost use Rattle.std.specs.Prelude.{◌≡◌};
 
-/// The archive's version, as `MQ_VERSION` of the header has it.
+/// Returns the archive's version, as `MQ_VERSION` of the header has it.
 #[unsafe(no_mangle)]
 pub extern "C" fn mq_version() -> u32
     ensures { result ≡ 2 }

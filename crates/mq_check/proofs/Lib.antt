@@ -1,7 +1,10 @@
+pub mod Bases
 pub mod CheckedPackets
 pub mod CheckedSoFar
 pub mod EndedChecks
 pub mod Entering
+pub mod LinkedSlots
+pub mod MarkedEntries
 pub mod OpenedChecks
 pub mod PutVerdicts
 pub mod SeenQueries
@@ -11,3 +14,4 @@ pub mod Texts
 pub mod Waits
 pub mod WantedMessages
 pub mod WrittenVerdicts
+pub mod WrittenEarly

@@ -20,6 +20,7 @@ use Rattle.mq_replay.specs.Listing.{moment_of}
 use Rattle.mq_replay.specs.PuttingReports.{behind_header}
 use Rattle.mq_replay.specs.Report.{is_gap}
 use Rattle.mq_replay.proofs.ReadSoFar.{begun_ends}
+use Rattle.mq_check.specs.declared.basis.Basis.{Basis}
 use Rattle.mq_check.specs.declared.check_fault.CheckFault.{CheckFault}
 use Rattle.mq_check.specs.declared.check_fault.CheckFault.TheVariants as answer
 use Rattle.mq_check.specs.declared.check_terms.CheckTerms.{CheckTerms}
@@ -31,7 +32,7 @@ use Rattle.mq_check.specs.CheckedCaptures.{IsEndedBy}
 use Rattle.mq_check.specs.Checking.{CheckingValue, counted_up, found_of_last, settled, silence_found, told, told_at_end}
 use Rattle.mq_check.specs.Coming.{Comes}
 use Rattle.mq_check.specs.Ending.{IsRestPut, IsVerdictPut, PutsPackets, counted_behind, end_text, ended_behind, last_findings, rest_behind}
-use Rattle.mq_check.specs.FindingLines.{finding_lines, totals_line}
+use Rattle.mq_check.specs.FindingLines.{finding_lines, last_lines}
 use Rattle.mq_check.specs.General.{silence_up_to}
 use Rattle.mq_check.specs.Telling.{ToldState, Tells, counted_times}
 use Rattle.mq_check.specs.Waiting.{WaitingValue}
@@ -210,10 +211,10 @@ counted_to : (n : ℕ) → counted_times n 0 ≡ min n (2 ^ 64 - 1)
 counted_to zero = refl
 counted_to (suc n) = ap counted_up (counted_to n) ∙ (grind arith)
 
-totals_are : (c : CheckingValue) (found rest : List (Finding ℕ)) (count : ℕ) → count ≡ counted_times (length found) 0 → totals_of c (found ++ rest) ≡ counted_behind count c rest
-totals_are c found rest count counts =
+totals_are : (c : CheckingValue) (rests : Basis) (found rest : List (Finding ℕ)) (count : ℕ) → count ≡ counted_times (length found) 0 → totals_of c rests (found ++ rest) ≡ counted_behind count c rests rest
+totals_are c rests found rest count counts =
     let findings = sym (counted_to (length (found ++ rest))) ∙ ap (λ (n : ℕ). counted_times n 0) (length-append found rest) ∙ times_more (length found) (length rest) 0 ∙ ap (counted_times (length rest)) (sym counts) in
-    λ i. record { general = c.general; specific = c.specific; findings = findings i }
+    λ i. record { general = c.general; specific = c.specific; findings = findings i; basis = rests }
 
 -- what no longer waits leaves it as full as it was
 full_still : (within moment : ℕ) (w : WaitingValue) → (waits.settled within moment w).is_full ≡ w.is_full
@@ -255,13 +256,13 @@ ended_joined config within cite moment number count found r counts = by_room c.w
     all = found ++ done.found ++ (told within moment c ++ flat_map found_of_last left.waiting.entries ++ silence_found config.timing moment (silence_up_to within config.timing moment left.phase))
 
     at : Bool → Verdict
-    at b = if b then broken_off config cite (answer.Waiting number) part else concluded config cite c all
+    at b = if b then broken_off config cite (answer.Waiting number) part else concluded config cite c done.checked.basis all
 
     behind : Bool → Verdict
     behind b =
         if b
         then record { text = finding_lines config.family cite more; answer = Err (answer.Waiting number) }
-        else record { text = end_text config.family cite (more ++ last) (counted_behind count left (more ++ last)); answer = Ok (counted_behind count left (more ++ last)) }
+        else record { text = end_text config.family cite (more ++ last) (counted_behind count left done.checked.basis (more ++ last)); answer = Ok (counted_behind count left done.checked.basis (more ++ last)) }
 
     parts : part ≡ found ++ more
     parts = append_assoc found done.found (told within moment c)
@@ -271,16 +272,16 @@ ended_joined config within cite moment number count found r counts = by_room c.w
         ∙ append_assoc found done.found (told within moment c ++ last)
         ∙ ap (λ (fs : List (Finding ℕ)). found ++ fs) (sym (append_assoc done.found (told within moment c) last))
 
-    totals : totals_of c all ≡ counted_behind count left (more ++ last)
-    totals = ap (totals_of c) same ∙ totals_are c found (more ++ last) count counts
+    totals : totals_of c done.checked.basis all ≡ counted_behind count left done.checked.basis (more ++ last)
+    totals = ap (totals_of c done.checked.basis) same ∙ totals_are c done.checked.basis found (more ++ last) count counts
 
     by_room : (b : Bool) → at b ≡ verdict_after lines (behind b)
     by_room true = λ i. record { text = (ap (finding_lines config.family cite) parts ∙ lines_of_both config.family cite found more) i; answer = Err (answer.Waiting number) }
     by_room false = λ i. record {
-      text = (ap (λ (t : Totals). finding_lines config.family cite all ++ totals_line t) totals
-          ∙ ap (λ (fs : List (Finding ℕ)). finding_lines config.family cite fs ++ totals_line (counted_behind count left (more ++ last))) same
-          ∙ ap (λ (t : List ℕ). t ++ totals_line (counted_behind count left (more ++ last))) (lines_of_both config.family cite found (more ++ last))
-          ∙ append_assoc lines (finding_lines config.family cite (more ++ last)) (totals_line (counted_behind count left (more ++ last)))) i;
+      text = (ap (λ (t : Totals). finding_lines config.family cite all ++ last_lines t) totals
+          ∙ ap (λ (fs : List (Finding ℕ)). finding_lines config.family cite fs ++ last_lines (counted_behind count left done.checked.basis (more ++ last))) same
+          ∙ ap (λ (t : List ℕ). t ++ last_lines (counted_behind count left done.checked.basis (more ++ last))) (lines_of_both config.family cite found (more ++ last))
+          ∙ append_assoc lines (finding_lines config.family cite (more ++ last)) (last_lines (counted_behind count left done.checked.basis (more ++ last)))) i;
       answer = Ok (totals i);
     }
 

@@ -12,14 +12,16 @@ use Rattle.mq_link.specs.Sent.{Outgoing, outgoing_of}
 use Rattle.mq_link.specs.Tick.{Step, tick_of, next_of}
 use Rattle.mq_text.specs.Printing.{OutputState}
 use Rattle.mq_replay.specs.Report.{Datagram, all_sent}
+use Rattle.mq_check.specs.declared.basis.Basis.{Basis}
 use Rattle.mq_check.specs.declared.finding.Finding.{Finding}
 use Rattle.mq_check.specs.Check.{Checked, Outcome, quiet, behind, settled_at, wanted_by, ticked, ticked_within, received}
+use Rattle.mq_check.specs.Basis as basis
 use Rattle.mq_check.specs.Checking.{settled, told, with_messages, role_after_tick, role_changed}
 use Rattle.mq_check.specs.Coming.{Comes, checked_in}
 use Rattle.mq_check.specs.Telling.{ToldState, Tells}
 use Rattle.mq_check.specs.Wanting.{WantingValue, TakesMessage}
 use Rattle.mq_check.proofs.Tellings.{tells_as}
-use Rattle.mq_check.proofs.WantedMessages.{after_messages, all_wanted, each_sent}
+use Rattle.mq_check.proofs.WantedMessages.{after_messages, all_wanted, basis_kept, each_sent}
 
 -- the outlet as it begins to take what a link sends at a moment
 abbrev pub begun_at : (now : ℕ) → LinkValue → WantingValue → WantingValue
@@ -46,30 +48,36 @@ pub ticked_is : (family : Family) (within now : ℕ) (before after : LinkValue) 
     → family ≡ before.config.family → old.own ≡ before.config.own → begun ≡ begun_at now before old
     → HandsOut before.config (tick_of before.config now before.state) messages answers after.state → HandsOver (TakesMessage family) begun messages answers new
     → last.checking ≡ role_after_tick within now (is_querier before.state.election.role) (is_querier after.state.election.role) new.checking
+    → last.basis ≡ basis.role_after_tick now (is_querier before.state.election.role) (is_querier after.state.election.role) new.basis
     → checked_in after last ≡ ticked before.config within now (checked_in before old)
 unfolding ticked
-ticked_is family within now before after old begun new last messages answers is_family is_own begins out handed role =
+ticked_is family within now before after old begun new last messages answers is_family is_own begins out handed role rests =
     let step = tick_of before.config now before.state in
     let left = step_left family now before after step begun new messages answers out handed in
     let wanted = step_wanted family now before after step old begun new messages answers is_family is_own begins out handed in
+    let kept : new.basis ≡ old.basis = basis_kept family begun new messages answers handed ∙ ap (λ (w : WantingValue). w.basis) begins in
     λ i. record {
       link = left i;
       checking = (role ∙ (λ j. role_after_tick within now (is_querier before.state.election.role) (is_querier (left j).election.role) (wanted j))) i;
+      basis = (rests ∙ (λ j. basis.role_after_tick now (is_querier before.state.election.role) (is_querier (left j).election.role) (kept j))) i;
     }
 
 pub received_is : (family : Family) (within now : ℕ) (datagram : Datagram) (before after : LinkValue) (old begun new last : WantingValue) (messages : List Outgoing) (answers : List Bool)
     → family ≡ before.config.family → old.own ≡ before.config.own → begun ≡ begun_at now before old
     → HandsOut before.config (receipt_of before.config datagram.envelope datagram.body now before.state).step messages answers after.state → HandsOver (TakesMessage family) begun messages answers new
     → last.checking ≡ role_changed within before.config.timing now (is_querier before.state.election.role) (is_querier after.state.election.role) new.checking
+    → last.basis ≡ basis.with_other_querier before.config.family after.state.election.role (basis.role_changed now (is_querier before.state.election.role) (is_querier after.state.election.role) new.basis)
     → checked_in after last ≡ received before.config within now datagram (checked_in before old)
 unfolding received
-received_is family within now datagram before after old begun new last messages answers is_family is_own begins out handed role =
+received_is family within now datagram before after old begun new last messages answers is_family is_own begins out handed role rests =
     let step = (receipt_of before.config datagram.envelope datagram.body now before.state).step in
     let left = step_left family now before after step begun new messages answers out handed in
     let wanted = step_wanted family now before after step old begun new messages answers is_family is_own begins out handed in
+    let kept : new.basis ≡ old.basis = basis_kept family begun new messages answers handed ∙ ap (λ (w : WantingValue). w.basis) begins in
     λ i. record {
       link = left i;
       checking = (role ∙ (λ j. role_changed within before.config.timing now (is_querier before.state.election.role) (is_querier (left j).election.role) (wanted j))) i;
+      basis = (rests ∙ (λ j. basis.with_other_querier before.config.family (left j).election.role (basis.role_changed now (is_querier before.state.election.role) (is_querier (left j).election.role) (kept j)))) i;
     }
 
 -- at a moment that the code names otherwise
@@ -141,11 +149,11 @@ found_first config within limit all done to due ticked_to = by_left ticked_to.le
 
 -- one tick, in the terms of the code: what is over at its moment is told first
 pub tick_next : (config : Configuration) (within moment : ℕ) (mid after : LinkValue) (queries left new : WantingValue) → mid.config ≡ config → moment ≡ next_of mid.state
-    → left.checking ≡ settled within moment queries.checking → checked_in after new ≡ ticked mid.config within moment (checked_in mid left)
+    → left.checking ≡ settled within moment queries.checking → left.basis ≡ queries.basis → checked_in after new ≡ ticked mid.config within moment (checked_in mid left)
     → checked_in after new ≡ ticked config within (next_of mid.state) (settled_at within (next_of mid.state) (checked_in mid queries))
-tick_next config within moment mid after queries left new is_config is_next is ticks =
+tick_next config within moment mid after queries left new is_config is_next is kept ticks =
     let settles = is ∙ ap (λ (m : ℕ). settled within m queries.checking) is_next in
-    ticks ∙ (λ i. ticked (is_config i) within (is_next i) (record { link = mid.state; checking = settles i }))
+    ticks ∙ (λ i. ticked (is_config i) within (is_next i) (record { link = mid.state; checking = settles i; basis = kept i }))
 
 -- all ticks were made
 pub ticks_done : {E : Type 0} (family : Family) (config : Configuration) (within limit : ℕ) (all : Outcome) (done : List (Finding ℕ)) (before after : LinkValue) (queries new : WantingValue) (old_told new_told : ToldState) (a b : OutputState)

@@ -4,3 +4,9 @@ use Rattle.std.proofs.lemmas.List.{append_assoc}
 
 pub four_parts : (old a b c d : List ℕ) → old ++ a ++ b ++ c ++ d ≡ old ++ (a ++ b ++ c ++ d)
 four_parts old a b c d = simp append_assoc refl
+
+pub five_parts : (old a b c d e : List ℕ) → old ++ a ++ b ++ c ++ d ++ e ≡ old ++ (a ++ b ++ c ++ d ++ e)
+five_parts old a b c d e = simp append_assoc refl
+
+pub six_parts : (old a b c d e f : List ℕ) → old ++ a ++ b ++ c ++ d ++ e ++ f ≡ old ++ (a ++ b ++ c ++ d ++ e ++ f)
+six_parts old a b c d e f = simp append_assoc refl

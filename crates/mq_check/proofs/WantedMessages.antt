@@ -25,6 +25,9 @@ all_wanted family old (message ∷ messages) (answer ∷ answers) new handed =
 pub own_kept : (family : Family) (old new : WantingValue) (messages : List Outgoing) (answers : List Bool) → HandsOver (TakesMessage family) old messages answers new → new.own ≡ old.own
 own_kept family old new messages answers handed = ap (λ (w : WantingValue). w.own) (all_wanted family old messages answers new handed)
 
+pub basis_kept : (family : Family) (old new : WantingValue) (messages : List Outgoing) (answers : List Bool) → HandsOver (TakesMessage family) old messages answers new → new.basis ≡ old.basis
+basis_kept family old new messages answers handed = ap (λ (w : WantingValue). w.basis) (all_wanted family old messages answers new handed)
+
 pub each_sent : (family : Family) (old : WantingValue) (messages : List Outgoing) (answers : List Bool) (new : WantingValue)
     → HandsOver (TakesMessage family) old messages answers new → answers ≡ all_sent messages
 each_sent family old [] [] new same = refl

@@ -89,7 +89,7 @@ fault_of_end config within cite moment number found r packets e is = by_room c.w
     broken = broken_off config cite (answer.Waiting number) (found ++ (ticked_through config within moment r).found ++ told within moment c)
 
     whole : Verdict
-    whole = concluded config cite c (found ++ (ticked_through config within moment r).found ++ told_at_end within config.timing moment c)
+    whole = concluded config cite c (ticked_through config within moment r).checked.basis (found ++ (ticked_through config within moment r).found ++ told_at_end within config.timing moment c)
 
     by_room : (b : Bool) → (either b broken whole).answer ≡ Err e → IsFaultText number None packets (either b broken whole) e
     by_room true is = inr (refl, sym (cc is))

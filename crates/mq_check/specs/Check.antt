@@ -19,22 +19,30 @@ use Rattle.mq_link.specs.State.{LinkState, link_at}
 use Rattle.mq_link.specs.Tick.{Step, tick_of, next_of}
 use Rattle.mq_replay.specs.Listing.{moment_of}
 use Rattle.mq_replay.specs.Report.{Datagram, datagram_of, all_sent, is_gap}
+use Rattle.mq_check.specs.declared.basis.Basis.{Basis}
 use Rattle.mq_check.specs.declared.check_fault.CheckFault.{CheckFault}
 use Rattle.mq_check.specs.declared.check_fault.CheckFault.TheVariants.{Pcap, Gap, Waiting}
 use Rattle.mq_check.specs.declared.finding.Finding.{Finding}
 use Rattle.mq_check.specs.declared.totals.Totals.{Totals}
+use Rattle.mq_check.specs.Basis.{basis_at_start, named, with_frame, with_other_querier}
+use Rattle.mq_check.specs.Basis as basis
 use Rattle.mq_check.specs.Checking.{CheckingValue, checking_at_start, told, settled, with_messages, role_changed, role_after_tick, query_came, told_at_end}
-use Rattle.mq_check.specs.FindingLines.{finding_lines, totals_line}
+use Rattle.mq_check.specs.FindingLines.{finding_lines, last_lines}
 use Rattle.mq_check.specs.Queries.{query_seen}
 
--- A check under way: the link, and what was made of the queries.
+-- A check under way: the link, what was made of the queries, and what a verdict rests on.
 pub record Checked : Type 0 where
   pub link : LinkState
   pub checking : CheckingValue
+  pub basis : Basis
 
 -- the link starts at 0, and nothing is wanted or seen
 abbrev pub at_the_start : Configuration → Checked
-at_the_start config = record { link = link_at config 0; checking = checking_at_start config.timing }
+at_the_start config = record {
+  link = link_at config 0;
+  checking = checking_at_start config.timing;
+  basis = basis_at_start (named config.family config.own);
+}
 
 -- What something comes to: the check behind it, and what was found by it.
 pub record Outcome : Type 0 where
@@ -68,6 +76,8 @@ ticked config within moment r =
       checking =
           role_after_tick within moment (is_querier r.link.election.role) (is_querier step.state.election.role)
           (wanted_by config moment step r);
+      basis =
+          basis.role_after_tick moment (is_querier r.link.election.role) (is_querier step.state.election.role) r.basis;
     }
 
 -- Ticks at the link's next moments, one after the other, as long as these are before a limit; `most` at most. Before each
@@ -113,6 +123,9 @@ received config within moment datagram r =
       checking =
           role_changed within config.timing moment (is_querier r.link.election.role) (is_querier step.state.election.role)
           (wanted_by config moment step r);
+      basis =
+          with_other_querier config.family step.state.election.role
+          (basis.role_changed moment (is_querier r.link.election.role) (is_querier step.state.election.role) r.basis);
     }
 
 -- a query of the querier that is checked was seen at a moment
@@ -135,11 +148,18 @@ with_datagram config link within moment frame (Some datagram) r =
       found = told within moment r.checking;
     }
 
+-- a packet is counted
+abbrev pub noted : Configuration → LinkType → (frame : List ℕ) → Option Datagram → Checked → Checked
+noted config link frame datagram r =
+    record r { basis = with_frame config.family link frame (carried_in link frame) datagram r.basis }
+
 -- a packet at its moment: first what happens up to then
 unfoldable pub with_packet : Configuration → LinkType → (within moment : ℕ) → (frame : List ℕ) → Checked → Outcome
 with_packet config link within moment frame r =
     let before = ticked_through config within moment r in
-    behind before.found (with_datagram config link within moment frame (datagram_of config.family (carried_in link frame)) before.checked)
+    let datagram = datagram_of config.family (carried_in link frame) in
+    behind before.found
+    (with_datagram config link within moment frame datagram (noted config link frame datagram before.checked))
 
 -- What packets come to: the check, what was found, the moment of the last one, and the fault that ended it, if one did.
 pub record Course : Type 0 where
@@ -177,18 +197,22 @@ pub record Verdict : Type 0 where
   pub text : List ℕ
   pub answer : Result Totals CheckFault
 
-abbrev pub totals_of : CheckingValue → List (Finding ℕ) → Totals
-totals_of c found =
-    record { general = c.general; specific = c.specific; findings = min (length found) (2 ^ 64 - 1) }
+abbrev pub totals_of : CheckingValue → Basis → List (Finding ℕ) → Totals
+totals_of c basis found = record {
+  general = c.general;
+  specific = c.specific;
+  findings = min (length found) (2 ^ 64 - 1);
+  basis = basis;
+}
 
 abbrev pub broken_off : Configuration → (cite : Bool) → CheckFault → List (Finding ℕ) → Verdict
 broken_off config cite fault found = record { text = finding_lines config.family cite found; answer = Err fault }
 
 -- the end of a capture
-abbrev pub concluded : Configuration → (cite : Bool) → CheckingValue → List (Finding ℕ) → Verdict
-concluded config cite c found = record {
-  text = finding_lines config.family cite found ++ totals_line (totals_of c found);
-  answer = Ok (totals_of c found);
+abbrev pub concluded : Configuration → (cite : Bool) → CheckingValue → Basis → List (Finding ℕ) → Verdict
+concluded config cite c basis found = record {
+  text = finding_lines config.family cite found ++ last_lines (totals_of c basis found);
+  answer = Ok (totals_of c basis found);
 }
 
 -- Up to and including a moment, behind what was found before.
@@ -198,7 +222,8 @@ ended_at config within cite moment number found r =
     let checking = done.checked.checking in
     if checking.waiting.is_full
     then broken_off config cite (Waiting number) (found ++ done.found ++ told within moment checking)
-    else concluded config cite checking (found ++ done.found ++ told_at_end within config.timing moment checking)
+    else concluded config cite checking done.checked.basis
+    (found ++ done.found ++ told_at_end within config.timing moment checking)
 
 -- the moment at which a check ends: that of the last packet, or the one that is asked for, if that is later
 abbrev pub last_moment : (until : Option ℕ) → Course → ℕ

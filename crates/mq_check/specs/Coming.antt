@@ -9,7 +9,7 @@ use Rattle.mq_check.specs.Wanting.{WantingValue}
 
 -- the check that a link and its outlet are in the midst of
 abbrev pub checked_in : LinkValue → WantingValue → Checked
-checked_in link queries = record { link = link.state; checking = queries.checking }
+checked_in link queries = record { link = link.state; checking = queries.checking; basis = queries.basis }
 
 -- What was done came to this, and what was found was told; or a write failed.
 pub record Comes {T E : Type 0} (family : Family) (o : Outcome) (link link' : LinkValue) (queries queries' : WantingValue) (told told' : ToldState) (before after : OutputState)

@@ -12,6 +12,7 @@ use Rattle.mq_text.specs.Printing.{GrowsByBeginning, Passes}
 use Rattle.mq_replay.specs.PuttingReports.{behind_header}
 use Rattle.mq_replay.specs.Replaying.{ReadCapture}
 use Rattle.mq_replay.specs.Report.{is_gap}
+use Rattle.mq_check.specs.declared.basis.Basis.{Basis}
 use Rattle.mq_check.specs.declared.check_fault.CheckFault.{CheckFault}
 use Rattle.mq_check.specs.declared.check_fault.CheckFault.TheVariants as answer
 use Rattle.mq_check.specs.declared.check_terms.CheckTerms.{CheckTerms}
@@ -20,7 +21,7 @@ use Rattle.mq_check.specs.declared.totals.Totals.{Totals}
 use Rattle.mq_check.specs.Check.{Checked, Verdict, ticked_through}
 use Rattle.mq_check.specs.CheckedCaptures.{IsEndedBy, is_failed_write, packets_text, text_by, verdict_of}
 use Rattle.mq_check.specs.Checking.{CheckingValue, found_of_last, settled, silence_found, told}
-use Rattle.mq_check.specs.FindingLines.{finding_lines, totals_line}
+use Rattle.mq_check.specs.FindingLines.{finding_lines, last_lines}
 use Rattle.mq_check.specs.General.{silence_up_to}
 use Rattle.mq_check.specs.Telling.{counted_times}
 
@@ -61,29 +62,33 @@ last_findings within configured moment c =
     flat_map found_of_last c.waiting.entries ++ silence_found configured moment (silence_up_to within configured moment c.phase)
 
 -- what was counted, where so many findings were told before
-abbrev pub counted_behind : (count : ℕ) → CheckingValue → List (Finding ℕ) → Totals
-counted_behind count c found =
-    record { general = c.general; specific = c.specific; findings = counted_times (length found) count }
+abbrev pub counted_behind : (count : ℕ) → CheckingValue → Basis → List (Finding ℕ) → Totals
+counted_behind count c basis found = record {
+  general = c.general;
+  specific = c.specific;
+  findings = counted_times (length found) count;
+  basis = basis;
+}
 
 -- the text of the end
 abbrev pub end_text : Family → (cite : Bool) → List (Finding ℕ) → Totals → List ℕ
-end_text family cite found totals = finding_lines family cite found ++ totals_line totals
+end_text family cite found totals = finding_lines family cite found ++ last_lines totals
 
 -- Up to and including a moment, where so many findings were told before: what comes behind these.
-abbrev pub end_behind : Family → (cite : Bool) → (count number : ℕ) → CheckingValue → (found last : List (Finding ℕ)) → Verdict
-end_behind family cite count number c found last =
+abbrev pub end_behind : Family → (cite : Bool) → (count number : ℕ) → CheckingValue → Basis → (found last : List (Finding ℕ)) → Verdict
+end_behind family cite count number c basis found last =
     if c.waiting.is_full
     then record { text = finding_lines family cite found; answer = Err (answer.Waiting number) }
     else record {
-      text = end_text family cite (found ++ last) (counted_behind count c (found ++ last));
-      answer = Ok (counted_behind count c (found ++ last));
+      text = end_text family cite (found ++ last) (counted_behind count c basis (found ++ last));
+      answer = Ok (counted_behind count c basis (found ++ last));
     }
 
 unfoldable pub ended_behind : Configuration → (within : ℕ) → (cite : Bool) → (moment count number : ℕ) → Checked → Verdict
 ended_behind config within cite moment count number r =
     let done = ticked_through config within moment r in
     let left = settled within moment done.checked.checking in
-    end_behind config.family cite count number left (done.found ++ told within moment done.checked.checking)
+    end_behind config.family cite count number left done.checked.basis (done.found ++ told within moment done.checked.checking)
     (last_findings within config.timing moment left)
 
 -- What stands behind the packets of a file that has ended, where so many findings were told before: the moment of the last

@@ -1,5 +1,5 @@
 -- The lines of a check, and the sections of the standards that want what a finding says.
-use Rattle.std.specs.Prelude.{ℕ, Bool, true, false, List, ◌++◌, codes}
+use Rattle.std.specs.Prelude.{ℕ, ◌==◌, Bool, true, false, if◌then◌else◌, List, [], ◌++◌, codes}
 use Rattle.std.specs.List.{flat_map}
 use Rattle.std.specs.Fmt.{decimal}
 use Rattle.mq_wire.specs.Family.{Family, Igmp, Mld}
@@ -11,6 +11,9 @@ use Rattle.mq_check.specs.declared.finding.Difference.{Difference}
 use Rattle.mq_check.specs.declared.finding.Difference.TheVariants.{Version, Response, Suppress, Robustness, QueryInterval, Destination}
 use Rattle.mq_check.specs.declared.finding.Finding.{Finding}
 use Rattle.mq_check.specs.declared.finding.Finding.TheVariants.{Missing, Extra, Differs, Interval, Silence}
+use Rattle.mq_check.specs.declared.querier_address.QuerierAddress.{QuerierAddress}
+use Rattle.mq_check.specs.declared.querier_address.QuerierAddress.TheVariants.{V4, V6}
+use Rattle.mq_check.specs.declared.basis.Basis.{Basis}
 use Rattle.mq_check.specs.declared.totals.Totals.{Totals}
 
 -- a group, and of a source its group first; all groups are the group zero
@@ -120,3 +123,34 @@ abbrev pub totals_line : Totals → List ℕ
 totals_line totals =
     count_text (codes "checked general ") totals.general ++ count_text (codes " specific ") totals.specific
     ++ count_text (codes ": ") totals.findings ++ codes " findings\n"
+
+-- how many packets the capture has, how many of them are messages of the family, how many are faulty ones, how many are cut
+-- and weren't looked into
+abbrev pub packets_line : Basis → List ℕ
+packets_line b =
+    count_text (codes "packets ") b.packets ++ count_text (codes " messages ") b.messages
+    ++ count_text (codes " malformed ") b.malformed ++ count_text (codes " cut ") b.cut
+    ++ count_text (codes " unread ") b.unread ++ codes "; groups held before 0 are unknown\n"
+
+abbrev pub querier_text : QuerierAddress → List ℕ
+querier_text (V4 address) = address_text Igmp address
+querier_text (V6 address) = address_text Mld address
+
+-- how often the role was lost, when last, which other router was querier last, and since when the role is had again
+abbrev pub again_text : Basis → List ℕ
+again_text b = if b.is_querier then codes ", again at " ++ at_moment b.again_at [] else []
+
+abbrev pub lost_text : Basis → List ℕ
+lost_text b =
+    if b.lost == 0
+    then []
+    else count_text (codes ", lost ") b.lost ++ codes ", last at " ++ at_moment b.lost_at (codes ", other ")
+    ++ querier_text b.other ++ again_text b
+
+-- which router was checked, and when it was querier
+abbrev pub querier_line : Basis → List ℕ
+querier_line b = codes "querier " ++ querier_text b.own ++ codes " from 0" ++ lost_text b ++ codes "\n"
+
+-- the lines at the end
+abbrev pub last_lines : Totals → List ℕ
+last_lines totals = totals_line totals ++ packets_line totals.basis ++ querier_line totals.basis

@@ -1,3 +1,4 @@
+pub mod Basis
 pub mod Check
 pub mod CheckedCaptures
 pub mod Checking
@@ -10,6 +11,8 @@ pub mod General
 pub mod Numbered
 pub mod Places
 pub mod Queries
+pub mod Slots
 pub mod Telling
+pub mod Trails
 pub mod Waiting
 pub mod Wanting

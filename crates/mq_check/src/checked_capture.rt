@@ -24,7 +24,7 @@ use crate::wanted_queries::WantedQueries;
 use mq_count::Watched;
 use mq_lines::LineKey;
 use mq_link::{Config, Link};
-use mq_pcap::{GREATEST_PACKET, PcapReader};
+use mq_pcap::{GREATEST_PACKET, PcapReader, Supply};
 use mq_replay::{Stamps, first_moment, is_gap};
 use std::alloc::Allocator;
 use std::io::{Read, Write};
@@ -33,11 +33,13 @@ use std::io::{Read, Write};
 /// those that a link so configured sends that starts at 0 and is handed all other datagrams at their moments. Writes a line
 /// for each finding, and at the end what was counted; and answers that. The end is the moment of the last packet, or `until`,
 /// if that is later. All memory is taken before anything is read or written. Where the capture has a fault or a gap, or more
-/// queries wait for their partners than there is room for, what was found before that is written first.
-pub fn check<F: CheckedFamily, A: Allocator + Copy, R: Read, W: Write>(
+/// queries wait for their partners than there is room for, what was found before that is written first. Before a read that
+/// may wait by the stream's `supply`, what was found so far is written.
+pub fn check<F: CheckedFamily, A: Allocator + Copy, S: Supply, R: Read, W: Write>(
     alloc: A,
     config: Config<F>,
     terms: CheckTerms,
+    supply: &S,
     reader: &mut Watched<R>,
     writer: &mut Watched<W>,
 ) -> Result<Totals, CheckFault>
@@ -68,17 +70,19 @@ where
         &mut queries,
         terms,
         packet.as_mut_slice(),
+        supply,
         reader,
         writer,
     )
 }
 
 /// The same on a link that is made, with room for a packet that is lent.
-fn check_on<F: CheckedFamily, A: Allocator, R: Read, W: Write>(
+fn check_on<F: CheckedFamily, A: Allocator, S: Supply, R: Read, W: Write>(
     link: &mut Link<F, A>,
     queries: &mut WantedQueries<F, A>,
     terms: CheckTerms,
     packet: &mut [u8],
+    supply: &S,
     reader: &mut Watched<R>,
     writer: &mut Watched<W>,
 ) -> Result<Totals, CheckFault>
@@ -96,7 +100,9 @@ where
     ensures no_memory { result ≡ Err CheckFault.Memory → ⊥ }
 {
     let mut told = Told::new(terms.cite);
-    let answer = check_file(link, queries, terms, packet, &mut told, reader, writer);
+    let answer = check_file(
+        link, queries, terms, packet, supply, &mut told, reader, writer,
+    );
     if is_failed_write(&answer) {
         return answer;
     }
@@ -105,11 +111,12 @@ where
 }
 
 /// Tells what is found in a capture.
-fn check_file<F: CheckedFamily, A: Allocator, R: Read, W: Write>(
+fn check_file<F: CheckedFamily, A: Allocator, S: Supply, R: Read, W: Write>(
     link: &mut Link<F, A>,
     queries: &mut WantedQueries<F, A>,
     terms: CheckTerms,
     packet: &mut [u8],
+    supply: &S,
     told: &mut Told,
     reader: &mut Watched<R>,
     writer: &mut Watched<W>,
@@ -136,6 +143,7 @@ where
         terms,
         &mut capture,
         packet,
+        supply,
         told,
         reader,
         writer,
@@ -143,12 +151,13 @@ where
 }
 
 /// Tells what is found in the packets of a capture before its first packet was read, and at the end.
-fn check_packets<F: CheckedFamily, A: Allocator, R: Read, W: Write>(
+fn check_packets<F: CheckedFamily, A: Allocator, S: Supply, R: Read, W: Write>(
     link: &mut Link<F, A>,
     queries: &mut WantedQueries<F, A>,
     terms: CheckTerms,
     capture: &mut PcapReader,
     packet: &mut [u8],
+    supply: &S,
     told: &mut Told,
     reader: &mut Watched<R>,
     writer: &mut Watched<W>,
@@ -192,6 +201,7 @@ where
         if queries.checking().is_full() {
             return Err(CheckFault::Waiting { number });
         }
+        told.write_before_wait(capture, supply, writer)?;
     }
     check_rest(link, queries, within, until, last, number + 1, told, writer)
 }

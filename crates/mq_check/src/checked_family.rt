@@ -3,8 +3,10 @@
 ghost use Rattle.std.specs.Prelude.{◌≡◌};
 ghost use Rattle.mq_wire.specs.RoundTrip.{response_lowered};
 ghost use Rattle.mq_check.specs.Check.{packet_in, destination4_in, destination_in};
+ghost use Rattle.mq_check.specs.Basis.{named};
 ghost use Rattle.mq_check.specs.Queries as spec;
 
+use crate::querier_address::QuerierAddress;
 use mq_count::{Addr4, Addr6};
 use mq_lines::LineKey;
 use mq_link::{Igmp, IgmpEnvelope, Mld, MldEnvelope};
@@ -24,6 +26,10 @@ where
     /// Where the packet of a datagram goes that a frame of a capture carries.
     fn destination(link: LinkType, frame: &[u8], envelope: &Self::Envelope) -> Self::Address
         ensures { Self.Address.number result ≡ destination_in Self.FAMILY link frame.now (Self.envelope_of envelope.now) };
+
+    /// The address of a router, of either family.
+    fn named(address: Self::Address) -> QuerierAddress
+        ensures { result ≡ named Self.FAMILY (Self.Address.number address) };
 
     /// The response in milliseconds that the code for a response has.
     fn response_said(response: u32) -> u32
@@ -64,6 +70,10 @@ impl CheckedFamily for Igmp {
         Addr4::read(&packet[16..])
     }
 
+    fn named(address: Addr4) -> QuerierAddress {
+        QuerierAddress::V4(address)
+    }
+
     fn response_said(response: u32) -> u32 {
         resp8(code8(response / 100)) * 100
     }
@@ -81,6 +91,10 @@ impl CheckedFamily for Mld {
 
     fn destination(_link: LinkType, _frame: &[u8], envelope: &MldEnvelope) -> Addr6 {
         envelope.destination
+    }
+
+    fn named(address: Addr6) -> QuerierAddress {
+        QuerierAddress::V6(address)
     }
 
     fn response_said(response: u32) -> u32 {

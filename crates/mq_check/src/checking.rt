@@ -113,6 +113,8 @@ fn put_silence<F: Family, A: Allocator>(
 impl<F: Family, A: Allocator> Checking<F, A> {
     /// At the start of a capture.
     pub(crate) fn new(alloc: A, configured: Timing) -> Result<Checking<F, A>, AllocError>
+    where
+        A: Copy,
         ensures { IfOk result (λ c. c ≡ spec.checking_at_start configured) }
     {
         Ok(Checking {

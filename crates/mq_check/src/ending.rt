@@ -116,15 +116,16 @@ where
     ensures text { let found = last_findings within configured end queries.old.checking in Puts
         (W.contents (inner_of writer.old)) (W.contents (inner_of writer.new))
         told.old.held told.new.held
-        (end_text F.Address.family told.old.cite found (counted_behind told.old.count queries.old.checking found)) result }
+        (end_text F.Address.family told.old.cite found (counted_behind told.old.count queries.old.checking queries.old.basis found)) result }
     ensures totals { let found = last_findings within configured end queries.old.checking in
-        IfOk result (λ totals. totals ≡ counted_behind told.old.count queries.old.checking found) }
+        IfOk result (λ totals. totals ≡ counted_behind told.old.count queries.old.checking queries.old.basis found) }
     ensures failed { has_failed writer.new ≡ has_failed writer.old || is_err result }
 {
     let state = queries.checking();
     let passed = state.silence(within, configured, end);
     let general_queries = state.general();
     let other_queries = state.specific();
+    let rests_on = *queries.basis();
     queries.tell_rest(told, writer)?;
     tell_silence::<F, W>(configured, end, passed, told, writer)?;
     let all_findings = told.count();
@@ -132,8 +133,9 @@ where
         general: general_queries,
         specific: other_queries,
         findings: all_findings,
+        basis: rests_on,
     };
-    told.tell_totals(totals, writer)?;
+    told.tell_last(&totals, writer)?;
     Ok(totals)
 }
 

@@ -7,7 +7,9 @@ ghost use Rattle.mq_check.specs.FindingLines as spec;
 ghost use Rattle.mq_check.specs.Numbered.{numbered_asked, numbered_difference, numbered_finding};
 
 use crate::asked::Asked;
+use crate::basis::Basis;
 use crate::finding::{Difference, Finding};
+use crate::querier_address::QuerierAddress;
 use crate::totals::Totals;
 use mq_count::Moment;
 use mq_lines::LineKey;
@@ -243,9 +245,9 @@ pub(crate) fn put_citation<K: LineKey>(text: &mut Text, cite: bool, finding: Fin
 }
 
 /// Puts the line of what was counted.
-pub(crate) fn put_totals(text: &mut Text, totals: Totals)
+pub(crate) fn put_totals(text: &mut Text, totals: &Totals)
     requires { array_vec_len text.old + 120 ≤ 4096 }
-    ensures { text.new.items ≡ text.old.items ++ spec.totals_line totals }
+    ensures { text.new.items ≡ text.old.items ++ spec.totals_line totals.now }
 {
     put_count(text, b"checked general ", totals.general);
     put_count(text, b" specific ", totals.specific);
@@ -262,4 +264,69 @@ fn put_count(text: &mut Text, name: &[u8], count: u64)
 {
     put(text, name);
     put_decimal(text, count);
+}
+
+/// Puts the line of the packets.
+pub(crate) fn put_packets(text: &mut Text, basis: &Basis)
+    requires { array_vec_len text.old + 200 ≤ 4096 }
+    ensures { text.new.items ≡ text.old.items ++ spec.packets_line basis.now }
+{
+    put_count(text, b"packets ", basis.packets);
+    put_count(text, b" messages ", basis.messages);
+    put_count(text, b" malformed ", basis.malformed);
+    put_count(text, b" cut ", basis.cut);
+    put_count(text, b" unread ", basis.unread);
+    put(text, b"; groups held before 0 are unknown\n");
+}
+
+/// Puts the address of a querier.
+fn put_querier(text: &mut Text, querier: &QuerierAddress)
+    requires { array_vec_len text.old + 40 ≤ 4096 }
+    ensures text { text.new.items ≡ text.old.items ++ spec.querier_text querier.now }
+    ensures room { array_vec_len text.new ≤ array_vec_len text.old + 40 }
+{
+    match querier {
+        QuerierAddress::V4(address) => address.put(text),
+        QuerierAddress::V6(address) => address.put(text),
+    }
+}
+
+/// Puts since when the role is had again, if it is.
+fn put_again(text: &mut Text, basis: &Basis)
+    requires { array_vec_len text.old + 31 ≤ 4096 }
+    ensures text { text.new.items ≡ text.old.items ++ spec.again_text basis.now }
+    ensures room { array_vec_len text.new ≤ array_vec_len text.old + 31 }
+{
+    if basis.is_querier {
+        put(text, b", again at ");
+        put_moment(text, basis.again_at, b"");
+    }
+}
+
+/// Puts how often the role was lost, if it was.
+fn put_lost(text: &mut Text, basis: &Basis)
+    requires { array_vec_len text.old + 136 ≤ 4096 }
+    ensures text { text.new.items ≡ text.old.items ++ spec.lost_text basis.now }
+    ensures room { array_vec_len text.new ≤ array_vec_len text.old + 136 }
+{
+    if basis.lost == 0 {
+        return;
+    }
+    put_count(text, b", lost ", basis.lost);
+    put(text, b", last at ");
+    put_moment(text, basis.lost_at, b", other ");
+    put_querier(text, &basis.other);
+    put_again(text, basis);
+}
+
+/// Puts the line of the router that was checked.
+pub(crate) fn put_querier_line(text: &mut Text, basis: &Basis)
+    requires { array_vec_len text.old + 200 ≤ 4096 }
+    ensures { text.new.items ≡ text.old.items ++ spec.querier_line basis.now }
+{
+    put(text, b"querier ");
+    put_querier(text, &basis.own);
+    put(text, b" from 0");
+    put_lost(text, basis);
+    put(text, b"\n");
 }

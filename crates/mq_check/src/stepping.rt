@@ -3,6 +3,7 @@
 ghost use Rattle.std.specs.Prelude.{◌≡◌, ◌<◌, ◌≤◌, ◌^◌, Some};
 ghost use Rattle.mq_link.specs.Tick.{next_of};
 ghost use Rattle.mq_text.specs.Printing.{output_of};
+ghost use Rattle.mq_check.specs.Basis as basis;
 ghost use Rattle.mq_check.specs.Check as spec;
 ghost use Rattle.mq_check.specs.Checking.{role_changed};
 ghost use Rattle.mq_check.specs.Coming.{Comes, checked_in};
@@ -82,6 +83,7 @@ where
         was_querier,
         stays_querier,
     );
+    queries.name_other(link.other_querier());
 }
 
 /// The role was lost, or is had again, or stays.
@@ -98,6 +100,7 @@ where
     ensures { queries.new ≡ record queries.old {
       checking =
           role_changed within configured stamp was_querier is_querier queries.old.checking;
+      basis = basis.role_changed stamp was_querier is_querier queries.old.basis;
     } }
 {
     match (was_querier, is_querier) {
@@ -158,10 +161,16 @@ where
     tick_through(link, queries, within, stamp.moment(), told, writer)?;
     let inner = unwrap_frame(link_type, frame);
     match F::datagram(&inner) {
-        Some(datagram) => check_datagram(
-            link, queries, within, link_type, frame, stamp, datagram, told, writer,
-        ),
-        None => Ok(()),
+        Some(datagram) => {
+            queries.note_datagram(&datagram);
+            check_datagram(
+                link, queries, within, link_type, frame, stamp, datagram, told, writer,
+            )
+        }
+        None => {
+            queries.note_other(link_type, frame, &inner);
+            Ok(())
+        }
     }
 }
 

@@ -3,16 +3,18 @@
 ghost use Rattle.std.specs.Prelude.{◌≡◌, ◌+◌, ◌-◌, ◌^◌, ◌||◌, [], ◌∷◌, ◌++◌, IfOk, is_err, min};
 ghost use Rattle.mq_count.specs.Streams.{inner_of, has_failed};
 ghost use Rattle.mq_text.specs.Printing.{Puts};
-ghost use Rattle.mq_check.specs.FindingLines.{finding_line, totals_line};
+ghost use Rattle.mq_check.specs.FindingLines.{finding_line, last_lines, packets_line, querier_line, totals_line};
 ghost use Rattle.mq_check.specs.Numbered.{numbered_finding};
 ghost use Rattle.mq_check.specs.Checking.{counted_up};
 
+use crate::basis::Basis;
 use crate::finding::Finding;
-use crate::finding_lines::{put_citation, put_finding, put_totals};
+use crate::finding_lines::{put_citation, put_finding, put_packets, put_querier_line, put_totals};
 use crate::totals::Totals;
 use mq_count::Watched;
 use mq_lines::LineKey;
 use mq_link::Family;
+use mq_pcap::{PcapReader, Supply};
 use mq_text::{LineFault, Text, flush, make_room};
 use std::io::Write;
 use std::marker::Model;
@@ -74,19 +76,87 @@ impl Told {
         Ok(())
     }
 
-    /// Tells what was counted.
-    pub(crate) fn tell_totals<W: Write>(
+    /// Tells what was counted, and what the verdict rests on.
+    pub(crate) fn tell_last<W: Write>(
         &mut self,
-        totals: Totals,
+        totals: &Totals,
         writer: &mut Watched<W>,
     ) -> Result<(), LineFault>
         ensures text { Puts
             (W.contents (inner_of writer.old)) (W.contents (inner_of writer.new))
-            self.old.held self.new.held (totals_line totals) result }
+            self.old.held self.new.held (last_lines totals.now) result }
+        ensures failed { has_failed writer.new ≡ has_failed writer.old || is_err result }
+    {
+        self.tell_totals(totals, writer)?;
+        self.tell_packets(&totals.basis, writer)?;
+        self.tell_querier(&totals.basis, writer)
+    }
+
+    /// Tells what the packets were.
+    fn tell_packets<W: Write>(
+        &mut self,
+        basis: &Basis,
+        writer: &mut Watched<W>,
+    ) -> Result<(), LineFault>
+        ensures text { Puts
+            (W.contents (inner_of writer.old)) (W.contents (inner_of writer.new))
+            self.old.held self.new.held (packets_line basis.now) result }
+        ensures failed { has_failed writer.new ≡ has_failed writer.old || is_err result }
+    {
+        make_room(&mut self.buffer, writer)?;
+        put_packets(&mut self.buffer, basis);
+        Ok(())
+    }
+
+    /// Tells which router was checked, and when it was querier.
+    fn tell_querier<W: Write>(
+        &mut self,
+        basis: &Basis,
+        writer: &mut Watched<W>,
+    ) -> Result<(), LineFault>
+        ensures text { Puts
+            (W.contents (inner_of writer.old)) (W.contents (inner_of writer.new))
+            self.old.held self.new.held (querier_line basis.now) result }
+        ensures failed { has_failed writer.new ≡ has_failed writer.old || is_err result }
+    {
+        make_room(&mut self.buffer, writer)?;
+        put_querier_line(&mut self.buffer, basis);
+        Ok(())
+    }
+
+    /// Tells what was counted.
+    fn tell_totals<W: Write>(
+        &mut self,
+        totals: &Totals,
+        writer: &mut Watched<W>,
+    ) -> Result<(), LineFault>
+        ensures text { Puts
+            (W.contents (inner_of writer.old)) (W.contents (inner_of writer.new))
+            self.old.held self.new.held (totals_line totals.now) result }
         ensures failed { has_failed writer.new ≡ has_failed writer.old || is_err result }
     {
         make_room(&mut self.buffer, writer)?;
         put_totals(&mut self.buffer, totals);
+        Ok(())
+    }
+
+    /// Writes what isn't written yet if reading the next record may wait.
+    pub(crate) fn write_before_wait<S: Supply, W: Write>(
+        &mut self,
+        capture: &PcapReader,
+        supply: &S,
+        writer: &mut Watched<W>,
+    ) -> Result<(), LineFault>
+        ensures text { Puts
+            (W.contents (inner_of writer.old)) (W.contents (inner_of writer.new))
+            self.old.held self.new.held [] result }
+        ensures cite { self.new.cite ≡ self.old.cite }
+        ensures count { self.new.count ≡ self.old.count }
+        ensures failed { has_failed writer.new ≡ has_failed writer.old || is_err result }
+    {
+        if capture.may_wait(supply) {
+            return flush(&mut self.buffer, writer);
+        }
         Ok(())
     }
 

@@ -9,7 +9,10 @@ ghost use Rattle.mq_check.specs.Waiting as waits;
 
 use crate::asked::{Asked, is_same};
 use crate::entry::Entry;
+use crate::slots::{SLOTS, last_group_by, slot_in, slot_of, wanted_moment, wanted_slot};
+use crate::stamp::Stamp;
 use crate::terms::Terms;
+use crate::trails::Trails;
 use mq_count::{Meter, Moment, Span};
 use mq_link::Family;
 use std::alloc::{AllocError, Allocator};
@@ -27,23 +30,33 @@ pub enum Side {
 }
 
 /// What waits, the earliest first, and whether there was no room for something. All memory for it is taken as it is made.
+/// Entries are found by their slots, so that a search passes none but a few that ask about something else.
 #[derive(Drop)]
 pub(crate) struct Waiting<F: Family, A: Allocator> {
     entries: VecDeque<Entry<F::Address>, A>,
+    trails: Trails<A>,
+    // For each slot a moment that none of its wanted queries is behind.
+    latest: Vec<Moment, A>,
+    // The number of the query for a group that was wanted last.
+    last_group: u64,
     is_full: bool,
 }
 
 impl<F: Family, A: Allocator> Model for Waiting<F, A> {
-    ghost use Rattle.std.specs.Prelude.{◌≤◌, map as list_map};
+    ghost use Rattle.std.specs.Prelude.{◌≡◌, ◌≤◌, length, map as list_map};
     ghost use Rattle.std.specs.VecDeque.{deque_capacity};
     ghost use Rattle.mq_check.specs.Numbered.{numbered_entry};
+    ghost use Rattle.mq_check.specs.Slots.{AreBounded, AreMarked};
     ghost use Rattle.mq_check.specs.Waiting.{WaitingValue, room};
 
     ghost Value = { WaitingValue };
 
     ghost view = { λ w. record { entries = list_map (numbered_entry F.Address.number) w.entries.items; is_full = w.is_full } };
 
-    ghost invariant = { λ w. room ≤ deque_capacity w.entries };
+    ghost invariant = { λ w. (deque_capacity w.entries ≡ room)
+        × AreMarked F.Address.WIDTH (list_map (numbered_entry F.Address.number) w.entries.items) w.trails
+        × AreBounded F.Address.WIDTH (list_map (numbered_entry F.Address.number) w.entries.items) w.latest.items
+        × (length w.latest.items ≡ 65522) };
 }
 
 /// Whether two moments are the same.
@@ -52,6 +65,21 @@ fn is_at(a: Moment, b: Moment) -> bool
 {
     let mut meter = Meter::new();
     meter.reached(a, b) && meter.reached(b, a)
+}
+
+/// Whether a moment is before another.
+fn is_before(a: Moment, b: Moment) -> bool
+    ensures { result ≡ nat_lt a b }
+{
+    !Meter::new().reached(b, a)
+}
+
+/// The later of two moments.
+fn later_of(a: Moment, b: Moment) -> Moment
+    ensures first { a ≤ result }
+    ensures second { b ≤ result }
+{
+    if is_before(a, b) { b } else { a }
 }
 
 /// Whether more than the tolerance has passed since a moment.
@@ -92,10 +120,15 @@ fn is_group_wanted<F: Family>(moment: Moment, group: F::Address, entry: &Entry<F
 impl<F: Family, A: Allocator> Waiting<F, A> {
     /// Nothing, with all memory that is taken for what will wait.
     pub(crate) fn new(alloc: A) -> Result<Waiting<F, A>, AllocError>
+    where
+        A: Copy,
         ensures { IfOk result (λ w. w ≡ waits.nothing) }
     {
         Ok(Waiting {
             entries: VecDeque::with_capacity(alloc, ROOM)?,
+            trails: Trails::new(alloc)?,
+            latest: vec![in alloc; Stamp::of(0).moment(); SLOTS]?,
+            last_group: 0,
             is_full: false,
         })
     }
@@ -112,6 +145,14 @@ impl<F: Family, A: Allocator> Waiting<F, A> {
         ensures { self.new ≡ waits.with_entry (numbered_entry F.Address.number entry) self.old }
     {
         if self.entries.len() < ROOM {
+            let slot = wanted_slot(&entry);
+            let at = wanted_moment(&entry);
+            let before = self.latest[slot];
+            self.latest[slot] = later_of(before, at);
+            let number = self.trails.number(self.entries.len());
+            let last = self.last_group;
+            self.last_group = last_group_by(&entry, number, last);
+            self.trails.push(slot_in(&entry));
             self.entries.push_back_reserved(entry);
         } else {
             self.is_full = true;
@@ -133,6 +174,7 @@ impl<F: Family, A: Allocator> Waiting<F, A> {
     {
         let place = self.place_of(side, asked)?;
         let entry = self.entries[place];
+        self.trails.pass(place);
         self.entries[place] = entry.joined(other);
         entry.terms()
     }
@@ -142,10 +184,13 @@ impl<F: Family, A: Allocator> Waiting<F, A> {
         ensures none { IfNone result (IsNoneFree side (numbered_asked F.Address.number asked) self.now.entries) }
         ensures some { IfSome result (IsFirstFree side (numbered_asked F.Address.number asked) self.now.entries) }
     {
-        for place in 0..self.entries.len() {
+        let slot = slot_of(side, asked);
+        let mut place = self.trails.start(slot);
+        while place < self.entries.len() {
             if is_free::<F>(side, asked, &self.entries[place]) {
                 return Some(place);
             }
+            place = self.trails.next(place, slot);
         }
         None
     }
@@ -166,6 +211,7 @@ impl<F: Family, A: Allocator> Waiting<F, A> {
         if !is_over(within, self.entries[0].moment(), now) {
             return None;
         }
+        self.trails.pop();
         self.entries.pop_front()
     }
 
@@ -174,11 +220,30 @@ impl<F: Family, A: Allocator> Waiting<F, A> {
         ensures none { IfNone result (self.old.entries ≡ []) }
         ensures some { IfSome result (λ entry. self.old.entries ≡ numbered_entry F.Address.number entry ∷ self.new.entries) }
     {
+        if self.entries.is_empty() {
+            return None;
+        }
+        self.trails.pop();
         self.entries.pop_front()
     }
 
     /// Whether a query for a group is wanted at this moment.
     pub(crate) fn has_group_wanted(&self, moment: Moment, group: F::Address) -> bool
+        ensures { result ≡ list_any (spec.is_group_wanted moment (F.Address.number group)) self.now.entries }
+    {
+        let slot = slot_of(Side::OfWanted, Asked::Group(group));
+        if is_before(self.latest[slot], moment) {
+            return false;
+        }
+        let last = self.trails.place(self.last_group);
+        if last < self.entries.len() && is_group_wanted::<F>(moment, group, &self.entries[last]) {
+            return true;
+        }
+        self.is_any_wanted(moment, group)
+    }
+
+    /// Whether a query for a group is wanted at this moment, by a look at each entry.
+    fn is_any_wanted(&self, moment: Moment, group: F::Address) -> bool
         ensures { result ≡ list_any (spec.is_group_wanted moment (F.Address.number group)) self.now.entries }
     {
         for place in 0..self.entries.len() {

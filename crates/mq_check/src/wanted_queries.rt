@@ -1,11 +1,14 @@
 //! The outlet that takes what a link sends as what is wanted.
 
 ghost use Rattle.std.specs.Prelude.{◌≡◌, ◌≤◌, ◌^◌, IfOk, flat_map, false};
+ghost use Rattle.mq_pcap.specs.Frame.{carried_of};
 ghost use Rattle.mq_wire.specs.Numbered.{numbered_query};
 ghost use Rattle.mq_text.specs.Printing.{output_of};
+ghost use Rattle.mq_check.specs.Basis as basis;
 ghost use Rattle.mq_check.specs.Checking as spec;
 ghost use Rattle.mq_check.specs.Telling.{Tells};
 
+use crate::basis::Basis;
 use crate::checked_family::CheckedFamily;
 use crate::checking::Checking;
 use crate::seen_queries::query_spelled;
@@ -14,6 +17,9 @@ use crate::told::Told;
 use mq_count::{Moment, Watched};
 use mq_lines::LineKey;
 use mq_link::{Config, Outlet};
+use mq_pcap::{Inner, LinkType};
+use mq_replay::CapturedDatagram;
+use mq_sched::OtherQuerier;
 use mq_table::Timing;
 use mq_text::LineFault;
 use mq_wire::Query;
@@ -21,13 +27,14 @@ use std::alloc::Allocator;
 use std::io::Write;
 use std::marker::Model;
 
-/// A check under way, to which a link hands what it sends at one moment.
+/// A check under way, to which a link hands what it sends at one moment, and what its verdict rests on.
 #[derive(Drop)]
 pub(crate) struct WantedQueries<F: CheckedFamily, A: Allocator>
 where
     F::Address: LineKey,
 {
     checking: Checking<F, A>,
+    basis: Basis,
     own: F::Address,
     moment: Moment,
     is_returning: bool,
@@ -41,7 +48,7 @@ where
 
     ghost Value = { WantingValue };
 
-    ghost view = { λ w. record { checking = w.checking; own = F.Address.number w.own; moment = w.moment; is_returning = w.is_returning } };
+    ghost view = { λ w. record { checking = w.checking; basis = w.basis; own = F.Address.number w.own; moment = w.moment; is_returning = w.is_returning } };
 }
 
 impl<F: CheckedFamily, A: Allocator> WantedQueries<F, A>
@@ -54,10 +61,12 @@ where
         own: F::Address,
         moment: Moment,
     ) -> WantedQueries<F, A>
-        ensures { result ≡ record { checking = checking; own = F.Address.number own; moment = moment; is_returning = false } }
+        requires { moment ≡ 0 }
+        ensures { result ≡ record { checking = checking; basis = basis.basis_at_start (basis.named F.FAMILY (F.Address.number own)); own = F.Address.number own; moment = moment; is_returning = false } }
     {
         WantedQueries {
             checking,
+            basis: Basis::at_start(F::named(own), F::named(own), moment),
             own,
             moment,
             is_returning: false,
@@ -79,6 +88,42 @@ where
         &self.checking
     }
 
+    /// What a verdict rests on so far.
+    pub(crate) fn basis(&self) -> &Basis
+        ensures { result.now ≡ self.now.basis }
+    {
+        &self.basis
+    }
+
+    /// A packet with a datagram of the family came.
+    pub(crate) fn note_datagram(&mut self, datagram: &CapturedDatagram<'_, F::Envelope>)
+        ensures { self.new ≡ record self.old {
+          basis =
+              basis.with_datagram F.FAMILY
+              (record { envelope = F.envelope_of datagram.now.envelope; body = datagram.now.body.now }) (basis.with_packet self.old.basis);
+        } }
+    {
+        self.basis.note_datagram::<F>(datagram);
+    }
+
+    /// A packet without a datagram of the family came.
+    pub(crate) fn note_other(&mut self, link: LinkType, frame: &[u8], inner: &Inner<'_>)
+        ensures { self.new ≡ record self.old {
+          basis = basis.with_other link frame.now (carried_of inner.now) (basis.with_packet self.old.basis);
+        } }
+    {
+        self.basis.note_other(link, frame, inner);
+    }
+
+    /// Another router is querier, or none is.
+    pub(crate) fn name_other(&mut self, other: Option<OtherQuerier<F::Address>>)
+        ensures { self.new ≡ record self.old { basis = basis.with_other_named F.FAMILY F.Address.number other self.old.basis } }
+    {
+        if let Some(other) = other {
+            self.basis.name_other(F::named(other.address));
+        }
+    }
+
     /// Takes out what is over at a moment, and tells what is found of it.
     pub(crate) fn settle<W: Write>(
         &mut self,
@@ -89,6 +134,7 @@ where
     ) -> Result<(), LineFault>
         requires in_range { now ≤ 2 ^ 53 }
         ensures own { self.new.own ≡ self.old.own }
+        ensures basis { self.new.basis ≡ self.old.basis }
         ensures settled { IfOk result (λ _. self.new.checking ≡ spec.settled within now self.old.checking) }
         ensures tells { Tells F.Address.family (spec.told within now self.old.checking) told.old told.new
             (output_of W.contents writer.old) (output_of W.contents writer.new) result }
@@ -111,16 +157,24 @@ where
     /// A tick or a datagram may have changed the role: it is had again.
     pub(crate) fn return_role(&mut self, within: u32, moment: Moment)
         requires in_range { moment ≤ 2 ^ 53 }
-        ensures { self.new ≡ record self.old { checking = spec.role_returned within moment self.old.checking } }
+        ensures { self.new ≡ record self.old {
+          checking = spec.role_returned within moment self.old.checking;
+          basis = basis.role_returned moment self.old.basis;
+        } }
     {
         self.checking.return_role(within, moment);
+        self.basis.return_role(moment);
     }
 
     /// It was lost.
     pub(crate) fn lose_role(&mut self, within: u32, configured: Timing, stamp: Stamp)
-        ensures { self.new ≡ record self.old { checking = spec.role_lost within configured stamp self.old.checking } }
+        ensures { self.new ≡ record self.old {
+          checking = spec.role_lost within configured stamp self.old.checking;
+          basis = basis.role_lost stamp self.old.basis;
+        } }
     {
         self.checking.lose_role(within, configured, stamp);
+        self.basis.lose_role(stamp.moment());
     }
 
     /// A query of the router that is checked was seen.

@@ -19,35 +19,48 @@ pub(crate) fn request_in<'a>(words: &ArgMatches<'a>) -> Option<Request<'a>> {
 }
 
 const ABOUT: &str =
-    "Holds the querier of a capture to the standards, and prints what it does otherwise";
+    "Compares the queries of a querier in a capture with those that the standards want";
 
 const AFTER_HELP: &str = "\
-Example:
-  mquerier check igmp --querier 10.0.0.1 < capture.pcap
-      prints, where it sent a query for a source with a response of 500 ms, and one a second early:
+Examples:
+  mquerier check igmp --querier 10.0.0.1 capture.pcap
+      prints this, if it asked for a source with a response of 500 ms, and again a second too early:
           4263 differs 232.1.1.1 10.0.0.101: response 500, wanted 1000
           4263 extra 232.1.1.1 10.0.0.101
           5263 missing 232.1.1.1 10.0.0.101
           checked general 1 specific 2: 3 findings
+          packets 9 messages 9 malformed 0 cut 0 unread 0; groups held before 0 are unknown
+          querier 10.0.0.1 from 0
+  mquerier convert --once any.pcap | mquerier check igmp --querier 10.0.0.1
+      checks a capture that has packets twice, as tcpdump -i any and mirror ports make them
 
-The queries that the capture has from this address are compared with those that RFC 3376 or RFC 3810 wants of
-a querier there with these variables, which starts with the first packet and hears all other messages. A query
-goes with one for the same that is wanted at most --within milliseconds before or after it. Sources in one query
-are like sources in one query each. General queries have their own phase: the time between two of them is judged.
+A querier with this address and these variables starts with the first packet and hears all other messages. A
+query that the capture has from the address goes with one that this querier sends for the same, at most
+--within milliseconds earlier or later. Sources of one query count like sources of one query each. General
+queries have a phase of their own: the time between two of them is judged.
 
-Lines, in which T is a moment in milliseconds from the first packet, and G and S are a group and a source of it;
-0.0.0.0 or :: are all groups:
-  T missing G S                       a query that is wanted and was not sent
-  T extra G S                         one that was sent and is not wanted
-  T differs G S: FIELD SEEN, wanted W one of whose fields, named as show names them, is another; to is where it goes
-  T general after MS, wanted QI       a general query so many milliseconds behind the one before it
-  T general none for MS, wanted QI    no general query for so many milliseconds, up to the end or another querier
+Lines, in which T is a time in milliseconds after the first packet, G a group (0.0.0.0 or :: is all groups) and
+S a source of it:
+  T missing G S                        a wanted query was not sent
+  T extra G S                          a query was sent that is not wanted
+  T differs G S: FIELD SEEN, wanted W  a field of the query differs; to is its destination, show names the others
+  T general after MS, wanted QI        a general query came MS milliseconds after the one before it
+  T general none for MS, wanted QI     none came for MS milliseconds, up to the end or another querier
   checked general N specific M: F findings
+  packets N messages M malformed F cut C unread U; groups held before 0 are unknown
+                                      unread are fragments, second tags, PPPoE and the like
+  querier A from 0, lost N, last at T, other B, again at R
+                                      how often A lost the role, to B at last, and since when it has it again
 
-Status: 0 if nothing is found, 3 if something is; 1 or 2 after a fault, for which standard error has one line, and on a
-terminal a second one in words.
+Status:
+  0 something was judged, and nothing found
+  1 the capture has a fault, the output failed or memory ran out
+  2 the command line is faulty, or help was asked for
+  3 something was judged and something found
+  4 nothing was judged: half of the packets or more are cut or unread, or there is no message of the family, or no
+    query from this address was seen and none is missing; standard error has a line with the reason
 
-Faults of the configuration are \"mquerier: configuration fault K\", with status 2. The first that holds is reported:
+Faults of the options are \"mquerier: configuration fault K\", with status 2. The first that holds is reported:
   1 --rv has to be 1 to 7
   2 --qi has to be 1 to 31744
   3 --qri has to be below --qi, and for igmp 100 to 3174400, for mld 1 to 8387584
@@ -58,8 +71,8 @@ Faults of the configuration are \"mquerier: configuration fault K\", with status
     --scheduled has to be 1 to 65535
   6 --own or --querier has to be an address of a router: for igmp not 0.0.0.0 and below 224.0.0.0, for mld in fe80::/10
 
-Faults of the capture are \"mquerier: capture fault K\", for K of 5 to 7 with \"at record N\", with status 1. The findings
-before the fault are printed, without totals:
+A fault of the capture is one line on standard error, \"mquerier: capture fault K\", for K of 5 to 7 with
+\"at record N\". The findings before it are printed, without totals. The status is 1:
   1 a read of the capture failed
   2 it is no classic capture file; mquerier convert makes one of a pcapng file
   3 the version of the file is not 2.4
@@ -68,8 +81,10 @@ before the fault are printed, without totals:
   6 the file ends within a packet
   7 the packet has more than 262144 bytes
   8 the file has more than 4294967295 packets
-So it is with \"mquerier: gap before record N\": more than a day lies between the packet before and this one, or the end;
-and with \"mquerier: too many wait at record N\": more than 65536 queries wait for those that they go with.";
+So it is with \"mquerier: gap before record N\": this packet, or the end, comes more than a day after the packet
+before it. And with \"mquerier: too many wait at record N\": more than 65536 queries wait for their partners.
+
+docs/FORMATS.md of the sources, \"Checks\", explains every line. docs/READINGS.md has what the standards leave open.";
 
 /// The command with its options.
 pub(crate) fn command<'a>(alloc: Global) -> Result<Command<'a>, AllocError> {
@@ -97,12 +112,12 @@ fn within<'a>(alloc: Global) -> Arg<'a> {
         .long("within")
         .value_name("MS")
         .value_parser(value_parser!(u32))
-        .help("How much earlier or later a query may be [default: 100]")
+        .help("How many milliseconds earlier or later a query may be [default: 100]")
 }
 
 fn cite<'a>(alloc: Global) -> Arg<'a> {
     Arg::new(alloc, "cite")
         .long("cite")
         .action(ArgAction::SetTrue)
-        .help("Print behind each line the section of the standard that it is from")
+        .help("Print after each line the section of the standard")
 }

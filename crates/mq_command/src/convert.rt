@@ -1,15 +1,25 @@
 //! The command `convert`: its options, and what it asks for.
 
-use crate::{Request, file};
-use clap::{Arg, ArgMatches, Command, value_parser};
+use crate::{Interface, Request, file};
+use clap::{Arg, ArgAction, ArgMatches, Command, value_parser};
 use std::alloc::{AllocError, Global};
 
 /// What the words of the command ask for.
 pub(crate) fn request_in<'a>(words: &ArgMatches<'a>) -> Request<'a> {
     Request::Convert {
-        interface: words.get_one::<u64>("interface"),
+        interface: interface_in(words),
         vlan: words.get_one::<u64>("vlan"),
+        once: words.get_flag("once"),
         file: words.get_str("FILE"),
+    }
+}
+
+/// The interface that is asked for: a number is no name.
+fn interface_in<'a>(words: &ArgMatches<'a>) -> Option<Interface<'a>> {
+    let text = words.get_str("interface")?;
+    match text.parse::<u64>() {
+        Ok(number) => Some(Interface::Number(number)),
+        Err(_) => Some(Interface::Name(text)),
     }
 }
 
@@ -18,18 +28,24 @@ const ABOUT: &str = "Writes a capture as a classic one of Ethernet, as show and 
 const AFTER_HELP: &str = "\
 Examples:
   mquerier convert capture.pcapng | mquerier show
-      lists the packets of a file as Wireshark saves it
+      lists the packets of a file that Wireshark saved
+  mquerier convert --once any.pcap | mquerier check igmp --querier 10.0.0.1
+      checks a capture of tcpdump -i any, which has each packet of a bridge twice or more
   mquerier convert --vlan 20 mirror.pcap | mquerier replay igmp --own 10.20.0.9
-      replays what a mirror port has of network 20
+      replays network 20 of what a mirror port sent
 
-It reads classic captures in all four forms of their magic number, and pcapng, of Ethernet, raw IP (101,
-12, 14, 228, 229), Linux cooked (113, 276), as tcpdump -i any writes it, and BSD loopback (0, 108). It
-writes one record of Ethernet for each packet, so that packet N of the one is packet N of the other, with
-its moment in nanoseconds and without its tags of 802.1Q and 802.1ad. A packet of another link type becomes
-one of type 0xffff, which is shown as other; how many there are is said on standard error at the end.
+It reads classic captures with all four magic numbers, and pcapng files. It reads these link types: Ethernet
+(1), raw IP (101, 12, 14, 228, 229), Linux cooked (113, 276) and BSD loopback (0, 108). For each packet it
+writes one record of Ethernet, without tags of 802.1Q and 802.1ad, with its time in nanoseconds. A packet of
+another link type becomes one of type 0xffff, which show lists as other.
 
-If the file has a fault, the packets before it are written, and the status is 1. Standard error has one line,
-\"mquerier: conversion fault K\", for K of 2 to 10 with \"at block N\". On a terminal a second line says what K means:
+These lines on standard error leave the status 0:
+  mquerier: N packets that came again are left out
+  mquerier: N packets of link types that aren't read
+      with a line for each of the first 16 of these link types
+
+A fault of the file is one line there, \"mquerier: conversion fault K\", for K of 2 to 10 with \"at block N\". The
+packets before it are written, and the status is 1:
   1 a read of the capture failed
   2 the file is no capture
   3 the version of the file is not 2.4, or of a pcapng file not 1
@@ -40,28 +56,52 @@ If the file has a fault, the packets before it are written, and the status is 1.
   8 the packet is from before 1970 or after 2106
   9 the file ends within the block
   10 the file has more than 4294967295 blocks before it
-Blocks are counted from 0, the file's header; of a classic capture block N is packet N.";
+Blocks are counted from 0, the header of the file. In a classic capture block N is packet N.
+
+docs/FORMATS.md of the sources, \"Captures that are converted\", has the rest.";
 
 /// The command with its options.
 pub(crate) fn command<'a>(alloc: Global) -> Result<Command<'a>, AllocError> {
     Command::new(alloc, "convert")
         .about(ABOUT)
         .after_help(AFTER_HELP)
-        .arg(number(alloc, "interface", "N").help(INTERFACE_HELP))?
-        .arg(number(alloc, "vlan", "ID").help(VLAN_HELP))?
+        .arg(interface(alloc))?
+        .arg(vlan(alloc))?
+        .arg(once(alloc))?
         .arg(file(alloc))
 }
 
-const INTERFACE_HELP: &str = "\
-Write only the packets of this interface, counted from 0 in the order in
-which the file describes them";
-
-const VLAN_HELP: &str = "Write only packets whose outermost tag names this network";
-
-/// An option with a number, whose id is its name.
-fn number<'a>(alloc: Global, name: &'a str, unit: &'a str) -> Arg<'a> {
-    Arg::new(alloc, name)
-        .long(name)
-        .value_name(unit)
-        .value_parser(value_parser!(u64))
+fn interface<'a>(alloc: Global) -> Arg<'a> {
+    Arg::new(alloc, "interface")
+        .long("interface")
+        .value_name("WHICH")
+        .help(INTERFACE_HELP)
 }
+
+const INTERFACE_HELP: &str = "\
+Write only the packets of this interface. A number counts interfaces from 0
+in the order in which the file describes them; for Linux cooked captures of
+version 2 (276) it is the index in the header of each packet, as ip link
+shows it. Other text is a name of at most 16 bytes, which a pcapng file gives
+to its interfaces [default: all]";
+
+fn vlan<'a>(alloc: Global) -> Arg<'a> {
+    Arg::new(alloc, "vlan")
+        .long("vlan")
+        .value_name("ID")
+        .value_parser(value_parser!(u64))
+        .help("Write only packets whose outermost tag names this network, 0 to 4095 [default: all]")
+}
+
+fn once<'a>(alloc: Global) -> Arg<'a> {
+    Arg::new(alloc, "once")
+        .long("once")
+        .action(ArgAction::SetTrue)
+        .help(ONCE_HELP)
+}
+
+const ONCE_HELP: &str = "\
+Leave out a packet whose frame was already written, at a time at most 5 ms
+earlier or later, whatever its interface, direction and tags are. It is
+compared with the last 256 packets written. It is always written if bytes of
+it are missing, or if its frame exceeds 2048 bytes";

@@ -31,10 +31,12 @@ pub enum Request<'a> {
     },
     /// The capture as a classic one of Ethernet, as `show` and `replay` read it.
     Convert {
-        /// The number of the interface whose packets are written, where one is given; else all are.
-        interface: Option<u64>,
+        /// The interface whose packets are written, where one is given; else all are.
+        interface: Option<Interface<'a>>,
         /// The network that the outermost tag of the packets that are written names, where one is given.
         vlan: Option<u64>,
+        /// Whether a packet that comes again soon is left out.
+        once: bool,
         /// The file that the capture is in.
         file: Option<&'a str>,
     },
@@ -94,6 +96,15 @@ impl<'a> Request<'a> {
     }
 }
 
+/// An interface of a capture.
+#[derive(Clone, Copy)]
+pub enum Interface<'a> {
+    /// That of a number.
+    Number(u64),
+    /// That of a name.
+    Name(&'a str),
+}
+
 /// A protocol of messages.
 #[derive(Clone, Copy)]
 pub enum Protocol {
@@ -146,23 +157,31 @@ fn protocol_named(name: Option<&str>) -> Protocol {
     }
 }
 
-const ABOUT: &str = "Shows what hosts and routers say to each other about multicast groups.";
+const ABOUT: &str = "Reads, converts, replays and checks captures of IGMP and MLD.";
 
 const AFTER_HELP: &str = "\
 Examples:
+  mquerier show capture.pcap
+      prints a line for each packet
+  mquerier convert capture.pcapng | mquerier show
+      does so for a file in another form, as Wireshark and tcpdump -i any save it
+  mquerier replay igmp --own 10.0.0.9 capture.pcap
+      prints what a querier at 10.0.0.9 would have sent and learned
+  mquerier check igmp --querier 10.0.0.1 capture.pcap
+      prints what the querier at 10.0.0.1 does otherwise than the standards want
   mquerier message igmp 1600f8faef010203
       prints: report v2 group 239.1.2.3
-  mquerier show < capture.pcap
-      prints a line for each packet of the capture
-  mquerier replay igmp --own 10.0.0.9 < capture.pcap
-      prints what a querier at 10.0.0.9 sends and learns, had it been there
-  mquerier convert capture.pcapng | mquerier show
-      the same of a capture in another form, as Wireshark and tcpdump -i any save them
-  mquerier check igmp --querier 10.0.0.1 < capture.pcap
-      prints what the querier at 10.0.0.1 does otherwise than the standards want
 
-Status: 0 where all is done, 1 where the input is faulty, the output fails or memory runs out, 2
-where the command line is faulty or help is asked for, 3 where a check finds something.";
+FILE is the name of a capture. Without a name, or with -, it is standard input.
+
+Status:
+  0 all is done, and a check found nothing
+  1 the input is faulty, the output failed or memory ran out
+  2 the command line is faulty, or help was asked for
+  3 a check found something
+  4 a check had nothing to judge
+
+docs/FORMATS.md of the sources explains every line and every status.";
 
 fn command<'a>(alloc: Global) -> Result<Command<'a>, AllocError> {
     Command::new(alloc, "mquerier")
@@ -194,11 +213,16 @@ Examples:
   mquerier message igmp 1600e9ff
       prints: fault 1 truncated at 4
 
-The checksum of a message of MLD covers the source and the destination of its packet, so both are
-needed for mld. For igmp they are read, and not used.
+The checksum of an MLD message covers the source and the destination of its packet, so mld needs --from and
+--to. With igmp they are read and not used.
 
-A fault is one of: 1 truncated at N, where the field that begins at byte N isn't whole; 2 checksum;
-3 unknown type; 4 query length. Its line goes to standard output too, and the status is then 1.";
+The line of a fault goes to standard output too, and the status is 1:
+  fault 1 truncated at N  the field that begins at byte N is incomplete
+  fault 2 checksum        the checksum is wrong
+  fault 3 unknown type    no message has this type
+  fault 4 query length    no version has a query of this length
+
+docs/FORMATS.md of the sources, \"Lines of messages\", explains every line.";
 
 fn message<'a>(alloc: Global) -> Result<Command<'a>, AllocError> {
     Command::new(alloc, "message")
@@ -233,20 +257,21 @@ const SHOW_ABOUT: &str = "Prints a line for each packet of a capture";
 
 const SHOW_AFTER_HELP: &str = "\
 Example:
-  mquerier show < capture.pcap
-      prints, for a packet: 1 0 10.0.0.1 igmp report v2 group 239.1.2.3
+  mquerier show capture.pcap
+      prints, for a packet: 38 9599 10.9.0.12 igmp report v2 group 239.1.2.4
 
-A line begins with the packet's number and its moment, in milliseconds from the first packet. Then comes
-the source of the packet with what its IGMP or MLD message says, or the message's fault; or one of: other,
-for a packet of something else; cut, where the capture has less of it than it says; fragment.
+A line has the number of the packet and its time in milliseconds after the first one. Then it has the source,
+the protocol and the message, or the message's fault. For other packets it has one of these words:
+  other     a packet of something else
+  cut       a packet that is incomplete in the capture
+  fragment  a fragment of a packet
 
 To get a capture:
   tcpdump -i INTERFACE -w capture.pcap 'igmp or icmp6 or (ip6 and ip6[6] = 0)'
 It has to be a classic capture file of Ethernet or raw IP. mquerier convert makes one of other kinds.
 
-If the capture has a fault, the lines of all packets before it are printed, and the status is 1. Standard error
-has one line, \"mquerier: capture fault K\", for K of 5 to 7 with \"at record N\". On a terminal a second line says
-what K means:
+A fault of the capture is one line on standard error, \"mquerier: capture fault K\", for K of 5 to 7 with
+\"at record N\". The lines of all packets before it are printed, and the status is 1:
   1 a read of the capture failed
   2 it is no classic capture file; mquerier convert makes one of a pcapng file
   3 the version of the file is not 2.4
@@ -254,7 +279,9 @@ what K means:
   5 the file ends within a header
   6 the file ends within a packet
   7 the packet has more than 262144 bytes
-  8 the file has more than 4294967295 packets";
+  8 the file has more than 4294967295 packets
+
+docs/FORMATS.md of the sources, \"Lines of captures\", explains every line.";
 
 fn show<'a>(alloc: Global) -> Result<Command<'a>, AllocError> {
     Command::new(alloc, "show")

@@ -57,44 +57,49 @@ const ABOUT: &str = "Runs a querier over a capture, and prints what it does";
 
 const AFTER_HELP: &str = "\
 Example:
-  mquerier replay igmp --own 10.0.0.9 < capture.pcap
-      prints, where the capture has one packet, a report of 10.0.0.1 for 239.1.2.3:
+  mquerier replay igmp --own 10.0.0.9 capture.pcap
+      prints this, if the capture is one report of 10.0.0.1 for 239.1.2.3:
           0 send 224.0.0.1 1164ec1e00000000027d0000
           0 receive 1 10.0.0.1 taken 1 0 0
           end 0 querier
           group 239.1.2.3 exclude 260000 v2 260000
           counts received 1 dropped 0 applied 1 ignored 0 refused 0 sent 1 unsent 0
 
-The querier starts with the first packet, and hears each message of its protocol in the capture. What it
-sends changes nothing in the capture. A moment T is in milliseconds from the first packet.
+The querier starts with the first packet and hears each message of its protocol. What it sends changes nothing
+in the capture. Times (T) are milliseconds after the first packet.
 
 Lines:
-  T send ADDR HEX               a query that it sends to ADDR, in hexadecimal
-  T receive N ADDR taken A I R  packet N, a message from ADDR: how many of its records are applied, ignored,
-                                and refused since there is a limit
-  T receive N ADDR dropped K    the same, dropped for reason K
-  T skip N WHY                  packet N, which has no message of the protocol: other, cut or fragment
-  T change G ..                 with --changes, behind the lines of what changed it: what is forwarded of a
-                                group from then on; for each group whose filter changed, but not for a timer
-                                that is refreshed:
+  T send ADDR HEX               it sends this query to ADDR; mquerier message reads HEX
+  T receive N ADDR taken A I R  packet N, a message from ADDR: A of its records are applied, I ignored, and R
+                                refused for a limit
+  T receive N ADDR dropped K    packet N, a message that is dropped for reason K
+  T skip N WHY                  packet N without a message of the protocol: other, cut or fragment
+  T change G ..                 with --changes, after the event that changed group G, what is forwarded then:
                                   none            nothing
-                                  include S ..    what these sources send, and nothing else
+                                  include S ..    only what these sources send
                                   exclude !S ..   all but what these sources send
-  end T WHO                     the end, and who is querier then: querier, which is this one, or other
-  group G include ..            a group at the end, in INCLUDE mode
-  group G exclude T ..          or in EXCLUDE mode, with the end of its group timer; then, for both:
-                                  S=T   a source, and when its timer ends
-                                  !S    a source that isn't forwarded
-                                  v1 T  until when there are taken to be hosts of version 1
-                                  v2 T  the same of version 2
-  counts ..                     what was received, and so on, in all
+  end T WHO                     the end, and who is querier then: querier is this one, or other
+  group G include ..            a group at the end in INCLUDE mode
+  group G exclude T ..          or in EXCLUDE mode, with the end of its group timer; then:
+                                  S=T   a source and the end of its timer
+                                  !S    a source that is not forwarded
+                                  v1 T  until when hosts of version 1 are assumed
+                                  v2 T  until when hosts of version 2 are assumed
+  counts ..                     totals
 
-Reasons: 1 cut short; 2 checksum; 3 unknown type; 4 length of a query; 5 source, which for mld has to be
-link-local; 6 hop limit, which for mld has to be 1; 7 no Router Alert, for mld; 8 a query from the querier's
-own address, or from 0.0.0.0; 9 a query of IGMPv1; 10 an older message for a group that no host reports,
-as 224.0.0.1.
+Reasons for which a message is dropped:
+  1 truncated
+  2 checksum
+  3 unknown type
+  4 query length
+  5 the source is not link-local (mld)
+  6 the hop limit is not 1 (mld)
+  7 there is no Router Alert (mld)
+  8 a query from the own address or from 0.0.0.0
+  9 a query of IGMPv1
+  10 an older message for a group that hosts do not report, such as 224.0.0.1
 
-Faults of the configuration are \"mquerier: configuration fault K\", with status 2. The first that holds is reported:
+Faults of the options are \"mquerier: configuration fault K\", with status 2. The first that holds is reported:
   1 --rv has to be 1 to 7
   2 --qi has to be 1 to 31744
   3 --qri has to be below --qi, and for igmp 100 to 3174400, for mld 1 to 8387584
@@ -109,8 +114,8 @@ To get a capture:
   tcpdump -i INTERFACE -w capture.pcap 'igmp or icmp6 or (ip6 and ip6[6] = 0)'
 It has to be a classic capture file of Ethernet or raw IP. mquerier convert makes one of other kinds.
 
-If the capture has a fault, the lines of all packets before it are printed, without groups and totals, and the
-status is 1. Standard error has one line, \"mquerier: capture fault K\", for K of 5 to 7 with \"at record N\":
+A fault of the capture is one line on standard error, \"mquerier: capture fault K\", for K of 5 to 7 with
+\"at record N\". The lines of all packets before it are printed, without groups and totals. The status is 1:
   1 a read of the capture failed
   2 it is no classic capture file; mquerier convert makes one of a pcapng file
   3 the version of the file is not 2.4
@@ -119,8 +124,10 @@ status is 1. Standard error has one line, \"mquerier: capture fault K\", for K o
   6 the file ends within a packet
   7 the packet has more than 262144 bytes
   8 the file has more than 4294967295 packets
-Or it has \"mquerier: gap before record N\": more than a day lies between the packet before and this one, or the end.
-Cut a capture with a gap in two. On a terminal a second line says what K means.";
+So it is with \"mquerier: gap before record N\": this packet, or the end, comes more than a day after the packet
+before it. Cut such a capture in two.
+
+docs/FORMATS.md of the sources, \"Replays\", explains every line.";
 
 /// The command with its options.
 pub(crate) fn command<'a>(alloc: Global) -> Result<Command<'a>, AllocError> {

@@ -12,12 +12,13 @@ use Rattle.mq_convert.specs.Blocks.{Captured, block_in}
 use Rattle.mq_convert.specs.Files.{AreBlocks, Captures, endless}
 use Rattle.mq_convert.specs.Moments.{second}
 use Rattle.mq_convert.specs.Plain.{ArePlain, everything, is_untagged, looked_at, plain}
-use Rattle.mq_convert.specs.Records.{converted, file_header, packets_of, record_of}
+use Rattle.mq_convert.specs.Records.{file_header, packets_of, record_of, written_of}
 use Rattle.mq_convert.specs.Sizes.{IsWhole}
 use Rattle.mq_convert.proofs.KeptBytes.{AreBytes, front_bytes, rest_bytes}
 use Rattle.mq_convert.proofs.KeptHeader.{header_read, header_whole, looked_is, plain_header}
 use Rattle.mq_convert.proofs.KeptRecords.{behind_header, packet_of, record_kept, record_read, whole_record}
 use Rattle.mq_convert.proofs.OneFile.{one_file_lem}
+use Rattle.mq_convert.proofs.Sifted.{all_go_out}
 
 -- the records from one of this number on are blocks whose packets are written as they were
 record IsKeptFrom (number : ℕ) (bytes : List ℕ) : Type 0 where
@@ -58,7 +59,7 @@ kept_records number bytes (packet ∷ packets) are plainly all few =
 pub as_it_was_lem : (bytes : List ℕ) (packets : List pcap.Captured) (blocks : List (Option Captured)) (end : Option BlockFault)
     → All (λ byte. byte < 256) bytes → (is : pcap.Captures bytes (Ok plain) packets None) → ArePlain 1 (drop 24 bytes) packets is.1
     → Captures bytes blocks end
-    → (end ≡ None) × (converted everything (packets_of blocks) ≡ looked_at bytes ++ drop 24 bytes)
+    → (end ≡ None) × (written_of everything blocks ≡ looked_at bytes ++ drop 24 bytes)
 as_it_was_lem bytes packets blocks end all is plainly capture =
     let h = plain_header bytes is.0 in
     let k = kept_records 1 (drop 24 bytes) packets is.1 plainly (All-drop (λ (byte : ℕ). byte < 256) 24 bytes all) (omega arith) in
@@ -73,4 +74,5 @@ as_it_was_lem bytes packets blocks end all is plainly capture =
       ends = (refl, refl);
     } in
     let one = one_file_lem bytes blocks (None ∷ k.blocks) end None capture mine in
-    (one.1, ap (λ bs. converted everything (packets_of bs)) one.0 ∙ ap (λ xs. file_header ++ xs) k.text ∙ ap (λ xs. xs ++ drop 24 bytes) (sym (looked_is bytes all h)))
+    let all_out = all_go_out everything [] (packets_of k.blocks) refl in
+    (one.1, ap (written_of everything) one.0 ∙ ap (λ xs. file_header ++ flat_map (record_of everything) xs) all_out ∙ ap (λ xs. file_header ++ xs) k.text ∙ ap (λ xs. xs ++ drop 24 bytes) (sym (looked_is bytes all h)))

@@ -7,29 +7,29 @@ use Rattle.mq_pcap.proofs.Filled.{Takes-nil}
 use Rattle.mq_text.specs.Printing.{GrowsByBeginning, Passes}
 use Rattle.mq_text.proofs.Passing.{broken_behind, both_passed}
 use Rattle.mq_convert.specs.declared.choice.Choice.{Choice}
+use Rattle.mq_convert.specs.declared.counts.ConvertCounts.{ConvertCounts}
 use Rattle.mq_convert.specs.declared.fault.ConvertFault.{ConvertFault}
 use Rattle.mq_convert.specs.declared.fault.ConvertFault.TheVariants as answer
-use Rattle.mq_convert.specs.declared.unread.Unread.{Unread}
 use Rattle.mq_convert.specs.Contexts.{at_start}
 use Rattle.mq_convert.specs.Converting.{Converts, IsWritten}
 use Rattle.mq_convert.specs.Faults.{is_failed_write}
 use Rattle.mq_convert.specs.Putting.{IsPut, PutsCapture}
-use Rattle.mq_convert.specs.Records.{converted, packets_of}
+use Rattle.mq_convert.specs.Records.{written_of}
 use Rattle.mq_convert.proofs.Begun.{begun_ends}
 use Rattle.mq_convert.proofs.NextBlocks.{some_head}
 
-put_passed : (before after : Option (List ℕ)) (held left text : List ℕ) (r : Result Unread ConvertFault) → is_failed_write r ≡ false → IsPut before after held left text r → Passes before after held left text
-put_passed before after held left text (Ok unread) unlike put = put
+put_passed : (before after : Option (List ℕ)) (held left text : List ℕ) (r : Result ConvertCounts ConvertFault) → is_failed_write r ≡ false → IsPut before after held left text r → Passes before after held left text
+put_passed before after held left text (Ok counts) unlike put = put
 put_passed before after held left text (Err answer.Read) unlike put = put
 put_passed before after held left text (Err answer.Write) unlike put = absurd (cc)
 put_passed before after held left text (Err answer.Memory) unlike put = put
 put_passed before after held left text (Err (answer.Block number f)) unlike put = put
 
 -- the rest was not written whole
-pub not_flushed : (choice : Choice) (old new : InputState) (before mid after : Option (List ℕ)) (held left : List ℕ) (r : Result Unread ConvertFault) → held ≡ [] → is_failed_write r ≡ false
+pub not_flushed : (choice : Choice) (old new : InputState) (before mid after : Option (List ℕ)) (held left : List ℕ) (r : Result ConvertCounts ConvertFault) → held ≡ [] → is_failed_write r ≡ false
     → PutsCapture choice old new before mid held left r → GrowsByBeginning mid after (left ++ []) → Converts choice old new before after (Err answer.Write)
 not_flushed choice old new before mid after held left r none unlike puts begun =
-    let text = converted choice (packets_of puts.blocks) in
+    let text = written_of choice puts.blocks in
     record {
       bytes = puts.bytes;
       blocks = puts.blocks;
@@ -46,18 +46,18 @@ all_written : (before after : Option (List ℕ)) (text : List ℕ) → Passes be
 all_written before after text passed =
     subst (λ (t : List ℕ). Appends before after t) (sym (passed.parts ∙ append-nil passed.written)) passed.grows
 
-by_answer : (before after : Option (List ℕ)) (text : List ℕ) (r : Result Unread ConvertFault) → is_failed_write r ≡ false → (r ≡ Err answer.Memory → ⊥) → Appends before after text → IsWritten before after text r
-by_answer before after text (Ok unread) unlike some grows = grows
+by_answer : (before after : Option (List ℕ)) (text : List ℕ) (r : Result ConvertCounts ConvertFault) → is_failed_write r ≡ false → (r ≡ Err answer.Memory → ⊥) → Appends before after text → IsWritten before after text r
+by_answer before after text (Ok counts) unlike some grows = grows
 by_answer before after text (Err answer.Read) unlike some grows = grows
 by_answer before after text (Err answer.Write) unlike some grows = absurd (cc)
 by_answer before after text (Err answer.Memory) unlike some grows = absurd (some refl)
 by_answer before after text (Err (answer.Block number f)) unlike some grows = grows
 
 -- the rest was written
-pub flushed : (choice : Choice) (old new : InputState) (before mid after : Option (List ℕ)) (held left rest : List ℕ) (r : Result Unread ConvertFault) → held ≡ [] → rest ≡ [] → is_failed_write r ≡ false → (r ≡ Err answer.Memory → ⊥)
+pub flushed : (choice : Choice) (old new : InputState) (before mid after : Option (List ℕ)) (held left rest : List ℕ) (r : Result ConvertCounts ConvertFault) → held ≡ [] → rest ≡ [] → is_failed_write r ≡ false → (r ≡ Err answer.Memory → ⊥)
     → PutsCapture choice old new before mid held left r → Passes mid after left rest [] → Converts choice old new before after r
 flushed choice old new before mid after held left rest r none empty unlike some puts passed =
-    let text = converted choice (packets_of puts.blocks) in
+    let text = written_of choice puts.blocks in
     let whole = both_passed before mid after held left rest text [] (put_passed before mid held left text r unlike puts.put) passed in
     let all : Passes before after [] [] (text ++ []) = rw (none, empty) at whole in
     record {

@@ -28,7 +28,7 @@ use Rattle.mq_convert.proofs.TagWalk.{no_tag}
 abbrev pub behind_header : ContextState
 behind_header = record {
   kind = Classic Little Nanoseconds;
-  interfaces = record { link = 1; limit = 0; resolution = 0; offset = 0 } ∷ [];
+  interfaces = record { link = 1; limit = 0; resolution = 0; offset = 0; name = 0 } ∷ [];
   earlier = 0;
 }
 
@@ -36,6 +36,7 @@ behind_header = record {
 abbrev pub packet_of : (header bytes : List ℕ) → Captured
 packet_of header bytes = record {
   interface = 0;
+  name = 0;
   link = 1;
   moment = field Little 0 4 header * second + field Little 4 4 header;
   original = field Little 12 4 header;

@@ -1,3 +1,4 @@
+pub mod AnyOf
 pub mod AsItWas
 pub mod Begun
 pub mod Converted
@@ -6,6 +7,8 @@ pub mod Filled
 pub mod KeptBytes
 pub mod KeptHeader
 pub mod KeptRecords
+pub mod Lost
+pub mod Named
 pub mod NextBlocks
 pub mod OneFile
 pub mod Options
@@ -13,7 +16,10 @@ pub mod Passed
 pub mod Powers
 pub mod Printed
 pub mod Seen
+pub mod Sieved
+pub mod Sifted
 pub mod SoFar
 pub mod TagWalk
 pub mod Tallied
 pub mod WholeFiles
+pub mod WrittenEarly

@@ -9,22 +9,24 @@ use Rattle.mq_pcap.proofs.Filled.{Takes-nil, Takes-trans}
 use Rattle.mq_text.specs.Printing.{Passes, Puts}
 use Rattle.mq_text.proofs.Passing.{both_passed, broken_behind}
 use Rattle.mq_convert.specs.declared.choice.Choice.{Choice}
+use Rattle.mq_convert.specs.declared.counts.ConvertCounts.{ConvertCounts}
 use Rattle.mq_convert.specs.declared.fault.BlockFault.{BlockFault}
 use Rattle.mq_convert.specs.declared.fault.ConvertFault.{ConvertFault}
 use Rattle.mq_convert.specs.declared.fault.ConvertFault.TheVariants as answer
 use Rattle.mq_convert.specs.declared.packet.Packet.{Packet}
-use Rattle.mq_convert.specs.declared.unread.Unread.{Unread}
 use Rattle.mq_convert.specs.Blocks.{Captured, block_in, seen_in}
 use Rattle.mq_convert.specs.Contexts.{ContextState, at_start}
 use Rattle.mq_convert.specs.Converting.{IsEndedBy}
 use Rattle.mq_convert.specs.Files.{AreBlocks, EndsBy, endless}
-use Rattle.mq_convert.specs.Putting.{IsPut, PutsCapture, ReadsBlock, block_text, held_of}
+use Rattle.mq_convert.specs.Putting.{IsPut, PutsCapture, ReadsBlock, block_text, held_of, records_of}
 use Rattle.mq_convert.specs.Reading.{NextBlock}
-use Rattle.mq_convert.specs.Records.{converted, file_header, packets_of, record_of, unread_link, unread_links}
+use Rattle.mq_convert.specs.Records.{converted, file_header, packets_of, record_of, written_of}
+use Rattle.mq_convert.specs.Repeats.{Gone, gone_behind, going_out}
+use Rattle.mq_convert.specs.Sieving.{HasSieved, SieveState}
 use Rattle.mq_convert.specs.Sizes.{IsWhole, most_seen, seen_of}
-use Rattle.mq_convert.specs.Tallies.{Tallies}
 use Rattle.mq_convert.proofs.Begun.{begun_ends}
 use Rattle.mq_convert.proofs.NextBlocks.{some_head}
+use Rattle.mq_convert.proofs.Sifted.{going_out-more}
 
 -- one block more
 AreBlocks-more : (start mid after : ContextState) (bytes first : List ℕ) (blocks : List (Option Captured)) (held : Option Captured)
@@ -48,38 +50,47 @@ packets_of-more blocks held =
     flat_map-append option_to_list blocks (held ∷ []) ∙ ap (λ (xs : List Captured). packets_of blocks ++ xs) (append-nil (option_to_list held))
 
 converted-more : (choice : Choice) (blocks : List (Option Captured)) (held : Option Captured)
-    → converted choice (packets_of (blocks ++ (held ∷ []))) ≡ converted choice (packets_of blocks) ++ block_text choice held
+    → converted choice (packets_of (blocks ++ (held ∷ []))) ≡ converted choice (packets_of blocks) ++ records_of choice (gone_behind choice [] (packets_of blocks)) held
 converted-more choice blocks held =
+    let before = packets_of blocks in
+    let more = going_out choice (gone_behind choice [] before) (option_to_list held) in
     ap (converted choice) (packets_of-more blocks held)
-    ∙ ap (λ (xs : List ℕ). file_header ++ xs) (flat_map-append (record_of choice) (packets_of blocks) (option_to_list held))
-    ∙ sym (append_assoc file_header (flat_map (record_of choice) (packets_of blocks)) (block_text choice held))
+    ∙ ap (λ (xs : List Captured). file_header ++ flat_map (record_of choice) xs) (going_out-more choice [] before (option_to_list held))
+    ∙ ap (λ (xs : List ℕ). file_header ++ xs) (flat_map-append (record_of choice) (going_out choice [] before) more)
+    ∙ sym (append_assoc file_header (flat_map (record_of choice) (going_out choice [] before)) (flat_map (record_of choice) more))
 
-links-more : (choice : Choice) (blocks : List (Option Captured)) (held : Option Captured)
-    → unread_links choice (packets_of (blocks ++ (held ∷ []))) ≡ unread_links choice (packets_of blocks) ++ unread_links choice (option_to_list held)
-links-more choice blocks held =
-    ap (unread_links choice) (packets_of-more blocks held) ∙ flat_map-append (unread_link choice) (packets_of blocks) (option_to_list held)
+written_of-more : (choice : Choice) (blocks : List (Option Captured)) (held : Option Captured)
+    → written_of choice (blocks ++ (held ∷ [])) ≡ written_of choice blocks ++ block_text choice (gone_behind choice [] (packets_of blocks)) (length blocks) held
+written_of-more choice [] held = ap (λ (xs : List Captured). file_header ++ flat_map (record_of choice) (going_out choice [] xs)) (append-nil (option_to_list held))
+written_of-more choice (block ∷ blocks) held = converted-more choice (block ∷ blocks) held
 
--- so many blocks were read, and those of their packets whose link type isn't read counted
-pub record IsReadTo (choice : Choice) (old new : InputState) (context : ContextState) (number : ℕ) (unread : Unread) : Type 0 where
+-- what is written of a block, where this is known of the packets before it
+text_so : (choice : Choice) (packets : List Captured) (sieve : SieveState) (number : ℕ) (held : Option Captured) → HasSieved choice packets sieve
+    → block_text sieve.choice sieve.gone number held ≡ block_text choice (gone_behind choice [] packets) number held
+text_so choice packets sieve number held has =
+    ap (λ (asked : Choice). block_text asked sieve.gone number held) has.chosen ∙ ap (λ (gone : List Gone). block_text choice gone number held) has.gone
+
+-- so many blocks were read, and this is known of their packets
+pub record IsReadTo (choice : Choice) (old new : InputState) (context : ContextState) (number : ℕ) (sieve : SieveState) : Type 0 where
   pub bytes : List ℕ
   pub blocks : List (Option Captured)
   pub takes : Takes old new bytes
   pub are_blocks : AreBlocks at_start bytes blocks context
   pub count : number ≡ length blocks
-  pub tallied : Tallies (unread_links choice (packets_of blocks)) unread
+  pub sieved : HasSieved choice (packets_of blocks) sieve
 
 -- the text of what was read
-abbrev pub text_of : (choice : Choice) (old new : InputState) (context : ContextState) (number : ℕ) (unread : Unread) → IsReadTo choice old new context number unread → List ℕ
-text_of choice old new context number unread r = converted choice (packets_of r.blocks)
+abbrev pub text_of : (choice : Choice) (old new : InputState) (context : ContextState) (number : ℕ) (sieve : SieveState) → IsReadTo choice old new context number sieve → List ℕ
+text_of choice old new context number sieve r = written_of choice r.blocks
 
-abbrev pub nothing_read : (choice : Choice) (s : InputState) (context : ContextState) (unread : Unread) → context ≡ at_start → Tallies [] unread → IsReadTo choice s s context 0 unread
-nothing_read choice s context unread is tallied = record {
+abbrev pub nothing_read : (choice : Choice) (s : InputState) (context : ContextState) (sieve : SieveState) → context ≡ at_start → HasSieved choice [] sieve → IsReadTo choice s s context 0 sieve
+nothing_read choice s context sieve is sieved = record {
   bytes = [];
   blocks = [];
   takes = Takes-nil s;
   are_blocks = (refl, is);
   count = refl;
-  tallied = tallied;
+  sieved = sieved;
 }
 
 -- what a block comes to is what its size and what is seen of it come to
@@ -89,27 +100,27 @@ is_seen context number size count mid new buffer next is =
     ap (λ n. seen_in context n (seen_of next.bytes)) next.answers.2 ∙ ap (seen_in context size) (next.answers.1 ∙ ap (λ n. take n buffer) (sym is))
 
 -- a block more was read and put
-next_read : (choice : Choice) (old mid new : InputState) (context after : ContextState) (number size count : ℕ) (unread more : Unread) (buffer : List ℕ) (held : Option Captured)
-    → (r : IsReadTo choice old mid context number unread) → NextBlock context.kind number mid new buffer (Ok (Some size)) → count ≡ min size most_seen → seen_in context size (take count buffer) ≡ Ok (after, held)
-    → ((links : List ℕ) → Tallies links unread → Tallies (links ++ unread_links choice (option_to_list held)) more)
+next_read : (choice : Choice) (old mid new : InputState) (context after : ContextState) (number size count : ℕ) (sieve more : SieveState) (buffer : List ℕ) (held : Option Captured)
+    → (r : IsReadTo choice old mid context number sieve) → NextBlock context.kind number mid new buffer (Ok (Some size)) → count ≡ min size most_seen → seen_in context size (take count buffer) ≡ Ok (after, held)
+    → ((asked : Choice) (packets : List Captured) → HasSieved asked packets sieve → HasSieved asked (packets ++ option_to_list held) more)
     → (s : IsReadTo choice old new after (number + 1) more) × (s.blocks ≡ r.blocks ++ (held ∷ []))
-next_read choice old mid new context after number size count unread more buffer held r next front is tally = (
+next_read choice old mid new context after number size count sieve more buffer held r next front is sieved = (
   record {
     bytes = r.bytes ++ next.bytes;
     blocks = r.blocks ++ (held ∷ []);
     takes = Takes-trans old mid new r.bytes next.bytes r.takes next.takes;
     are_blocks = AreBlocks-more at_start context after r.bytes next.bytes r.blocks held r.are_blocks next.answers.5 (is_seen context number size count mid new buffer next front ∙ is);
     count = let count = r.count in omega (arith, count, length-append r.blocks (held ∷ []));
-    tallied = rw links-more (tally (unread_links choice (packets_of r.blocks)) r.tallied);
+    sieved = rw packets_of-more (sieved choice (packets_of r.blocks) r.sieved);
   },
   refl,
 )
 
 -- what the packets that were read come to, where a call ends
-ended_with : (choice : Choice) (old mid new : InputState) (before after : Option (List ℕ)) (held left : List ℕ) (context : ContextState) (number : ℕ) (unread : Unread) (r : IsReadTo choice old mid context number unread)
-    → (bytes : List ℕ) → Takes mid new bytes → number ≤ endless → (end : Option BlockFault) → EndsBy number context bytes end → (it : Result Unread ConvertFault)
-    → IsEndedBy choice r.blocks end (r.bytes ++ bytes) old new it → IsPut before after held left (converted choice (packets_of r.blocks)) it → PutsCapture choice old new before after held left it
-ended_with choice old mid new before after held left context number unread r bytes takes few end ends it ended put = record {
+ended_with : (choice : Choice) (old mid new : InputState) (before after : Option (List ℕ)) (held left : List ℕ) (context : ContextState) (number : ℕ) (sieve : SieveState) (r : IsReadTo choice old mid context number sieve)
+    → (bytes : List ℕ) → Takes mid new bytes → number ≤ endless → (end : Option BlockFault) → EndsBy number context bytes end → (it : Result ConvertCounts ConvertFault)
+    → IsEndedBy choice r.blocks end (r.bytes ++ bytes) old new it → IsPut before after held left (written_of choice r.blocks) it → PutsCapture choice old new before after held left it
+ended_with choice old mid new before after held left context number sieve r bytes takes few end ends it ended put = record {
   bytes = r.bytes ++ bytes;
   blocks = r.blocks;
   end = end;
@@ -128,60 +139,64 @@ ended_with choice old mid new before after held left context number unread r byt
 }
 
 -- the file ended
-pub ended_well : (choice : Choice) (old mid new : InputState) (before after : Option (List ℕ)) (held left : List ℕ) (context : ContextState) (number : ℕ) (unread : Unread) (buffer : List ℕ) (r : IsReadTo choice old mid context number unread)
-    → Passes before after held left (converted choice (packets_of r.blocks)) → mid.failed ≡ old.failed → number ≤ endless → NextBlock context.kind number mid new buffer (Ok None) → PutsCapture choice old new before after held left (Ok unread)
-ended_well choice old mid new before after held left context number unread buffer r passed same few next =
-    ended_with choice old mid new before after held left context number unread r next.bytes next.takes few None (next.answers.0, next.answers.1) (Ok unread)
-    (refl, next.answers.2, r.tallied, next.failed ∙ or-false mid.failed ∙ same) passed
+pub ended_well : (choice : Choice) (old mid new : InputState) (before after : Option (List ℕ)) (held left : List ℕ) (context : ContextState) (number : ℕ) (sieve : SieveState) (buffer : List ℕ) (r : IsReadTo choice old mid context number sieve)
+    → Passes before after held left (written_of choice r.blocks) → mid.failed ≡ old.failed → number ≤ endless → NextBlock context.kind number mid new buffer (Ok None) → PutsCapture choice old new before after held left (Ok sieve.counts)
+ended_well choice old mid new before after held left context number sieve buffer r passed same few next =
+    ended_with choice old mid new before after held left context number sieve r next.bytes next.takes few None (next.answers.0, next.answers.1) (Ok sieve.counts)
+    (refl, next.answers.2, r.sieved.counts, next.failed ∙ or-false mid.failed ∙ same) passed
 
 -- a read failed, or the next block has a fault by its size
-pub ended_faulty : (choice : Choice) (old mid new : InputState) (before after : Option (List ℕ)) (held left : List ℕ) (context : ContextState) (number : ℕ) (unread : Unread) (buffer : List ℕ) (e : ConvertFault) (r : IsReadTo choice old mid context number unread)
-    → Passes before after held left (converted choice (packets_of r.blocks)) → mid.failed ≡ old.failed → number ≤ endless → NextBlock context.kind number mid new buffer (Err e) → PutsCapture choice old new before after held left (Err e)
-ended_faulty choice old mid new before after held left context number unread buffer answer.Read r passed same few next =
+pub ended_faulty : (choice : Choice) (old mid new : InputState) (before after : Option (List ℕ)) (held left : List ℕ) (context : ContextState) (number : ℕ) (sieve : SieveState) (buffer : List ℕ) (e : ConvertFault) (r : IsReadTo choice old mid context number sieve)
+    → Passes before after held left (written_of choice r.blocks) → mid.failed ≡ old.failed → number ≤ endless → NextBlock context.kind number mid new buffer (Err e) → PutsCapture choice old new before after held left (Err e)
+ended_faulty choice old mid new before after held left context number sieve buffer answer.Read r passed same few next =
     let begun = begun_ends number context next.bytes next.answers in
-    ended_with choice old mid new before after held left context number unread r next.bytes next.takes few begun.0 begun.1 (Err answer.Read) (next.failed ∙ or-true mid.failed) passed
-ended_faulty choice old mid new before after held left context number unread buffer answer.Write r passed same few next = absurd next.answers
-ended_faulty choice old mid new before after held left context number unread buffer answer.Memory r passed same few next = absurd next.answers
-ended_faulty choice old mid new before after held left context number unread buffer (answer.Block n f) r passed same few next =
-    ended_with choice old mid new before after held left context number unread r next.bytes next.takes few (Some f) (inl next.answers.1) (Err (answer.Block n f))
+    ended_with choice old mid new before after held left context number sieve r next.bytes next.takes few begun.0 begun.1 (Err answer.Read) (next.failed ∙ or-true mid.failed) passed
+ended_faulty choice old mid new before after held left context number sieve buffer answer.Write r passed same few next = absurd next.answers
+ended_faulty choice old mid new before after held left context number sieve buffer answer.Memory r passed same few next = absurd next.answers
+ended_faulty choice old mid new before after held left context number sieve buffer (answer.Block n f) r passed same few next =
+    ended_with choice old mid new before after held left context number sieve r next.bytes next.takes few (Some f) (inl next.answers.1) (Err (answer.Block n f))
     (refl, next.answers.0 ∙ r.count, next.answers.2, next.failed ∙ or-false mid.failed ∙ same) passed
 
 -- the next block was read, and what it holds has a fault
-pub ended_within : (choice : Choice) (old mid new : InputState) (before after : Option (List ℕ)) (held left : List ℕ) (context now : ContextState) (number size count : ℕ) (unread : Unread) (buffer : List ℕ) (e : ConvertFault) (r : IsReadTo choice old mid context number unread)
-    → Passes before after held left (converted choice (packets_of r.blocks)) → mid.failed ≡ old.failed → NextBlock context.kind number mid new buffer (Ok (Some size)) → count ≡ min size most_seen → ReadsBlock number context now size (take count buffer) (Err e)
+pub ended_within : (choice : Choice) (old mid new : InputState) (before after : Option (List ℕ)) (held left : List ℕ) (context now : ContextState) (number size count : ℕ) (sieve : SieveState) (buffer : List ℕ) (e : ConvertFault) (r : IsReadTo choice old mid context number sieve)
+    → Passes before after held left (written_of choice r.blocks) → mid.failed ≡ old.failed → NextBlock context.kind number mid new buffer (Ok (Some size)) → count ≡ min size most_seen → ReadsBlock number context now size (take count buffer) (Err e)
     → PutsCapture choice old new before after held left (Err e)
-ended_within choice old mid new before after held left context now number size count unread buffer answer.Read r passed same next front reads = absurd reads
-ended_within choice old mid new before after held left context now number size count unread buffer answer.Write r passed same next front reads = absurd reads
-ended_within choice old mid new before after held left context now number size count unread buffer answer.Memory r passed same next front reads = absurd reads
-ended_within choice old mid new before after held left context now number size count unread buffer (answer.Block n f) r passed same next front reads =
+ended_within choice old mid new before after held left context now number size count sieve buffer answer.Read r passed same next front reads = absurd reads
+ended_within choice old mid new before after held left context now number size count sieve buffer answer.Write r passed same next front reads = absurd reads
+ended_within choice old mid new before after held left context now number size count sieve buffer answer.Memory r passed same next front reads = absurd reads
+ended_within choice old mid new before after held left context now number size count sieve buffer (answer.Block n f) r passed same next front reads =
     let few = next.answers.0 in
-    ended_with choice old mid new before after held left context number unread r next.bytes next.takes (omega (arith, few)) (Some f)
+    ended_with choice old mid new before after held left context number sieve r next.bytes next.takes (omega (arith, few)) (Some f)
     (inr (next.bytes, [], sym (append-nil next.bytes), few, next.answers.5, is_seen context number size count mid new buffer next front ∙ reads.1)) (Err (answer.Block n f))
     (refl, reads.0 ∙ r.count, λ cut. absurd (cc (cut, reads.2)), next.failed ∙ or-false mid.failed ∙ same) passed
 
 -- the next block was read, and what it holds put
-pub next_put : (T E : Type 0) (choice : Choice) (old mid new : InputState) (before now after : Option (List ℕ)) (held more left : List ℕ) (context behind : ContextState) (number size count : ℕ) (unread tally : Unread) (buffer : List ℕ) (packet : Option Packet) (it : T)
-    → (r : IsReadTo choice old mid context number unread) → Passes before now held more (converted choice (packets_of r.blocks)) → NextBlock context.kind number mid new buffer (Ok (Some size)) → count ≡ min size most_seen
-    → ReadsBlock number context behind size (take count buffer) (Ok packet) → Puts {T = T} {E = E} now after more left (block_text choice (held_of (take count buffer) packet)) (Ok it)
-    → ((links : List ℕ) → Tallies links unread → Tallies (links ++ unread_links choice (option_to_list (held_of (take count buffer) packet))) tally)
-    → (s : IsReadTo choice old new behind (number + 1) tally) × Passes before after held left (converted choice (packets_of s.blocks))
-next_put T E choice old mid new before now after held more left context behind number size count unread tally buffer packet it r passed next front reads put counted =
+pub next_put : (T E : Type 0) (choice : Choice) (old mid new : InputState) (before now after : Option (List ℕ)) (held more left : List ℕ) (context behind : ContextState) (number size count : ℕ) (sieve more_sieve : SieveState) (buffer : List ℕ) (packet : Option Packet) (it : T)
+    → (r : IsReadTo choice old mid context number sieve) → Passes before now held more (written_of choice r.blocks) → NextBlock context.kind number mid new buffer (Ok (Some size)) → count ≡ min size most_seen
+    → ReadsBlock number context behind size (take count buffer) (Ok packet) → Puts {T = T} {E = E} now after more left (block_text sieve.choice sieve.gone number (held_of (take count buffer) packet)) (Ok it)
+    → ((asked : Choice) (packets : List Captured) → HasSieved asked packets sieve → HasSieved asked (packets ++ option_to_list (held_of (take count buffer) packet)) more_sieve)
+    → (s : IsReadTo choice old new behind (number + 1) more_sieve) × Passes before after held left (written_of choice s.blocks)
+next_put T E choice old mid new before now after held more left context behind number size count sieve more_sieve buffer packet it r passed next front reads put sieved =
     let found = held_of (take count buffer) packet in
-    let s = next_read choice old mid new context behind number size count unread tally buffer found r next front reads.0 counted in
-    let both = both_passed before now after held more left (converted choice (packets_of r.blocks)) (block_text choice found) passed put in
-    (s.0, rw (s.1, converted-more choice r.blocks found) both)
+    let s = next_read choice old mid new context behind number size count sieve more_sieve buffer found r next front reads.0 sieved in
+    let text = block_text choice (gone_behind choice [] (packets_of r.blocks)) number found in
+    let put_so = subst (λ (t : List ℕ). Puts {T = T} {E = E} now after more left t (Ok it)) (text_so choice (packets_of r.blocks) sieve number found r.sieved) put in
+    let both = both_passed before now after held more left (written_of choice r.blocks) text passed put_so in
+    (s.0, rw (s.1, written_of-more choice r.blocks found, ← r.count) both)
 
 -- it was read, and what it holds was not put whole
-pub next_broken : (T E : Type 0) (choice : Choice) (old mid new : InputState) (before now after : Option (List ℕ)) (held more left : List ℕ) (context behind : ContextState) (number size count : ℕ) (unread : Unread) (buffer : List ℕ) (packet : Option Packet) (e : E)
-    → (r : IsReadTo choice old mid context number unread) → Passes before now held more (converted choice (packets_of r.blocks)) → NextBlock context.kind number mid new buffer (Ok (Some size)) → count ≡ min size most_seen
-    → ReadsBlock number context behind size (take count buffer) (Ok packet) → Puts {T = T} {E = E} now after more left (block_text choice (held_of (take count buffer) packet)) (Err e)
+pub next_broken : (T E : Type 0) (choice : Choice) (old mid new : InputState) (before now after : Option (List ℕ)) (held more left : List ℕ) (context behind : ContextState) (number size count : ℕ) (sieve : SieveState) (buffer : List ℕ) (packet : Option Packet) (e : E)
+    → (r : IsReadTo choice old mid context number sieve) → Passes before now held more (written_of choice r.blocks) → NextBlock context.kind number mid new buffer (Ok (Some size)) → count ≡ min size most_seen
+    → ReadsBlock number context behind size (take count buffer) (Ok packet) → Puts {T = T} {E = E} now after more left (block_text sieve.choice sieve.gone number (held_of (take count buffer) packet)) (Err e)
     → PutsCapture choice old new before after held left (Err answer.Write)
-next_broken T E choice old mid new before now after held more left context behind number size count unread buffer packet e r passed next front reads put =
+next_broken T E choice old mid new before now after held more left context behind number size count sieve buffer packet e r passed next front reads put =
     let found = held_of (take count buffer) packet in
     let begun = begun_ends (number + 1) behind [] (inl (some_head behind.kind)) in
     let reached : number + 1 ≡ length (r.blocks ++ (found ∷ [])) = let count = r.count in omega (arith, count, length-append r.blocks (found ∷ [])) in
     let few = next.answers.0 in
-    let broken = broken_behind before now after held more (converted choice (packets_of r.blocks)) (block_text choice found) passed put in
+    let text = block_text choice (gone_behind choice [] (packets_of r.blocks)) number found in
+    let put_so = subst (λ (t : List ℕ). Puts {T = T} {E = E} now after more left t (Err e)) (text_so choice (packets_of r.blocks) sieve number found r.sieved) put in
+    let broken = broken_behind before now after held more (written_of choice r.blocks) text passed put_so in
     record {
       bytes = r.bytes ++ next.bytes;
       blocks = r.blocks ++ (found ∷ []);
@@ -197,5 +212,5 @@ next_broken T E choice old mid new before now after held more left context behin
         ends = rw (← reached) begun.1;
       };
       ended = tt;
-      put = rw (converted-more choice r.blocks found) broken;
+      put = rw (written_of-more choice r.blocks found, ← r.count) broken;
     }

@@ -1,4 +1,4 @@
--- What a whole block holds, and what it changes for those behind it, by its size and what is seen of it.
+-- The content of a whole block, and its effect on later blocks, by its size and the bytes that are seen.
 use Rattle.std.specs.Prelude.{ℕ, ◌+◌, ◌-◌, ◌*◌, ◌%◌, ◌^◌, ◌≤◌, min, nat_lt, Bool, not, ◌&&◌, ◌||◌, ◌==◌, if◌then◌else◌, List, [], ◌∷◌, ◌++◌, length, slice_get, slice_range, Option, None, Some, Result, Ok, Err}
 use Rattle.mq_count.specs.Streams.{counted_on}
 use Rattle.mq_pcap.specs.declared.form.Endian.{Endian}
@@ -18,23 +18,25 @@ use Rattle.mq_convert.specs.Interfaces.{interface_in}
 use Rattle.mq_convert.specs.Moments.{classic_moment, moment_of}
 use Rattle.mq_convert.specs.Sizes.{section_type, form_in, most_seen, order_in, seen_of}
 
--- a packet: the number of its interface among all that the file describes, what that interface's frames begin
--- with, the moment in nanoseconds, how many bytes the packet had, and those that were captured
+-- a packet: the number of its interface among all that the file describes, the interface's name as a number, what its
+-- frames begin with, the moment in nanoseconds, how many bytes the packet had, and those that were captured
 pub record Captured : Type 0 where
   pub interface : ℕ
+  pub name : ℕ
   pub link : ℕ
   pub moment : ℕ
   pub original : ℕ
   pub bytes : List ℕ
 
--- what a block comes to: the context of those behind it, and a packet, if it has one
+-- the result of a block: the context of the later blocks, and a packet, if it has one
 abbrev pub Outcome : Type 0
 Outcome = Result (ContextState × Option Captured) BlockFault
 
--- a packet that the code found in a block as such
+-- a packet that the code found in a block
 abbrev pub captured_of : List ℕ → Packet → Captured
 captured_of block packet = record {
   interface = packet.interface;
+  name = packet.name;
   link = packet.link;
   moment = packet.moment;
   original = packet.original;
@@ -45,13 +47,13 @@ abbrev pub found_of : List ℕ → Result Packet BlockFault → Result Captured 
 found_of block (Ok packet) = Ok (captured_of block packet)
 found_of block (Err f) = Err f
 
--- an answer of the code with the context that it left as such
+-- a result of the code, with the context that it left
 abbrev pub answer_of : ContextState → List ℕ → Result (Option Packet) BlockFault → Outcome
 answer_of context block (Ok None) = Ok (context, None)
 answer_of context block (Ok (Some packet)) = Ok (context, Some (captured_of block packet))
 answer_of context block (Err f) = Err f
 
--- the bytes of a packet that is found are in the block
+-- the bytes of a found packet are in the block
 abbrev pub IsFoundWithin : List ℕ → Result Packet BlockFault → Type 0
 IsFoundWithin block (Ok packet) = packet.place + packet.length ≤ length block
 IsFoundWithin block (Err f) = Unit {0}
@@ -61,15 +63,15 @@ IsHeldWithin block (Ok None) = Unit {0}
 IsHeldWithin block (Ok (Some packet)) = packet.place + packet.length ≤ length block
 IsHeldWithin block (Err f) = Unit {0}
 
--- the length that a section's block begins with stands at its end too
+-- the length at the start of a section's block also stands at its end
 abbrev pub is_closed : Endian → (size : ℕ) → List ℕ → Bool
 is_closed order size block = field order (length block - 4) 4 block == size
 
--- the number of an interface of the section among all that the file describes
+-- the number of an interface of the section among all of the file
 abbrev pub numbered : ContextState → (id : ℕ) → ℕ
 numbered context id = counted_on context.earlier id
 
--- a packet with what an interface and its block say of it, if there is room for it before the last 4 bytes that are seen
+-- a packet of an interface and its block, if there is room for it before the last 4 bytes that are seen
 unfoldable pub packet_of : ContextState → (id : ℕ) → Interface → (moment : Option ℕ) → Said → List ℕ → Result Captured BlockFault
 packet_of context id interface moment said block =
     if nat_lt (length block) (said.place + said.captured + 4)
@@ -78,6 +80,7 @@ packet_of context id interface moment said block =
       | None ↦ Err fault.Moment
       | Some moment ↦ Ok (record {
         interface = numbered context id;
+        name = interface.name;
         link = interface.link;
         moment = moment;
         original = said.original;
@@ -85,12 +88,12 @@ packet_of context id interface moment said block =
       })
     ])
 
--- a moment has 64 bits, of which the high half comes first in either byte order
+-- a moment of 64 bits; the high half comes first in either byte order
 abbrev pub moment_at : Endian → (place : ℕ) → List ℕ → ℕ
 moment_at order place block = field order place 4 block * 2 ^ 32 + field order (place + 4) 4 block
 
--- a packet block that says its interface and its moment, at 12 in units of that interface: the number of captured
--- bytes is at 20, the original one at 24, and the bytes begin at 28
+-- A packet block with its interface and its moment, which stands at 12 in units of that interface. The number of
+-- captured bytes is at 20, the original number at 24, and the bytes begin at 28.
 unfoldable pub timed_in : ContextState → Endian → (id : ℕ) → List ℕ → Result Captured BlockFault
 timed_in context order id block =
     elim (slice_get context.interfaces id) [
@@ -99,12 +102,12 @@ timed_in context order id block =
           (record { place = 28; captured = field order 20 4 block; original = field order 24 4 block }) block
     ]
 
--- how many bytes of a packet are captured by an interface with this limit; 0 is none
+-- the number of bytes of a packet that an interface with this limit captures; 0 is no limit
 abbrev pub limited : (limit original : ℕ) → ℕ
 limited limit original = if limit == 0 then original else min limit original
 
--- A simple packet block: the original number of bytes at 8, and those of the section's first interface from 12
--- on. It says no moment, and has 0.
+-- A simple packet block. The original number of bytes is at 8, and the bytes of the section's first interface begin at
+-- 12. It has no moment, and gets 0.
 unfoldable pub simple_in : ContextState → Endian → List ℕ → Result Captured BlockFault
 simple_in context order block =
     let original = field order 8 4 block in
@@ -118,7 +121,7 @@ abbrev pub with_packet : ContextState → Result Captured BlockFault → Outcome
 with_packet context (Ok packet) = Ok (context, Some packet)
 with_packet context (Err f) = Err f
 
--- the description of an interface, at the end of those of its section, of which there are 1024 at most; all of it is seen
+-- The description of an interface, after those of its section, which has at most 1024. All of it is seen.
 unfoldable pub described_in : ContextState → Endian → (size : ℕ) → List ℕ → Outcome
 described_in context order size block = first_that_holds
     ((nat_lt (length block) 20 || nat_lt most_seen size, Err fault.Length)
@@ -126,13 +129,13 @@ described_in context order size block = first_that_holds
     ∷ [])
     (Ok (record context { interfaces = context.interfaces ++ (interface_in order (slice_range block 8 (length block - 4)) ∷ []) }, None))
 
--- the same in the byte order that the header says
+-- a section header in the byte order that it says
 unfoldable pub opened_in : Endian → ContextState → (size : ℕ) → List ℕ → Outcome
 opened_in order context size block = first_that_holds
     ((not (is_closed order size block), Err fault.Length) ∷ (not (field order 12 2 block == 1), Err fault.Version) ∷ [])
     (Ok (record { kind = Section order; interfaces = []; earlier = counted_on context.earlier (length context.interfaces) }, None))
 
--- a section header, whose version begins with 1: a new section, of which no interface was described
+-- a section header, whose version begins with 1: a new section without interfaces
 unfoldable pub section_in : ContextState → (size : ℕ) → List ℕ → Outcome
 section_in context size block =
     if nat_lt (length block) 28
@@ -148,7 +151,7 @@ packet_in context order kind block = first_that_holds
     ∷ [])
     (simple_in context order block)
 
--- the blocks behind a section header, by their types; one of another type is passed over
+-- the blocks after a section header, by their types; a block of another type is skipped
 unfoldable pub next_in : Endian → ContextState → (size : ℕ) → List ℕ → Outcome
 next_in order context size block =
     let kind = field order 0 4 block in first_that_holds
@@ -159,15 +162,15 @@ next_in order context size block =
     ∷ [])
     (Ok (context, None))
 
--- the header of a classic capture: version 2.4, and in the low 16 bits of the last field what frames begin with;
--- it is the description of its one interface
+-- The header of a classic capture, which describes its one interface. It has version 2.4, and the link type in the low
+-- 16 bits of the last field.
 unfoldable pub classic_in : Endian → Fraction → List ℕ → Outcome
 classic_in order fraction block = first_that_holds
     ((not (field order 4 2 block == 2 && field order 6 2 block == 4), Err fault.Version) ∷ [])
     (Ok (
       record {
         kind = Classic order fraction;
-        interfaces = record { link = field order 20 4 block % 65536; limit = 0; resolution = 0; offset = 0 } ∷ [];
+        interfaces = record { link = field order 20 4 block % 65536; limit = 0; resolution = 0; offset = 0; name = 0 } ∷ [];
         earlier = 0;
       },
       None,
@@ -189,6 +192,7 @@ record_in order fraction context block =
         | None ↦ Err fault.Interface
         | Some interface ↦ Ok (record {
           interface = 0;
+          name = interface.name;
           link = interface.link;
           moment = moment;
           original = field order 12 4 block;
@@ -202,10 +206,10 @@ block_by Start context size block = first_in context size block
 block_by (Classic order fraction) context size block = with_packet context (record_in order fraction context block)
 block_by (Section order) context size block = next_in order context size block
 
--- what a block of this size comes to of which this is seen
+-- the result of a block of this size, with these bytes seen
 abbrev pub seen_in : ContextState → (size : ℕ) → List ℕ → Outcome
 seen_in context size block = block_by context.kind context size block
 
--- what a whole block comes to
+-- the result of a whole block
 abbrev pub block_in : ContextState → List ℕ → Outcome
 block_in context block = seen_in context (length block) (seen_of block)

@@ -1,12 +1,11 @@
--- What was read before a block says how it is read.
+-- The context of a block, from what was read before it.
 use Rattle.std.specs.Prelude.{ℕ, List, []}
 use Rattle.mq_convert.specs.declared.context.Context.{Context}
 use Rattle.mq_convert.specs.declared.context.Interface.{Interface}
 use Rattle.mq_convert.specs.declared.context.Kind.{Kind}
 use Rattle.mq_convert.specs.declared.context.Kind.TheVariants.{Start}
 
--- what kind of block comes next, the interfaces that were described in the section so far, and how many those
--- of earlier sections are
+-- The kind of the next block, the interfaces of the section so far, and the number of those of earlier sections.
 pub record ContextState : Type 0 where
   pub kind : Kind
   pub interfaces : List Interface
@@ -15,6 +14,6 @@ pub record ContextState : Type 0 where
 abbrev pub context_of : Context → ContextState
 context_of context = record { kind = context.kind; interfaces = context.interfaces.items; earlier = context.earlier }
 
--- before the first block of a file
+-- the context before the first block of a file
 abbrev pub at_start : ContextState
 at_start = record { kind = Start; interfaces = []; earlier = 0 }

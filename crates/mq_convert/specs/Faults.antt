@@ -1,11 +1,11 @@
--- Faults of blocks, and of what is converted.
+-- Faults of blocks, and of conversions.
 use Rattle.std.specs.Prelude.{Bool, true, false, Result, Ok, Err}
 use Rattle.mq_convert.specs.declared.fault.BlockFault.{BlockFault}
 use Rattle.mq_convert.specs.declared.fault.BlockFault.TheVariants as fault
 use Rattle.mq_convert.specs.declared.fault.ConvertFault.{ConvertFault}
 use Rattle.mq_convert.specs.declared.fault.ConvertFault.TheVariants as answer
 
--- whether a fault is that of a block that is cut
+-- the fault is that of a truncated block
 abbrev pub is_cut : BlockFault → Bool
 is_cut fault.Cut = true
 is_cut fault.NoCapture = false
@@ -17,7 +17,7 @@ is_cut fault.Interfaces = false
 is_cut fault.Moment = false
 is_cut fault.Endless = false
 
--- whether an answer is a failed read
+-- the result is a failed read
 abbrev pub is_failed_read : {X : Type 0} → Result X ConvertFault → Bool
 is_failed_read (Ok x) = false
 is_failed_read (Err answer.Read) = true
@@ -25,7 +25,7 @@ is_failed_read (Err answer.Write) = false
 is_failed_read (Err answer.Memory) = false
 is_failed_read (Err (answer.Block number f)) = false
 
--- whether it is a failed write
+-- the result is a failed write
 abbrev pub is_failed_write : {X : Type 0} → Result X ConvertFault → Bool
 is_failed_write (Ok x) = false
 is_failed_write (Err answer.Read) = false

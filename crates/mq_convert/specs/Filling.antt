@@ -1,11 +1,12 @@
--- What it is to fill a part of a buffer from a stream, to pass over bytes, and to fill what is seen of a block.
+-- The filling of a part of a buffer, the skipping of bytes, and the filling of the seen part of a block.
 use Rattle.std.specs.Prelude.{◌≡◌, ℕ, ◌+◌, ◌<◌, ◌≤◌, ◌||◌, is_err, min, List, ◌++◌, length, take, Result, Ok, Err}
 use Rattle.std.specs.Io.KnownBytes.{IsAtEnd}
 use Rattle.mq_pcap.specs.Filling.{InputState, Takes}
 use Rattle.mq_convert.specs.Sizes.{most_seen, seen_of}
 
--- `Ok n`: the buffer's first n bytes are its first ones from before and those that were taken, fewer than asked for
--- only at the end of the stream; an error, that the stream failed before they were all there
+-- The result of filling a part of a buffer. `Ok n`: the buffer's first n bytes are its first ones from before and those
+-- that were read. There are fewer than asked for only at the end of the stream. An error: the stream failed before they
+-- were all there.
 abbrev pub FillsTo : {E : Type 0} → InputState → (before buffer : List ℕ) → (from to : ℕ) → (bytes : List ℕ) → Result ℕ E → Type 0
 FillsTo new before buffer from to bytes (Ok n) =
     (take n buffer ≡ take from before ++ bytes) × (n ≡ from + length bytes) × (n ≤ to) × (n < to → IsAtEnd new.ahead)
@@ -18,8 +19,8 @@ pub record FillsFrom {E : Type 0} (old new : InputState) (before buffer : List �
   pub failed : new.failed ≡ (old.failed || is_err answer)
   pub size : length buffer ≡ length before
 
--- `Ok n`: behind the first bytes of a block so many were taken that there were n of it, fewer than `to` only at the end of
--- the stream; an error, that the stream failed before there were as many
+-- The result of skipping bytes. `Ok n`: the bytes read after the first bytes of a block make it n, which is less than
+-- `to` only at the end of the stream. An error: the stream failed before.
 abbrev pub PassesTo : {E : Type 0} → InputState → (from to : ℕ) → (bytes : List ℕ) → Result ℕ E → Type 0
 PassesTo new from to bytes (Ok n) = (n ≡ from + length bytes) × (n ≤ to) × (n < to → IsAtEnd new.ahead)
 PassesTo new from to bytes (Err e) = from + length bytes < to
@@ -30,13 +31,13 @@ pub record PassesOver {E : Type 0} (old new : InputState) (from to : ℕ) (answe
   pub passes : PassesTo new from to bytes answer
   pub failed : new.failed ≡ (old.failed || is_err answer)
 
--- where all of a block was taken, what is seen of it is the front of the buffer
+-- if all of a block was read, its seen part is the front of the buffer
 abbrev pub ShowsAt : {E : Type 0} → (before buffer : List ℕ) → (from to : ℕ) → (bytes : List ℕ) → Result ℕ E → Type 0
 ShowsAt before buffer from to bytes (Ok n) =
     n ≡ to → seen_of (take from before ++ bytes) ≡ take (min to most_seen) buffer
 ShowsAt before buffer from to bytes (Err e) = Unit {0}
 
--- of a block of `to` bytes, of which the first stand in the buffer, the others were taken
+-- the rest of a block of `to` bytes was read, whose first bytes stand in the buffer
 pub record FillsSeen {E : Type 0} (old new : InputState) (before buffer : List ℕ) (from to : ℕ) (answer : Result ℕ E) : Type 0 where
   pub bytes : List ℕ
   pub takes : Takes old new bytes

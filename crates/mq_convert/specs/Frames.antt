@@ -1,4 +1,4 @@
--- Frames of Ethernet, made of what an interface captures.
+-- Ethernet frames, built from the bytes that an interface captures.
 use Rattle.std.specs.Prelude.{ℕ, ◌+◌, ◌-◌, ◌/◌, ◌%◌, min, nat_lt, Bool, not, ◌&&◌, ◌||◌, ◌==◌, if◌then◌else◌, List, [], ◌∷◌, ◌++◌, length, take, drop, slice_index, slice_range, Option, None, Some}
 use Rattle.std.specs.List.{list_any}
 use Rattle.byteorder.specs.Endian.{big_bytes}
@@ -8,18 +8,18 @@ use Rattle.mq_pcap.specs.Tests.{first_that_holds}
 use Rattle.mq_convert.specs.declared.frames.Frame.{Frame}
 use Rattle.mq_convert.specs.declared.frames.Frame.TheVariants as frame
 
--- an Ethernet frame: the addresses of its destination and its source, its type, and what it carries; or what there
--- is of one that ends before its type is known
+-- An Ethernet frame: the addresses of its destination and its source, its type, and its payload. If it ends before its
+-- type is known, it is the bytes that are there.
 pub data Framed : Type 0 where
   Whole : (addresses : List ℕ) (kind : ℕ) (payload : List ℕ) → Framed
   Cut : (bytes : List ℕ) → Framed
 
--- a frame of the code as such
+-- a frame of the code
 abbrev pub framed : Frame → Framed
 framed (frame.Whole addresses kind payload) = Whole addresses kind payload.now
 framed (frame.Cut bytes) = Cut bytes.now
 
--- the types of IPv4 and IPv6, and one that says nothing to anyone
+-- the types of IPv4 and IPv6, and a type that no one reads
 abbrev pub ipv4 : ℕ
 ipv4 = 0x0800
 
@@ -29,14 +29,14 @@ ipv6 = 0x86dd
 abbrev pub unread : ℕ
 unread = 0xffff
 
--- an address that isn't known
+-- an unknown address, and two of them
 abbrev pub no_address : List ℕ
 no_address = 0 ∷ 0 ∷ 0 ∷ 0 ∷ 0 ∷ 0 ∷ []
 
 abbrev pub no_addresses : List ℕ
 no_addresses = 0 ∷ 0 ∷ 0 ∷ 0 ∷ 0 ∷ 0 ∷ 0 ∷ 0 ∷ 0 ∷ 0 ∷ 0 ∷ 0 ∷ []
 
--- link type 1
+-- link type 1: Ethernet
 unfoldable pub of_ethernet : List ℕ → Framed
 of_ethernet bytes =
     if nat_lt (length bytes) 14 then Cut bytes else Whole (slice_range bytes 0 12) (field Big 12 2 bytes) (drop 14 bytes)
@@ -50,7 +50,7 @@ ip_type packet = first_that_holds
 unfoldable pub of_raw_ip : List ℕ → Framed
 of_raw_ip packet = if nat_lt (length packet) 1 then Cut packet else Whole no_addresses (ip_type packet) packet
 
--- the sender's address, where it has 6 bytes
+-- the sender's address after an unknown one, if it has 6 bytes
 abbrev pub sent_by : (size : ℕ) → (address : List ℕ) → List ℕ
 sent_by size address = no_address ++ (if size == 6 then address else no_address)
 
@@ -68,21 +68,21 @@ of_cooked_2 bytes =
     then Cut bytes
     else Whole (sent_by (slice_index bytes 11) (slice_range bytes 12 18)) (field Big 0 2 bytes) (drop 20 bytes)
 
--- the type of a packet by its family, which BSD loopback has in the byte order of the machine that captured: 2 is
--- IPv4, and IPv6 has one of four numbers
+-- The type of a packet by its family: 2 is IPv4, and IPv6 has one of four numbers. BSD loopback has the family in the
+-- byte order of the machine that captured.
 unfoldable pub family_type : (family : ℕ) → ℕ
 family_type family = first_that_holds
     ((family == 2, ipv4) ∷ (list_any (λ known. family == known) (10 ∷ 24 ∷ 28 ∷ 30 ∷ []), ipv6) ∷ []) unread
 
--- link types 0 and 108, BSD loopback: the family, in either byte order, whose number is small
+-- link types 0 and 108, BSD loopback: the family, whose number is small, in either byte order
 unfoldable pub of_loopback : List ℕ → Framed
 of_loopback bytes =
     if nat_lt (length bytes) 4
     then Cut bytes
     else Whole no_addresses (family_type (min (field Big 0 4 bytes) (field Little 0 4 bytes))) (drop 4 bytes)
 
--- the frame of what an interface of this link type captured; a link type that isn't read has the type that says
--- nothing
+-- The frame of the bytes that an interface of this link type captured. If the link type isn't read, its type is
+-- `unread`.
 unfoldable pub frame_of : (link : ℕ) → List ℕ → Framed
 frame_of link bytes = first_that_holds
     ((link == 1, of_ethernet bytes)
@@ -95,15 +95,15 @@ frame_of link bytes = first_that_holds
     ∷ [])
     (Whole no_addresses unread bytes)
 
--- the link types that are read
+-- the link type is read
 abbrev pub is_read_link : ℕ → Bool
 is_read_link link = list_any (λ known. link == known) (1 ∷ 101 ∷ 12 ∷ 14 ∷ 228 ∷ 229 ∷ 113 ∷ 276 ∷ 0 ∷ 108 ∷ [])
 
--- the types of tags
+-- the type is that of a tag
 abbrev pub is_tag : ℕ → Bool
 is_tag kind = kind == 0x8100 || (kind == 0x88a8 || kind == 0x9100)
 
--- A tag is its type and two bytes more; behind it stands the next type. All are taken off.
+-- The frame without tags. A tag is its type and two more bytes, and the next type follows.
 abbrev pub behind_tags : (addresses : List ℕ) → (kind : ℕ) → (payload : List ℕ) → Framed
 behind_tags addresses kind (a ∷ (b ∷ (c ∷ (d ∷ rest)))) =
     if is_tag kind then behind_tags addresses (field Big 2 2 (a ∷ (b ∷ (c ∷ (d ∷ []))))) rest else Whole addresses kind (a ∷ (b ∷ (c ∷ (d ∷ rest))))
@@ -113,26 +113,26 @@ abbrev pub untagged : Framed → Framed
 untagged (Whole addresses kind payload) = behind_tags addresses kind payload
 untagged (Cut bytes) = Cut bytes
 
--- the network that the outermost tag names
+-- the network of the outermost tag
 abbrev pub tag_of : Framed → Option ℕ
 tag_of (Whole addresses kind payload) =
     if is_tag kind && not (nat_lt (length payload) 2) then Some (field Big 0 2 payload % 4096) else None
 tag_of (Cut bytes) = None
 
--- how many bytes a frame has
+-- the number of bytes of a frame
 abbrev pub frame_length : Framed → ℕ
 frame_length (Whole addresses kind payload) = 14 + length payload
 frame_length (Cut bytes) = length bytes
 
--- what is written of a frame that is cut: at most 13 bytes, so that no type is read of it
+-- the bytes written for a truncated frame: at most 13, so that no type is read
 abbrev pub before_type : List ℕ → List ℕ
 before_type bytes = take (min (length bytes) 13) bytes
 
--- what is written of what a frame carries: a record has as many bytes as a classic capture may have
+-- the bytes written for a payload: a record has at most as many bytes as a classic capture allows
 abbrev pub carried_of : List ℕ → List ℕ
 carried_of payload = take (min (length payload) (most_bytes - 14)) payload
 
--- the bytes that are written of a frame, and how many they are; addresses have 12
+-- the bytes that are written of a frame, and their number; addresses have 12
 abbrev pub frame_bytes : Framed → List ℕ
 frame_bytes (Whole addresses kind payload) = addresses ++ big_bytes 2 kind ++ carried_of payload
 frame_bytes (Cut bytes) = before_type bytes

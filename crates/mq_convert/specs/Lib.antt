@@ -1,4 +1,5 @@
 pub mod Blocks
+pub mod Choices
 pub mod Contexts
 pub mod Converting
 pub mod Faults
@@ -12,5 +13,7 @@ pub mod Plain
 pub mod Putting
 pub mod Reading
 pub mod Records
+pub mod Repeats
+pub mod Sieving
 pub mod Sizes
 pub mod Tallies

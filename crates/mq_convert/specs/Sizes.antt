@@ -1,4 +1,4 @@
--- How many bytes a block has, by its first ones. A classic capture's blocks are its header and its records.
+-- The size of a block, by its first bytes. The blocks of a classic capture are its header and its records.
 use Rattle.std.specs.Prelude.{◌≡◌, ℕ, ◌+◌, ◌-◌, ◌%◌, nat_lt, Bool, true, false, not, ◌==◌, if◌then◌else◌, List, [], ◌∷◌, ◌++◌, length, take, drop, ◌≤◌, Option, None, Some, Result, Ok, Err}
 use Rattle.mq_pcap.specs.declared.form.Endian.{Endian}
 use Rattle.mq_pcap.specs.declared.form.Endian.TheVariants.{Big, Little}
@@ -11,12 +11,12 @@ use Rattle.mq_convert.specs.declared.context.Kind.TheVariants.{Start, Classic, S
 use Rattle.mq_convert.specs.declared.fault.BlockFault.{BlockFault}
 use Rattle.mq_convert.specs.declared.fault.BlockFault.TheVariants as fault
 
--- how many bytes of a block are seen at most
+-- the most bytes of a block that are seen
 abbrev pub most_seen : ℕ
 most_seen = 294912
 
--- What is seen of a block: all of it, or of one that is longer its first bytes and its last 4, which are its length. What
--- stands between is passed over.
+-- The seen part of a block: all of it, or its first bytes and its last 4, which are its length, if it is longer. The
+-- bytes between are skipped.
 unfoldable pub seen_of : List ℕ → List ℕ
 seen_of block =
     if nat_lt most_seen (length block) then take (most_seen - 4) block ++ drop (length block - 4) block else block
@@ -25,7 +25,7 @@ seen_of block =
 abbrev pub section_type : ℕ
 section_type = 0x0a0d0d0a
 
--- how many bytes are needed to know the size of a block
+-- the number of bytes that the size of a block needs
 abbrev pub head_size : Kind → ℕ
 head_size Start = 12
 head_size (Classic order fraction) = 16
@@ -36,7 +36,7 @@ is_start Start = true
 is_start (Classic order fraction) = false
 is_start (Section order) = false
 
--- how many bytes such a block has at least
+-- the fewest bytes of a block of this kind
 abbrev pub least_size : Kind → ℕ
 least_size Start = 24
 least_size (Classic order fraction) = 16
@@ -52,12 +52,12 @@ form_in bytes = first_that_holds
     ∷ [])
     None
 
--- the byte order of a section: that in which the number at 8 is this one
+-- the byte order of a section, in which the number at 8 is this one
 unfoldable pub order_in : List ℕ → Option Endian
 order_in bytes = first_that_holds
     ((field Big 8 4 bytes == 0x1a2b3c4d, Some Big) ∷ (field Little 8 4 bytes == 0x1a2b3c4d, Some Little) ∷ []) None
 
--- the size that a block of a section says at 4: a multiple of 4, and not less than this
+-- the size of a section's block, at 4: a multiple of 4, and not less than this
 unfoldable pub block_size : Endian → (least : ℕ) → List ℕ → Result ℕ BlockFault
 block_size order least bytes =
     let size = field order 4 4 bytes in first_that_holds
@@ -66,23 +66,23 @@ block_size order least bytes =
     ∷ [])
     (Ok size)
 
--- a section header has its own byte order
+-- the size of a section header, in its own byte order
 unfoldable pub section_size : List ℕ → Result ℕ BlockFault
 section_size bytes = elim (order_in bytes) [ None ↦ Err fault.Order | Some order ↦ block_size order 28 bytes ]
 
--- the first block of a file is a section header, or the header of a classic capture
+-- the size of the first block of a file: a section header, or the header of a classic capture
 unfoldable pub first_size : List ℕ → Result ℕ BlockFault
 first_size bytes =
     if field Big 0 4 bytes == section_type
     then section_size bytes
     else (elim (form_in bytes) [ None ↦ Err fault.NoCapture | Some form ↦ Ok 24 ])
 
--- a record of a classic capture is a header of 16 bytes, and what was captured, all of which is seen
+-- the size of a record of a classic capture: a header of 16 bytes, and the captured bytes; all of it is seen
 unfoldable pub record_size : Endian → List ℕ → Result ℕ BlockFault
 record_size order bytes =
     let size = 16 + field order 8 4 bytes in if nat_lt most_seen size then Err fault.Length else Ok size
 
--- a block behind a section header may be the next section's header
+-- the size of a block after a section header, which may be the next section's header
 unfoldable pub next_size : Endian → List ℕ → Result ℕ BlockFault
 next_size order bytes = if field order 0 4 bytes == section_type then section_size bytes else block_size order 12 bytes
 
@@ -91,11 +91,11 @@ size_in Start bytes = first_size bytes
 size_in (Classic order fraction) bytes = record_size order bytes
 size_in (Section order) bytes = next_size order bytes
 
--- how many bytes a block has that begins like this
+-- the size of a block that begins with these bytes
 abbrev pub size_of : Kind → List ℕ → Result ℕ BlockFault
 size_of kind bytes = size_in kind (take (head_size kind) bytes)
 
--- the block has as many bytes as its first ones say
+-- the block has the size that its first bytes say
 pub record IsWhole (kind : Kind) (block : List ℕ) : Type 0 where
   pub head : head_size kind ≤ length block
   pub size : size_of kind block ≡ Ok (length block)

@@ -88,6 +88,7 @@ impl Context {
             limit: 0,
             resolution: 0,
             offset: 0,
+            name: 0,
         });
         *self = Context {
             kind: Kind::Classic { order, fraction },

@@ -33,6 +33,8 @@ pub struct Interface {
     pub resolution: u8,
     /// How many seconds are added to its moments, in two's complement.
     pub offset: u64,
+    /// Its name as a number: its bytes, filled up with zeros to 16, the highest first. 0 if it has no name or a longer one.
+    pub name: u128,
 }
 
 /// What was read before a block.

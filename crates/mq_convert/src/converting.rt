@@ -1,39 +1,46 @@
 //! The conversion of a file.
 
-ghost use Rattle.std.specs.Prelude.{◌≡◌, ◌≤◌, ◌||◌, ◌++◌, ℕ, List, [], is_err, length, option_to_list, IfOk};
+ghost use Rattle.std.specs.Prelude.{◌≡◌, ◌≤◌, ◌||◌, ◌++◌, List, [], is_err, length, option_to_list, IfOk};
 ghost use Rattle.mq_count.specs.Streams.{inner_of, has_failed};
 ghost use Rattle.mq_pcap.specs.Filling.{input_of};
 ghost use Rattle.mq_text.specs.Printing.{Puts};
-ghost use Rattle.mq_convert.specs.Blocks.{IsHeldWithin};
+ghost use Rattle.mq_convert.specs.declared.choice.Choice.{Choice};
+ghost use Rattle.mq_convert.specs.Blocks.{Captured, IsHeldWithin};
 ghost use Rattle.mq_convert.specs.Contexts.{context_of};
 ghost use Rattle.mq_convert.specs.Converting.{Converts};
 ghost use Rattle.mq_convert.specs.Faults as spec;
-ghost use Rattle.mq_convert.specs.Putting.{PutsCapture, ReadsBlock, block_text, held_of};
-ghost use Rattle.mq_convert.specs.Records.{unread_links};
+ghost use Rattle.mq_convert.specs.Putting.{PutsCapture, ReadsBlock, block_text, held_of, records_of};
+ghost use Rattle.mq_convert.specs.Records.{file_header};
+ghost use Rattle.mq_convert.specs.Sieving.{HasSieved};
 ghost use Rattle.mq_convert.specs.Sizes.{least_size, most_seen};
-ghost use Rattle.mq_convert.specs.Tallies.{Tallies};
 
 use crate::choice::Choice;
 use crate::context::{Context, MOST_SEEN};
+use crate::counts::ConvertCounts;
 use crate::fault::ConvertFault;
 use crate::next_block::{faulty, next_block};
 use crate::packet::Packet;
 use crate::records::{FILE_HEADER, put_record};
-use crate::unread::Unread;
+use crate::sieve::Sieve;
+use crate::waiting::write_before_wait;
 use mq_count::Watched;
-use mq_text::{LineFault, Text, flush, put};
+use mq_pcap::Supply;
+use mq_text::{LineFault, Text, flush, make_room, put};
 use std::alloc::Allocator;
 use std::io::{Read, Write};
 
 /// Writes the packets of a file as one classic capture of Ethernet in nanoseconds, those that are chosen, and
-/// answers how many of them have a link type that isn't read. Memory for one block is taken before anything is read
-/// or written. Where the file has a fault, the packets before it are written first.
-pub fn convert<A: Allocator, R: Read, W: Write>(
+/// returns how many of them have a link type that isn't read, and how many came again and were left out. Memory is allocated
+/// before anything is read or written. Nothing is written before the first block is known to be that of a capture. If the file
+/// has a fault, the packets before it are written first. Before a read that may wait by the stream's `supply`, all packets so
+/// far are written.
+pub fn convert<A: Allocator + Copy, S: Supply, R: Read, W: Write>(
     alloc: A,
     choice: Choice,
+    supply: &S,
     reader: &mut Watched<R>,
     writer: &mut Watched<W>,
-) -> Result<Unread, ConvertFault>
+) -> Result<ConvertCounts, ConvertFault>
     ensures converts { Converts choice
         (input_of R.remaining reader.old) (input_of R.remaining reader.new)
         (W.contents (inner_of writer.old)) (W.contents (inner_of writer.new))
@@ -45,18 +52,24 @@ pub fn convert<A: Allocator, R: Read, W: Write>(
         Ok(block) => block,
         Err(_) => return Err(ConvertFault::Memory),
     };
-    convert_by(block.as_mut_slice(), choice, reader, writer)
+    let sieve = match Sieve::new(alloc, choice) {
+        Ok(sieve) => sieve,
+        Err(_) => return Err(ConvertFault::Memory),
+    };
+    convert_by(block.as_mut_slice(), sieve, supply, reader, writer)
 }
 
-/// The same with room for a block that is lent.
-fn convert_by<R: Read, W: Write>(
+/// The same with room for a block that is lent, before the first packet.
+fn convert_by<A: Allocator, S: Supply, R: Read, W: Write>(
     block: &mut [u8],
-    choice: Choice,
+    sieve: Sieve<A>,
+    supply: &S,
     reader: &mut Watched<R>,
     writer: &mut Watched<W>,
-) -> Result<Unread, ConvertFault>
-    requires { most_seen ≤ length block.old }
-    ensures converts { Converts choice
+) -> Result<ConvertCounts, ConvertFault>
+    requires room { most_seen ≤ length block.old }
+    requires start { HasSieved sieve.choice [] sieve }
+    ensures converts { Converts sieve.choice
         (input_of R.remaining reader.old) (input_of R.remaining reader.new)
         (W.contents (inner_of writer.old)) (W.contents (inner_of writer.new))
         result }
@@ -64,7 +77,7 @@ fn convert_by<R: Read, W: Write>(
     ensures no_memory { result ≡ Err ConvertFault.Memory → ⊥ }
 {
     let mut buffer = Text::new();
-    let answer = put_capture(block, choice, &mut buffer, reader, writer);
+    let answer = put_capture(block, sieve, supply, &mut buffer, reader, writer);
     if is_failed_write(&answer) {
         return answer;
     }
@@ -73,40 +86,41 @@ fn convert_by<R: Read, W: Write>(
 }
 
 /// Whether a conversion broke off since a write failed.
-fn is_failed_write(answer: &Result<Unread, ConvertFault>) -> bool
+fn is_failed_write(answer: &Result<ConvertCounts, ConvertFault>) -> bool
     ensures { result ≡ spec.is_failed_write answer.now }
 {
     matches!(answer, Err(ConvertFault::Write))
 }
 
 /// Puts the capture of the packets of a file.
-fn put_capture<R: Read, W: Write>(
+fn put_capture<A: Allocator, S: Supply, R: Read, W: Write>(
     block: &mut [u8],
-    choice: Choice,
+    sieve: Sieve<A>,
+    supply: &S,
     buffer: &mut Text,
     reader: &mut Watched<R>,
     writer: &mut Watched<W>,
-) -> Result<Unread, ConvertFault>
+) -> Result<ConvertCounts, ConvertFault>
     requires room { most_seen ≤ length block.old }
-    requires empty { buffer.old.items ≡ [] }
-    ensures puts { PutsCapture choice
+    requires start { HasSieved sieve.choice [] sieve }
+    ensures puts { PutsCapture sieve.choice
         (input_of R.remaining reader.old) (input_of R.remaining reader.new)
         (W.contents (inner_of writer.old)) (W.contents (inner_of writer.new))
         buffer.old.items buffer.new.items result }
     ensures failed { has_failed writer.new ≡ has_failed writer.old || spec.is_failed_write result }
     ensures no_memory { result ≡ Err ConvertFault.Memory → ⊥ }
 {
-    put(buffer, &FILE_HEADER);
     let mut context = Context::new();
-    let mut unread = Unread::none();
+    let mut sieve = sieve;
     let mut number = 0;
     while let Some(size) = next_block(context.kind, number, reader, block)? {
         let seen = &block[..size.min(MOST_SEEN)];
         let held = read_block(&mut context, number, size, seen)?;
-        put_held(choice, held, seen, &mut unread, buffer, writer)?;
+        put_held(&mut sieve, number, held, seen, buffer, writer)?;
+        write_before_wait(context.kind, supply, buffer, writer)?;
         number += 1;
     }
-    Ok(unread)
+    Ok(sieve.into_counts())
 }
 
 /// Reads a block of this number and this size, of which this is seen.
@@ -126,28 +140,68 @@ fn read_block(
     }
 }
 
-/// Puts the record of the packet in a block, if it has one, and counts it if its link type isn't read.
+/// Puts the record of the packet in the block of this number, if it has one that isn't left out, and counts it. The header of
+/// the capture stands before what the first block holds.
 #[inline(always)]
-fn put_held<W: Write>(
-    choice: Choice,
+fn put_held<A: Allocator, W: Write>(
+    sieve: &mut Sieve<A>,
+    number: u64,
     held: Option<Packet>,
     block: &[u8],
-    unread: &mut Unread,
     buffer: &mut Text,
     writer: &mut Watched<W>,
 ) -> Result<(), LineFault>
     requires { IsHeldWithin block.now (Ok held) }
     ensures text { Puts
         (W.contents (inner_of writer.old)) (W.contents (inner_of writer.new))
-        buffer.old.items buffer.new.items (block_text choice (held_of block.now held)) result }
-    ensures tally { IfOk result (λ _. (links : List ℕ) → Tallies links unread.old
-        → Tallies (links ++ unread_links choice (option_to_list (held_of block.now held))) unread.new) }
+        buffer.old.items buffer.new.items (block_text sieve.old.choice sieve.old.gone number (held_of block.now held)) result }
+    ensures sieved { IfOk result (λ _. (asked : Choice) (packets : List Captured) → HasSieved asked packets sieve.old
+        → HasSieved asked (packets ++ option_to_list (held_of block.now held)) sieve.new) }
+    ensures failed { has_failed writer.new ≡ has_failed writer.old || is_err result }
+{
+    if number == 0 {
+        put_file_header(buffer, writer)?;
+        return put_packet(sieve, held, block, buffer, writer);
+    }
+    put_packet(sieve, held, block, buffer, writer)
+}
+
+/// Puts the header of the capture that is written.
+fn put_file_header<W: Write>(buffer: &mut Text, writer: &mut Watched<W>) -> Result<(), LineFault>
+    ensures text { Puts
+        (W.contents (inner_of writer.old)) (W.contents (inner_of writer.new))
+        buffer.old.items buffer.new.items file_header result }
+    ensures failed { has_failed writer.new ≡ has_failed writer.old || is_err result }
+{
+    make_room(buffer, writer)?;
+    put(buffer, &FILE_HEADER);
+    Ok(())
+}
+
+/// Puts the record of the packet in a block, if it has one that isn't left out, and counts it.
+#[inline(always)]
+fn put_packet<A: Allocator, W: Write>(
+    sieve: &mut Sieve<A>,
+    held: Option<Packet>,
+    block: &[u8],
+    buffer: &mut Text,
+    writer: &mut Watched<W>,
+) -> Result<(), LineFault>
+    requires { IsHeldWithin block.now (Ok held) }
+    ensures text { Puts
+        (W.contents (inner_of writer.old)) (W.contents (inner_of writer.new))
+        buffer.old.items buffer.new.items (records_of sieve.old.choice sieve.old.gone (held_of block.now held)) result }
+    ensures sieved { IfOk result (λ _. (asked : Choice) (packets : List Captured) → HasSieved asked packets sieve.old
+        → HasSieved asked (packets ++ option_to_list (held_of block.now held)) sieve.new) }
     ensures failed { has_failed writer.new ≡ has_failed writer.old || is_err result }
 {
     let Some(packet) = held else {
         return Ok(());
     };
-    put_record(choice, packet, block, buffer, writer)?;
-    unread.add(choice, packet);
+    if sieve.leaves_out(packet, block) {
+        return Ok(());
+    }
+    put_record(sieve.choice(), packet, block, buffer, writer)?;
+    sieve.add(packet);
     Ok(())
 }

@@ -3,11 +3,14 @@
 ghost use Rattle.std.specs.Prelude.{◌≡◌, ◌∷◌, ◌<◌, ◌≤◌, [], length, IfSome, MatchOption};
 ghost use Rattle.mq_convert.specs.Interfaces as spec;
 
+use crate::choice::name_of;
 use crate::context::Interface;
 use byteorder::{BigEndian, ByteOrder, LittleEndian};
 use mq_pcap::Endian;
 
-/// The options that are looked at: the unit of moments, with one byte, and how they are moved, with eight.
+/// The options that are looked at: the name, the unit of moments, with one byte, and how they are moved, with eight.
+const NAME: u16 = 2;
+
 const RESOLUTION: u16 = 9;
 
 const OFFSET: u16 = 14;
@@ -25,6 +28,7 @@ pub(crate) fn interface_in(order: Endian, body: &[u8]) -> Interface
         limit: order.double_word(body, 4),
         resolution: 6,
         offset: 0,
+        name: 0,
     };
     let mut rest = &body[8..];
     while let Some((code, value, behind)) = first_option(order, rest) {
@@ -45,6 +49,9 @@ fn with_option(order: Endian, interface: Interface, code: u16, value: &[u8]) -> 
     }
     if code == OFFSET && value.len() == 8 {
         interface.offset = quad_word(order, value);
+    }
+    if code == NAME {
+        interface.name = name_of(value);
     }
     interface
 }

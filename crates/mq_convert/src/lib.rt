@@ -3,8 +3,8 @@
 //! ```text
 //! let mut input = Watched::new(reader);
 //! let mut output = Watched::new(writer);
-//! let choice = Choice { interface: None, vlan: None };     // all packets
-//! convert(alloc, choice, &mut input, &mut output)          // Ok: how many packets have a link type that isn't read
+//! let choice = Choice { interface: None, vlan: None, once: false };  // all packets
+//! convert(alloc, choice, &Ready, &mut input, &mut output)            // Ok: how many have a link type that isn't read
 //! ```
 //!
 //! - The conversion of a file: `convert`, of which packets: `Choice`, and `ConvertFault`, which says why one ended early.
@@ -14,12 +14,15 @@
 
 mod blocks;
 mod choice;
+mod comparing;
 mod context;
 mod converting;
+mod counts;
 mod fault;
 mod filling;
 mod frames;
 mod interfaces;
+mod kept;
 pub mod laws;
 mod moments;
 mod next_block;
@@ -29,12 +32,15 @@ mod passing;
 mod pieces;
 mod records;
 mod seeing;
+mod sieve;
 mod sizes;
 mod tags;
 mod unread;
+mod waiting;
 
-pub use choice::Choice;
+pub use choice::{Choice, Which, name_of};
 pub use context::{Context, Interface, Kind, MOST_INTERFACES, MOST_SEEN};
 pub use converting::convert;
+pub use counts::ConvertCounts;
 pub use fault::{BlockFault, ConvertFault};
 pub use unread::{LinkCount, MOST_LINKS, Unread};

@@ -7,6 +7,8 @@ ghost use Rattle.std.specs.Prelude.{◌<◌, ◌*◌, ◌^◌};
 pub(crate) struct Packet {
     /// The number of its interface among all that the file describes, from 0.
     pub(crate) interface: u64,
+    /// The interface's name as a number, as its description has it.
+    pub(crate) name: u128,
     /// What the frames of this interface begin with.
     pub(crate) link: u16,
     /// Its moment, in nanoseconds from 1970 on.

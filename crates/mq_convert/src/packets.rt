@@ -86,6 +86,7 @@ impl Context {
         };
         Ok(Packet {
             interface: self.earlier.saturating_add(id as u64),
+            name: interface.name,
             link: interface.link,
             moment,
             original: said.original,
@@ -117,6 +118,7 @@ impl Context {
         };
         Ok(Packet {
             interface: 0,
+            name: interface.name,
             link: interface.link,
             moment,
             original: order.double_word(block, 12),

@@ -5,6 +5,7 @@ ghost use Rattle.arrayvec.specs.ArrayVec.{array_vec_len};
 ghost use Rattle.mq_count.specs.Streams.{inner_of, has_failed};
 ghost use Rattle.mq_text.specs.Printing.{Puts};
 ghost use Rattle.mq_convert.specs.Blocks.{captured_of};
+ghost use Rattle.mq_convert.specs.Choices as choices;
 ghost use Rattle.mq_convert.specs.Frames.{framed};
 ghost use Rattle.mq_convert.specs.Records as spec;
 
@@ -15,6 +16,7 @@ use crate::packet::Packet;
 use crate::pieces::put_bytes;
 use crate::tags::{tag_of, untagged};
 use mq_count::Watched;
+use mq_pcap::Endian;
 use mq_text::{LineFault, Text, make_room, put};
 use std::io::Write;
 
@@ -23,6 +25,9 @@ const GREATEST_PAYLOAD: usize = 262_130;
 
 /// The most bytes that are written of a frame that is cut before the end of its type.
 const BEFORE_TYPE: usize = 13;
+
+/// The link type of Linux cooked captures of version 2.
+const COOKED_2: u16 = 276;
 
 /// The header of the capture: its magic number, version 2.4, two fields that are 0, the most bytes that a packet may
 /// have, and the link type of Ethernet.
@@ -48,10 +53,24 @@ pub(crate) fn put_record<W: Write>(
 {
     let bytes = &block[packet.place..packet.place + packet.length];
     let frame = frame_of(packet.link, bytes);
-    if !choice.takes(packet.interface, tag_of(&frame)) {
+    if !choice.takes(number_of(packet, block), packet.name, tag_of(&frame)) {
         return Ok(());
     }
     put_frame(packet, bytes.len(), untagged(frame), buffer, writer)
+}
+
+/// Returns the number by which the interface of a packet is asked for.
+#[inline(always)]
+#[tactic(auto, unfolding(crate::specs::Choices::number_of))]
+pub(crate) fn number_of(packet: Packet, block: &[u8]) -> u64
+    requires { packet.place + packet.length ≤ length block.now }
+    ensures { result ≡ choices.number_of (captured_of block.now packet) }
+{
+    let bytes = &block[packet.place..packet.place + packet.length];
+    if packet.link == COOKED_2 && bytes.len() >= 20 {
+        return u64::from(Endian::Big.double_word(bytes, 4));
+    }
+    packet.interface
 }
 
 /// Puts the record of a frame that was made of so many captured bytes.

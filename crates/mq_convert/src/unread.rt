@@ -66,7 +66,7 @@ impl Unread {
         ensures { (block links : List ℕ) → Tallies links self.old
             → Tallies (links ++ unread_link choice (captured_of block packet)) self.new }
     {
-        if is_read_link(packet.link) || !choice.takes(packet.interface, None) {
+        if is_read_link(packet.link) || !choice.takes(packet.interface, packet.name, None) {
             return;
         }
         self.count_link(packet.link);

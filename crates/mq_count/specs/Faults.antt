@@ -1,6 +1,6 @@
--- What is known of a faulty stream.
+-- Faulty streams.
 use Rattle.mq_count.specs.declared.faulty.Faulty.{Faulty}
 
--- the stream that it passes calls on to
+-- the inner stream
 abbrev pub passed_to : {T : Type 0} → Faulty T → T
 passed_to f = f.inner

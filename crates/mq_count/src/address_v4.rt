@@ -1,4 +1,4 @@
-//! The address of IPv4.
+//! IPv4 addresses.
 
 ghost use Rattle.std.specs.Prelude.{◌≡◌, nat_eq};
 ghost use Rattle.std.specs.Int.{w32, to_be_bytes, from_be_bytes};
@@ -8,11 +8,10 @@ use crate::metering::Meter;
 use std::cmp::Ordering;
 use std::marker::Model;
 
-/// An IPv4 address, of a host or of a group. A contract sees it as its number, most significant
-/// octet first: 10.0.0.1 is 167772161.
+/// An IPv4 address of a host or a group. A contract sees its number, most significant octet first: 10.0.0.1 is
+/// 167772161.
 ///
-/// It has neither an order nor an equality of its own, so that no comparison of two addresses can
-/// go uncounted.
+/// The type has no order and no equality, so that every comparison of two addresses is counted.
 #[derive(Clone, Copy)]
 pub struct Addr4 {
     number: u32,
@@ -29,7 +28,7 @@ impl Model for Addr4 {
 }
 
 impl Addr4 {
-    /// The address of four octets, as they stand in a header: 10, 0, 0, 1 for 10.0.0.1.
+    /// Returns the address of four octets as a header has them: 10, 0, 0, 1 for 10.0.0.1.
     pub const fn from_octets(octets: [u8; 4]) -> Addr4
         ensures { result ≡ from_be_bytes w32 octets }
     {
@@ -38,14 +37,14 @@ impl Addr4 {
         }
     }
 
-    /// The four octets, as they stand in a header.
+    /// Returns the four octets as a header has them.
     pub const fn octets(self) -> [u8; 4]
         ensures { result ≡ to_be_bytes w32 self }
     {
         self.number.to_be_bytes()
     }
 
-    /// Whether it is the unspecified address, 0.0.0.0. That is a test of its octets and no counted comparison.
+    /// Returns whether this is the unspecified address, 0.0.0.0. This test of octets is not counted as a comparison.
     pub const fn is_unspecified(self) -> bool
         ensures { result ≡ nat_eq self 0 }
     {
@@ -67,7 +66,7 @@ impl Key for Addr4 {
     ghost one_value = { λ a b same. same };
 
     fn order(self, other: Addr4, m: &mut Meter) -> Ordering {
-        // Each way counts by itself, so that a compiler keeps the three apart.
+        // Each branch counts by itself, so that a compiler keeps the three apart.
         if self.number < other.number {
             m.count_comparison();
             Ordering::Less

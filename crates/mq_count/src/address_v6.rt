@@ -1,4 +1,4 @@
-//! The address of IPv6.
+//! IPv6 addresses.
 
 ghost use Rattle.std.specs.Prelude.{◌≡◌, nat_eq};
 ghost use Rattle.std.specs.Int.{w128, to_be_bytes, from_be_bytes};
@@ -8,11 +8,9 @@ use crate::metering::Meter;
 use std::cmp::Ordering;
 use std::marker::Model;
 
-/// An IPv6 address, of a host or of a group. A contract sees it as its number, most significant
-/// octet first: ::1 is 1.
+/// An IPv6 address of a host or a group. A contract sees its number, most significant octet first: ::1 is 1.
 ///
-/// It has neither an order nor an equality of its own, so that no comparison of two addresses can
-/// go uncounted.
+/// The type has no order and no equality, so that every comparison of two addresses is counted.
 #[derive(Clone, Copy)]
 pub struct Addr6 {
     number: u128,
@@ -29,7 +27,7 @@ impl Model for Addr6 {
 }
 
 impl Addr6 {
-    /// The address of sixteen octets, as they stand in a header.
+    /// Returns the address of sixteen octets as a header has them.
     pub const fn from_octets(octets: [u8; 16]) -> Addr6
         ensures { result ≡ from_be_bytes w128 octets }
     {
@@ -38,14 +36,14 @@ impl Addr6 {
         }
     }
 
-    /// The sixteen octets, as they stand in a header.
+    /// Returns the sixteen octets as a header has them.
     pub const fn octets(self) -> [u8; 16]
         ensures { result ≡ to_be_bytes w128 self }
     {
         self.number.to_be_bytes()
     }
 
-    /// Whether it is the unspecified address, ::. That is a test of its octets and no counted comparison.
+    /// Returns whether this is the unspecified address, ::. This test of octets is not counted as a comparison.
     pub const fn is_unspecified(self) -> bool
         ensures { result ≡ nat_eq self 0 }
     {
@@ -67,7 +65,7 @@ impl Key for Addr6 {
     ghost one_value = { λ a b same. same };
 
     fn order(self, other: Addr6, m: &mut Meter) -> Ordering {
-        // Each way counts by itself, so that a compiler keeps the three apart.
+        // Each branch counts by itself, so that a compiler keeps the three apart.
         if self.number < other.number {
             m.count_comparison();
             Ordering::Less

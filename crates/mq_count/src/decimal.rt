@@ -3,8 +3,8 @@
 ghost use Rattle.std.specs.Prelude.{◌≡◌, ◌≤◌, take, drop, length};
 ghost use Rattle.std.specs.Fmt.{decimal};
 
-/// Writes a number in decimal at the front of `out`, without leading zeros, and answers how many bytes
-/// that is. The bytes behind the text stay as they were.
+/// Writes a number in decimal at the front of `out`, without leading zeros, and returns its length. The rest of `out`
+/// does not change.
 pub fn write_decimal(number: u64, out: &mut [u8; 20]) -> usize
     ensures text { take result out.new ≡ decimal number }
     ensures behind { drop result out.new ≡ drop result out.old }

@@ -1,12 +1,12 @@
-//! A stream for tests, which passes little on at a time and fails after some calls.
+//! A slow and failing stream for tests.
 
 ghost use Rattle.std.specs.Prelude.{◌≡◌, ◌≤◌, IfOk};
 
 use std::io;
 use std::io::{ErrorKind, Read, Write};
 
-/// A reader or writer for tests. It passes at most `piece` bytes a call on to the stream that it was made
-/// of (one, where `piece` is 0), and fails from its call `fails_at` on, counted from 1.
+/// A reader or writer for tests. A call passes at most `piece` bytes to the inner stream, but at least one. From call
+/// `fails_at` on, counted from 1, every call fails.
 #[derive(Drop)]
 pub struct Faulty<T> {
     inner: T,
@@ -18,7 +18,7 @@ pub struct Faulty<T> {
 impl<T> Faulty<T> {
     ghost use Rattle.mq_count.specs.Faults.{passed_to};
 
-    /// A stream over another one that passes `piece` bytes a call on, and whose call `fails_at` fails.
+    /// Wraps a stream: a call passes at most `piece` bytes, and the calls from `fails_at` on fail.
     pub fn new(inner: T, piece: usize, fails_at: u64) -> Faulty<T>
         ensures { passed_to result ≡ inner }
     {
@@ -30,7 +30,7 @@ impl<T> Faulty<T> {
         }
     }
 
-    /// How many bytes of so many this call may move, or that it fails.
+    /// Returns how many of `len` bytes this call may move, or an error if it fails.
     fn step(&mut self, len: usize) -> io::Result<usize>
         ensures stream { passed_to self.new ≡ passed_to self.old }
         ensures piece { IfOk result (λ n. (n ≤ len) × (n ≡ 0 → len ≡ 0)) }

@@ -1,4 +1,4 @@
-//! What an address is compared by.
+//! Comparison of addresses by a key.
 
 ghost use Rattle.std.specs.Prelude.{◌≡◌, ℕ};
 ghost use Rattle.std.specs.Ordering.{nat_cmp};
@@ -8,20 +8,19 @@ ghost use Rattle.mq_count.specs.Spending.{Spends};
 use crate::metering::Meter;
 use std::cmp::Ordering;
 
-/// An address that can be compared, with each comparison counted. Its order is total, by a number,
-/// and equal numbers are equal values. Code that is generic over a `Key` has no other way to
-/// compare two of them.
+/// An address whose comparisons are counted. Its order is total, by a number, and equal numbers are equal values. Code
+/// that is generic over a `Key` cannot compare two of them in another way.
 pub trait Key: Copy + Default {
-    // The number that an address is compared by.
+    // The number by which an address is compared.
     ghost number: { Self → ℕ };
 
-    /// How the two stand to each other. One comparison.
+    /// Compares two keys.
     fn order(self, other: Self, m: &mut Meter) -> Ordering
         ensures answer { result ≡ nat_cmp (number self) (number other) }
         ensures spent { Spends 1 1 m.old m.new };
 
-    /// An address takes no more than 16 bytes, so that code which is generic in it can keep some
-    /// hundreds in an array. It does nothing: its contract is the fact.
+    /// A lemma: an address takes at most 16 bytes. It has no effect at run time. Generic code may therefore keep some
+    /// hundreds of addresses in an array.
     fn is_small()
         ensures { IsSmall Self.row };
 

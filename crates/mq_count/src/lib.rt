@@ -1,5 +1,4 @@
-//! What everything above is made of: addresses, moments, the meter that counts each comparison of
-//! two of them, and readers and writers that are watched.
+//! Addresses, times, the meter of their comparisons, and watched streams.
 //!
 //! ```text
 //! let mut m = Meter::new();

@@ -7,15 +7,13 @@ ghost use Rattle.std.specs.Fmt.{decimal};
 use crate::decimal::write_decimal;
 use std::marker::Model;
 
-/// The latest moment that is in range, in milliseconds: 2^53, some 285000 years.
+/// The latest moment in range, in milliseconds: 2^53, some 285000 years.
 const LATEST_MS: u64 = 1 << 53;
 
-/// A moment: how many milliseconds after the start of the caller's clock it is. A contract sees it
-/// as that number.
+/// A moment: milliseconds since the start of the caller's clock. A contract sees that number.
 ///
-/// A moment that is made by `from_ms` is in range, at most 2^53; one that `after` makes may lie
-/// above. Two moments are compared by a `Meter` alone, and nothing hands out the number, so that
-/// no comparison of two moments can go uncounted.
+/// A moment from `from_ms` is in range, at most 2^53. A moment from `after` may be later. Only a `Meter` compares two
+/// moments and no public call returns the number, so every comparison is counted.
 #[derive(Clone, Copy)]
 pub struct Moment {
     ms: u64,
@@ -31,7 +29,7 @@ impl Model for Moment {
     ghost inverse = { λ n. record { ms = n } };
 }
 
-/// A length of time, in milliseconds. A contract sees it as that number.
+/// A length of time in milliseconds. A contract sees that number.
 #[derive(Clone, Copy)]
 pub struct Span {
     ms: u32,
@@ -48,7 +46,7 @@ impl Model for Span {
 }
 
 impl Span {
-    /// The length of so many milliseconds.
+    /// Returns the span of `ms` milliseconds.
     pub const fn from_ms(ms: u32) -> Span
         ensures { result ≡ ms }
     {
@@ -57,7 +55,7 @@ impl Span {
 }
 
 impl Moment {
-    /// The moment of so many milliseconds, or None above 2^53.
+    /// Returns the moment at `ms` milliseconds, or None above 2^53.
     pub fn from_ms(ms: u64) -> Option<Moment>
         ensures { SomeIff result (ms ≤ 2 ^ 53) ms }
     {
@@ -68,14 +66,14 @@ impl Moment {
         }
     }
 
-    /// Whether the moment is at most 2^53.
+    /// Returns whether the moment is at most 2^53.
     pub fn in_range(self) -> bool
         ensures { IsTrue result ↔ (self ≤ 2 ^ 53) }
     {
         self.ms <= LATEST_MS
     }
 
-    /// The moment that lies a span later. It may be above 2^53.
+    /// Returns the moment that is a span later. It may be above 2^53.
     pub fn after(self, span: Span) -> Moment
         requires in_range { self ≤ 2 ^ 53 }
         ensures later { result ≡ self + span }
@@ -85,8 +83,8 @@ impl Moment {
         }
     }
 
-    /// Writes the moment's milliseconds in decimal at the front of `out`, with no leading zero,
-    /// and answers how many bytes that is. The bytes behind the text stay as they were.
+    /// Writes the milliseconds in decimal at the front of `out`, without leading zeros, and returns their length. The
+    /// rest of `out` does not change.
     pub fn digits(self, out: &mut [u8; 20]) -> usize
         ensures text { take result out.new ≡ decimal self }
         ensures behind { drop result out.new ≡ drop result out.old }
@@ -95,7 +93,7 @@ impl Moment {
         write_decimal(self.ms, out)
     }
 
-    /// The number, for the comparisons of this crate alone.
+    /// Returns the number, for the comparisons of this crate.
     pub(crate) fn ms(self) -> u64
         ensures { result ≡ self }
     {

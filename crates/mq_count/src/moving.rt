@@ -1,13 +1,12 @@
-//! The count of what is moved to keep lists.
+//! The count of items moved to keep lists.
 
 ghost use Rattle.std.specs.Prelude.{◌≡◌};
 ghost use Rattle.mq_count.specs.Spending.{Spends};
 
 use std::marker::Model;
 
-/// How many items of lists were moved: each that is written to another place, renumbered, or looked at to keep the list. A
-/// contract sees it as that number, which stays at the greatest u64 once it is there, and counts by `Spends` as a `Meter`
-/// does.
+/// The number of list items moved: items written to another place, renumbered, or read to keep the list. A contract
+/// sees the number, which stays at the greatest u64. It counts by `Spends`, as a `Meter` does.
 #[derive(Drop)]
 pub struct Moves {
     made: u64,
@@ -22,21 +21,21 @@ impl Model for Moves {
 }
 
 impl Moves {
-    /// None was moved.
+    /// Returns a count at zero.
     pub const fn none() -> Moves
         ensures { result ≡ 0 }
     {
         Moves { made: 0 }
     }
 
-    /// How many were moved.
+    /// Returns the number of moves counted.
     pub const fn made(&self) -> u64
         ensures { result ≡ self.now }
     {
         self.made
     }
 
-    /// Counts so many.
+    /// Counts `items` moves.
     pub fn count(&mut self, items: usize)
         ensures { Spends items items self.old self.new }
     {

@@ -1,5 +1,4 @@
-//! A reader or a writer that is watched: it tells afterwards whether a call has failed, and how many
-//! bytes its reads have handed out.
+//! Streams that know whether a call failed and how many bytes were read.
 
 ghost use Rattle.std.specs.Prelude.{◌≡◌, ◌≤◌, ◌||◌, false, is_err, IfOk};
 ghost use Rattle.std.specs.Io.{ReadsAtMost, WritesAtMost};
@@ -8,8 +7,7 @@ ghost use Rattle.std.specs.Io.KnownBytes.{Keeps, ReadConsumes, WriteAppends};
 use std::io;
 use std::io::{Read, Write};
 
-/// A reader or a writer, and what its calls have come to: it makes each call on the stream that it
-/// watches, and gives back the answer.
+/// A reader or a writer with the outcome of its calls. It makes each call on the inner stream and returns the result.
 #[derive(Drop)]
 pub struct Watched<T> {
     inner: T,
@@ -20,7 +18,7 @@ pub struct Watched<T> {
 impl<T> Watched<T> {
     ghost use Rattle.mq_count.specs.Streams.{inner_of, has_failed, taken_from};
 
-    /// Watches a reader or a writer, none of whose calls has failed yet.
+    /// Wraps a reader or writer. No call has failed yet.
     pub fn new(inner: T) -> Watched<T>
         ensures inner { inner_of result ≡ inner }
         ensures failed { has_failed result ≡ false }
@@ -33,21 +31,21 @@ impl<T> Watched<T> {
         }
     }
 
-    /// The reader or writer that it watched.
+    /// Returns the inner reader or writer.
     pub fn into_inner(self) -> T
         ensures { result ≡ inner_of self }
     {
         self.inner
     }
 
-    /// Whether a call has answered an error, or a write of some bytes has taken none.
+    /// Returns whether a call failed, or a write of some bytes wrote none.
     pub fn failed(&self) -> bool
         ensures { result ≡ has_failed self.now }
     {
         self.failed
     }
 
-    /// How many bytes the reads have handed out. It stays at the greatest u64.
+    /// Returns the number of bytes read. It stays at the greatest u64.
     pub fn taken(&self) -> u64
         ensures { result ≡ taken_from self.now }
     {

@@ -1,4 +1,4 @@
-//! What has a moment, and comparisons of many of these, which are counted in one step.
+//! Items with a moment, and counted comparisons of many moments.
 
 ghost use Rattle.std.specs.Prelude.{◌≡◌, ◌+◌, ◌≤◌, ℕ, Option, length, min, true, false};
 ghost use Rattle.std.specs.List.{AllWithin};
@@ -8,18 +8,18 @@ ghost use Rattle.mq_count.specs.Timed.{compared_at, least, lies_ahead, moments_b
 use crate::metering::Meter;
 use crate::moments::Moment;
 
-/// What has a moment at most, at which it ends or is due.
+/// An item with at most one moment, at which it ends or is due.
 pub trait Timed {
-    // That moment, where there is one.
+    // That moment, if there is one.
     ghost moment_of: { Self → Option ℕ };
 
-    /// That moment, or None where there is none.
+    /// Returns that moment, or None.
     fn moment(&self) -> Option<Moment>
         ensures { result ≡ moment_of self.now };
 }
 
 impl Meter {
-    /// The earliest of a moment and of those of some items. One comparison for each item that has one.
+    /// Returns the earliest of a moment and the moments of some items. One comparison for each item with a moment.
     pub fn earliest_with<T: Timed>(&mut self, first: Moment, items: &[T]) -> Moment
         ensures answer { result ≡ least first (moments_by T.moment_of items.now) }
         ensures spent { let count = length (moments_by T.moment_of items.now) in
@@ -41,8 +41,8 @@ impl Meter {
         earliest
     }
 
-    /// How many items, from the front on, have a moment after `now`. One comparison for each of these, and one for the next
-    /// where that has a moment.
+    /// Returns the number of items at the front whose moments are after `now`. One comparison for each of them, and one
+    /// for the next item if it has a moment.
     pub fn count_ahead<T: Timed>(&mut self, items: &[T], now: Moment) -> usize
         ensures within { result ≤ length items.now }
         ensures ahead { AllWithin (λ x. lies_ahead now (T.moment_of x) ≡ true) items.now 0 result }

@@ -1,4 +1,4 @@
-//! The versions of older hosts.
+//! Versions of older hosts.
 
 /// The version of an older host's messages.
 #[derive(Clone, Copy, Debug, PartialEq, Eq)]

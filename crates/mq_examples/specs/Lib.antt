@@ -1,2 +1,6 @@
 pub mod Groups
 pub mod Schedules
+pub mod Links
+pub mod ManySources
+pub mod Named
+pub mod Replays

@@ -1,4 +1,4 @@
--- The words of the worked examples of schedules and of the election.
+-- The terms of the worked examples of schedules and of the election.
 use Rattle.std.specs.Prelude.{◌≡◌, ℕ, true, List, [], ◌∷◌, Option, None, Some}
 use Rattle.mq_table.specs.declared.kind.Kind.{Kind}
 use Rattle.mq_table.specs.declared.timing.Timing.{Timing}
@@ -17,41 +17,41 @@ use Rattle.mq_sched.specs.declared.announced.Announced.{Announced}
 use Rattle.mq_sched.specs.Election.{Querier, Other, ElectionState}
 use Rattle.mq_sched.specs.Examples.{the_group, scheduled}
 
--- how many sources a message of IGMP holds in a packet of 1500 octets (RFC 3376 section 4.1.8)
+-- the sources that a message of IGMP holds in a packet of 1500 octets (RFC 3376 section 4.1.8)
 abbrev pub per_query : ℕ
 per_query = 366
 
--- a group, and what is due for it
+-- a group with its schedule
 abbrev pub scheduled_group : GroupState → Option QuerySchedule → Option ℕ → ScheduledGroup
 scheduled_group g group_query sources_due =
     record { group = g; schedule = record { group_query = group_query; sources_due = sources_due } }
 
--- the same of a group without older hosts
+-- a group without older hosts, with its schedule
 abbrev pub with_schedule : FilterMode → List (ℕ × SourceTimer) → Option QuerySchedule → Option ℕ
     → ScheduledGroup
 with_schedule mode sources group_query sources_due =
     scheduled_group (group_in mode sources) group_query sources_due
 
--- at a moment these queries go, and leave this
+-- these queries are sent at a moment, and leave this group
 pub record Sends (now : ℕ) (e : ScheduledGroup) (queries : List SentQuery) (after : ScheduledGroup)
     : Type 0 where
   pub queries_sent : messages_due per_query default_timing now the_group e ≡ queries
   pub leaves : after_round default_timing now e ≡ after
 
--- what a record at a moment makes of a group of the querier
+-- a group of the querier after a record at a moment
 abbrev pub recorded_at : ℕ → ScheduledGroup → Kind → List ℕ → ScheduledGroup
 recorded_at now e kind named =
     let change = change_of default_timing now e.group kind (naming named) in
     after_change true default_timing now change e.schedule
 
--- the same at 1000, where nothing was to go
+-- a group of the querier after a record at 1000, if nothing was to go
 abbrev pub recorded : GroupState → Kind → List ℕ → ScheduledGroup
 recorded g kind named = recorded_at 1000 (scheduled_group g None None) kind named
 
 abbrev pub querier : Timing → ℕ → ℕ → ElectionState
 querier timing due startup_queries = record { role = Querier due startup_queries; timing = timing }
 
--- the router with the address 2 is querier
+-- the state while the router with the address 2 is querier
 abbrev pub other_until : Timing → ℕ → ElectionState
 other_until timing deadline = record { role = Other 2 deadline; timing = timing }
 
@@ -59,14 +59,14 @@ abbrev pub announced : ℕ → ℕ → Option Announced
 announced robustness query_seconds =
     Some (record { robustness = robustness; query_seconds = query_seconds })
 
--- INCLUDE({1, 2}) when both have been blocked and asked for at 2000, and then 1 is allowed at 2500
+-- INCLUDE({1, 2}) after both have been blocked and asked for at 2000, and then after 1 is allowed at 2500
 abbrev pub blocked : ScheduledGroup
 blocked = with_schedule Include ((1, Running 4000 1) ∷ (2, Running 4000 1) ∷ []) None (Some 3000)
 
 abbrev pub refreshed : ScheduledGroup
 refreshed = with_schedule Include ((1, Running 262500 1) ∷ (2, Running 4000 1) ∷ []) None (Some 3000)
 
--- the group of IGMPv2 hosts that is asked after a Leave at 2000, and reported again at 2500
+-- the group of IGMPv2 hosts after a Leave at 2000, for which it is asked, and after a Report at 2500
 abbrev pub after_leave : ScheduledGroup
 after_leave = scheduled_group (group_with (Exclude 4000) [] None (Some 261000)) (scheduled 1 3000) None
 

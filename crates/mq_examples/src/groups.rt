@@ -1,8 +1,8 @@
-//! Worked examples of the definitions, each computed by the check. No function here does anything:
-//! its contract is the example.
+//! Worked examples of the definitions of groups, each computed by the check. The functions have no effect at run time:
+//! each contract is an example.
 //!
-//! The moments and the sets are worked out by hand from the tables of the standards, with the
-//! default timing (a group membership interval of 260000 ms): records come at 1000.
+//! The moments and the sets are worked out by hand from the tables of the standards, with the default timing (a group
+//! membership interval of 260000 ms). Records come at 1000.
 
 ghost use Rattle.std.specs.Prelude.{◌≡◌, [], ◌∷◌, true, false, Some, None, IfSome};
 ghost use Rattle.std.specs.FinSet as set;
@@ -19,8 +19,8 @@ ghost use Rattle.mq_examples.specs.Groups.{group_in, group_with, naming, include
 
 use mq_table::{Kind, OlderVersion, Timing};
 
-/// How the two groups of the next examples come to be: ALLOW {1, 2} at 0; and TO_EX {1, 2} at 0 with
-/// ALLOW {1, 4} at 500.
+/// The records that make the two groups of the next examples: ALLOW {1, 2} at 0; and TO_EX {1, 2} at 0 with ALLOW {1,
+/// 4} at 500.
 pub fn first_records()
     ensures allowed { Leaves (change_of default_timing 0 vacant Kind.Allow (naming (1 ∷ 2 ∷ []))) included false [] }
     ensures excluded { Leaves (change_of default_timing 0 vacant Kind.ToEx (naming (1 ∷ 2 ∷ [])))
@@ -31,7 +31,7 @@ pub fn first_records()
     // BLOCK and TO_IN of nothing, and BLOCK of a source, start no group.
     ensures nothing_blocked { Leaves (change_of default_timing 0 vacant Kind.Block (naming (1 ∷ []))) vacant false [] }
     ensures nothing_included { Leaves (change_of default_timing 0 vacant Kind.ToIn (naming [])) vacant false [] }
-    // How often and in which order a record names its sources doesn't matter.
+    // It doesn't matter how often and in which order a record names its sources.
     ensures repeated { naming (2 ∷ 1 ∷ 2 ∷ []) ≡ naming (1 ∷ 2 ∷ []) }
 {}
 
@@ -54,8 +54,8 @@ pub fn rows_of_include()
         false (1 ∷ []) }
 {}
 
-/// A group EXCLUDE({1, 4}, {2}) until 260000, 1 and 4 until 260500, at each kind of record with the
-/// sources {2, 3, 4}.
+/// A group at each kind of record with the sources {2, 3, 4}. It is EXCLUDE({1, 4}, {2}) until 260000, with 1 and 4
+/// until 260500.
 pub fn rows_of_exclude()
     ensures is_in { Leaves (at_1000 excluded Kind.IsIn (2 ∷ 3 ∷ 4 ∷ []))
         (group_in (Exclude 260000) ((1, until 260500) ∷ (2, until 261000) ∷ (3, until 261000)
@@ -81,7 +81,7 @@ pub fn rows_of_exclude()
         true (1 ∷ []) }
 {}
 
-/// What is forwarded: in INCLUDE the sources held, in EXCLUDE all but the stopped ones, and nothing of a
+/// The forwarded sources. In INCLUDE they are the sources held, in EXCLUDE all but the stopped ones, and none of a
 /// group that isn't held.
 pub fn forwarding()
     ensures held_by_include { forwards_in included 1 ≡ true }
@@ -92,7 +92,7 @@ pub fn forwarding()
     ensures of_no_group { forwards_in vacant 1 ≡ false }
 {}
 
-/// What is computed of the defaults, and of other values of the variables.
+/// The values computed from the defaults, and from other values of the variables.
 pub fn intervals()
     ensures membership { membership_interval default_timing ≡ 260000 }
     ensures older_host { older_host_present default_timing ≡ 260000 }
@@ -109,7 +109,7 @@ pub fn intervals()
         ≡ 255000 }
 {}
 
-/// Hosts of older versions: a Report at 1000, and what comes at 2000.
+/// Hosts of older versions: a Report at 1000, and further messages at 2000.
 pub fn older_hosts()
     ensures report_v2 { older_report OlderVersion.V2 default_timing 1000 vacant ≡ heard_v2 }
     ensures report_v1 { older_report OlderVersion.V1 default_timing 1000 vacant ≡ heard_v1 }
@@ -132,7 +132,7 @@ pub fn older_hosts()
         (λ change. Leaves change
         (group_with (Exclude 261000) ((1, until 262000) ∷ []) (Some 261000) None) false []) }
 
-    // Once the timer has run out, BLOCK counts again.
+    // Once the timer has expired, BLOCK counts again.
     ensures block_later { IfSome
         (translated_change true false default_timing 3000 (group_with (Exclude 261000) [] None (Some 3000))
         Kind.Block (naming (1 ∷ [])))
@@ -148,7 +148,7 @@ pub fn ends_of_timers()
     ensures both_one_after_the_other { expired 300000 (group_in Include ((1, until 300000) ∷ []))
         ≡ vacant }
     ensures both_at_once { expired 300000 outlived ≡ vacant }
-    // A source of EXCLUDE that runs out stays, stopped; one of INCLUDE is removed.
+    // A source of EXCLUDE that expires stays, stopped; a source of INCLUDE is removed.
     ensures source_of_exclude { expired 5000 (group_in (Exclude 9000) ((1, until 5000) ∷ []))
         ≡ group_in (Exclude 9000) ((1, Stopped) ∷ []) }
     ensures source_of_include { expired 5000 (group_in Include ((1, until 5000) ∷ (2, until 5001) ∷ []))
@@ -160,7 +160,7 @@ pub fn ends_of_timers()
         ≡ vacant }
 {}
 
-/// What a specific query of another router lowers at 5000: to 7000, and nothing with the S flag set.
+/// Timers lowered by a specific query of another router at 5000: to 7000, and none with the S flag set.
 pub fn queries_received()
     ensures source { lowered_by_query default_timing 5000 false (Some (set.contains (naming (1 ∷ 3 ∷ []))))
         (group_in Include ((1, until 261000) ∷ (2, until 261000) ∷ []))

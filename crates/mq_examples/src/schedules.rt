@@ -1,8 +1,8 @@
-//! Worked examples of the definitions, each computed by the check. No function here does anything:
-//! its contract is the example.
+//! Worked examples of the definitions of schedules and the election, each computed by the check. The functions have no
+//! effect at run time: each contract is an example.
 //!
-//! The moments and the queries are worked out by hand from the standards, with the default timing: a
-//! group membership interval of 260000 ms, and two queries 1000 ms apart for a last member.
+//! The moments and the queries are worked out by hand from the standards, with the default timing. It has a group
+//! membership interval of 260000 ms, and two queries 1000 ms apart for a last member.
 
 ghost use Rattle.std.specs.Prelude.{◌≡◌, [], ◌∷◌, true, false, Some, None, IfSome, map, length, replicate};
 ghost use Rattle.mq_table.specs.declared.timers.FilterMode.TheVariants.{Include, Exclude};
@@ -22,8 +22,8 @@ ghost use Rattle.mq_examples.specs.Schedules.{scheduled_group, with_schedule, re
 
 use mq_table::{Kind, OlderVersion, Timing};
 
-/// What the querier sends and keeps of INCLUDE({1, 2}), both until 260000, when a record with the
-/// sources {2, 3} comes at 1000.
+/// The queries and the state of a querier with INCLUDE({1, 2}), both until 260000. A record with the sources {2, 3}
+/// comes at 1000.
 pub fn rows_of_include()
     ensures is_in { Sends 1000 (recorded included Kind.IsIn (2 ∷ 3 ∷ []))
         []
@@ -48,8 +48,8 @@ pub fn rows_of_include()
         ∷ (3, until 261000) ∷ []) None (Some 2000)) }
 {}
 
-/// The same of EXCLUDE({1, 4}, {2}) until 260000, 1 and 4 until 260500, and a record with the sources
-/// {2, 3, 4}.
+/// The queries and the state of a querier with EXCLUDE({1, 4}, {2}) until 260000, 1 and 4 until 260500. A record with
+/// the sources {2, 3, 4} comes at 1000.
 pub fn rows_of_exclude()
     ensures is_in { Sends 1000 (recorded excluded Kind.IsIn (2 ∷ 3 ∷ 4 ∷ []))
         []
@@ -77,8 +77,8 @@ pub fn rows_of_exclude()
         ∷ (4, until 261000) ∷ []) (scheduled 1 2000) (Some 2000)) }
 {}
 
-/// INCLUDE({1, 2}), both until 261000: both are blocked at 2000, and 1 is allowed again at 2500. So at
-/// 3000 the second sending has 1 with the S flag set and 2 with it clear, and 2 is gone at 4000.
+/// INCLUDE({1, 2}), both until 261000: both are blocked at 2000, and 1 is allowed again at 2500. So at 3000 the second
+/// sending has 1 with the S flag set and 2 with it clear, and 2 is gone at 4000.
 pub fn a_source_refreshed()
     ensures first_sending { Sends 2000 (recorded_at 2000 (with_schedule Include ((1, until 261000)
         ∷ (2, until 261000) ∷ []) None None) Kind.Block (1 ∷ 2 ∷ []))
@@ -89,12 +89,12 @@ pub fn a_source_refreshed()
         (with_schedule Include ((1, until 262500) ∷ (2, until 4000) ∷ []) None None) }
     ensures end { expired 4000 (group_in Include ((1, until 262500) ∷ (2, until 4000) ∷ []))
         ≡ group_in Include ((1, until 262500) ∷ []) }
-    // To block again what is lowered already asks nothing anew, and leaves what is due.
+    // A second BLOCK of lowered sources asks nothing anew, and leaves what is due.
     ensures blocked_again { recorded_at 2500 blocked Kind.Block (1 ∷ 2 ∷ []) ≡ blocked }
 {}
 
-/// Five sources in messages of two: all are blocked and asked for at 2000, and 1 and 4 are allowed
-/// again at 2500. Then 1024 sources in messages of 366, and 90 in messages of 89.
+/// Five sources in messages of two: all are blocked and asked for at 2000, and 1 and 4 are allowed again at 2500. Then
+/// there are 1024 sources in messages of 366, and 90 in messages of 89.
 pub fn a_sending_in_several_messages()
     ensures first { messages_due 2 default_timing 2000 the_group
         (with_schedule Include ((1, Running 4000 2) ∷ (2, Running 4000 2) ∷ (3, Running 4000 2)
@@ -112,8 +112,8 @@ pub fn a_sending_in_several_messages()
     ensures just_one { portions_of 3 (1 ∷ 2 ∷ 3 ∷ []) ≡ (1 ∷ 2 ∷ 3 ∷ []) ∷ [] }
 {}
 
-/// The round at 3000 is sent then, and not before; a late one is sent once, not once for each moment
-/// that was missed.
+/// A round at 3000, which is sent then, and not before. A late round is sent once, not once for each moment that was
+/// missed.
 pub fn a_round_in_time_and_late()
     ensures before { Sends 2999 refreshed [] refreshed }
     ensures late { Sends 3900 refreshed
@@ -129,8 +129,8 @@ pub fn a_round_in_time_and_late()
         (scheduled_group (group_in (Exclude 262500) []) (scheduled 1 6500) None) }
 {}
 
-/// A group of IGMPv2 hosts: a Report at 1000 and a Leave at 2000. Reported again at 2500, it is asked
-/// at 3000 with the S flag set; otherwise with it clear, and it is gone at 4000.
+/// A group of IGMPv2 hosts: a Report at 1000 and a Leave at 2000. If it is reported again at 2500, it is asked at 3000
+/// with the S flag set. Otherwise it is asked with S clear, and it is gone at 4000.
 pub fn a_leave()
     ensures first_sending { IfSome (older_leave true false default_timing 2000 heard_v2) (λ change.
         Sends 2000 (after_change true default_timing 2000 change no_schedule)
@@ -147,8 +147,8 @@ pub fn a_leave()
         (scheduled_group (group_with (Exclude 262500) [] None (Some 262500)) None None) }
 {}
 
-/// EXCLUDE({}, {}) until 261000: a source that is blocked at 260000 takes the group timer, which is not
-/// above the last member query time, so nothing is asked; at 261000 the group is gone.
+/// EXCLUDE({}, {}) until 261000, and a source that is blocked at 260000. It takes the group timer, which is not above
+/// the last member query time, so nothing is asked. At 261000 the group is gone.
 pub fn a_source_blocked_at_the_end()
     ensures nothing_asked { Sends 260000
         (recorded_at 260000 (with_schedule (Exclude 261000) [] None None) Kind.Block (1 ∷ []))
@@ -156,8 +156,8 @@ pub fn a_source_blocked_at_the_end()
     ensures gone { expired 261000 (group_in (Exclude 261000) ((1, until 261000) ∷ [])) ≡ vacant }
 {}
 
-/// What goes no more: for a router that isn't querier, or is it no longer, and for sources and groups
-/// that a record or the end of timers takes away.
+/// Dropped queries: of a router that isn't querier, or is it no longer, and of sources and groups that a record or
+/// expired timers remove.
 pub fn what_is_dropped()
     ensures not_querier { after_change false default_timing 1000
         (change_of default_timing 1000 included Kind.Block (naming (2 ∷ 3 ∷ []))) no_schedule
@@ -174,7 +174,7 @@ pub fn what_is_dropped()
         ≡ record { group_query = None; sources_due = Some 4500 } }
 {}
 
-/// General queries with robustness 3 at 0, 31250, 62500 and 187500, and with robustness 1 at 0 and
+/// General queries at startup. With robustness 3 they are at 0, 31250, 62500 and 187500, and with robustness 1 at 0 and
 /// 125000.
 pub fn startup()
     ensures first { general_messages (robust 3) 0 (election_at (robust 3) 0) ≡ GeneralQuery ∷ [] }
@@ -194,9 +194,9 @@ pub fn startup()
         ≡ querier default_timing 525000 0 }
 {}
 
-/// A router with the address 9 that hears a query at 5000, between its queries at 0 and 31250: from the
-/// address 2 it gives way, until 190000 where the query announces robustness 3 and a query interval of
-/// 60 s, and until 260000 where it says nothing of them; from the address 200 it doesn't.
+/// A query that a router with the address 9 receives at 5000, between its queries at 0 and 31250. To the address 2 it
+/// gives way until 190000 if the query announces robustness 3 and a query interval of 60 s. If the query announces
+/// nothing, it gives way until 260000. To the address 200 it does not give way.
 pub fn a_query_heard()
     ensures gives_way { heard default_timing 9 5000 2 (announced 3 60) (querier default_timing 31250 1)
         ≡ other_until announced_timing 190000 }
@@ -206,10 +206,10 @@ pub fn a_query_heard()
     ensures stays { heard default_timing 9 5000 200 (announced 3 60) (querier default_timing 31250 1)
         ≡ querier (robust 3) 31250 1 }
     ensures keeps { loses_role 9 200 (Querier 31250 1) ≡ false }
-    // Zero restores what is configured.
+    // Zero restores the configured value.
     ensures zero { heard default_timing 9 6000 2 (announced 0 0) (other_until announced_timing 190000)
         ≡ other_until default_timing 261000 }
-    // A higher address than the querier's own moves no deadline of another one.
+    // A higher address than the querier's own moves no deadline of another querier.
     ensures higher { heard default_timing 9 6000 200 (announced 2 60) (other_until announced_timing 190000)
         ≡ other_until (record announced_timing { robustness = 2 }) 190000 }
     // It sends nothing, until the other querier's deadline: then at once, and again a query interval later.

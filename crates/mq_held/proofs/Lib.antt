@@ -27,3 +27,5 @@ pub mod RestartedEach
 mod RestartedRows
 mod NamedWalks
 pub mod AskedInPlace
+pub mod MomentCounts
+pub mod CountedRows

@@ -1,4 +1,4 @@
--- What a contract sees of the storage of groups.
+-- The storage of groups, as a contract sees it.
 use Rattle.std.specs.Prelude.{ℕ, ◌+◌, ◌-◌, ◌≡◌, Bool, true, nat_le, if◌then◌else◌, List, [], ◌∷◌, map as list_map, Option, refl}
 use Rattle.std.specs.Coded.{Coded, code_by, coded×, coded_ℕ, coded_list, coded_option}
 use Rattle.std.specs.List.{Contains}
@@ -15,8 +15,9 @@ use Rattle.mq_sched.specs.Schedule.{ScheduledGroup}
 use Rattle.mq_sched.specs.declared.queries.QuerySchedule.{QuerySchedule}
 use Rattle.mq_held.specs.Groups.{Groups, group_at, one_if, running_in, sources_in}
 
--- the groups; the order of their addresses, each with its number, and how many there may be; how many sources they may have
--- together; and how many sources can be written before their rows are packed
+-- The groups, the order of their addresses, and two numbers of sources. `order` has the number of each group, and how
+-- many there may be. `source_room` is the most sources that they may have together. `ahead` is the number of sources
+-- that can be written before the rows are packed.
 pub record HeldState : Type 0 where
   pub groups : Groups
   pub order : NumberedKeysState
@@ -40,31 +41,32 @@ pub record HasNumber (s : HeldState) (address number : ℕ) : Type 0 where
 abbrev pub IsNumber : HeldState → ℕ → Type 0
 IsNumber s number = set_of (λ x. x.number) s.order.items number ≡ true
 
--- What can be written before the rows are packed, once a group has sources that had others: by how many it had and has. It is
--- `ahead_after` of the rows.
+-- The sources that can be written before the rows are packed, after a group's sources were replaced. `had` and `has`
+-- are its numbers of sources. It is `ahead_after` of the rows.
 abbrev pub ahead_with : HeldState → (had has : ℕ) → ℕ
 ahead_with s had has =
     if nat_le has had then s.ahead
     else if nat_le has s.ahead then s.ahead - has
     else cells_reserved s.order.room s.source_room - (sources_in s.groups - had + has)
 
--- How many sources are moved for it, and how many groups are looked at: its own, and where the rows are packed those of the
--- other groups, and each that has a moment then. It is `moved_for` of the rows.
+-- The sources moved and groups looked at, if a group's sources are replaced. They are its own sources. If the rows are
+-- packed, they are also those of the other groups, and each group that has a moment then. It is `moved_for` of the
+-- rows.
 abbrev pub moved_by_packing : (named : ℕ) → HeldState → (had has : ℕ) → ℕ
 moved_by_packing named s had has =
     if nat_le has had then has
     else if nat_le has s.ahead then has
     else has + (sources_in s.groups - had + named)
 
--- of a group that is held
+-- the moves for a group that is held
 abbrev pub moved_by_row : HeldState → (was_vacant : Bool) → (had has : ℕ) → ℕ
 moved_by_row s was_vacant had has = moved_by_packing (running_in s.groups + one_if was_vacant) s had has
 
--- of one that wasn't
+-- the moves for a group that wasn't held
 abbrev pub moved_by_new_row : HeldState → (has : ℕ) → ℕ
 moved_by_new_row s has = moved_by_packing (running_in s.groups + 1) s 0 has
 
--- whether the group of a number is INCLUDE without sources
+-- the group of a number is INCLUDE without sources
 abbrev pub is_vacant_at : HeldState → ℕ → Bool
 is_vacant_at s number = is_vacant (group_at s.groups (key_in s.order.items number)).group
 
@@ -72,7 +74,7 @@ is_vacant_at s number = is_vacant (group_at s.groups (key_in s.order.items numbe
 abbrev pub numbers_of : HeldState → List ℕ
 numbers_of s = list_map (λ x. x.number) s.order.items
 
--- by the codes of its parts proofs tell a group with its schedule from others
+-- the codes of its parts, by which proofs distinguish groups with their schedules
 abbrev pub scheduled_code : Coded FilterMode → Coded SourceTimer → Coded QuerySchedule → Coded ScheduledGroup
 scheduled_code mode timer query =
     let timers = map.code coded_ℕ timer in

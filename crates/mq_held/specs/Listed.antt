@@ -1,4 +1,4 @@
--- What a contract sees of groups that are looked at one after the other.
+-- Groups that are read one after the other, as a contract sees them.
 use Rattle.std.specs.Prelude.{ℕ, ◌+◌, List, sum, take, drop}
 use Rattle.std.specs.FinMap as map
 use Rattle.mq_table.specs.Stored.{timers_in}
@@ -6,7 +6,7 @@ use Rattle.mq_sched.specs.Schedule.{ScheduledGroup}
 use Rattle.mq_held.specs.declared.held_group.HeldGroup.{HeldGroup}
 use Rattle.mq_held.specs.Groups.{Groups}
 
--- a group as it stands in the storage, with its address, as it is in the map
+-- a group of the storage with its address, as the map has it
 abbrev pub entry_in : {K : Type 0} → (K → ℕ) → HeldGroup K → ℕ × ScheduledGroup
 entry_in number h = (
   number h.address,
@@ -20,6 +20,6 @@ entry_in number h = (
 abbrev pub entries_from : (place : ℕ) → Groups → List (ℕ × ScheduledGroup)
 entries_from place groups = drop place (map.entries groups)
 
--- the rank of what stands at a place of a page
+-- the rank of the item at a place of a page
 abbrev pub rank_at : List ℕ → (page place : ℕ) → ℕ
 rank_at pages page place = sum (take page pages) + place

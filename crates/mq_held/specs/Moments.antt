@@ -9,7 +9,7 @@ use Rattle.mq_sched.specs.Schedule.{ScheduledGroup}
 use Rattle.mq_sched.specs.Sending.{group_due}
 use Rattle.mq_held.specs.Groups.{Groups}
 
--- the moments that there are
+-- the moments that exist
 abbrev pub those_of : List (Option ℕ) → List ℕ
 those_of moments = flat_map option_to_list moments
 

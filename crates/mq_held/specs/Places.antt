@@ -1,4 +1,4 @@
--- The places of groups, a group's rank in the ascending list of addresses; and which groups are due.
+-- The places of groups, and the groups that are due. A group's place is its rank in the ascending list of addresses.
 use Rattle.std.specs.Prelude.{◌≡◌, ℕ, Bool, nat_le, List, map as list_map, filter, Option, None, Some, min, slice_get, slice_index_or}
 use Rattle.std.specs.List.{list_any, count_by}
 use Rattle.std.specs.FinMap as map
@@ -14,15 +14,15 @@ pub record HasPlace (groups : Groups) (address place : ℕ) : Type 0 where
 abbrev pub group_in : Groups → ℕ → ScheduledGroup
 group_in groups place = slice_index_or (map.values groups) place unheld
 
--- whether a group has a moment at or before this one
+-- a group has a moment at or before `now`
 abbrev pub has_due : ℕ → ScheduledGroup → Bool
 has_due now e = list_any (λ t. nat_le t now) (moments_of e)
 
--- the addresses of the groups that have, ascending
+-- the addresses of the groups that have a moment at or before `now`, ascending
 abbrev pub addresses_due : ℕ → Groups → List ℕ
 addresses_due now groups = list_map (λ (e : ℕ × ScheduledGroup). e.0) (filter (λ (e : ℕ × ScheduledGroup). has_due now e.1) (map.entries groups))
 
--- how many groups have
+-- the number of these groups
 abbrev pub due_in : ℕ → Groups → ℕ
 due_in now groups = count_by (has_due now) (map.values groups)
 

@@ -1,4 +1,4 @@
--- Sources that are heard of again.
+-- Sources that a record names again.
 use Rattle.std.specs.Prelude.{◌≡◌, ℕ, ◌+◌, ◌*◌, ◌<◌, ◌≤◌, ◌==◌, Bool, if◌then◌else◌, List, [], ◌∷◌, length}
 use Rattle.std.specs.FinMap as map
 use Rattle.std.specs.List.{HoldsAt, list_all, list_any}
@@ -7,36 +7,36 @@ use Rattle.mq_table.specs.declared.timers.SourceTimer.TheVariants.{Running}
 use Rattle.mq_table.specs.Group.{is_stopped, sendings_of, timer_at}
 use Rattle.mq_sched.specs.Schedule.{ScheduledGroup}
 
--- a group of which the timer of one source runs until another moment, with as many sendings to go as before
+-- the group with one source's timer set to a new deadline; its remaining sendings stay
 abbrev pub restarted : (deadline source : ℕ) → ScheduledGroup → ScheduledGroup
 restarted deadline source e =
     let g = e.group in
     let timer = Running deadline (sendings_of (timer_at g source)) in
     record e { group = record g { sources = map.insert g.sources source timer } }
 
--- one of which the timers of some sources do
+-- the group with the timers of these sources set to a new deadline
 abbrev pub restarted_each : (deadline : ℕ) → List ℕ → ScheduledGroup → ScheduledGroup
 restarted_each deadline [] e = e
 restarted_each deadline (source ∷ sources) e = restarted_each deadline sources (restarted deadline source e)
 
--- whether a group has each of some sources
+-- a group has each of these sources
 abbrev pub has_each : List ℕ → ScheduledGroup → Bool
 has_each sources e = list_all (λ s. map.contains_key e.group.sources s) sources
 
--- whether the timer of one of them is stopped
+-- the timer of one of these sources is stopped
 abbrev pub some_stopped : List ℕ → ScheduledGroup → Bool
 some_stopped sources e = list_any (λ s. is_stopped (timer_at e.group s)) sources
 
--- How many comparisons tell at most whether a group of so many sources has each of those that are named: the first is looked for
--- by halves, and from there the sources are walked over for the others.
+-- The most comparisons to find whether a group has each named source. The first is found by binary search, and from
+-- there the sources are walked over for the others.
 abbrev pub most_looked : (sources named : ℕ) → ℕ
 most_looked sources named = if named == 1 then bitlen sources else sources + bitlen sources
 
--- How many set the timers of those that are named at most, with the digits of how many other groups there are.
+-- the most comparisons to set the timers of the named sources; `digits` are those of the number of other groups
 abbrev pub most_set : (sources named digits : ℕ) → ℕ
 most_set sources named digits = if named == 1 then bitlen sources + sources + 5 + digits else 3 * sources + bitlen sources + named + 4 + digits
 
--- an item of a number stands at `from` or behind it
+-- an item with this number stands at `from` or after it
 pub record StandsFrom {X : Type 0} (number_of : X → ℕ) (xs : List X) (number from : ℕ) : Type 0 where
   pub place : ℕ
   pub behind : from ≤ place

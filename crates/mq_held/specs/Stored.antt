@@ -1,4 +1,4 @@
--- How the groups stand by their numbers: heads and rows of sources, beside the order of the addresses.
+-- Groups by their numbers: heads and rows of sources, beside the order of the addresses.
 use Rattle.std.specs.Prelude.{◌≡◌, ◌<◌, ◌≤◌, ℕ, true, false, if◌then◌else◌, List, [], ◌∷◌, length, map as list_map, slice_index_or, Option, None, Some}
 use Rattle.std.specs.List.{All, sum_by}
 use Rattle.std.specs.Option.{option_to_list}
@@ -21,7 +21,7 @@ use Rattle.mq_held.specs.Moments.{moments_of, least}
 abbrev pub group_of : {K : Type 0} → (K → ℕ) → ScheduledHead → List (Source K) → ScheduledGroup
 group_of number x row = record { group = state_of x.head (timers_in number row); schedule = x.schedule }
 
--- the head at a number, where it is one below the room
+-- the head at a number that no group has
 abbrev pub no_head : ScheduledHead
 no_head = record { head = record { mode = Include; v1 = None; v2 = None }; schedule = no_schedule }
 
@@ -48,9 +48,9 @@ abbrev pub earliest_of : List ℕ → Option ℕ
 earliest_of [] = None
 earliest_of (m ∷ ms) = Some (least m ms)
 
--- The addresses ascend, no two groups have one number, and each number has a row. Each row ascends. What stands at a number that
--- no group has is INCLUDE without sources, so that a number is given to a new group as one that is. The moment of a number is the
--- earliest of its group, and none where no group has the number or where it is INCLUDE without sources, which has none. The
+-- The addresses ascend, no two groups have one number, and each number has a row. Each row ascends. A number that no
+-- group has stands for INCLUDE without sources, so a new group gets its number in that state. The moment of a number is
+-- the earliest of its group. There is none if no group has the number, or if the group is INCLUDE without sources. The
 -- schedules are counted.
 pub record IsStored {K : Type 0} (number : K → ℕ) (items : List NumberedKey) (heads : List ScheduledHead) (rows : List (List (Source K))) (moments : FinMap nat_cmp ℕ) (schedules : ℕ) : Type 0 where
   pub ascending : IsAscending (λ (x : NumberedKey). x.key) items

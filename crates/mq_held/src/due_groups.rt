@@ -1,13 +1,13 @@
-//! Which groups are due.
+//! The groups that are due.
 
-ghost use Rattle.std.specs.Prelude.{◌≡◌, ℕ, ◌+◌, ◌-◌, ◌*◌, ◌<◌, ◌≤◌, min, filter, length, map as list_map, None, is_some, nat_lt, vec_capacity};
+ghost use Rattle.std.specs.Prelude.{◌≡◌, ℕ, ◌+◌, ◌-◌, ◌*◌, ◌<◌, ◌≤◌, min, filter, not, length, map as list_map, None, is_some, nat_lt, vec_capacity};
 ghost use Rattle.std.specs.FinMap as map;
-ghost use Rattle.std.specs.List.{All};
+ghost use Rattle.std.specs.List.{All, count_by};
 ghost use Rattle.mq_count.specs.Spending.{Spends};
 ghost use Rattle.mq_sets.specs.Search.{bitlen};
 ghost use Rattle.mq_sets.specs.NumberedKeys.{key_in};
 ghost use Rattle.mq_held.specs.Groups.{group_at, running_in};
-ghost use Rattle.mq_held.specs.Held.{IsNumber};
+ghost use Rattle.mq_held.specs.Held.{IsNumber, is_vacant_at};
 ghost use Rattle.mq_held.specs.Moments.{least, moments_in};
 ghost use Rattle.mq_held.specs.Places.{addresses_due, due_in, has_due, min_or};
 
@@ -15,13 +15,12 @@ use crate::held_groups::HeldGroups;
 use mq_count::{Key, Meter, Moment, Moves};
 use std::alloc::Allocator;
 
-/// From how many groups that are due the order is walked for them.
+/// The number of due groups from which the order is walked for them.
 const WALKED_FROM: usize = 64;
 
 impl<K: Key, A: Allocator> HeldGroups<K, A> {
-    /// Writes the numbers of the groups that have a moment at or before `now` into `numbers`, by ascending address; `spare` and
-    /// `numbers` have room for the number of each group. At least one comparison for each of them, and one more where there is
-    /// another group; at most eight for each group that is held, and one where none has such a moment.
+    /// Writes the numbers of the groups that have a moment at or before `now` into `numbers`, by ascending address.
+    /// `spare` and `numbers` have room for the number of each group.
     pub fn due<B: Allocator>(
         &self,
         now: Moment,
@@ -54,12 +53,13 @@ impl<K: Key, A: Allocator> HeldGroups<K, A> {
         }
     }
 
-    /// Leaves of the numbers of all groups those of groups that have a moment at or before `now`.
+    /// Keeps only the numbers of groups that have a moment at or before `now`.
     fn leave_due<B: Allocator>(&self, now: Moment, numbers: &mut Vec<u16, B>, m: &mut Meter)
         requires there { All (IsNumber self.now) numbers.old.items }
         ensures numbers { numbers.new.items ≡ filter (λ number. has_due now (group_at self.now.groups (key_in self.now.order.items number))) numbers.old.items }
         ensures capacity { vec_capacity numbers.old ≤ vec_capacity numbers.new }
-        ensures spent { Spends 0 (length numbers.old.items) m.old m.new }
+        ensures spent { let count = count_by (λ number. not (is_vacant_at self.now number)) numbers.old.items in
+            Spends count count m.old m.new }
     {
         let mut due = 0;
         for place in 0..numbers.len() {
@@ -72,7 +72,7 @@ impl<K: Key, A: Allocator> HeldGroups<K, A> {
         numbers.truncate(due);
     }
 
-    /// The earliest of the deadlines and due moments of all groups, or None where there is no group. No
+    /// Returns the earliest of the deadlines and due moments of all groups, or None if there is no group. No
     /// comparison.
     pub fn earliest(&self) -> Option<Moment>
         ensures some { is_some result ≡ nat_lt 0 (running_in self.now.groups) }

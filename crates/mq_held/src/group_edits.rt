@@ -1,6 +1,6 @@
-//! What makes a held group another, makes one, or takes one out.
+//! Changes of a held group, its insertion, and its removal.
 
-ghost use Rattle.std.specs.Prelude.{◌≡◌, ℕ, if◌then◌else◌, ◌+◌, ◌-◌, ◌*◌, ◌<◌, ◌≤◌, true, false, min, not};
+ghost use Rattle.std.specs.Prelude.{◌≡◌, ℕ, if◌then◌else◌, ◌+◌, ◌-◌, ◌*◌, ◌/◌, ◌<◌, ◌≤◌, true, false, length, min, not};
 ghost use Rattle.std.specs.FinMap as map;
 ghost use Rattle.mq_count.specs.Spending.{Spends};
 ghost use Rattle.mq_sets.specs.Search.{bitlen};
@@ -10,7 +10,7 @@ ghost use Rattle.mq_table.specs.Stored.{size_of};
 ghost use Rattle.mq_sched.specs.Schedule.{ScheduledGroup};
 ghost use Rattle.mq_held.specs.Groups.{group_at, kept_as, one_if, running_in, sources_in, sources_of, unheld};
 ghost use Rattle.mq_held.specs.Held.{HasNumber, IsNumber, ahead_with, moved_by_new_row, moved_by_row};
-ghost use Rattle.mq_held.specs.Moments.{least};
+ghost use Rattle.mq_held.specs.Moments.{least, moments_of};
 
 use crate::earliest::{count_schedules, earliest_moment};
 use crate::held_groups::{HeldGroups, vacant_head};
@@ -21,7 +21,7 @@ use mq_sets::Spot;
 use mq_table::{FilterMode, Group};
 use std::alloc::Allocator;
 
-/// Sets the moment of a number, which has none yet where it is new.
+/// Sets the moment of a number, which has none yet if it is new.
 fn set_moment<A: Allocator>(
     moments: &mut Deadlines<A>,
     number: u16,
@@ -46,7 +46,7 @@ fn set_moment<A: Allocator>(
     }
 }
 
-/// Takes the moment of a number out, where there is one.
+/// Removes the moment of a number, if there is one.
 fn remove_moment<A: Allocator>(
     moments: &mut Deadlines<A>,
     number: u16,
@@ -57,7 +57,7 @@ fn remove_moment<A: Allocator>(
     requires there { map.contains_key moments.old.moments number ≡ is_there }
     ensures moments { moments.new ≡ record moments.old { moments = map.remove moments.old.moments number } }
     ensures spent { let others = map.len moments.old.moments - one_if is_there in
-        Spends 0 (bitlen others) m.old m.new }
+        Spends (if is_there then min 1 (others / 2) else 0) (bitlen others) m.old m.new }
     ensures moved { let others = map.len moments.old.moments - one_if is_there in
         Spends (4 * one_if is_there) (4 + bitlen others) moves.old moves.new }
 {
@@ -67,9 +67,8 @@ fn remove_moment<A: Allocator>(
 }
 
 impl<K: Key, A: Allocator> HeldGroups<K, A> {
-    /// The group of a number has changed. One that is INCLUDE without sources has no moments and no schedule from then on, and
-    /// stays until it is taken out. At most one comparison for each of its sources, four more, and one for each binary digit of
-    /// how many other groups there are.
+    /// Replaces the group of a number. INCLUDE without sources has no moments and no schedule afterwards, and stays
+    /// until it is removed.
     pub fn put<B: Allocator>(
         &mut self,
         number: u16,
@@ -93,7 +92,9 @@ impl<K: Key, A: Allocator> HeldGroups<K, A> {
         ensures spent { (address : ℕ) → HasNumber self.old address number →
             let before = group_at self.old.groups address in
             let others = running_in self.old.groups - one_if (not (is_vacant before.group)) in
-            let least = if is_vacant group.now.state then 0 else min 1 others in
+            let gone = if not (is_vacant before.group) then min 1 (others / 2) else 0 in
+            let e : ScheduledGroup = record { group = group.now.state; schedule = schedule } in
+            let least = if is_vacant group.now.state then gone else length (moments_of e) - 1 + min 1 others in
             Spends least (size_of group.now.state + 4 + bitlen others) m.old m.new }
         ensures moved { (address : ℕ) → HasNumber self.old address number →
             let before = group_at self.old.groups address in
@@ -109,7 +110,7 @@ impl<K: Key, A: Allocator> HeldGroups<K, A> {
         }
     }
 
-    /// Whether the group of a number is INCLUDE without sources.
+    /// Returns whether the group of a number is INCLUDE without sources.
     pub(crate) fn is_vacant(&self, number: u16) -> bool
         requires number { IsNumber self.now number }
         ensures { (address : ℕ) → HasNumber self.now address number → result ≡ is_vacant (group_at self.now.groups address).group }
@@ -118,14 +119,14 @@ impl<K: Key, A: Allocator> HeldGroups<K, A> {
         matches!(mode, FilterMode::Include) && self.sources.row(number).is_empty()
     }
 
-    /// Makes the group of a number one that is INCLUDE without sources.
+    /// Makes the group of a number INCLUDE without sources.
     fn make_vacant(&mut self, number: u16, was_vacant: bool, m: &mut Meter, moves: &mut Moves)
         requires number { IsNumber self.old number }
         requires was { (address : ℕ) → HasNumber self.old address number → was_vacant ≡ is_vacant (group_at self.old.groups address).group }
         ensures groups { (address : ℕ) → HasNumber self.old address number →
             self.new ≡ record self.old { groups = map.insert self.old.groups address unheld } }
         ensures spent { let others = running_in self.old.groups - one_if (not was_vacant) in
-            Spends 0 (bitlen others) m.old m.new }
+            Spends (if not was_vacant then min 1 (others / 2) else 0) (bitlen others) m.old m.new }
         ensures moved { let others = running_in self.old.groups - one_if (not was_vacant) in
             let least = 4 * one_if (not was_vacant) in
             Spends least (4 + bitlen others) moves.old moves.new }
@@ -137,7 +138,7 @@ impl<K: Key, A: Allocator> HeldGroups<K, A> {
         self.scheduled -= count_schedules(before.schedule);
     }
 
-    /// Writes a group that has a moment in the place of what a number has.
+    /// Replaces the group of a number by a group that has a moment.
     fn write<B: Allocator>(
         &mut self,
         number: u16,
@@ -157,8 +158,9 @@ impl<K: Key, A: Allocator> HeldGroups<K, A> {
             (address : ℕ) → HasNumber self.old address number →
             let ahead = ahead_with self.old (sources_of (group_at self.old.groups address)) (size_of group.now.state) in
             self.new ≡ record self.old { groups = map.insert self.old.groups address e; ahead = ahead } }
-        ensures spent { let others = running_in self.old.groups - one_if (not was_vacant) in
-            Spends (min 1 others) (size_of group.now.state + 4 + bitlen others) m.old m.new }
+        ensures spent { let e : ScheduledGroup = record { group = group.now.state; schedule = schedule } in
+            let others = running_in self.old.groups - one_if (not was_vacant) in
+            Spends (length (moments_of e) - 1 + min 1 others) (size_of group.now.state + 4 + bitlen others) m.old m.new }
         ensures moved { (address : ℕ) → HasNumber self.old address number →
             let others = running_in self.old.groups - one_if (not was_vacant) in
             let rows = moved_by_row self.old was_vacant (sources_of (group_at self.old.groups address)) (size_of group.now.state) in
@@ -177,8 +179,7 @@ impl<K: Key, A: Allocator> HeldGroups<K, A> {
             + count_schedules(schedule);
     }
 
-    /// A group is held that was not, at the spot where it goes; answers its number. At most one comparison for each of its
-    /// sources, four more, and one for each binary digit of how many other groups there are.
+    /// Inserts a group that was not held at its spot, and returns its number.
     pub fn insert<B: Allocator>(
         &mut self,
         spot: Spot,
@@ -199,8 +200,9 @@ impl<K: Key, A: Allocator> HeldGroups<K, A> {
         ensures room { self.new.order.room ≡ self.old.order.room }
         ensures source_room { self.new.source_room ≡ self.old.source_room }
         ensures ahead { self.new.ahead ≡ ahead_with self.old 0 (size_of group.now.state) }
-        ensures spent { let others = running_in self.old.groups in
-            Spends (min 1 others) (size_of group.now.state + 4 + bitlen others) m.old m.new }
+        ensures spent { let e : ScheduledGroup = record { group = group.now.state; schedule = schedule } in
+            let others = running_in self.old.groups in
+            Spends (length (moments_of e) - 1 + min 1 others) (size_of group.now.state + 4 + bitlen others) m.old m.new }
         ensures moved { let own = moved_by_insert self.old.order.pages spot + moved_by_new_row self.old (size_of group.now.state) in
             Spends (own + 4) (own + 4 + bitlen (running_in self.old.groups)) moves.old moves.new }
     {

@@ -1,4 +1,4 @@
-//! The held groups, one after the other.
+//! Iteration over the held groups.
 
 ghost use Rattle.std.specs.Prelude.{◌≡◌};
 ghost use Rattle.std.specs.Iterator.{YieldsFirstBy, item_count};
@@ -10,12 +10,12 @@ use mq_count::Key;
 use std::alloc::{Allocator, Global};
 use std::marker::Model;
 
-/// The held groups from one of them on, by ascending address, each as it stands in the storage. A contract sees the list of
-/// those that are still to come, each with its address. It takes no memory, and compares nothing.
+/// The held groups from one of them on, by ascending address, each as it is stored. A contract sees the list of those
+/// that are still to come, each with its address. It never allocates, and compares nothing.
 #[derive(Drop)]
 pub struct HeldEntries<'a, K: Key, A: Allocator = Global> {
     held: &'a HeldGroups<K, A>,
-    /// The page of the order that has the next one, and its place there.
+    /// The page of the order that has the next group, and its place there.
     page: usize,
     place: usize,
 }
@@ -40,7 +40,7 @@ impl<'a, K: Key, A: Allocator> Model for HeldEntries<'a, K, A> {
 }
 
 impl<'a, K: Key, A: Allocator> HeldEntries<'a, K, A> {
-    /// All of them.
+    /// Returns all held groups.
     pub(crate) fn of(held: &'a HeldGroups<K, A>) -> HeldEntries<'a, K, A>
         ensures { result ≡ entries_from 0 held.entry.now.groups }
     {

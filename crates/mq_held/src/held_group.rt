@@ -1,4 +1,4 @@
-//! A look at one held group.
+//! A view of one held group.
 
 ghost use Rattle.std.specs.Prelude.{◌≡◌, length};
 ghost use Rattle.mq_count.specs.Spending.{Spends};
@@ -11,62 +11,61 @@ use mq_count::{Key, Meter, Moment};
 use mq_sched::Schedule;
 use mq_table::{FilterMode, Source, timer_among};
 
-/// A held group, as it stands in the storage.
+/// A held group, as it is stored.
 #[derive_where(Clone, Copy)]
 pub struct HeldGroup<'a, K: Key> {
     /// The group's address.
     pub address: K,
     /// The filter mode, in EXCLUDE with the deadline of the group timer.
     pub mode: FilterMode,
-    /// The sources with their timers, ascending.
+    /// The sources with their timers, in ascending order.
     pub sources: &'a [Source<K>],
-    /// Up to when a host of version 1 is taken to be there.
+    /// The moment until which a host of version 1 is assumed to be there.
     pub v1: Option<Moment>,
-    /// Up to when a host of version 2 is taken to be there. MLD has none.
+    /// The moment until which a host of version 2 is assumed to be there. MLD has none.
     pub v2: Option<Moment>,
-    /// What is to go for the group.
+    /// The queries that are to go for the group.
     pub schedule: Schedule,
 }
 
 impl<'a, K: Key> HeldGroup<'a, K> {
-    /// The group's address.
+    /// Returns the group's address.
     pub fn group(&self) -> K
         ensures { result ≡ self.now.address }
     {
         self.address
     }
 
-    /// The filter mode, in EXCLUDE with the deadline of the group timer.
+    /// Returns the filter mode, in EXCLUDE with the deadline of the group timer.
     pub fn mode(&self) -> FilterMode
         ensures { result ≡ self.now.mode }
     {
         self.mode
     }
 
-    /// The sources with their timers, ascending.
+    /// Returns the sources with their timers, in ascending order.
     pub fn sources(&self) -> &'a [Source<K>]
         ensures { result.now ≡ self.now.sources.now }
     {
         self.sources
     }
 
-    /// Up to when a host of version 1 is taken to be there.
+    /// Returns the moment until which a host of version 1 is assumed to be there.
     pub fn v1(&self) -> Option<Moment>
         ensures { result ≡ self.now.v1 }
     {
         self.v1
     }
 
-    /// Up to when a host of version 2 is taken to be there. MLD has none.
+    /// Returns the moment until which a host of version 2 is assumed to be there. MLD has none.
     pub fn v2(&self) -> Option<Moment>
         ensures { result ≡ self.now.v2 }
     {
         self.v2
     }
 
-    /// Whether what this source sends to the group is forwarded, as of the last moment that the
-    /// group was told (RFC 3376 section 6.3, RFC 3810 section 7.3). At most one comparison for each
-    /// binary digit of how many sources there are.
+    /// Returns whether the group forwards what this source sends. It is true of the last moment that was given to the
+    /// group (RFC 3376 section 6.3, RFC 3810 section 7.3).
     pub fn forwards(&self, source: K, m: &mut Meter) -> bool
         requires ascending { IsAscending (number_in K.number) self.now.sources.now }
         ensures answer { let timers = timers_in K.number self.now.sources.now in

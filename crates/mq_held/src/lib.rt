@@ -11,10 +11,11 @@
 //! held.due(now, &mut numbers, &mut spare, &mut m, &mut moves);
 //! ```
 //!
-//! - `HeldGroups`: the finite map from address to group with its schedule, and what may be asked of it. What changes one group is in
-//!   `group_edits`; what does it where its row stands in `timers_in_place`, `several_in_place` and `queries_in_place`; what takes
-//!   out those that are vacant in `vacant_groups`, and which are due in `due_groups`.
-//! - `HeldGroup`: one of them, as it stands there; `HeldEntries`: all, one after the other.
+//! - `HeldGroups`: the finite map from address to group with its schedule, and its queries.
+//! - Changes of one group: `group_edits`. Changes of a row where it is stored: `timers_in_place`, `several_in_place`
+//!   and `queries_in_place`.
+//! - The removal of vacant groups: `vacant_groups`. The groups that are due: `due_groups`.
+//! - `HeldGroup`: one group, as it is stored. `HeldEntries`: all, one after the other.
 #![tactic(auto)]
 
 mod due_groups;

@@ -1,8 +1,8 @@
-//! The queries for a source of a group, started and sent where the row of the group stands.
+//! The queries for a source of a group, started and sent where the group's row is stored.
 
 ghost use Rattle.std.specs.Prelude.{◌≡◌, ℕ, ◌+◌, ◌-◌, ◌*◌, ◌^◌, ◌<◌, ◌≤◌, [], ◌∷◌, true, false, min, length, map as list_map, is_some, if◌then◌else◌, slice_index_or, slice_set};
 ghost use Rattle.std.specs.FinMap as map;
-ghost use Rattle.std.specs.List.{HoldsAt, list_any};
+ghost use Rattle.std.specs.List.{HoldsAt, count_by, list_any};
 ghost use Rattle.mq_count.specs.Spending.{Spends};
 ghost use Rattle.mq_sets.specs.Ascending.{IsAscending, set_of};
 ghost use Rattle.mq_sets.specs.Search.{bitlen};
@@ -12,6 +12,7 @@ ghost use Rattle.mq_table.specs.MadeSources.{item_counted};
 ghost use Rattle.mq_table.specs.SendingPlaces.{PassesBetween, item_has_sendings};
 ghost use Rattle.mq_table.specs.Sendings.{above};
 ghost use Rattle.mq_table.specs.Stored.{number_in};
+ghost use Rattle.mq_table.specs.Timing.{last_member_count};
 ghost use Rattle.mq_sched.specs.Rounds.{IsQuietAt};
 ghost use Rattle.mq_sched.specs.Sending.{after_round, messages_due};
 ghost use Rattle.mq_sched.specs.Sink.{Sends};
@@ -28,8 +29,8 @@ use mq_sets::{Pool, find};
 use mq_table::{SendingPlaces, Source, SourceTimer, Timing, runs_on};
 use std::alloc::Allocator;
 
-/// The timer of the source at a place of a row, which runs on after a limit, is lowered to that, and so many sendings are to go for
-/// it. One move.
+/// Lowers the timer of the source at a place of a row to a limit, after which it runs on. Then `count` sendings are to
+/// go for it.
 fn ask_in_row<K: Key, A: Allocator>(
     rows: &mut Pool<Source<K>, A>,
     number: u16,
@@ -55,8 +56,8 @@ fn ask_in_row<K: Key, A: Allocator>(
     rows.set(number, place, asked, moves);
 }
 
-/// Leaves each source of a row one sending fewer, where it has one; outside of the places none has one. Answers whether a source
-/// has one left. No comparison; at most one move for each source.
+/// Leaves each source of a row one sending fewer, if it has one. Outside of the places none has one. Returns whether a
+/// source has one left. No comparison.
 fn count_in_row<K: Key, A: Allocator>(
     rows: &mut Pool<Source<K>, A>,
     number: u16,
@@ -68,7 +69,8 @@ fn count_in_row<K: Key, A: Allocator>(
     ensures rows { let row = slice_index_or rows.old.rows number [] in
         rows.new ≡ record rows.old { rows = slice_set rows.old.rows number (list_map item_counted row) } }
     ensures left { result ≡ list_any item_has_sendings (list_map item_counted (slice_index_or rows.old.rows number [])) }
-    ensures moved { Spends 0 (length (slice_index_or rows.old.rows number [])) moves.old moves.new }
+    ensures moved { let count = count_by item_has_sendings (slice_index_or rows.old.rows number []) in
+        Spends count count moves.old moves.new }
 {
     let mut left = false;
     for place in places.first..places.end {
@@ -87,12 +89,13 @@ fn count_in_row<K: Key, A: Allocator>(
 }
 
 impl<K: Key, A: Allocator> HeldGroups<K, A> {
-    /// The querier asks for a source of the group of a number, for which nothing is due: where the source's timer is above the last
-    /// member query time it is lowered to that, the last member query count of sendings are to go for it, and the queries for all
-    /// sources with sendings to go are sent at once, `per_query` in each at most, and counted (RFC 3376 section 6.6.3.2, RFC 3810
-    /// section 7.6.3.2). Else nothing changes. Answers whether the group has the source. No row is copied. At most three
-    /// comparisons for each source, one for each binary digit of how many of them and of how many other groups there are, and five
-    /// more.
+    /// Asks for a source of the group of a number, for which nothing is due.
+    ///
+    /// If the source's timer is above the last member query time, it is lowered to it, and the last member query count
+    /// of sendings are to go for it. Then the queries for all sources with sendings to go are sent at once, at most
+    /// `per_query` in each, and counted. RFC 3376 section 6.6.3.2, RFC 3810 section 7.6.3.2. If the timer isn't above
+    /// it, or the group doesn't have the source, nothing changes. Only the querier asks. Returns whether the group has
+    /// the source. No row is copied.
     pub fn ask<S: Sink<K>>(
         &mut self,
         number: u16,
@@ -126,7 +129,7 @@ impl<K: Key, A: Allocator> HeldGroups<K, A> {
         ensures moved { (address : ℕ) → HasNumber self.old address number →
             let e = group_at self.old.groups address in
             let others = running_in self.old.groups - 1 in
-            Spends (if above timing.now now e.group (K.number source) then 2 else 0) (if result then sources_of e + 2 + bitlen others else 0) moves.old moves.new }
+            Spends (if above timing.now now e.group (K.number source) then 2 + min 1 (last_member_count timing.now) else 0) (if result then sources_of e + 2 + bitlen others else 0) moves.old moves.new }
     {
         let row = self.sources.row(number);
         let Ok(place) = find(row, source, m) else {

@@ -1,4 +1,4 @@
-//! The timers of several sources, set where the row of their group stands.
+//! The timers of several sources, set where their group's row is stored.
 
 ghost use Rattle.std.specs.Prelude.{◌≡◌, ℕ, ◌+◌, ◌-◌, ◌*◌, ◌<◌, ◌≤◌, [], true, length, map as list_map, min, nat_lt, slice_index_or, slice_set, is_some, if◌then◌else◌, IfSome, MatchOption, Some};
 ghost use Rattle.std.specs.FinMap as map;
@@ -24,16 +24,15 @@ use mq_table::{Source, SourceTimer};
 use std::alloc::Allocator;
 use std::cmp::Ordering;
 
-/// Whether a timer is stopped.
+/// Returns whether a timer is stopped.
 fn is_stopped(timer: SourceTimer) -> bool
     ensures { result ≡ group.is_stopped (Some timer) }
 {
     matches!(timer, SourceTimer::Stopped)
 }
 
-/// Whether each of some ascending names is that of one of some ascending sources: the first is looked for by halves, and the others
-/// by one walk from there. At most one comparison for each source and for each binary digit of how many there are; at least one for
-/// each name, where all are there.
+/// Returns whether each of some ascending names is that of one of some ascending sources. The first is found by binary
+/// search, and the others by one walk from there.
 fn has_each<K: Key>(row: &[Source<K>], named: &[K], m: &mut Meter) -> bool
     requires ascending { IsAscending (number_in K.number) row.now }
     requires named { IsAscending K.number named.now }
@@ -60,8 +59,7 @@ fn has_each<K: Key>(row: &[Source<K>], named: &[K], m: &mut Meter) -> bool
     true
 }
 
-/// The place of a name that one of some sources has, which stands at `from` or behind it, by a walk from there. One comparison for
-/// each source from there up to it.
+/// Returns the place of a name that a source at `from` or after it has, by a walk from there.
 fn place_from<K: Key>(row: &[Source<K>], from: usize, name: K, m: &mut Meter) -> usize
     requires there { StandsFrom (number_in K.number) row.now (K.number name) from }
     ensures within { (from ≤ result) × (result < length row.now) }
@@ -77,18 +75,17 @@ fn place_from<K: Key>(row: &[Source<K>], from: usize, name: K, m: &mut Meter) ->
     }
 }
 
-/// What timers were that have been set anew.
+/// The state of timers before they were set anew.
 #[derive(Clone, Copy)]
 struct Before {
-    // Whether one of them was stopped.
+    // True if one of them was stopped.
     is_stopped: bool,
-    // Whether each of them ran out after a moment, or didn't run.
+    // True if each of them expired after a moment, or didn't run.
     is_later: bool,
 }
 
-/// Sets the timers of some of a row's sources to a deadline, with as many sendings to go as before. The names ascend, and each is
-/// that of a source of the row. Answers what these timers were, against the moment `earliest`. At most one comparison for each
-/// source and one for each name, and one move for each name.
+/// Sets the timers of some of a row's sources to a deadline; their remaining sendings stay. The names ascend, and each
+/// is that of a source of the row. Returns the state of these timers before, against the moment `earliest`.
 fn restart_row<K: Key, A: Allocator>(
     rows: &mut Pool<Source<K>, A>,
     number: u16,
@@ -139,11 +136,11 @@ fn restart_row<K: Key, A: Allocator>(
 }
 
 impl<K: Key, A: Allocator> HeldGroups<K, A> {
-    /// Sources of the group of a number are heard of again: where it has each of those that are named, which ascend, their timers
-    /// run until another moment, each with as many sendings to go as before, and the answer is whether one of them was stopped.
-    /// Else the answer is None, and nothing changes. No row is copied. At most three comparisons for each source of the group and
-    /// one for each that is named, one for each binary digit of how many sources and of how many other groups there are, and four
-    /// more; where one source is named it is looked for by halves.
+    /// Sets the timers of named sources of a group to a new deadline, if the group has each of them.
+    ///
+    /// The names ascend. The remaining sendings of each source stay. Returns whether one of the sources was stopped. If
+    /// the group lacks one of them, returns None and changes nothing. No row is copied. One named source is found by
+    /// binary search.
     pub fn restart_each(
         &mut self,
         number: u16,
@@ -185,7 +182,7 @@ impl<K: Key, A: Allocator> HeldGroups<K, A> {
         }
     }
 
-    /// The same of at least one source, by walks over the group's row.
+    /// Acts like `restart_each` for at least one source, by walks over the group's row.
     fn restart_several(
         &mut self,
         number: u16,

@@ -1,4 +1,4 @@
-//! The timer of one source, set where the row of its group stands.
+//! The timer of one source, set where its group's row is stored.
 
 ghost use Rattle.std.specs.Prelude.{◌≡◌, ℕ, ◌+◌, ◌-◌, ◌<◌, true, min, length, is_some, if◌then◌else◌, IfSome, IsTrue, MatchOption, Some, ◌↔◌};
 ghost use Rattle.std.specs.FinMap as map;
@@ -23,7 +23,7 @@ use mq_sets::find;
 use mq_table::{Source, SourceTimer};
 use std::alloc::Allocator;
 
-/// A source whose timer runs until another moment, with as many sendings to go as before.
+/// Returns a source with its timer set to a new deadline; its remaining sendings stay.
 pub(crate) fn restarted<K: Key>(before: Source<K>, deadline: Moment) -> Source<K>
     ensures { result ≡ record { address = before.address; timer = SourceTimer.Running deadline (sendings_of (Some before.timer)) } }
 {
@@ -37,7 +37,7 @@ pub(crate) fn restarted<K: Key>(before: Source<K>, deadline: Moment) -> Source<K
     }
 }
 
-/// Whether a timer runs out after a moment, or doesn't run. At most one comparison.
+/// Returns whether a timer expires after a moment, or doesn't run.
 pub(crate) fn is_later(timer: SourceTimer, moment: Moment, m: &mut Meter) -> bool
     ensures later { IsTrue result ↔ IfSome (deadline_of (Some timer)) (λ deadline. moment < deadline) }
     ensures spent { Spends (if result then 0 else 1) 1 m.old m.new }
@@ -48,8 +48,7 @@ pub(crate) fn is_later(timer: SourceTimer, moment: Moment, m: &mut Meter) -> boo
     }
 }
 
-/// The earliest of all moments of a group that is held, and of its schedule, as it stands in the storage. At most one
-/// comparison for each source, and four more.
+/// Returns the earliest of all moments of a held group and its schedule, as they are stored.
 pub(crate) fn earliest_stored<K: Key>(
     item: &ScheduledHead,
     row: &[Source<K>],
@@ -59,6 +58,8 @@ pub(crate) fn earliest_stored<K: Key>(
     requires held { IsWellFormed (group_of K.number item.now row.now).group }
     ensures earliest { earliest_of (moments_of (group_of K.number item.now row.now)) ≡ Some result }
     ensures spent { Spends 0 (length row.now + 4) m.old m.new }
+    ensures compared { let count = length (moments_of (group_of K.number item.now row.now)) - 1 in
+        Spends count count m.old m.new }
 {
     let head = item.head;
     let first = earliest_of_head(head.mode, head.v1, head.v2, item.schedule, m);
@@ -66,9 +67,8 @@ pub(crate) fn earliest_stored<K: Key>(
     earliest.unwrap()
 }
 
-/// The earliest of all moments of a group, where timers of its sources have been set to a deadline, and it was `earliest` before;
-/// or None, where it stays. Where each of these timers ran out later than that it is the earlier of the two. At most one
-/// comparison, or one for each source and four more.
+/// Returns the earliest moment of a group after timers of its sources were set to a deadline, or None if it stays. It
+/// was `earliest` before. If each of these timers expired later than that, it is the earlier of the two.
 pub(crate) fn earliest_then<K: Key>(
     item: &ScheduledHead,
     row: &[Source<K>],
@@ -93,7 +93,7 @@ pub(crate) fn earliest_then<K: Key>(
     }
 }
 
-/// A number has another moment, where there is one.
+/// Changes the moment of a number, if a new one is given.
 pub(crate) fn change_moment<A: Allocator>(
     moments: &mut Deadlines<A>,
     number: u16,
@@ -104,8 +104,10 @@ pub(crate) fn change_moment<A: Allocator>(
     requires there { map.contains_key moments.old.moments number ≡ true }
     ensures moments { (earliest : ℕ) → map.get moments.old.moments number ≡ Some earliest →
         moments.new ≡ record moments.old { moments = map.insert moments.old.moments number (unwrap_or due earliest) } }
-    ensures spent { Spends 0 (bitlen (map.len moments.old.moments - 1)) m.old m.new }
-    ensures moved { Spends 0 (1 + bitlen (map.len moments.old.moments - 1)) moves.old moves.new }
+    ensures spent { let others = map.len moments.old.moments - 1 in
+        Spends (if is_some due then min 1 others else 0) (bitlen others) m.old m.new }
+    ensures moved { let others = map.len moments.old.moments - 1 in
+        Spends (if is_some due then 1 else 0) (1 + bitlen others) moves.old moves.new }
 {
     match due {
         Some(due) => moments.change(number, due, m, moves),
@@ -114,10 +116,9 @@ pub(crate) fn change_moment<A: Allocator>(
 }
 
 impl<K: Key, A: Allocator> HeldGroups<K, A> {
-    /// A source of the group of a number is heard of again: its timer runs until another moment, and has as many sendings to go
-    /// as before. Answers its timer from before; or None, where the group has no such source, and then nothing changes. No row
-    /// is copied, and none is walked over but where the timer held the earliest moment of its group. At most one comparison for
-    /// each source, one for each binary digit of how many of them and of how many other groups there are, and five more.
+    /// Sets the timer of a source of the group of a number to a new deadline; its remaining sendings stay. Returns the
+    /// timer before. If the group doesn't have the source, returns None and changes nothing. No row is copied. A row is
+    /// walked over only if the timer had the earliest moment of its group.
     pub fn restart(
         &mut self,
         number: u16,

@@ -1,4 +1,4 @@
-//! How groups that are vacant are taken out, many at a time.
+//! The removal of vacant groups, many at a time.
 
 ghost use Rattle.std.specs.Prelude.{◌≡◌, ℕ, ◌+◌, ◌*◌, ◌/◌, ◌≤◌, true, min, not, take, filter, length, vec_capacity};
 ghost use Rattle.std.specs.FinMap as map;
@@ -16,10 +16,10 @@ use mq_count::{Key, Meter, Moves};
 use mq_sets::NumberedKeys;
 use std::alloc::Allocator;
 
-/// The order is walked where more than one of so many groups is taken out.
+/// The share of groups that are removed by a walk of the order: more than one of this many.
 const WALK_WORTH: usize = 32;
 
-/// Takes the items of some numbers out of an order, one after the other.
+/// Removes the items of some numbers from an order, one after the other.
 fn remove_each<K: Key, A: Allocator>(
     order: &mut NumberedKeys<K, A>,
     numbers: &[u16],
@@ -41,9 +41,9 @@ fn remove_each<K: Key, A: Allocator>(
 }
 
 impl<K: Key, A: Allocator> HeldGroups<K, A> {
-    /// Takes out the groups that are INCLUDE without sources; their numbers are among `numbers`, which says nothing afterwards,
-    /// and has room for the number of each group, as `spare` has. Few are taken out one by one, and many by one walk of the
-    /// order. Where a number is given, at most one comparison for each group that is held.
+    /// Removes the groups that are INCLUDE without sources. Their numbers are among `numbers`, which has no meaning
+    /// afterwards. It has room for the number of each group, and so has `spare`. Few groups are removed one by one, and
+    /// many by one walk of the order.
     pub fn take_out_vacant<B: Allocator>(
         &mut self,
         numbers: &mut Vec<u16, B>,
@@ -79,7 +79,7 @@ impl<K: Key, A: Allocator> HeldGroups<K, A> {
         }
     }
 
-    /// Leaves of some numbers those whose groups are INCLUDE without sources.
+    /// Keeps only the numbers whose groups are INCLUDE without sources.
     fn leave_vacant<B: Allocator>(&self, numbers: &mut Vec<u16, B>, moves: &mut Moves)
         requires there { All (IsNumber self.now) numbers.old.items }
         ensures numbers { numbers.new.items ≡ filter (is_vacant_at self.now) numbers.old.items }
@@ -98,8 +98,8 @@ impl<K: Key, A: Allocator> HeldGroups<K, A> {
         numbers.truncate(gone);
     }
 
-    /// Parts the numbers of all groups, each part by ascending address: those of groups that are INCLUDE without sources go to
-    /// `gone`, and all others to the front of `kept`; answers how many those are.
+    /// Splits the numbers of all groups, each part by ascending address. Those of groups that are INCLUDE without
+    /// sources go to `gone`, and all others to the front of `kept`. Returns how many those are.
     fn part<B: Allocator>(
         &self,
         gone: &mut Vec<u16, B>,

@@ -1,4 +1,4 @@
--- Words in which the laws of groups are said.
+-- Terms of the laws of groups.
 use Rattle.std.specs.Prelude.{◌≡◌, ℕ, ◌≤◌, Bool, Option, None, Some}
 use Rattle.std.specs.FinSet as set
 use Rattle.mq_table.specs.declared.kind.Kind.{Kind}
@@ -17,20 +17,20 @@ pub record Arrival : Type 0 where
 abbrev pub table_row_for : Arrival → TableRow
 table_row_for r = table_row_met r.timing r.now r.group r.kind r.named
 
--- what it leaves of the group
+-- the group after the record
 abbrev pub group_after : Arrival → GroupState
 group_after r =
     let change = change_of r.timing r.now r.group r.kind r.named in
     change.group
 
--- After a record of this kind a group forwards a source by whether the record names it, and whether
--- the group forwarded it before.
+-- The group forwards a source after a record of this kind by two facts. They are whether the record names it, and
+-- whether the group forwarded it before.
 abbrev pub ForwardsAfter : Kind → (Bool → Bool → Bool) → Type 0
 ForwardsAfter kind what =
     (r : Arrival) (s : ℕ) → r.kind ≡ kind →
     forwards_in (group_after r) s ≡ what (set.contains r.named s) (forwards_in r.group s)
 
--- a deadline that is still there, and no later than it was
+-- the deadline is still there, and no later than before
 abbrev pub IsNoLater : Option ℕ → Option ℕ → Type 0
 IsNoLater None None = Unit {0}
 IsNoLater (Some before) (Some after) = after ≤ before

@@ -1,2 +1,12 @@
 pub mod Groups
 pub mod Schedules
+pub mod Laws
+pub mod Following
+pub mod AsWanted
+pub mod Captures
+pub mod Events
+pub mod CheckExamples
+pub mod OnTime
+pub mod Pairing
+pub mod Verdicts
+pub mod WantedAndSeen

@@ -1,4 +1,4 @@
--- Words in which the laws of schedules are said.
+-- Terms of the laws of schedules.
 use Rattle.std.specs.Prelude.{ℕ, ◌<◌, ◌≤◌, Bool, if◌then◌else◌, List, [], ◌∷◌, length}
 use Rattle.std.specs.List.Sorted.{IsStrictlyIncreasing}
 use Rattle.mq_table.specs.declared.timing.Timing.{Timing}
@@ -7,7 +7,7 @@ use Rattle.mq_table.specs.Sendings.{has_sendings, above}
 use Rattle.mq_sched.specs.Schedule.{ScheduledGroup, IsScheduleOf}
 use Rattle.mq_sched.specs.Sending.{SentQuery, GeneralQuery, GroupQuery, SourcesQuery, acted, is_due, sources_where, messages_due, after_round}
 
--- a round of a group with an address, at a moment, in messages of what one holds
+-- a round of a group with an address, at a moment, with this many sources a message
 pub record Round : Type 0 where
   pub per_query : ℕ
   pub timing : Timing
@@ -21,7 +21,7 @@ queries_of r = messages_due r.per_query r.timing r.now r.address r.before
 abbrev pub state_after : Round → ScheduledGroup
 state_after r = after_round r.timing r.now r.before
 
--- what a record asks of a group, at a moment
+-- the queries that a record asks for in a group, at a moment
 pub record Asking : Type 0 where
   pub is_querier : Bool
   pub timing : Timing
@@ -37,7 +37,7 @@ after_asking r = acted r.is_querier r.timing r.now r.query_group r.query r.befor
 abbrev pub IsFitting : ScheduledGroup → Type 0
 IsFitting e = IsScheduleOf e.group e.schedule
 
--- each query for sources has one at least, and they ascend
+-- each query for sources has at least one, and they ascend
 abbrev pub AscendIn : List SentQuery → Type 0
 AscendIn [] = Unit {0}
 AscendIn (GeneralQuery ∷ queries) = AscendIn queries

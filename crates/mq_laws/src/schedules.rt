@@ -1,4 +1,4 @@
-//! Laws of the definitions. No function here does anything: its contract is the law, for every
+//! Laws of the definitions of schedules. The functions have no effect at run time: each contract is a law, for every
 //! group with its schedule, every moment and every timing.
 
 ghost use Rattle.std.specs.Prelude.{◌≡◌, ℕ, ◌+◌, ◌<◌, true, false, ◌&&◌, [], length};
@@ -17,8 +17,8 @@ ghost use Rattle.mq_sched.specs.Rounds.{asked_in, asks_group, IsQuietAt};
 
 use mq_table::Timing;
 
-/// A round asks for the sources that have a sending to go, where they are due. Each of them has
-/// exactly one fewer then, every other timer is as it was, and no deadline moves.
+/// A lemma: a round asks for the sources that have a sending to go, if they are due. Afterwards each of them has
+/// exactly one fewer, every other timer is unchanged, and no deadline moves.
 pub fn a_round_counts_its_sources_down()
     ensures asked { (r : Round) (s : ℕ)
         → 0 < r.per_query
@@ -33,7 +33,7 @@ pub fn a_round_counts_its_sources_down()
         → deadline_of (timer_at (state_after r).group s) ≡ deadline_of (timer_at r.before.group s) }
 {}
 
-/// So does the group query, in a round that has it; it has it where it is due.
+/// A lemma: a round has the group query exactly if it is due. Afterwards the query has exactly one sending fewer.
 pub fn a_round_counts_its_group_query_down()
     ensures asked { (r : Round)
         → asks_group (queries_of r) ≡ is_due r.now (group_due r.before.schedule.group_query) }
@@ -45,7 +45,7 @@ pub fn a_round_counts_its_group_query_down()
         → (state_after r).schedule.group_query ≡ r.before.schedule.group_query }
 {}
 
-/// A round leaves nothing due at or before its moment, so that another one then sends nothing.
+/// A lemma: a round leaves nothing due at or before its moment, so another one then sends nothing.
 pub fn a_round_leaves_nothing_due(timing: Timing)
     ensures later { (r : Round) → r.timing ≡ timing → IsQuietAt r.now (state_after r).schedule }
     ensures silent { (r : Round)
@@ -54,14 +54,14 @@ pub fn a_round_leaves_nothing_due(timing: Timing)
     timing.is_in_range();
 }
 
-/// A round is in order: no query for sources is empty, and the sources of each ascend.
+/// A lemma: a round is in order. No query for sources is empty, and the sources of each ascend.
 pub fn a_round_is_in_order()
     ensures { (r : Round) → 0 < r.per_query → AscendIn (queries_of r) }
 {}
 
-/// A round asks for its sources in portions. Those with S set, put together, are the ascending sources
-/// that it has to ask for with S set, and each but the last has exactly what one message holds; so
-/// are and have those with S clear.
+/// A lemma: a round asks for its sources in portions. Those with S set, put together, are the ascending sources that it
+/// has to ask for with S set. Each but the last has exactly what one message holds. The same holds for those with S
+/// clear.
 pub fn a_round_is_in_portions()
     ensures set { (r : Round) → 0 < r.per_query → concat (set_portions (queries_of r)) ≡ set_sources r }
     ensures clear { (r : Round) → 0 < r.per_query → concat (clear_portions (queries_of r)) ≡ clear_sources r }
@@ -70,7 +70,7 @@ pub fn a_round_is_in_portions()
     ensures fit { (r : Round) → AllFit r.per_query (queries_of r) }
 {}
 
-/// Asking for a group and its sources starts and ends no timer, and none runs longer than before.
+/// A lemma: asking for a group and its sources starts and ends no timer, and none runs longer than before.
 pub fn asking_never_lengthens()
     ensures group { (r : Asking)
         → IsNoLater (group_deadline r.before.group.mode) (group_deadline (after_asking r).group.mode) }
@@ -78,7 +78,7 @@ pub fn asking_never_lengthens()
         → IsNoLater (deadline_of (timer_at r.before.group s)) (deadline_of (timer_at (after_asking r).group s)) }
 {}
 
-/// A schedule goes on fitting its group: after a record, after the end of timers, after what a record
+/// A lemma: a schedule goes on fitting its group. It fits after a record, after the end of timers, after what a record
 /// asks, after a round, and after all is dropped.
 pub fn schedules_keep_form(timing: Timing)
     ensures record_came { (r : Arrival) (schedule : ScheduleState)
@@ -94,14 +94,14 @@ pub fn schedules_keep_form(timing: Timing)
     timing.is_in_range();
 }
 
-/// A group that is held stays held, whatever is asked, sent or dropped.
+/// A lemma: a group that is held stays held, whatever is asked, sent or dropped.
 pub fn groups_stay_held()
     ensures asked { (r : Asking) → IsWellFormed r.before.group → IsWellFormed (after_asking r).group }
     ensures round_sent { (r : Round) → IsWellFormed r.before.group → IsWellFormed (state_after r).group }
     ensures all_dropped { (e : ScheduledGroup) → IsWellFormed e.group → IsWellFormed (cleared e).group }
 {}
 
-/// A tick leaves nothing for the election to do at or before its moment.
+/// A lemma: a tick leaves nothing for the election to do at or before its moment.
 pub fn a_tick_leaves_nothing_due(configured: Timing, in_force: Timing)
     ensures { (now : ℕ) (e : ElectionState)
         → e.timing ≡ in_force → now < next_moment (ticked configured now e).role }

@@ -1,4 +1,4 @@
--- What bytes were read as, with its addresses as numbers, whatever type the addresses have.
+-- Parsed messages with their addresses as numbers, for every type of address.
 use Rattle.std.specs.Prelude.{ℕ, Result, Ok, Err}
 use Rattle.mq_wire.specs.declared.message.Message.{Message}
 use Rattle.mq_wire.specs.declared.message.WireFault.{WireFault}

@@ -29,7 +29,7 @@ abbrev pub older_version : OlderVersion → ℕ
 older_version V1 = 1
 older_version V2 = 2
 
--- a query of IGMPv1 has no response, every other has one
+-- a query of IGMPv1 has no response, every other query has one
 abbrev pub has_response : Family → OlderVersion → Bool
 has_response Igmp V1 = false
 has_response Igmp V2 = true
@@ -43,7 +43,7 @@ abbrev pub flag_text : Bool → List ℕ
 flag_text true = codes "1"
 flag_text false = codes "0"
 
--- what a query says behind its group, but for its sources
+-- the rest of a query after its group, without its sources
 abbrev pub fields_text : Family → ℕ → QueryVersion ℕ → List ℕ
 fields_text family response (Older version) = if has_response family version then response_text response else []
 fields_text family response (Current fields) =
@@ -61,19 +61,19 @@ query_head family query =
     codes "query v" ++ decimal (query_version family query.version)
     ++ codes " group " ++ address_text family query.group ++ fields_text family query.response query.version
 
--- sources, each after a space
+-- a source after a space
 abbrev pub source_text : Family → ℕ → List ℕ
 source_text family source = codes " " ++ address_text family source
 
 abbrev pub sources_text : Family → List ℕ → List ℕ
 sources_text family sources = flat_map (source_text family) sources
 
--- the sources of a query, where its version has some
+-- the sources of a query, if its version has any
 abbrev pub query_sources : QueryVersion ℕ → List ℕ
 query_sources (Older version) = []
 query_sources (Current fields) = fields.sources
 
--- the type of a record by its name (RFC 3376 section 4.2.12, RFC 3810 section 5.2.12), or else by its number
+-- the type of a record by name (RFC 3376 section 4.2.12, RFC 3810 section 5.2.12), otherwise by number
 abbrev pub kind_text : ℕ → List ℕ
 kind_text kind =
     if kind == 1 then codes "IS_IN"
@@ -84,14 +84,14 @@ kind_text kind =
     else if kind == 6 then codes "BLOCK"
     else codes "TYPE " ++ decimal kind
 
--- a record of a Report after a space, in brackets, and what of it stands before its sources
+-- a record of a Report after a space, in brackets, up to its sources
 abbrev pub record_head : Family → RecordView ℕ → List ℕ
 record_head family view = codes " [" ++ kind_text view.kind ++ codes " " ++ address_text family view.group
 
 abbrev pub record_text : Family → RecordView ℕ → List ℕ
 record_text family view = record_head family view ++ (sources_text family view.sources ++ codes "]")
 
--- what a Report of the family's own version says before its records
+-- a Report of the family's own version, up to its records
 abbrev pub report_head : Family → ℕ → List ℕ
 report_head family count = codes "report v" ++ decimal (current_version family) ++ codes " records " ++ decimal count
 
@@ -111,7 +111,7 @@ fault_text Checksum = codes "fault 2 checksum"
 fault_text UnknownType = codes "fault 3 unknown type"
 fault_text QueryLength = codes "fault 4 query length"
 
--- of a message that was read, or of the fault that was met
+-- the text of a message or a fault
 abbrev pub answer_text : Family → Result (Message ℕ) WireFault → List ℕ
 answer_text family (Ok message) = message_text family message
 answer_text family (Err fault) = fault_text fault

@@ -7,8 +7,8 @@
 //! ```
 //!
 //! - Whole lines, to an output: `igmp_line`, `mld_line`.
-//! - Lines by way of a buffer that other texts go through too: `put_igmp`, `put_mld`; `put_end` ends any line.
-//! - What lines know of an address: `LineKey`; `put_address` puts one at the end of a text.
+//! - Lines through a buffer, which other texts use too: `put_igmp`, `put_mld`; `put_end` ends any line.
+//! - The address in a line: `LineKey`; `put_address` appends one to a text.
 #![tactic(auto)]
 
 mod line_key;

@@ -1,4 +1,4 @@
-//! What the lines know of an address.
+//! Addresses in lines.
 
 ghost use Rattle.std.specs.Prelude.{◌≡◌, ◌≤◌, ◌+◌, ◌++◌};
 ghost use Rattle.arrayvec.specs.ArrayVec.{array_vec_len};
@@ -10,21 +10,21 @@ use mq_count::{Addr4, Addr6};
 use mq_text::{Text, put_v4, put_v6};
 use mq_wire::{OlderVersion, WireKey};
 
-/// An address as a line has it, and what the lines of its family have besides.
+/// An address in a line, and the properties of its family in lines.
 pub trait LineKey: WireKey {
     ghost family: { Family };
 
-    /// Puts the address at the end of a text.
+    /// Appends the address to a text.
     fn put(self, text: &mut Text)
         requires { array_vec_len text.old + 40 ≤ 4096 }
         ensures text { text.new.items ≡ text.old.items ++ address_text family (Self.number self) }
         ensures room { array_vec_len text.new ≤ array_vec_len text.old + 40 };
 
-    /// The family's own version: 3 of IGMP, 2 of MLD.
+    /// Returns the family's own version: 3 for IGMP, 2 for MLD.
     fn current_version() -> u8
         ensures { result ≡ spec.current_version family };
 
-    /// Whether a query of an older version has a response.
+    /// Returns whether a query of an older version has a response.
     fn has_response(version: OlderVersion) -> bool
         ensures { result ≡ spec.has_response family version };
 }

@@ -1,4 +1,4 @@
-//! The line of a message.
+//! Lines of messages.
 
 ghost use Rattle.std.specs.Prelude.{◌≡◌, ◌++◌, ◌||◌, [], codes, is_err, is_ok, length};
 ghost use Rattle.mq_wire.specs.Family.{Igmp, Mld};
@@ -20,9 +20,9 @@ use mq_wire::{
     Message, QueryVersion, RecordView, Records, Sources, WireFault, read_igmp, read_mld,
 };
 
-/// Writes one line: what the bytes of an IGMP datagram say, without the IP header, and answers true;
-/// or their fault, and answers false. After a fault of the writer a beginning of the line was
-/// written. The line goes to the writer in pieces, and takes no memory.
+/// Writes the line of an IGMP datagram without its IP header. Returns true for the line of a message, and false for the
+/// line of its fault. If a write fails, a prefix of the line has been written. The line is written in pieces, without
+/// allocation.
 pub fn igmp_line<O: Output>(body: &[u8], writer: &mut O) -> Result<bool, LineFault>
     ensures line { PrintsLine
         (O.held writer.old) (O.held writer.new)
@@ -36,8 +36,8 @@ pub fn igmp_line<O: Output>(body: &[u8], writer: &mut O) -> Result<bool, LineFau
     Ok(is_message)
 }
 
-/// Writes one line: what the bytes of an MLD datagram say, without the IPv6 header, or their fault, as
-/// `igmp_line`. The checksum covers the source and the destination of the datagram.
+/// Writes the line of an MLD datagram without its IPv6 header, as `igmp_line` does. The checksum covers the source and
+/// the destination of the datagram.
 pub fn mld_line<O: Output>(
     source: Addr6,
     destination: Addr6,
@@ -88,7 +88,7 @@ pub fn put_mld<O: Output>(
     put_answer(read_mld(source, destination, body), buffer, writer)
 }
 
-/// Puts the line of what was read, and answers whether that is a message.
+/// Puts the line of a parsed message or its fault, and returns whether it is a message.
 fn put_answer<K: LineKey, O: Output>(
     answer: Result<Message<'_, K>, WireFault>,
     buffer: &mut Text,
@@ -128,7 +128,7 @@ pub fn put_end<O: Output>(buffer: &mut Text, writer: &mut O) -> Result<(), LineF
     Ok(())
 }
 
-/// Puts what a message says.
+/// Puts the text of a message.
 fn put_message<K: LineKey, O: Output>(
     message: Message<'_, K>,
     buffer: &mut Text,
@@ -161,7 +161,7 @@ fn put_message<K: LineKey, O: Output>(
     }
 }
 
-/// Puts the sources of a query, where its version has some.
+/// Puts the sources of a query, if its version has any.
 fn put_query_sources<K: LineKey, O: Output>(
     version: QueryVersion<'_, K>,
     buffer: &mut Text,

@@ -1,4 +1,4 @@
-//! The pieces of the lines of messages and faults.
+//! The pieces of lines.
 
 ghost use Rattle.std.specs.Prelude.{◌≡◌, ◌≤◌, ◌+◌, ◌++◌, codes, length};
 ghost use Rattle.std.specs.Fmt.{decimal};
@@ -11,7 +11,7 @@ use crate::line_key::LineKey;
 use mq_text::{Text, put, put_decimal};
 use mq_wire::{OlderVersion, QuerierFields, Query, QueryVersion, WireFault};
 
-/// Puts what a query says at the end, without its sources.
+/// Appends a query without its sources.
 pub(crate) fn put_query_head<K: LineKey>(buffer: &mut Text, query: &Query<'_, K>)
     requires { array_vec_len buffer.old + 256 ≤ 4096 }
     ensures { buffer.new.items ≡ buffer.old.items ++ spec.query_head K.family (numbered_query K.number query.now) }
@@ -23,7 +23,7 @@ pub(crate) fn put_query_head<K: LineKey>(buffer: &mut Text, query: &Query<'_, K>
     put_version(buffer, query.response, &query.version);
 }
 
-/// Puts what a query says behind its group at the end, but for its sources.
+/// Appends the rest of a query after its group, without its sources.
 fn put_version<K: LineKey>(buffer: &mut Text, response: u32, version: &QueryVersion<'_, K>)
     requires { array_vec_len buffer.old + 130 ≤ 4096 }
     ensures { buffer.new.items ≡ buffer.old.items ++ spec.fields_text K.family response (numbered_version version.now) }
@@ -41,7 +41,7 @@ fn put_version<K: LineKey>(buffer: &mut Text, response: u32, version: &QueryVers
     }
 }
 
-/// The version of a query.
+/// Returns the version of a query.
 fn version_of<K: LineKey>(version: &QueryVersion<'_, K>) -> u8
     ensures { result ≡ spec.query_version K.family (numbered_version version.now) }
 {
@@ -51,7 +51,7 @@ fn version_of<K: LineKey>(version: &QueryVersion<'_, K>) -> u8
     }
 }
 
-/// The number of an older version.
+/// Returns the number of an older version.
 fn number_of(version: OlderVersion) -> u8
     ensures { result ≡ spec.older_version version }
 {
@@ -61,7 +61,7 @@ fn number_of(version: OlderVersion) -> u8
     }
 }
 
-/// Puts a source at the end, after a space.
+/// Appends a source after a space.
 pub(crate) fn put_source<K: LineKey>(buffer: &mut Text, source: K)
     requires { array_vec_len buffer.old + 41 ≤ 4096 }
     ensures { buffer.new.items ≡ buffer.old.items ++ spec.source_text K.family (K.number source) }
@@ -70,7 +70,7 @@ pub(crate) fn put_source<K: LineKey>(buffer: &mut Text, source: K)
     put_address(buffer, source);
 }
 
-/// Puts what a Report of an older version says at the end.
+/// Appends a Report of an older version.
 pub(crate) fn put_older_report<K: LineKey>(buffer: &mut Text, version: OlderVersion, group: K)
     requires { array_vec_len buffer.old + 80 ≤ 4096 }
     ensures { buffer.new.items ≡ buffer.old.items ++ (codes "report v" ++ decimal (spec.older_version version) ++ codes " group " ++ address_text K.family (K.number group)) }
@@ -81,7 +81,7 @@ pub(crate) fn put_older_report<K: LineKey>(buffer: &mut Text, version: OlderVers
     put_address(buffer, group);
 }
 
-/// Puts what a Leave or Done says at the end.
+/// Appends a Leave or Done.
 pub(crate) fn put_leave<K: LineKey>(buffer: &mut Text, group: K)
     requires { array_vec_len buffer.old + 80 ≤ 4096 }
     ensures { buffer.new.items ≡ buffer.old.items ++ codes "leave group " ++ address_text K.family (K.number group) }
@@ -90,7 +90,7 @@ pub(crate) fn put_leave<K: LineKey>(buffer: &mut Text, group: K)
     put_address(buffer, group);
 }
 
-/// Puts what a Report of the family's own version says at the end, before its records.
+/// Appends a Report of the family's own version, up to its records.
 pub(crate) fn put_report_head<K: LineKey>(buffer: &mut Text, count: usize)
     requires { array_vec_len buffer.old + 100 ≤ 4096 }
     ensures { buffer.new.items ≡ buffer.old.items ++ spec.report_head K.family count }
@@ -101,7 +101,7 @@ pub(crate) fn put_report_head<K: LineKey>(buffer: &mut Text, count: usize)
     put_decimal(buffer, count as u64);
 }
 
-/// Puts what a record says at the end, before its sources.
+/// Appends a record, up to its sources.
 pub(crate) fn put_record_head<K: LineKey>(buffer: &mut Text, kind: u8, group: K)
     requires { array_vec_len buffer.old + 100 ≤ 4096 }
     ensures { buffer.new.items ≡ buffer.old.items ++ (codes " [" ++ kind_text kind ++ codes " " ++ address_text K.family (K.number group)) }
@@ -112,7 +112,7 @@ pub(crate) fn put_record_head<K: LineKey>(buffer: &mut Text, kind: u8, group: K)
     put_address(buffer, group);
 }
 
-/// Puts the type of a record at the end.
+/// Appends the type of a record.
 fn put_kind(buffer: &mut Text, kind: u8)
     requires { array_vec_len buffer.old + 25 ≤ 4096 }
     ensures text { buffer.new.items ≡ buffer.old.items ++ kind_text kind }
@@ -132,7 +132,7 @@ fn put_kind(buffer: &mut Text, kind: u8)
     }
 }
 
-/// Puts what a fault is at the end, with its number and its place.
+/// Appends a fault with its number and its place.
 pub(crate) fn put_fault(buffer: &mut Text, fault: WireFault)
     requires { array_vec_len buffer.old + 80 ≤ 4096 }
     ensures { buffer.new.items ≡ buffer.old.items ++ fault_text fault }
@@ -148,7 +148,7 @@ pub(crate) fn put_fault(buffer: &mut Text, fault: WireFault)
     }
 }
 
-/// Puts the response of a query at the end.
+/// Appends the response of a query.
 fn put_response(buffer: &mut Text, response: u32)
     requires { array_vec_len buffer.old + 30 ≤ 4096 }
     ensures text { buffer.new.items ≡ buffer.old.items ++ response_text response }
@@ -158,7 +158,7 @@ fn put_response(buffer: &mut Text, response: u32)
     put_decimal(buffer, u64::from(response));
 }
 
-/// Puts what only a query of IGMPv3 or MLDv2 says at the end, but for its sources.
+/// Appends the fields that only a query of IGMPv3 or MLDv2 has, without its sources.
 fn put_fields<K: LineKey>(buffer: &mut Text, fields: &QuerierFields<'_, K>)
     requires { array_vec_len buffer.old + 100 ≤ 4096 }
     ensures { buffer.new.items ≡ buffer.old.items
@@ -176,7 +176,7 @@ fn put_fields<K: LineKey>(buffer: &mut Text, fields: &QuerierFields<'_, K>)
     put_decimal(buffer, fields.sources.len() as u64);
 }
 
-/// Puts an address at the end.
+/// Appends an address.
 pub fn put_address<K: LineKey>(buffer: &mut Text, address: K)
     requires { array_vec_len buffer.old + 40 ≤ 4096 }
     ensures text { buffer.new.items ≡ buffer.old.items ++ address_text K.family (K.number address) }

@@ -8,7 +8,7 @@ use Rattle.std.specs.FinMap as map
 use Rattle.std.specs.FinMap.{FinMap}
 use Rattle.std.proofs.lemmas.Bool.{true≢false, eq-eqb, ne_eqb}
 use Rattle.std.proofs.lemmas.Bool.Decides.{nat_tests}
-use Rattle.std.proofs.lemmas.List.Sums.{length-filter, sum_by-cons}
+use Rattle.std.proofs.lemmas.List.Sums.{sum_by-cons}
 use Rattle.mq_sets.specs.Ascending.{IsAscending}
 use Rattle.mq_table.specs.declared.timing.Timing.{Timing}
 use Rattle.mq_table.specs.Group.{is_vacant}
@@ -124,17 +124,6 @@ module _ (now : ℕ) where
           sources = omega (arith, fewer, same, total);
           few = omega (arith, few, size, as_long);
         }
-
-    -- as many as have
-    pub count_due : length due_entries ≡ due_in now groups
-    count_due = length-filter (λ (e : ℕ × ScheduledGroup). has_due now e.1) (map.entries groups) ∙ each (map.entries groups)
-      where
-        each : (es : GroupEntries) → count_by (λ (e : ℕ × ScheduledGroup). has_due now e.1) es ≡ count_by (has_due now) (list_map (λ (e : ℕ × ScheduledGroup). e.1) es)
-        each [] = refl
-        each (e ∷ es) =
-            sum_by-cons (λ (e : ℕ × ScheduledGroup). cond (has_due now e.1) 1 0) e es
-            ∙ ap (λ n. cond (has_due now e.1) 1 0 + n) (each es)
-            ∙ sym (sum_by-cons (λ e. cond (has_due now e) 1 0) e.1 (list_map (λ (e : ℕ × ScheduledGroup). e.1) es))
 
     -- none where no group has
     pub none_have : ((address : ℕ) (e : ScheduledGroup) → map.get groups address ≡ Some e → has_due now e ≡ false) → due_in now groups ≡ 0

@@ -11,7 +11,6 @@ use Rattle.mq_sched.specs.Sink.{Sends}
 use Rattle.mq_link.specs.Family.{per_query}
 use Rattle.mq_link.specs.declared.sender.Sender.{Sender}
 use Rattle.mq_link.specs.Configuration.{Configuration}
-use Rattle.mq_link.specs.Counters.{Counters, count_answers}
 use Rattle.mq_link.specs.Run.{answered, HandsOut}
 use Rattle.mq_link.specs.Tick.{Step}
 use Rattle.mq_link.specs.Handing.{HandsOver, HandsAll, FitsOne, outgoing_on, Tally}
@@ -103,10 +102,3 @@ hands_out takes config step old new h = (
 -- answers that were counted from 0 are counted on
 pub counted_from_none : (old n : ℕ) → counted_on old (counted_on 0 n) ≡ counted_on old n
 counted_from_none old n = omega arith
-
-pub answers_counted : (c : Counters) (answers : List Bool) (sent unsent : ℕ) → sent ≡ counted_on 0 (count_by (λ b. b) answers) → unsent ≡ counted_on 0 (count_by not answers)
-    → record c { sent = counted_on c.sent sent; unsent = counted_on c.unsent unsent } ≡ count_answers answers c
-answers_counted c answers sent unsent is_sent is_unsent =
-    let first = ap (counted_on c.sent) is_sent ∙ counted_from_none c.sent (count_by (λ b. b) answers) in
-    let second = ap (counted_on c.unsent) is_unsent ∙ counted_from_none c.unsent (count_by not answers) in
-    λ i. record c { sent = first i; unsent = second i }

@@ -35,10 +35,6 @@ pub alike_after : (before a b : GroupState) → filter_of a ≡ filter_of b → 
 unfolding changes_filter
 alike_after before a b same = ap (λ (f : Filter). not (are_same (filter_of before) f)) same
 
-pub alike_before : (a b after : GroupState) → filter_of a ≡ filter_of b → changes_filter a after ≡ changes_filter b after
-unfolding changes_filter
-alike_before a b after same = ap (λ (f : Filter). not (are_same f (filter_of after))) same
-
 -- a source runs or is stopped as before where its queries are counted down, and where it is asked for
 counted_named : (mode : FilterMode) (timer : Option SourceTimer) → names mode (option_map source_counted timer) ≡ names mode timer
 counted_named Include None = refl

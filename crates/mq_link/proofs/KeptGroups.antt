@@ -64,10 +64,6 @@ found_or_not s address (Err spot) is held of_one = spot_absent s address spot is
 pub kept_held : (e : ScheduledGroup) → IsHeld e.group → kept_as e ≡ e
 kept_held e held = ap (λ b. cond b unheld e) (not_vacant e.group held)
 
--- the groups with one that is held no longer, and with one that is
-pub with_vacant : (groups : Groups) (address : ℕ) (e : ScheduledGroup) → is_vacant e.group ≡ true → map.remove groups address ≡ with_group groups address e
-with_vacant groups address e is = sym (ap (λ b. cond b (map.remove groups address) (map.insert groups address e)) is)
-
 pub with_other : (groups : Groups) (address : ℕ) (e : ScheduledGroup) → is_vacant e.group ≡ false → map.insert groups address (kept_as e) ≡ with_group groups address e
 with_other groups address e is =
     ap (λ b. map.insert groups address (cond b unheld e)) is

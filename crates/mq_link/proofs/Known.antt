@@ -92,13 +92,6 @@ by_rule-known es named rule = same_answers _ _ (λ q.
     ∙ sym (find-ordered (entries_by rule (keys_of es ++ named)) q)
     ∙ sym (map.get-from_entries nat_cmp_total (ordered (entries_by rule (keys_of es ++ named))) q))
 
-pub insert-known : {X : Type 0} (es : Entries X) (k : ℕ) (x : X) → map.insert (map.from_entries {R = nat_cmp} es) k x ≡ map.from_entries (put nat_cmp k x es)
-insert-known es k x = same_answers _ _ (λ q.
-    map.get-insert nat_cmp_total (map.from_entries es) k x q
-    ∙ ap (cond (eq_by_cmp nat_cmp q k) (Some x)) (map.get-from_entries nat_cmp_total es q)
-    ∙ sym (find-put nat_cmp nat_cmp_total q k x es)
-    ∙ sym (map.get-from_entries nat_cmp_total (put nat_cmp k x es) q))
-
 abbrev pub without : {X : Type 0} → ℕ → Entries X → Entries X
 without k es = where_key nat_cmp (λ x. not (eq_by_cmp nat_cmp k x)) es
 

@@ -18,7 +18,7 @@ use Rattle.mq_link.specs.Record.{Setting}
 use Rattle.mq_link.specs.Router.{IsStored, RouterValue, state_of}
 use Rattle.mq_link.specs.Sound.{AreSound}
 use Rattle.mq_link.specs.State.{LinkState, IsWellFormed, link_at}
-use Rattle.mq_link.specs.Storage.{IsReady, KeepsRooms, put_by_rows}
+use Rattle.mq_link.specs.Storage.{IsReady, KeepsRooms}
 use Rattle.mq_link.specs.Tick.{next_of}
 use Rattle.mq_link.proofs.Faultless.{IsWellFormed-link_at, few_groups}
 use Rattle.mq_link.proofs.Quiet.{AllAbove, above_least, above_values}
@@ -47,10 +47,6 @@ stored_at_start config start storage faultless held =
       group_room = ap (λ (h : HeldState). h.order.room) held;
       source_room = ap (λ (h : HeldState). h.source_room) held;
     }
-
--- before the first edit nothing is put by
-pub nothing_put_by : (groups sources : ℕ) → put_by_rows (empty_state groups sources) ≡ 0
-nothing_put_by groups sources = let none = map.len-empty nat_cmp ScheduledGroup in omega arith
 
 -- the groups are fit to be worked on, and there is room for each
 pub ready_in : {K A : Type 0} (status : Setting) (storage : Storage K A) → IsFaultless status.config → AreSound status storage.held.groups → (room : ℕ) → 2 * status.config.limits.group_sources ≤ room → IsReady room storage

@@ -46,11 +46,6 @@ module _ (groups : Groups) (a : ℕ) where
       let total = total-without (λ (x : ℕ × ScheduledGroup). sources_of x.1) groups a no_sources in
       omega (arith, total, total-entries sources_of groups, total-entries sources_of (map.remove groups a))
 
-  running_gone : running_in (map.remove groups a) + runs (group_at groups a) ≡ running_in groups
-  running_gone =
-      let total = total-without (λ (x : ℕ × ScheduledGroup). runs x.1) groups a unheld_rests in
-      omega (arith, total, total-entries runs groups, total-entries runs (map.remove groups a))
-
 pub few_running : (groups : Groups) → running_in groups ≤ map.len groups
 few_running groups =
     let few = count_by-le-length (λ (e : ScheduledGroup). not (is_vacant e.group)) (map.values groups) in

@@ -65,9 +65,6 @@ module _ (f : ScheduledGroup → ScheduledGroup) (groups : Groups) (es : GroupEn
     pub at : (q : ℕ) → map.get current q ≡ cond (among (take i (addresses_of es)) q) (Some (f (group_at groups q))) (map.get groups q)
     pub len_is : map.len current ≡ map.len groups
 
-  pub none_replaced : IsReplacedTo 0 groups
-  none_replaced = record { at = λ q. refl; len_is = refl }
-
   size_of_addresses : length (addresses_of es) ≡ length es
   size_of_addresses = length-map es (λ (e : ℕ × ScheduledGroup). e.0)
 

@@ -47,10 +47,6 @@ still_room groups n room kept =
     let tenth = kept.changed in
     record { group = omega arith; named = omega arith; asked = omega arith; met = omega arith; changed = omega arith }
 
--- and for lists of groups
-pub space_stays : {K A : Type 0} (lists : Lists K A) → KeepsSpace lists lists
-space_stays lists = record { due = omega arith; spare = refl; changed = omega arith; by_tick = refl; by_records = refl }
-
 pub still_space : {K A : Type 0} (n : ℕ) {a b : Lists K A} → HasSpace n a → KeepsSpace a b → HasSpace n b
 still_space n {a} {b} space kept =
     let first = space.due in

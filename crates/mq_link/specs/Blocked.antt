@@ -1,4 +1,4 @@
--- A BLOCK that is done where the row of its group stands.
+-- A BLOCK that is applied where its group's row is stored.
 use Rattle.std.specs.Prelude.{◌≡◌, ℕ, ◌≤◌, Bool, true, false, ◌||◌, nat_lt, is_some}
 use Rattle.std.specs.FinMap as map
 use Rattle.mq_table.specs.declared.kind.Kind.{Kind}
@@ -20,22 +20,22 @@ blocks ToEx = false
 blocks Allow = false
 blocks Block = true
 
--- whether a statement is a BLOCK
+-- the statement is a BLOCK
 abbrev pub is_block : StatementKind → Bool
 is_block (Record kind) = blocks kind
 is_block (OlderJoin version) = false
 is_block OlderLeave = false
 
--- whether hosts of an older version are in a group
+-- hosts of an older version are in the group
 abbrev pub has_older_hosts : ScheduledGroup → (now : ℕ) → Bool
 has_older_hosts e now = let hosts = hosts_of e.group now in hosts.v1 || hosts.v2
 
--- whether sources of a group that are asked for take no schedule more than there may be
+-- sources of a group that are asked for need no schedule beyond the limit
 abbrev pub has_schedule_left : Limits → Groups → ScheduledGroup → Bool
 has_schedule_left limits groups e = is_some e.schedule.sources_due || nat_lt (schedules_in groups) limits.scheduled
 
--- What is so where a BLOCK can be done where the row of its group stands: the group is held, nothing is due for it, no older host
--- mutes it, it names at most one source, and no limit of schedules can be passed.
+-- The conditions for a BLOCK that is applied where its group's row is stored. The group is held, nothing is due for it,
+-- no older host mutes it, and it names at most one source. No limit of schedules can be exceeded.
 pub record CanBlock (at : Setting) (group named : ℕ) (groups : Groups) : Type 0 where
   pub held : map.contains_key groups group ≡ true
   pub quiet : is_due_at at.now (group_at groups group).schedule ≡ false

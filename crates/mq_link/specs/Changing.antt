@@ -1,4 +1,4 @@
--- What a statement comes to in storage: a kind of record, and the lists into which its change is written.
+-- The change of a statement in storage: a kind of record, and the lists into which the change is written.
 use Rattle.std.specs.Prelude.{ℕ, Bool, if◌then◌else◌, List, Option, None, Some}
 use Rattle.std.specs.Option.{option_map}
 use Rattle.std.specs.FinSet as set
@@ -13,14 +13,14 @@ use Rattle.mq_link.specs.declared.statement.StatementKind.{StatementKind}
 use Rattle.mq_link.specs.declared.statement.StatementKind.TheVariants.{Record, OlderJoin as SaidJoin, OlderLeave as SaidLeave}
 use Rattle.mq_link.specs.Record.{Statement, RecordOf, OlderJoin, OlderLeave}
 
--- the statement, with the sources that are named apart from it
+-- the statement with its sources, which are given apart from it
 abbrev pub statement_of : StatementKind → NamedSources → Statement
 statement_of (Record kind) named = RecordOf kind named
 statement_of (SaidJoin version) named = OlderJoin version
 statement_of SaidLeave named = OlderLeave
 
--- as a record of which kind and of which sources a statement acts, while these older hosts are there; None where it is
--- ignored
+-- The record as which a statement acts while these older hosts are there: its kind and its sources. It is None if the
+-- statement is ignored.
 abbrev pub acts_as : (v1_mutes_leave muted : Bool) → Hosts → Statement → Option (Kind × NamedSources)
 acts_as mutes muted hosts (RecordOf kind named) = translated mutes muted hosts kind named
 acts_as mutes muted hosts (OlderJoin version) = if muted then None else Some (IsEx, set.empty)

@@ -1,4 +1,4 @@
--- What a link is configured with, and the faults of what it may not be configured with.
+-- The configuration of a link, and its faults.
 use Rattle.std.specs.Prelude.{◌≡◌, ℕ, not, ◌||◌, nat_lt, nat_le, Bool, [], ◌∷◌, Option, None, Some}
 use Rattle.mq_table.specs.declared.timing.Timing.{Timing}
 use Rattle.mq_table.specs.Timing.{query_interval}
@@ -11,9 +11,9 @@ use Rattle.mq_link.specs.declared.configuration.ConfigFault.TheVariants.{Robustn
 use Rattle.mq_link.specs.Family.{is_router_address, response_unit, greatest_response}
 use Rattle.mq_link.specs.Tests.{first_named}
 
--- The family; the Robustness Variable, the Query Interval, the Query Response Interval and the Last Member (Last
--- Listener) Query Interval (RFC 3376 section 8, RFC 3810 section 9); the limits; the router's own address; and whether
--- the source-specific range is kept for source-specific multicast.
+-- The configuration of a link. `timing` has the Robustness Variable, the Query Interval, the Query Response Interval
+-- and the Last Member (Last Listener) Query Interval (RFC 3376 section 8, RFC 3810 section 9). `own` is the router's
+-- own address. `source_specific` keeps the source-specific range for source-specific multicast.
 pub record Configuration : Type 0 where
   pub family : Family
   pub timing : Timing
@@ -33,8 +33,9 @@ limit_fault limits = first_named (
     ∷ (Scheduled, is_outside 1 65535 limits.scheduled)
     ∷ [])
 
--- A query interval of a configuration is what QQIC can say, and the response interval is below it, so that the
--- answers to one query are over before the next (RFC 3376 sections 8.2 and 8.3, RFC 3810 sections 9.2 and 9.3).
+-- The first fault of the variables. The query interval is one of those that QQIC can carry. The response interval is
+-- below it, so the responses to one query end before the next (RFC 3376 sections 8.2 and 8.3, RFC 3810 sections 9.2 and
+-- 9.3).
 abbrev pub timing_fault : Family → Timing → Option ConfigFault
 timing_fault family timing = first_named (
     (Robustness, is_outside 1 7 timing.robustness)
@@ -55,13 +56,13 @@ abbrev pub as_fault : Option LimitName → Option ConfigFault
 as_fault None = None
 as_fault (Some which) = Some (Limit which)
 
--- the first fault that holds, in this order
+-- the first fault in this order
 abbrev pub configuration_fault : Configuration → Option ConfigFault
 configuration_fault c =
     else_fault (timing_fault c.family c.timing)
     (else_fault (as_fault (limit_fault c.limits))
     (first_named ((OwnAddress, not (is_router_address c.family c.own)) ∷ [])))
 
--- a configuration that may be
+-- a configuration without a fault
 abbrev pub IsFaultless : Configuration → Type 0
 IsFaultless c = configuration_fault c ≡ None

@@ -1,4 +1,4 @@
--- The configuration that is asked for, and what becomes of asking.
+-- The requested configuration, and the result of the request.
 use Rattle.std.specs.Prelude.{◌≡◌, ℕ, Bool, Some, Result, Ok, Err}
 use Rattle.mq_wire.specs.Family.{Family}
 use Rattle.mq_table.specs.Variables.{Variables}
@@ -18,7 +18,7 @@ abbrev pub configured : Family → Variables → Limits → (own : ℕ) → Bool
 configured family timing limits own source_specific =
     record { family = family; timing = timing; limits = limits; own = own; source_specific = source_specific }
 
--- it is given where it has no fault, and else its fault is told
+-- the configuration is returned if it has no fault, and otherwise its fault
 abbrev pub IsGivenOrFaulty : (asked : Configuration) → Result Configuration ConfigFault → Type 0
 IsGivenOrFaulty asked (Ok config) = IsFaultless asked × (config ≡ asked)
 IsGivenOrFaulty asked (Err fault) = configuration_fault asked ≡ Some fault

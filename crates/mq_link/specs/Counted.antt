@@ -26,7 +26,7 @@ refusal_row count =
 abbrev pub kind_row : (MessageKind → ℕ) → List ℕ
 kind_row count = count Query ∷ count OlderQueryKind ∷ count OlderReport ∷ count Leave ∷ count Report ∷ []
 
--- a count by name is known by its row
+-- proofs that a row has the count of each name
 abbrev pub reason_back : (count : DropReason → ℕ) (name : DropReason) → count_in reason_number (reason_row count) name ≡ count name
 reason_back count Truncated = refl
 reason_back count Checksum = refl
@@ -93,7 +93,7 @@ stored_back c = λ i. record {
   unsent = c.unsent;
 }
 
--- counters are told apart by these numbers
+-- the code of these numbers, by which proofs distinguish counters
 abbrev pub counters_code : Coded Counters
 counters_code =
     code_by Stored

@@ -1,4 +1,4 @@
--- What a link counts. Each counter stays at the greatest u64 when it has come to it.
+-- The counters of a link. Each stays at the greatest u64 once it has reached it.
 use Rattle.std.specs.Prelude.{ℕ, ◌==◌, Bool, true, false, not, if◌then◌else◌, List, [], ◌∷◌}
 use Rattle.std.specs.List.{count_by}
 use Rattle.mq_count.specs.Streams.{counted_on}
@@ -38,15 +38,15 @@ kind_number OlderReport = 3
 kind_number Leave = 4
 kind_number Report = 5
 
--- What became of a record.
+-- The verdict on a record.
 pub data Verdict : Type 0 where
   Applied : Verdict
   Ignored : Verdict
   Refused : (name : Refusal) → Verdict
 
--- How many datagrams were received, and how many of them dropped, in all and by reason; how many of what kind were
--- spelled, dropped ones included; how many records were applied, ignored, and refused, in all and by name; and of the
--- queries handed out how many were sent, and how many not.
+-- The counts of datagrams, messages, records and queries. `dropped_by` counts dropped datagrams by reason. `spelled`
+-- counts parsed messages by kind, with the dropped ones. `refused_by` counts refused records by name. `sent` and
+-- `unsent` count the queries that the outlet received.
 pub record Counters : Type 0 where
   pub received : ℕ
   pub dropped : ℕ
@@ -73,7 +73,7 @@ no_counts = record {
   unsent = 0;
 }
 
--- n more at one name
+-- the counts with n more at one name
 abbrev pub counted_at : {X : Type 0} → (X → ℕ) → X → ℕ → (X → ℕ) → X → ℕ
 counted_at number name n counts other =
     if number other == number name then counted_on (counts other) n else counts other
@@ -102,14 +102,14 @@ abbrev pub count_verdicts : List Verdict → Counters → Counters
 count_verdicts [] c = c
 count_verdicts (verdict ∷ verdicts) c = count_verdicts verdicts (count_verdict verdict c)
 
--- the outlet's answers to the queries that it was handed
+-- the counters after the outlet's answers to its queries
 abbrev pub count_answers : List Bool → Counters → Counters
 count_answers answers c = record c {
   sent = counted_on c.sent (count_by (λ b. b) answers);
   unsent = counted_on c.unsent (count_by not answers);
 }
 
--- how many of some records became what
+-- a record was applied, ignored or refused
 abbrev pub is_applied : Verdict → Bool
 is_applied Applied = true
 is_applied Ignored = false

@@ -1,4 +1,4 @@
--- What a link is configured with by default.
+-- The default configuration of a link.
 use Rattle.std.specs.Prelude.{ℕ, Bool}
 use Rattle.mq_wire.specs.Family.{Family}
 use Rattle.mq_link.specs.declared.configuration.Defaults.{Defaults}
@@ -6,8 +6,8 @@ use Rattle.mq_link.specs.Configuration.{Configuration}
 use Rattle.mq_link.specs.Configured.{variables, configured}
 use Rattle.mq_link.specs.Family.{per_query}
 
--- The variables have the defaults of RFC 3376 section 8 and RFC 3810 section 9, and a group may have as many sources as
--- one query holds.
+-- The defaults of a family. The variables have those of RFC 3376 section 8 and RFC 3810 section 9, and a group may have
+-- as many sources as one query holds.
 abbrev pub defaults_of : Family → Defaults
 defaults_of family = record {
   robustness = 2;

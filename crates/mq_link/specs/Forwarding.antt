@@ -1,5 +1,5 @@
--- Which groups a call changes: those of which another filter is forwarded after one of its steps than before it. Its steps are
--- the tick, and each record of the datagram (RFC 3376 sections 6.3, 6.4 and 6.5, RFC 3810 sections 7.3, 7.4 and 7.5).
+-- The groups that a call changes: those whose filter is another after one of its steps than before it. The steps are
+-- the tick and each record of the datagram (RFC 3376 sections 6.3, 6.4 and 6.5, RFC 3810 sections 7.3, 7.4 and 7.5).
 use Rattle.std.specs.Prelude.{◌≡◌, ℕ, Bool, false, ◌||◌, List, [], ◌∷◌, Option, None, Some, Result, Ok, Err}
 use Rattle.std.specs.FinMap as map
 use Rattle.mq_sets.specs.Ascending.{IsAscending, set_of}
@@ -16,21 +16,21 @@ use Rattle.mq_link.specs.Run.{Event, Tick, Datagram}
 use Rattle.mq_link.specs.State.{Groups, LinkState, group_at}
 use Rattle.mq_link.specs.Tick.{tick_of}
 
--- whether another filter is forwarded of a group; of one that isn't held nothing is
+-- the group has another filter afterwards; a group that isn't held forwards nothing
 abbrev pub changes : (before after : Groups) → (address : ℕ) → Bool
 changes before after address = changes_filter (group_at before address).group (group_at after address).group
 
 abbrev pub changed_by_tick : Configuration → (now : ℕ) → LinkState → (address : ℕ) → Bool
 changed_by_tick config now state address = changes state.groups (tick_of config now state).state.groups address
 
--- by some records, one after the other, each judged on what those before it leave
+-- some records change the group, each judged on the groups that the earlier ones leave
 abbrev pub changed_by_all : Setting → Seen → List (RecordView ℕ) → Groups → (address : ℕ) → Bool
 changed_by_all at seen [] groups address = false
 changed_by_all at seen (r ∷ rs) groups address =
     let left = (judged at seen r groups).groups in
     changes groups left address || changed_by_all at (seen_after at.config r groups seen) rs left address
 
--- by a message that isn't dropped; a query has no records
+-- a message that isn't dropped changes the group; a query has no records
 abbrev pub changed_by_message : Setting → Message ℕ → Groups → (address : ℕ) → Bool
 changed_by_message at (QueryMessage query) groups address = false
 changed_by_message at (OldReport version group) groups address =
@@ -38,13 +38,13 @@ changed_by_message at (OldReport version group) groups address =
 changed_by_message at (LeaveMessage group) groups address = changes groups (stated at group OlderLeave groups).groups address
 changed_by_message at (ReportMessage records) groups address = changed_by_all at map.empty records groups address
 
--- by what was read, where it isn't dropped
+-- the message that was read changes the group, if it isn't dropped
 abbrev pub changed_by_read : Setting → Result (Message ℕ) WireFault → Option DropReason → Groups → (address : ℕ) → Bool
 changed_by_read at read (Some reason) groups address = false
 changed_by_read at (Err fault) None groups address = false
 changed_by_read at (Ok message) None groups address = changed_by_message at message groups address
 
--- by a datagram: first a tick, and then its records
+-- a datagram changes the group: first the tick, and then its records
 abbrev pub changed_by_datagram : Configuration → Envelope → List ℕ → (now : ℕ) → LinkState → (address : ℕ) → Bool
 changed_by_datagram config envelope bytes now state address =
     let left = (tick_of config now state).state in
@@ -52,12 +52,12 @@ changed_by_datagram config envelope bytes now state address =
     changed_by_tick config now state address
     || changed_by_read (setting_of config left) read (drop_reason config envelope read) left.groups address
 
--- by what a link is handed
+-- an event changes the group
 abbrev pub changed_by_event : Configuration → Event → LinkState → (address : ℕ) → Bool
 changed_by_event config (Tick now) state address = changed_by_tick config now state address
 changed_by_event config (Datagram envelope bytes now) state address = changed_by_datagram config envelope bytes now state address
 
--- These addresses ascend, and are those that pass a test.
+-- these addresses ascend, and are those that pass the test
 pub record AreThose (test : ℕ → Bool) (addresses : List ℕ) : Type 0 where
   pub ascending : IsAscending (λ a. a) addresses
   pub each : (address : ℕ) → set_of (λ a. a) addresses address ≡ test address

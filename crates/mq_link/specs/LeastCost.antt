@@ -1,4 +1,4 @@
--- How many comparisons calls spend at least, so that none is left uncounted (the bounds are this project's).
+-- The fewest comparisons of calls, so that none is left uncounted (the bounds are this project's).
 use Rattle.std.specs.Prelude.{ℕ, ◌+◌, ◌-◌, min, if◌then◌else◌, List, [], ◌∷◌, length, Option, None, Some, Result, Ok, Err}
 use Rattle.std.specs.FinMap as map
 use Rattle.std.specs.FinSet as set
@@ -19,17 +19,17 @@ use Rattle.mq_link.specs.Tick.{tick_of}
 use Rattle.mq_link.specs.Record.{Statement, RecordOf, OlderJoin, OlderLeave, Setting, Seen, Entrance, Stops, GoesOn, entrance, is_muted, is_repeated, seen_after, judged}
 use Rattle.mq_link.specs.Receive.{Envelope, pseudo_of, read_of, drop_reason, setting_of}
 
--- A tick looks at the earliest moment of each group that has one at or before its own, and at one more, where there is
--- another group.
+-- The fewest comparisons of a tick. It looks at the earliest moment of each group that has one at or before its own,
+-- and at one more if there is another group.
 abbrev pub least_ticked : (now : ℕ) → Groups → ℕ
 least_ticked now groups = min (due_in now groups + 1) (map.len groups)
 
--- A group is looked for by one comparison at least, where any is held.
+-- The fewest comparisons to find a group: one, if any group is held.
 abbrev pub least_search : Groups → ℕ
 least_search groups = min 1 (map.len groups)
 
--- The sources of a group are merged with those that a statement names, once older hosts have muted what doesn't count:
--- one comparison at least for each of those that are fewer, where each is counted once.
+-- The fewest comparisons to merge the sources of a group with those of a statement. Older hosts have muted what doesn't
+-- count. There is at least one for each source of the shorter list, in which each source counts once.
 abbrev pub least_merge : (sources : ℕ) → Option (Kind × NamedSources) → ℕ
 least_merge sources None = 0
 least_merge sources (Some act) = min sources (set.len act.1)
@@ -39,12 +39,13 @@ least_work at group statement groups =
     let e = group_at groups group in
     least_merge (sources_of e) (acts_as (v1_mutes_leave at.config.family) (is_muted at.config group statement) (hosts_of e.group at.now) statement)
 
--- What one statement of an older message spends at least.
+-- The fewest comparisons of one statement of an older message.
 abbrev pub least_stated : Setting → ℕ → Statement → Groups → ℕ
 least_stated at group statement groups = least_search groups + least_work at group statement groups
 
--- What a record spends at least: nothing, where it ends before its group is looked for; else the search; and unless four
--- others of the datagram have met its group, one for each source that it names but the first, and the merge.
+-- The fewest comparisons of a record. There are none if it ends before its group is searched for. Otherwise there are
+-- those of the search. Unless four other records of the datagram have met its group, there are also one for each source
+-- that it names but the first, and the merge.
 abbrev pub least_by : Setting → Entrance → Seen → RecordView ℕ → Groups → ℕ
 least_by at (Stops verdict) seen r groups = 0
 least_by at (GoesOn kind) seen r groups =
@@ -55,21 +56,21 @@ least_by at (GoesOn kind) seen r groups =
 abbrev pub least_judged : Setting → Seen → RecordView ℕ → Groups → ℕ
 least_judged at seen r groups = least_by at (entrance at.config r) seen r groups
 
--- What the records of a datagram spend at least, each on what those before it leave.
+-- The fewest comparisons of a datagram's records, each on the groups that the earlier ones leave.
 abbrev pub least_all : Setting → Seen → List (RecordView ℕ) → Groups → ℕ
 least_all at seen [] groups = 0
 least_all at seen (r ∷ rs) groups =
     least_judged at seen r groups
     + least_all at (seen_after at.config r groups seen) rs (judged at seen r groups).groups
 
--- What a message spends at least that isn't dropped. For a query the addresses of two routers are compared.
+-- The fewest comparisons of a message that isn't dropped. A query compares the addresses of two routers.
 abbrev pub least_of : Setting → Message ℕ → Groups → ℕ
 least_of at (QueryMessage query) groups = 1
 least_of at (OldReport version group) groups = least_stated at group (OlderJoin version) groups
 least_of at (LeaveMessage group) groups = least_stated at group OlderLeave groups
 least_of at (ReportMessage records) groups = least_all at map.empty records groups
 
--- what was read decides, after the tick
+-- the fewest comparisons after the tick, by what was read
 abbrev pub least_unless : Setting → Result (Message ℕ) WireFault → Option DropReason → Groups → ℕ
 least_unless at read (Some reason) groups = 0
 least_unless at (Err fault) None groups = 0
@@ -78,7 +79,7 @@ least_unless at (Ok message) None groups = least_of at message groups
 abbrev pub least_after : Setting → Envelope → Result (Message ℕ) WireFault → Groups → ℕ
 least_after at envelope read groups = least_unless at read (drop_reason at.config envelope read) groups
 
--- What a datagram spends at least at a moment, beside the two comparisons that every tick takes.
+-- The fewest comparisons of a datagram, beside the two that every tick takes.
 abbrev pub least_received : Configuration → Envelope → List ℕ → (now : ℕ) → LinkState → ℕ
 least_received config envelope bytes now state =
     let ticked = (tick_of config now state).state in

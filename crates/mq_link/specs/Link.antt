@@ -1,4 +1,4 @@
--- What a contract sees of a link, and what a call makes of it.
+-- A link, as a contract sees it, and the effects of its calls.
 use Rattle.std.specs.Prelude.{◌≡◌, ℕ, List, Bool}
 use Rattle.mq_link.specs.declared.answers.Received.{Received}
 use Rattle.mq_link.specs.Configuration.{Configuration}
@@ -8,8 +8,9 @@ use Rattle.mq_link.specs.Run.{Ticks, Receives}
 use Rattle.mq_link.specs.Sent.{Outgoing}
 use Rattle.mq_link.specs.State.{LinkState}
 
--- Its configuration, its state, how many comparisons its calls have made, and how many items of lists they have moved; and the
--- addresses of the groups that its last call has changed: of one without a workspace of its own there are none.
+-- A link: its configuration, its state, and the costs of its calls. `spent` counts their comparisons, and `moved` the
+-- list items that they moved. `changed` has the addresses of the groups that its last call changed; a link without a
+-- workspace of its own has none.
 pub record LinkValue : Type 0 where
   pub config : Configuration
   pub state : LinkState
@@ -17,14 +18,14 @@ pub record LinkValue : Type 0 where
   pub moved : ℕ
   pub changed : List ℕ
 
--- A tick at a moment, with the messages that the outlet was handed by it and its answers.
+-- A tick at a moment, with the messages that the outlet received and its answers.
 pub record HasTicked {O : Type 0} (takes : O → ℕ → List ℕ → Bool → O → Type 0) (now : ℕ) (before after : LinkValue) (old new : O) : Type 0 where
   pub messages : List Outgoing
   pub answers : List Bool
   pub ticks : Ticks before.config now before.state messages answers after.state
   pub handed : HandsOver takes old messages answers new
 
--- A datagram at a moment, with its answer, and with the messages that the outlet was handed by it and its answers.
+-- A datagram at a moment, with its answer, the messages that the outlet received and the outlet's answers.
 pub record HasReceived {O : Type 0} (takes : O → ℕ → List ℕ → Bool → O → Type 0) (envelope : Envelope) (bytes : List ℕ) (now : ℕ) (answer : Received) (before after : LinkValue) (old new : O) : Type 0 where
   pub messages : List Outgoing
   pub answers : List Bool

@@ -1,4 +1,4 @@
--- What a contract sees of a link, as data: by this code proofs tell one from others.
+-- The codes of a link's parts, by which proofs distinguish links.
 use Rattle.std.specs.Prelude.{◌≡◌, ℕ, Bool, true, false, List, refl}
 use Rattle.std.specs.Coded.{Coded, code_by, coded×, coded_ℕ, coded_bool, coded_list}
 use Rattle.std.specs.FinMap as map
@@ -54,7 +54,7 @@ configuration_code =
     (λ p. record { family = p.0.0; timing = p.0.1; limits = p.1.0; own = p.1.1.0; source_specific = p.1.1.1 })
     (λ _. refl)
 
--- a role, as whether it is that of the querier, and its two numbers
+-- a role: a flag for the querier, and its two numbers
 abbrev pub role_parts : Role → Bool × (ℕ × ℕ)
 role_parts (Querier due startup_queries) = (true, (due, startup_queries))
 role_parts (Other address deadline) = (false, (address, deadline))
@@ -93,7 +93,7 @@ link_code mode timer query =
     })
     (λ _. refl)
 
--- the inside of a link, as the link around it, and what is put by
+-- the code of the inside of a link: the link around it, and the moves in reserve
 abbrev pub router_code : Coded FilterMode → Coded SourceTimer → Coded QuerySchedule → Coded RouterValue
 router_code mode timer query =
     code_by (LinkValue × ℕ) (coded× (link_code mode timer query) coded_ℕ)

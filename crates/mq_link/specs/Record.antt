@@ -1,5 +1,5 @@
--- What a record does to a link, in six steps of which each may end it (RFC 3376 sections 6.4 and 7.3.2, RFC 3810
--- sections 7.4 and 8.3.2; the limits are this project's).
+-- The effect of a record on a link, in six steps that may each end it. RFC 3376 sections 6.4 and 7.3.2, RFC 3810
+-- sections 7.4 and 8.3.2; the limits are this project's.
 use Rattle.std.specs.Prelude.{◌≡◌, ℕ, ◌+◌, ◌==◌, Bool, true, false, not, ◌&&◌, nat_lt, nat_le, if◌then◌else◌, List, [], ◌∷◌, ◌++◌, length, Option, None, Some}
 use Rattle.std.specs.Option.{unwrap_or}
 use Rattle.std.specs.Ordering.{nat_cmp}
@@ -38,8 +38,8 @@ kind_named n =
     else if n == 6 then Some Block
     else None
 
--- What one message says of one group: a record of a Report; a Report of an older version; a Leave or Done. Each of the
--- last two counts as one record.
+-- The statement of one message on one group. It is a record of a Report, a Report of an older version, or a Leave or
+-- Done. Each of the last two counts as one record.
 pub data Statement : Type 0 where
   RecordOf : (kind : Kind) (named : NamedSources) → Statement
   OlderJoin : (version : OlderVersion) → Statement
@@ -53,8 +53,8 @@ is_exclude_kind ToEx = true
 is_exclude_kind Allow = false
 is_exclude_kind Block = false
 
--- what doesn't count for a group of the source-specific range, where that is kept: records of mode EXCLUDE, and
--- messages of older versions (RFC 4604 sections 3.1, 3.5 and 3.7)
+-- The statement doesn't count for a group of the source-specific range, if that is kept. This holds for records of mode
+-- EXCLUDE, and messages of older versions (RFC 4604 sections 3.1, 3.5 and 3.7).
 abbrev pub is_muted : Configuration → ℕ → Statement → Bool
 is_muted config group (RecordOf kind named) = is_source_specific config group && is_exclude_kind kind
 is_muted config group (OlderJoin version) = is_source_specific config group
@@ -64,14 +64,15 @@ is_muted config group OlderLeave = is_source_specific config group
 abbrev pub asking_nothing : GroupState → GroupChange
 asking_nothing g = record { group = g; query = ∅; query_group = false }
 
--- What a statement changes of its group, by the older hosts that are there and the tables; None where it is ignored.
+-- The change of a group by a statement, by the older hosts that are there and the tables. It is None if the statement
+-- is ignored.
 abbrev pub change_stated : (v1_mutes_leave muted : Bool) → Timing → ℕ → Statement → GroupState → Option GroupChange
 change_stated mutes muted timing now (RecordOf kind named) g = translated_change mutes muted timing now g kind named
 change_stated mutes muted timing now (OlderJoin version) g =
     if muted then None else Some (asking_nothing (older_report version timing now g))
 change_stated mutes muted timing now OlderLeave g = older_leave mutes muted timing now g
 
--- The first limit that is passed by so many groups, sources of one group, sources in all, and schedules.
+-- The first limit that these numbers exceed: of groups, sources of one group, sources in all, and schedules.
 abbrev pub limit_passed_by : Limits → (groups group_sources sources scheduled : ℕ) → Option Refusal
 limit_passed_by limits groups group_sources sources scheduled = first_named (
     (TooManyGroups, nat_lt limits.groups groups)
@@ -80,12 +81,12 @@ limit_passed_by limits groups group_sources sources scheduled = first_named (
     ∷ (Scheduled, nat_lt limits.scheduled scheduled)
     ∷ [])
 
--- that which some groups pass, of which one has just changed
+-- the first limit that the groups exceed, after one of them has just changed
 abbrev pub limit_passed : Limits → Groups → (changed : ScheduledGroup) → Option Refusal
 limit_passed limits groups changed =
     limit_passed_by limits (map.len groups) (sources_of changed) (sources_in groups) (schedules_in groups)
 
--- What became of a record, the groups that it leaves, and the queries that it sends at once.
+-- The verdict on a record, the groups afterwards, and the queries that it sends at once.
 pub record Outcome : Type 0 where
   pub verdict : Verdict
   pub groups : Groups
@@ -95,13 +96,13 @@ pub record Outcome : Type 0 where
 abbrev pub leaving : Groups → Verdict → Outcome
 leaving groups verdict = record { verdict = verdict; groups = groups; queries = [] }
 
--- Who is querier, the timing in force and the moment, as records meet them.
+-- The configuration, the querier with the timing in force, and the moment, as records meet them.
 pub record Setting : Type 0 where
   pub config : Configuration
   pub election : ElectionState
   pub now : ℕ
 
--- Step 5. The result of table and sending is judged: where it passes a limit, the record is refused whole.
+-- Step 5. The result of table and sending is judged. If it exceeds a limit, the whole record is refused.
 abbrev pub unless_passed : Option Refusal → (before after : Groups) → List SentQuery → Outcome
 unless_passed (Some name) before after queries = leaving before (Refused name)
 unless_passed None before after queries = record { verdict = Applied; groups = after; queries = queries }
@@ -111,15 +112,15 @@ abbrev pub changed_by : Setting → ℕ → Groups → GroupChange → Scheduled
 changed_by at group groups change =
     after_change (is_querier at.election.role) at.election.timing at.now change (group_at groups group).schedule
 
--- What is due then goes at once; so a sending names the sources that wait from earlier records too.
+-- The queries that are due, which are sent at once. So a sending also names the sources that wait from earlier records.
 abbrev pub sent_at_once : Setting → ℕ → ScheduledGroup → List SentQuery
 sent_at_once at group e = messages_due (per_query at.config.family) at.election.timing at.now group e
 
--- the group and its schedule after what is sent
+-- the group and its schedule after the queries are sent
 abbrev pub after_sending : Setting → ScheduledGroup → ScheduledGroup
 after_sending at e = after_round at.election.timing at.now e
 
--- what a change leaves, or that it passes a limit; None is ignored
+-- the outcome of a change, which is refused if it exceeds a limit; None is ignored
 abbrev pub changed_or_refused : Setting → ℕ → Groups → Option GroupChange → Outcome
 changed_or_refused at group groups None = leaving groups Ignored
 changed_or_refused at group groups (Some change) =
@@ -127,25 +128,25 @@ changed_or_refused at group groups (Some change) =
     let after = with_group groups group (after_sending at e) in
     unless_passed (limit_passed at.config.limits after (after_sending at e)) groups after (sent_at_once at group e)
 
--- what a statement changes of its group, in a setting
+-- the change of a group by a statement, in a setting
 abbrev pub change_in : Setting → ℕ → Statement → Groups → Option GroupChange
 change_in at group statement groups =
     change_stated (v1_mutes_leave at.config.family) (is_muted at.config group statement) at.election.timing at.now statement (group_at groups group).group
 
--- Steps 4 to 6: what older hosts and the source-specific range mute is ignored; what passes a limit is refused; all
--- else is applied, also where it changes nothing.
+-- Steps 4 to 6. A statement is ignored if older hosts or the source-specific range mute it, and refused if it exceeds a
+-- limit. Otherwise it is applied, even if it changes nothing.
 unfoldable pub stated : Setting → ℕ → Statement → Groups → Outcome
 stated at group statement groups = changed_or_refused at group groups (change_in at group statement groups)
 
--- how many records of a datagram have met each group while it was held
+-- the number of records of a datagram that have met each group while it was held
 abbrev pub Seen : Type 0
 Seen = FinMap nat_cmp ℕ
 
 abbrev pub met : Seen → ℕ → ℕ
 met seen group = unwrap_or (map.get seen group) 0
 
--- Steps 1 and 2: a record of an unknown type or for a group that isn't admitted is ignored, one that names more sources
--- than a group may have is refused. Else it goes on, with its kind.
+-- Steps 1 and 2. A record of an unknown type or for a group that isn't admitted is ignored. A record that names more
+-- sources than a group may have is refused. Otherwise it goes on, with its kind.
 pub data Entrance : Type 0 where
   Stops : (verdict : Verdict) → Entrance
   GoesOn : (kind : Kind) → Entrance
@@ -160,8 +161,7 @@ entrance_as config r (Some kind) =
 abbrev pub entrance : Configuration → RecordView ℕ → Entrance
 entrance config r = entrance_as config r (kind_named r.kind)
 
--- Step 3: a record that goes on counts as one that met its group, if that is held, and the fifth is refused, whatever
--- stands between them.
+-- Step 3. A record that goes on has met its group, if that is held. The fifth is refused, whatever stands between them.
 abbrev pub is_repeated : Groups → Seen → ℕ → Bool
 is_repeated groups seen group = map.contains_key groups group && nat_le 4 (met seen group)
 
@@ -180,21 +180,21 @@ judged_from at seen r groups (GoesOn kind) =
     then leaving groups (Refused Repeated)
     else stated at r.group (RecordOf kind (set.from_list r.sources)) groups
 
--- what becomes of a record, by all six steps
+-- the outcome of a record, by all six steps
 unfoldable pub judged : Setting → Seen → RecordView ℕ → Groups → Outcome
 judged at seen r groups = judged_from at seen r groups (entrance at.config r)
 
--- this becomes of the record
+-- this is the outcome of the record
 abbrev pub Judged : Setting → Seen → RecordView ℕ → Groups → Outcome → Type 0
 Judged at seen r groups outcome = outcome ≡ judged at seen r groups
 
--- What became of some records, the groups that they leave, and the queries that they send, all in their order.
+-- The verdicts on some records, the groups afterwards, and the queries that they send, all in order.
 pub record Outcomes : Type 0 where
   pub verdicts : List Verdict
   pub groups : Groups
   pub queries : List SentQuery
 
--- one record more, before others
+-- the outcomes with one more, before the others
 abbrev pub and_then : Outcome → Outcomes → Outcomes
 and_then first rest = record {
   verdicts = first.verdict ∷ rest.verdicts;
@@ -202,13 +202,13 @@ and_then first rest = record {
   queries = first.queries ++ rest.queries;
 }
 
--- the records of a datagram one after the other, each judged on what those before it leave
+-- the outcomes of a datagram's records, each judged on the groups that the earlier ones leave
 abbrev pub all_judged : Setting → Seen → List (RecordView ℕ) → Groups → Outcomes
 all_judged at seen [] groups = record { verdicts = []; groups = groups; queries = [] }
 all_judged at seen (r ∷ rs) groups =
     let first = judged at seen r groups in
     and_then first (all_judged at (seen_after at.config r groups seen) rs first.groups)
 
--- one statement alone
+-- the outcomes of one statement alone
 abbrev pub alone : Outcome → Outcomes
 alone outcome = record { verdicts = outcome.verdict ∷ []; groups = outcome.groups; queries = outcome.queries }

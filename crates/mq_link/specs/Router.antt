@@ -1,4 +1,4 @@
--- What a contract sees of the inside of a link, and what a step makes of it.
+-- The inside of a link, as a contract sees it, and the effects of its steps.
 use Rattle.std.specs.Prelude.{◌≡◌, ℕ, []}
 use Rattle.mq_sched.specs.Sending.{SentQuery}
 use Rattle.mq_sched.specs.Sink.{Sends}
@@ -13,8 +13,9 @@ use Rattle.mq_link.specs.State.{Groups, LinkState}
 use Rattle.mq_link.specs.Storage.{put_by_rows}
 use Rattle.mq_link.specs.Tick.{Step}
 
--- Its configuration, its election and its last moment; the groups; the counters; how many comparisons it has made, and how
--- many items of lists it has moved; and what is put by for its rows of sources to be packed again.
+-- The inside of a link. It has the configuration, the election and the last moment, the groups and the counters.
+-- `spent` counts its comparisons, and `moved` the list items that it moved. `put_by` is the reserve of moves for the
+-- next packing of its rows of sources.
 pub record RouterValue : Type 0 where
   pub at : Setting
   pub groups : Groups
@@ -23,7 +24,7 @@ pub record RouterValue : Type 0 where
   pub moved : ℕ
   pub put_by : ℕ
 
--- as it is stored
+-- the inside of a link, as it is stored
 abbrev pub router_of : {K A : Type 0} → Setting → Storage K A → Counters → RouterValue
 router_of at storage counters =
     record {
@@ -38,11 +39,11 @@ router_of at storage counters =
 abbrev pub state_of : RouterValue → LinkState
 state_of r = record { groups = r.groups; election = r.at.election; last = r.at.now; counters = r.counters }
 
--- as it is seen of the link around it
+-- the link around it
 abbrev pub link_of : RouterValue → LinkValue
 link_of r = record { config = r.at.config; state = state_of r; spent = r.spent; moved = r.moved; changed = [] }
 
--- a step that has left this state, and of which nothing is to be sent any more
+-- the step with this state and without queries
 abbrev pub silent_step : LinkState → Step
 silent_step state = record { state = state; queries = []; timing = state.election.timing }
 
@@ -51,30 +52,30 @@ pub record Leaves (state : LinkState) (old new : RouterValue) : Type 0 where
   pub config : new.at.config ≡ old.at.config
   pub state_is : state_of new ≡ state
 
--- A statement has this outcome: it is answered so, leaves these groups, and a sink takes its queries.
+-- A statement has this outcome: it returns its verdict, leaves its groups, and a sink takes its queries.
 pub record HasOutcome {S : Type 0} (takes : S → SentQuery → S → Type 0) (outcome : Outcome) (verdict : Verdict) (left : Groups) (old new : S) : Type 0 where
   pub verdict_is : verdict ≡ outcome.verdict
   pub groups_are : left ≡ outcome.groups
   pub sent : Sends takes old outcome.queries new
 
--- Some records have these outcomes: they are answered and counted so, leave these groups, and a sink takes their queries.
+-- Some records have these outcomes: they are answered and counted, leave these groups, and a sink takes their queries.
 pub record HaveOutcomes {S : Type 0} (takes : S → SentQuery → S → Type 0) (outcomes : Outcomes) (answer : Received) (left : Groups) (before after : Counters) (old new : S) : Type 0 where
   pub answer_is : answer ≡ taken outcomes.verdicts
   pub groups_are : left ≡ outcomes.groups
   pub counters_are : after ≡ count_verdicts outcomes.verdicts before
   pub sent : Sends takes old outcomes.queries new
 
--- A step is done by a router, and a sink takes its queries.
+-- A router has done this step, and a sink has taken its queries.
 pub record HasStep {S : Type 0} (takes : S → SentQuery → S → Type 0) (step : Step) (before after : RouterValue) (old new : S) : Type 0 where
   pub leaves : Leaves step.state before after
   pub sent : Sends takes old step.queries new
 
--- So is what a datagram comes to, with its answer.
+-- A router has done the step of a datagram, with this answer.
 pub record HasReceipt {S : Type 0} (takes : S → SentQuery → S → Type 0) (receipt : Receipt) (answer : Received) (before after : RouterValue) (old new : S) : Type 0 where
   pub step : HasStep takes receipt.step before after old new
   pub answer_is : answer ≡ receipt.answer
 
--- The groups are as the router may hold them, and there is room for what the configuration allows.
+-- The router may hold the groups, and there is room for what the configuration allows.
 pub record IsStored {K A : Type 0} (at : Setting) (storage : Storage K A) : Type 0 where
   pub sound : AreSound at storage.held.groups
   pub group_room : storage.held.order.room ≡ at.config.limits.groups

@@ -14,23 +14,23 @@ answered answers step =
     let state = step.state in
     record state { counters = count_answers answers state.counters }
 
--- The outlet is handed these messages, in this order, and answers each; with its answers counted, this is the state.
+-- The outlet receives these messages, in order, and answers each. With its answers counted, this is the state.
 pub record HandsOut (config : Configuration) (step : Step) (messages : List Outgoing) (answers : List Bool) (after : LinkState) : Type 0 where
   pub handed : messages ≡ outgoing_of config step
   pub answered_each : length answers ≡ length messages
   pub leaves : after ≡ answered answers step
 
--- a tick at a moment does this
+-- a tick at a moment has these effects
 abbrev pub Ticks : Configuration → (now : ℕ) → (before : LinkState) → List Outgoing → List Bool → (after : LinkState) → Type 0
 Ticks config now before messages answers after = HandsOut config (tick_of config now before) messages answers after
 
--- a datagram at a moment does this, and is answered so
+-- a datagram at a moment has these effects, and this answer
 pub record Receives (config : Configuration) (envelope : Envelope) (bytes : List ℕ) (now : ℕ) (before : LinkState)
     (answer : Received) (messages : List Outgoing) (answers : List Bool) (after : LinkState) : Type 0 where
   pub answer_is : answer ≡ (receipt_of config envelope bytes now before).answer
   pub hands_out : HandsOut config (receipt_of config envelope bytes now before).step messages answers after
 
--- what a link is handed
+-- an event of a link
 pub data Event : Type 0 where
   Tick : (now : ℕ) → Event
   Datagram : (envelope : Envelope) (bytes : List ℕ) (now : ℕ) → Event
@@ -44,7 +44,7 @@ abbrev pub answer_to : Configuration → Event → LinkState → Option Received
 answer_to config (Tick now) before = None
 answer_to config (Datagram envelope bytes now) before = Some (receipt_of config envelope bytes now before).answer
 
--- An event with what came of it: the answer to a datagram, what the outlet was handed and answered, and the state.
+-- An event and its effects: the answer to a datagram, the messages and answers of the outlet, and the state.
 pub record Happening : Type 0 where
   pub event : Event
   pub answer : Option Received
@@ -56,7 +56,7 @@ pub record Happens (config : Configuration) (before : LinkState) (h : Happening)
   pub answer_is : h.answer ≡ answer_to config h.event before
   pub hands_out : HandsOut config (step_of config h.event before) h.messages h.answers h.after
 
--- these happen, one after the other, from a state on
+-- these happenings follow one another from a state on
 abbrev pub RunFrom : Configuration → LinkState → List Happening → Type 0
 RunFrom config before [] = Unit {0}
 RunFrom config before (h ∷ hs) = Happens config before h × RunFrom config h.after hs
@@ -70,6 +70,6 @@ abbrev pub events_of : List Happening → List (Event × List Bool)
 events_of [] = []
 events_of (h ∷ hs) = (h.event, h.answers) ∷ events_of hs
 
--- and without them
+-- the events of happenings alone
 abbrev pub events_alone : List Happening → List Event
 events_alone happenings = list_map (λ h. h.event) happenings

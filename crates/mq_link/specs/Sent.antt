@@ -1,5 +1,5 @@
--- Queries as they are sent: their fields, their bytes and where they go (RFC 3376 sections 4.1, 4.1.12 and 8, RFC 3810
--- sections 5.1, 5.1.15 and 9).
+-- Queries as they are sent: their fields, their bytes and their destinations. RFC 3376 sections 4.1, 4.1.12 and 8, RFC
+-- 3810 sections 5.1, 5.1.15 and 9.
 use Rattle.std.specs.Prelude.{ℕ, ◌==◌, Bool, false, if◌then◌else◌, List, [], map as list_map}
 use Rattle.mq_wire.specs.declared.query.Query.{Query}
 use Rattle.mq_wire.specs.declared.query.QueryVersion.TheVariants.{Current}
@@ -10,7 +10,7 @@ use Rattle.mq_link.specs.Family.{general_destination}
 use Rattle.mq_link.specs.Configuration.{Configuration}
 use Rattle.mq_link.specs.Tick.{Step}
 
--- the robustness variable and the query interval are those in force
+-- a query with the robustness variable and the query interval in force
 abbrev pub query_with : Timing → (group response : ℕ) → (s : Bool) → List ℕ → Query ℕ
 query_with timing group response s sources = record {
   group = group;
@@ -23,19 +23,19 @@ query_with timing group response s sources = record {
   });
 }
 
--- A general query asks for group zero, with the query response interval; a specific one for its group, with the last
--- member query interval.
+-- The fields of a query. A general query asks for group zero, with the query response interval. A specific query asks
+-- for its group, with the last member query interval.
 abbrev pub fields_sent : Timing → SentQuery → Query ℕ
 fields_sent timing GeneralQuery = query_with timing 0 timing.response_interval false []
 fields_sent timing (GroupQuery group s) = query_with timing group timing.last_member_interval s []
 fields_sent timing (SourcesQuery group s sources) = query_with timing group timing.last_member_interval s sources
 
--- a message as the outlet gets it: where it goes, and its bytes
+-- a message as the outlet receives it: its destination and its bytes
 pub record Outgoing : Type 0 where
   pub to : ℕ
   pub bytes : List ℕ
 
--- in its one spelling, from the router's own address
+-- the message of a query in its canonical bytes, from the router's own address
 abbrev pub outgoing : Configuration → Timing → SentQuery → Outgoing
 outgoing config timing query =
     let fields = fields_sent timing query in
@@ -44,6 +44,6 @@ outgoing config timing query =
       bytes = canon config.family config.own fields;
     }
 
--- what a call hands out, in its order
+-- the messages of a call, in order
 abbrev pub outgoing_of : Configuration → Step → List Outgoing
 outgoing_of config step = list_map (outgoing config step.timing) step.queries

@@ -6,7 +6,7 @@ use Rattle.mq_sched.specs.Election.{is_querier}
 use Rattle.mq_link.specs.State.{Groups, AreWithin, IsHeldAs, IsSilent}
 use Rattle.mq_link.specs.Record.{Setting}
 
--- The groups of a link, in a setting, are as it may hold them.
+-- a link may hold these groups in this setting
 pub record AreSound (at : Setting) (groups : Groups) : Type 0 where
   pub all : (group : ℕ) (e : ScheduledGroup) → map.get groups group ≡ Some e → IsHeldAs at.config group e
   pub within : AreWithin at.config.limits groups

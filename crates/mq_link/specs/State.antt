@@ -11,14 +11,14 @@ use Rattle.mq_link.specs.Family.{is_admitted, in_source_specific_range}
 use Rattle.mq_link.specs.Configuration.{Configuration}
 use Rattle.mq_link.specs.Counters.{Counters, no_counts}
 
--- The groups; who is querier, and the timing in force; the last moment handed in; what was counted.
+-- The groups, the querier with the timing in force, the last moment that was given, and the counters.
 pub record LinkState : Type 0 where
   pub groups : Groups
   pub election : ElectionState
   pub last : ℕ
   pub counters : Counters
 
--- at the start nothing is held, the router is querier, and its first general query is due
+-- the state at the start: nothing is held, the router is querier, and its first general query is due
 abbrev pub link_at : Configuration → (start : ℕ) → LinkState
 link_at config start = record {
   groups = map.empty;
@@ -27,12 +27,11 @@ link_at config start = record {
   counters = no_counts;
 }
 
--- whether a source of a group is forwarded, as of the last moment handed in (RFC 3376 section 6.3, RFC 3810 section
--- 7.3)
+-- the group forwards this source, at the last moment that was given (RFC 3376 section 6.3, RFC 3810 section 7.3)
 abbrev pub forwards : LinkState → (group source : ℕ) → Bool
 forwards state group source = forwards_in (group_at state.groups group).group source
 
--- how much is held: the groups, and the sources of all of them
+-- the number of held items: the groups, and the sources of all of them
 abbrev pub held_of : LinkState → ℕ
 held_of state = map.len state.groups + sources_in state.groups
 
@@ -55,8 +54,8 @@ pub record IsSourceSpecific (g : GroupState) : Type 0 where
 abbrev pub is_source_specific : Configuration → ℕ → Bool
 is_source_specific config group = config.source_specific && in_source_specific_range config.family group
 
--- A group as a link holds it: one that is admitted, with the state of a group that is held and a schedule that fits
--- it; and where the source-specific range is kept, source-specific in it.
+-- A group as a link holds it. It is admitted, its state is that of a held group, and its schedule fits. If the
+-- source-specific range is kept, the group is source-specific in it.
 pub record IsHeldAs (config : Configuration) (group : ℕ) (e : ScheduledGroup) : Type 0 where
   pub admitted : is_admitted config.family group ≡ true
   pub held : IsHeld e.group
@@ -67,8 +66,8 @@ pub record IsHeldAs (config : Configuration) (group : ℕ) (e : ScheduledGroup) 
 pub record IsSilent (e : ScheduledGroup) : Type 0 where
   pub schedule : e.schedule ≡ no_schedule
 
--- A state that a link may be in: each group is as it may be held, all are within the limits, the timing in force is
--- in range, and a router that isn't querier has nothing to send.
+-- A link may be in this state. Each group may be held, and all are within the limits. The timing in force is in range,
+-- and a router that isn't querier has nothing to send.
 pub record IsWellFormed (config : Configuration) (state : LinkState) : Type 0 where
   pub groups : (group : ℕ) (e : ScheduledGroup) → map.get state.groups group ≡ Some e → IsHeldAs config group e
   pub within : AreWithin config.limits state.groups

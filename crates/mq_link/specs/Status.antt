@@ -1,4 +1,4 @@
--- What a router is at a moment, as it is stored.
+-- The status of a router at a moment, as it is stored.
 use Rattle.std.specs.Prelude.{◌≡◌, ℕ, ◌≤◌, ◌^◌}
 use Rattle.mq_table.specs.Variables.{AreInRange}
 use Rattle.mq_sched.specs.StoredElection.{RouterElection}
@@ -6,8 +6,8 @@ use Rattle.mq_wire.specs.Family.{Family}
 use Rattle.mq_link.specs.Configuration.{Configuration, IsFaultless}
 use Rattle.mq_link.specs.Handing.{KeepsIntervals}
 
--- A configuration of the family that has no fault; the election is the router's so configured, and the timing in force is
--- in range and keeps the configured intervals; the moment is one that can be told.
+-- The configuration is of the family and has no fault. The election is that of the router with this configuration. The
+-- timing in force is in range and keeps the configured intervals. The moment is in range.
 pub record IsStatus (family : Family) (config : Configuration) (election : RouterElection) (now : ℕ) : Type 0 where
   pub faultless : IsFaultless config
   pub family_is : config.family ≡ family

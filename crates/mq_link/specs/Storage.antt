@@ -1,4 +1,4 @@
--- The storage of the groups, and what the work on one of them takes.
+-- The storage of the groups, and the memory for the work on one of them.
 use Rattle.std.specs.Prelude.{◌≡◌, ℕ, ◌+◌, ◌-◌, ◌*◌, ◌/◌, ◌≤◌, min, length, vec_capacity, MatchResult}
 use Rattle.std.specs.FinMap as map
 use Rattle.mq_sets.specs.NumberedKeys.{IsSpotFor}
@@ -15,13 +15,13 @@ use Rattle.mq_link.specs.declared.storage.Storage.{Storage}
 use Rattle.mq_link.specs.declared.storage.Scratch.{Scratch}
 use Rattle.mq_link.specs.Serving.{AreServed}
 
--- a group as it stands in the storage, where its addresses have numbers
+-- a stored group, with its addresses as numbers
 abbrev pub group_stored : {K : Type 0} → (K → ℕ) → HeldGroup K → GroupState
 group_stored number stored =
     record { mode = stored.mode; sources = timers_in number stored.sources.now; v1 = stored.v1; v2 = stored.v2 }
 
--- room for a group of so many sources and a record that names no more, for what both may make, and for so many groups to be met
--- and changed
+-- Room for a group of `sources` sources, a record that names no more, and what both may make. There is also room for
+-- `groups` groups that are met and changed.
 pub record HasRoom {K A : Type 0} (groups sources : ℕ) (w : Scratch K A) : Type 0 where
   pub group : 2 * sources ≤ w.group.room
   pub named : sources ≤ w.named.room
@@ -29,7 +29,7 @@ pub record HasRoom {K A : Type 0} (groups sources : ℕ) (w : Scratch K A) : Typ
   pub met : groups ≤ length w.met
   pub changed : groups ≤ length w.changed
 
--- room for a group of so many sources, and for as many to ask for
+-- room for a group of `sources` sources, and for as many to ask for
 pub record HasRoomFor {K A : Type 0} (sources : ℕ) (w : Scratch K A) : Type 0 where
   pub group : sources ≤ w.group.room
   pub asked : sources ≤ vec_capacity w.asked
@@ -42,26 +42,26 @@ pub record KeepsRoom {K A : Type 0} (old new : Scratch K A) : Type 0 where
   pub met : length new.met ≡ length old.met
   pub changed : length new.changed ≡ length old.changed
 
--- nor is there less room for groups and their sources
+-- there is as much room for groups and their sources as before
 pub record KeepsRooms {K A : Type 0} (old new : Storage K A) : Type 0 where
   pub groups : new.held.order.room ≡ old.held.order.room
   pub sources : new.held.source_room ≡ old.held.source_room
 
--- the groups are fit to be worked on one after the other, where there is so much room for each of them
+-- the groups are ready for work on one after the other, with this much room for each
 pub record IsReady {K A : Type 0} (room : ℕ) (s : Storage K A) : Type 0 where
   pub few : map.len s.held.groups ≤ 65535
   pub served : AreServed room s.held.groups
 
--- nothing differs but what was counted
+-- the storage with another count of comparisons
 abbrev pub has_counted : {K A : Type 0} → Storage K A → (spent : ℕ) → Storage K A
 has_counted s spent = record s { meter = spent }
 
--- a group that was looked for has its number, or would go to the spot
+-- the group that was searched for has its number, or would go to the spot
 abbrev pub IsSought : {K : Type 0} → (K → ℕ) → HeldState → Sought K → Type 0
 IsSought number held sought =
     MatchResult sought.found (HasNumber held (number sought.address)) (IsSpotFor held.order.items held.order.pages (number sought.address))
 
--- room for the numbers of so many groups, twice, and for the addresses of twice as many
+-- room for the numbers of `groups` groups, twice, and for the addresses of twice as many
 pub record HasSpace {K A : Type 0} (groups : ℕ) (lists : Lists K A) : Type 0 where
   pub due : groups ≤ vec_capacity lists.due
   pub spare : groups ≤ length lists.spare.items
@@ -77,13 +77,13 @@ pub record KeepsSpace {K A : Type 0} (old new : Lists K A) : Type 0 where
   pub by_tick : new.by_tick ≡ old.by_tick
   pub by_records : new.by_records ≡ old.by_records
 
--- What is put by for the rows of sources to be packed again: four for each source that was written behind the last one since they
--- were, but no more than packing them moves.
+-- The moves in reserve for the next packing of the rows of sources. They are 4 for each source that was written at the
+-- end since the last packing, and at most what packing moves.
 abbrev pub put_by_rows : HeldState → ℕ
 put_by_rows s = let slack = s.source_room / 4 + s.order.room in
     min (4 * (slack - s.ahead)) (sources_in s.groups + running_in s.groups)
 
--- a group as it stands in the storage is that of an address
+-- the stored group is that of an address
 pub record IsGroupAt {K : Type 0} (number : K → ℕ) (groups : Groups) (address : ℕ) (stored : HeldGroup K) : Type 0 where
   pub address_is : number stored.address ≡ address
   pub group_is : (let e : ScheduledGroup = record { group = group_stored number stored; schedule = stored.schedule } in e ≡ group_at groups address)

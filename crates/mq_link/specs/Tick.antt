@@ -1,5 +1,5 @@
--- What a moment does to a link: timers end, the election may have something to do, and queries are sent that are due
--- (RFC 3376 sections 6.5, 6.6.2 and 6.6.3, RFC 3810 sections 7.5, 7.6.2 and 7.6.3).
+-- The effect of a moment on a link. Timers end, the election may have something to do, and queries that are due are
+-- sent (RFC 3376 sections 6.5, 6.6.2 and 6.6.3, RFC 3810 sections 7.5, 7.6.2 and 7.6.3).
 use Rattle.std.specs.Prelude.{ℕ, max, if◌then◌else◌, List, [], ◌++◌, Option, None, Some}
 use Rattle.std.specs.List.{flat_map}
 use Rattle.std.specs.FinMap as map
@@ -16,11 +16,11 @@ use Rattle.mq_link.specs.Family.{per_query}
 use Rattle.mq_link.specs.Configuration.{Configuration}
 use Rattle.mq_link.specs.State.{Groups, LinkState}
 
--- a moment before the last one counts as the last one
+-- the moment of a call; a moment before the last one counts as the last one
 abbrev pub moment_of : LinkState → ℕ → ℕ
 moment_of state now = max state.last now
 
--- the end of a group's timers, and what its schedule loses by it; a group that is INCLUDE({}) then is no longer held
+-- the group after its timers have ended, and its schedule; a group that is INCLUDE({}) then is no longer held
 abbrev pub group_expired : ℕ → ScheduledGroup → ScheduledGroup
 group_expired now e =
     let g = expired now e.group in
@@ -40,14 +40,15 @@ queries_due family timing now groups =
 unfoldable pub groups_after_round : Timing → ℕ → Groups → Groups
 groups_after_round timing now groups = kept (λ group e. Some (after_round timing now e)) groups
 
--- What a call leaves, the queries that it hands out in their order, and the timing by which they are sent.
+-- The state after a call, its queries in order, and the timing by which they are sent.
 pub record Step : Type 0 where
   pub state : LinkState
   pub queries : List SentQuery
   pub timing : Timing
 
--- A tick at a moment, in this order: the end of timers; the end of the other querier's deadline; the general query,
--- if it is due; then what is due for the groups. However late it comes, each thing goes once.
+-- A tick at a moment, in this order: the end of timers, the end of the other querier's deadline, and queries. First
+-- goes the general query, if it is due, and then the queries that are due for the groups. However late the tick comes,
+-- each is sent once.
 abbrev pub tick_at : Configuration → (moment : ℕ) → LinkState → Step
 tick_at config moment state =
     let groups = groups_expired moment state.groups in
@@ -68,11 +69,11 @@ tick_at config moment state =
 abbrev pub tick_of : Configuration → (now : ℕ) → LinkState → Step
 tick_of config now state = tick_at config (moment_of state now) state
 
--- when a tick has something to do next: the earliest of all deadlines and due moments
+-- the next moment at which a tick has something to do: the earliest of all deadlines and due moments
 abbrev pub next_of : LinkState → ℕ
 next_of state = least (next_moment state.election.role) (moments_in state.groups)
 
--- a link that has waited up to a moment, and sent nothing
+-- the step of a link that has waited until a moment, and sent nothing
 abbrev pub waited : (moment : ℕ) → LinkState → Step
 waited moment state =
     record { state = record state { last = moment }; queries = []; timing = state.election.timing }

@@ -1,4 +1,4 @@
--- What a contract sees of a workspace, and what it suffices for.
+-- A workspace, as a contract sees it, and the limits for which it suffices.
 use Rattle.std.specs.Prelude.{◌≡◌, ℕ, ◌*◌, ◌≤◌, nat_le, Bool, ◌&&◌, List, length, refl}
 use Rattle.std.specs.Coded.{Coded, code_by, coded×, coded_ℕ, coded_list}
 use Rattle.mq_link.specs.declared.configuration.Limits.{Limits}
@@ -8,8 +8,8 @@ use Rattle.mq_sets.specs.Ascending.{IsAscending}
 use Rattle.mq_link.specs.Seen.{AreNone}
 use Rattle.mq_link.specs.Storage.{HasRoom, HasSpace}
 
--- for how many groups it has room, and for how many sources of one; and the addresses of the groups that the last call that it was
--- lent to has changed. What it held before makes no difference to a call.
+-- The number of groups for which a workspace has room, and of sources of one group. `changed` has the addresses of the
+-- groups that the last call with it has changed. Its content before a call makes no difference to the call.
 pub record WorkspaceState : Type 0 where
   pub groups : ℕ
   pub group_sources : ℕ
@@ -22,16 +22,17 @@ workspace_code =
     (λ p. record { groups = p.0.0; group_sources = p.0.1; changed = p.1 })
     (λ _. refl)
 
--- whether the calls of a link of some limits may be lent it
+-- calls of a link with these limits may use the workspace
 abbrev pub suffices : Limits → WorkspaceState → Bool
 suffices limits w = nat_le limits.groups w.groups && nat_le limits.group_sources w.group_sources
 
--- a call has left it as it was, but for the groups that it has changed
+-- the workspace after a call, with another list of changed groups
 abbrev pub with_changed : WorkspaceState → List ℕ → WorkspaceState
 with_changed w changed = record w { changed = changed }
 
--- It has the room that it says, no group is met or changed by the records of a datagram, and the addresses ascend. There are at
--- most twice as many as groups may be: those that a tick ends, and those that records make in their place.
+-- The workspace has its room, no group is met or changed by the records of a datagram, and the addresses ascend. There
+-- are at most twice as many addresses as groups may be: those that a tick ends, and those that records make in their
+-- place.
 pub record IsWorkspace {K A : Type 0} (number : K → ℕ) (groups group_sources : ℕ) (scratch : Scratch K A) (lists : Lists K A) : Type 0 where
   pub room : HasRoom groups group_sources scratch
   pub list_room : HasSpace groups lists

@@ -1,41 +1,41 @@
-//! What becomes of datagrams and their records.
+//! Results of datagrams and their records.
 
 ghost use Rattle.std.specs.Prelude.{◌≡◌, ◌<◌, ◌≤◌};
 ghost use Rattle.mq_link.specs.Counters.{reason_number};
 
-/// What became of a datagram.
+/// The result of a datagram.
 #[derive(Clone, Copy, Debug, PartialEq, Eq)]
 pub enum Received {
-    /// It was taken: so many of its records were applied, ignored and refused. An older Report, a
-    /// Leave or a Done counts as one record, a query has none.
+    /// The counts of a taken datagram's applied, ignored and refused records. An older Report, a Leave or a Done counts
+    /// as one record, a query has none.
     Taken {
-        /// How many records were applied, also where they changed nothing.
+        /// The number of applied records, with those that changed nothing.
         applied: u32,
-        /// How many say nothing for this link.
+        /// The number of records that say nothing for this link.
         ignored: u32,
-        /// How many were refused, each for a limit that it met.
+        /// The number of refused records, each for a limit that it met.
         refused: u32,
     },
-    /// It was dropped, for the reason of the lowest number that holds.
+    /// The reason to drop the datagram: the reason of the lowest number that holds.
     Dropped(DropReason),
 }
 
-/// Why a datagram is dropped, in the order of their numbers, 1 to 10.
+/// The reasons to drop a datagram, in the order of their numbers, 1 to 10.
 #[derive(Clone, Copy, Debug, PartialEq, Eq)]
 pub enum DropReason {
-    /// A field is cut.
+    /// A truncated field.
     Truncated,
-    /// The checksum is wrong.
+    /// A wrong checksum.
     Checksum,
-    /// The type is unknown.
+    /// An unknown type.
     UnknownType,
-    /// A query has a length that no version has.
+    /// A query with a length that no version has.
     QueryLength,
-    /// MLD: the source isn't a link-local address (RFC 3810 sections 5.1.14 and 5.2.13).
+    /// MLD: a source that isn't a link-local address (RFC 3810 sections 5.1.14 and 5.2.13).
     BadSource,
-    /// MLD: the hop limit isn't 1 (RFC 3810 section 7.4).
+    /// MLD: a hop limit other than 1 (RFC 3810 section 7.4).
     HopLimit,
-    /// MLD: the packet has no Router Alert option (RFC 3810 section 7.4).
+    /// MLD: a packet without a Router Alert option (RFC 3810 section 7.4).
     NoAlert,
     /// A query from the router's own address, or in IGMP from 0.0.0.0.
     OwnOrZero,
@@ -46,7 +46,7 @@ pub enum DropReason {
 }
 
 impl DropReason {
-    /// Its number, from 1 to 10.
+    /// Returns the number, from 1 to 10.
     pub fn number(&self) -> u8
         ensures number { result ≡ reason_number self.now }
         ensures first { 0 < result }
@@ -67,26 +67,26 @@ impl DropReason {
     }
 }
 
-/// Why a record is refused, in the order of their numbers, 1 to 7.
+/// The reasons to refuse a record, in the order of their numbers, 1 to 7.
 #[derive(Clone, Copy, Debug, PartialEq, Eq)]
 pub enum Refusal {
-    /// It names more sources than a group may have.
+    /// A record that names more sources than a group may have.
     Long,
-    /// It is the fifth record of its datagram for a group that is held, or a later one.
+    /// The fifth record of its datagram for a group that is held, or a later one.
     Repeated,
-    /// There would be more groups than the limit.
+    /// More groups than the limit.
     Groups,
-    /// Its group would have more sources than the limit.
+    /// More sources of its group than the limit.
     GroupSources,
-    /// There would be more sources in all than the limit.
+    /// More sources in all than the limit.
     Sources,
-    /// There would be more schedules of specific queries than the limit.
+    /// More schedules of specific queries than the limit.
     Scheduled,
-    /// Memory ran out. All storage is reserved at the start, so it is never answered.
+    /// An allocation failure. All storage is reserved at the start, so it is never returned.
     Memory,
 }
 
-/// What a datagram spells, as it is counted, dropped ones included.
+/// The kinds of parsed messages, as they are counted, with the dropped ones.
 #[derive(Clone, Copy, Debug, PartialEq, Eq)]
 pub enum MessageKind {
     /// A query of IGMPv3 or MLDv2.

@@ -41,14 +41,15 @@ use mq_table::Timing;
 use std::alloc::{Allocator, Global};
 use std::marker::Model;
 
-/// Why a call did nothing: the workspace that it was lent has room for fewer groups, or for fewer sources of one, than the link's
-/// limits allow.
+/// The error of a call that did nothing. The workspace has room for fewer groups, or for fewer sources of one, than the
+/// link's limits allow.
 #[derive(Clone, Copy, Debug, PartialEq, Eq)]
 pub struct TooSmall;
 
-/// One link of a multicast router, whose calls are lent a workspace: many links may use one in turn. Beside its groups it takes
-/// no memory that grows with its limits. It is as the definitions have it: its configuration, its state, and how many comparisons
-/// it has made and items it has moved. The memory of its groups is taken by `new`, and no other call takes any.
+/// One link of a multicast router, whose calls use a workspace of the caller. Many links may use one in turn. Beside
+/// its groups it has no memory that grows with its limits. A contract sees the link of the definitions: its
+/// configuration, its state, how many comparisons it has made, and how many items it has moved. `new` allocates the
+/// memory of its groups, and no other call allocates.
 #[derive(Drop)]
 pub struct BareLink<F: Family, A: Allocator = Global> {
     router: Router<F, A>,
@@ -70,7 +71,8 @@ impl<F: Family, A: Allocator> Model for BareLink<F, A> {
 }
 
 impl<F: Family, A: Allocator + Copy> BareLink<F, A> {
-    /// A link that starts at `start`, as `Link::new` makes it; or `Memory`, where that of its groups was refused.
+    /// Returns a link that starts at `start`, as `Link::new` does. Fails with `Memory` if that of its groups is
+    /// refused.
     pub fn new(alloc: A, config: Config<F>, start: Moment) -> Result<BareLink<F, A>, Memory>
         requires in_range { start ≤ 2 ^ 53 }
         ensures { IfOk result (λ link. link ≡ record { config = config; state = link_at config start; spent = 0; moved = 0; changed = [] }) }
@@ -80,7 +82,7 @@ impl<F: Family, A: Allocator + Copy> BareLink<F, A> {
 }
 
 impl<F: Family, A: Allocator> BareLink<F, A> {
-    /// How many bytes `new_in` takes of memory; or none, where no memory has as many.
+    /// Returns the bytes that `new_in` allocates from `memory`, or None if no memory has as many.
     pub fn size(config: &Config<F>) -> Option<usize>
         ensures { IsSize (bytes_of_link (page.the_row u16 A.row ⟦<A as Allocator>⟧) F.Address.row config.now.limits) result }
     {
@@ -89,7 +91,8 @@ impl<F: Family, A: Allocator> BareLink<F, A> {
         HeldGroups::<F::Address, A>::size(limits.groups as usize, limits.sources as usize)
     }
 
-    /// The same, of memory that vectors are made of. It is granted where that memory has `size` of the configuration.
+    /// Returns a link as `new` does, allocated from `memory`. It succeeds if `memory` has `size` bytes for the
+    /// configuration.
     pub fn new_in<M: VectorSource<A>>(
         memory: &mut M,
         config: Config<F>,
@@ -104,15 +107,15 @@ impl<F: Family, A: Allocator> BareLink<F, A> {
         })
     }
 
-    /// Whether a workspace has room for the limits of the link.
+    /// Returns whether a workspace has room for the limits of the link.
     pub fn fits<B: Allocator>(&self, workspace: &Workspace<F, B>) -> bool
         ensures { result ≡ suffices self.now.config.limits workspace.now }
     {
         workspace.suffices(&self.router.config().limits())
     }
 
-    /// Does what `Link::tick` does, in a workspace that it is lent; nothing, where that is too small. What the workspace held
-    /// before makes no difference.
+    /// Acts like `Link::tick`, in a workspace of the caller. If that is too small, it does nothing. The content of the
+    /// workspace before makes no difference.
     pub fn tick<B: Allocator, O: Outlet<F::Address>>(
         &mut self,
         workspace: &mut Workspace<F, B>,
@@ -144,8 +147,8 @@ impl<F: Family, A: Allocator> BareLink<F, A> {
         }
     }
 
-    /// Takes a datagram as `Link::receive` does, in a workspace that it is lent; does nothing, where that is too small. What the
-    /// workspace held before makes no difference.
+    /// Acts like `Link::receive`, in a workspace of the caller. If that is too small, it does nothing. The content of
+    /// the workspace before makes no difference.
     pub fn receive<B: Allocator, O: Outlet<F::Address>>(
         &mut self,
         workspace: &mut Workspace<F, B>,
@@ -176,7 +179,7 @@ impl<F: Family, A: Allocator> BareLink<F, A> {
         }
     }
 
-    /// A tick, in a workspace that suffices.
+    /// Handles a tick, in a workspace that suffices.
     pub(crate) fn tick_in<B: Allocator, O: Outlet<F::Address>>(
         &mut self,
         workspace: &mut Workspace<F, B>,
@@ -208,7 +211,7 @@ impl<F: Family, A: Allocator> BareLink<F, A> {
         self.is_well_formed();
     }
 
-    /// A datagram, in a workspace that suffices.
+    /// Handles a datagram, in a workspace that suffices.
     pub(crate) fn receive_in<B: Allocator, O: Outlet<F::Address>>(
         &mut self,
         workspace: &mut Workspace<F, B>,
@@ -238,15 +241,15 @@ impl<F: Family, A: Allocator> BareLink<F, A> {
         answer
     }
 
-    /// The link's configuration.
+    /// Returns the link's configuration.
     pub fn config(&self) -> &Config<F>
         ensures { result.now ≡ self.now.config }
     {
         self.router.config()
     }
 
-    /// Its state is one that a link may be in, and after a tick its next moment will be later than that of the tick. It does
-    /// nothing: its contract is the fact.
+    /// A lemma: a link may be in this state, and after a tick its next moment is later than that of the tick. It has no
+    /// effect at run time.
     pub fn is_well_formed(&self)
         ensures formed { IsWellFormed self.now.config self.now.state }
         ensures later { (now : ℕ) → now < next_of (tick_of self.now.config now self.now.state).state }
@@ -254,72 +257,74 @@ impl<F: Family, A: Allocator> BareLink<F, A> {
         self.router.lemma_is_stored();
     }
 
-    /// The link's counters; the link is given up.
+    /// Returns the link's counters, and gives up the link.
     pub fn into_counts(self) -> Counts
         ensures { result ≡ self.state.counters }
     {
         self.router.into_counts()
     }
 
-    /// The link's counters.
+    /// Returns the link's counters.
     pub fn counts(&self) -> &Counts
         ensures { result.now ≡ self.now.state.counters }
     {
         self.router.counts()
     }
 
-    /// How many comparisons `tick` and `receive` have made. It stays at the greatest u64.
+    /// Returns the number of comparisons that `tick` and `receive` have made. It stays at the greatest u64.
     pub fn spent(&self) -> u64
         ensures { result ≡ self.now.spent }
     {
         self.router.spent()
     }
 
-    /// How many items of lists `tick` and `receive` have moved to keep the groups. It stays at the greatest u64.
+    /// Returns the number of list items that `tick` and `receive` have moved to keep the groups. It stays at the
+    /// greatest u64.
     pub fn moved(&self) -> u64
         ensures { result ≡ self.now.moved }
     {
         self.router.moved()
     }
 
-    /// Whether it is querier (RFC 3376 section 6.6.2, RFC 3810 section 7.6.2).
+    /// Returns whether the router is querier (RFC 3376 section 6.6.2, RFC 3810 section 7.6.2).
     pub fn is_querier(&self) -> bool
         ensures { result ≡ is_querier self.now.state.election.role }
     {
         self.router.election().is_querier()
     }
 
-    /// The other router that is querier, or None where this one is: the router of a lower address whose query came last.
+    /// Returns the other router that is querier, or None if this one is. It is the router of a lower address whose
+    /// query came last.
     pub fn other_querier(&self) -> Option<OtherQuerier<F::Address>>
         ensures { IsOtherOf F.Address.number self.now.state.election.role result }
     {
         self.router.election().other_querier()
     }
 
-    /// The timing in force: the configured one, but for what was taken over from the queries of other routers (RFC 3376
-    /// sections 4.1.6 and 4.1.7, RFC 3810 sections 5.1.8 and 5.1.9).
+    /// Returns the timing in force. It is the configured one, except for what was adopted from the queries of other
+    /// routers (RFC 3376 sections 4.1.6 and 4.1.7, RFC 3810 sections 5.1.8 and 5.1.9).
     pub fn timing(&self) -> Timing
         ensures { result ≡ self.now.state.election.timing }
     {
         self.router.election().timing()
     }
 
-    /// All groups that it holds, by ascending address, each as it stands in the storage.
+    /// Returns all held groups by ascending address, each as it is stored.
     pub fn entries(&self) -> HeldEntries<'_, F::Address, A>
         ensures { result ≡ map.entries self.now.state.groups }
     {
         self.router.held().entries()
     }
 
-    /// How many groups it holds.
+    /// Returns the number of held groups.
     pub fn len(&self) -> usize
         ensures { result ≡ map.len self.now.state.groups }
     {
         self.router.held().len()
     }
 
-    /// The group at a place, its rank in the ascending list of the addresses of all groups, counted from 0, as it stands in
-    /// the storage.
+    /// Returns the group at a place, as it is stored. Its place is its rank in the ascending list of the addresses of
+    /// all groups, counted from 0.
     pub fn entry(&self, place: usize) -> HeldGroup<'_, F::Address>
         requires place { place < map.len self.now.state.groups }
         ensures place { HasPlace self.now.state.groups (F.Address.number result.address) place }
@@ -332,7 +337,7 @@ impl<F: Family, A: Allocator> BareLink<F, A> {
         self.router.held().entry(place)
     }
 
-    /// A group as it stands in the storage, or None where it isn't held. It compares addresses on a meter of its own: neither
+    /// Returns a group as it is stored, or None if it isn't held. It compares addresses on a meter of its own: neither
     /// `spent` nor the bound counts that.
     pub fn find(&self, group: F::Address) -> Option<HeldGroup<'_, F::Address>>
         ensures held { is_some result ≡ map.contains_key self.now.state.groups (F.Address.number group) }
@@ -346,8 +351,8 @@ impl<F: Family, A: Allocator> BareLink<F, A> {
         }
     }
 
-    /// When a tick has something to do next: the earliest of all deadlines and due moments. It compares two moments on a
-    /// meter of its own: neither `spent` nor the bound counts that.
+    /// Returns the next moment at which a tick has something to do: the earliest of all deadlines and due moments. It
+    /// compares two moments on a meter of its own: neither `spent` nor the bound counts that.
     pub fn next_deadline(&self) -> Moment
         ensures { result ≡ next_of self.now.state }
     {
@@ -358,8 +363,8 @@ impl<F: Family, A: Allocator> BareLink<F, A> {
         }
     }
 
-    /// Whether what a source sends to a group is forwarded, as of the last moment handed in (RFC 3376 section 6.3, RFC
-    /// 3810 section 7.3). It compares addresses on a meter of its own: neither `spent` nor the bound counts that.
+    /// Returns whether a group forwards what a source sends, at the last moment that was given. RFC 3376 section 6.3,
+    /// RFC 3810 section 7.3. It compares addresses on a meter of its own: neither `spent` nor the bound counts that.
     pub fn forwards(&self, group: F::Address, source: F::Address) -> bool
         ensures { result ≡ state.forwards self.now.state (F.Address.number group) (F.Address.number source) }
     {

@@ -1,5 +1,5 @@
-//! What a BLOCK does to its group where that stands, without a copy of its row: where it names at most one source, which the group
-//! has, and no limit can be passed.
+//! A BLOCK that is applied where its group's row is stored, without a copy. It names at most one source, which the
+//! group has, and no limit can be exceeded.
 
 ghost use Rattle.std.specs.Prelude.{◌≡◌, ℕ, ◌+◌, ◌*◌, ◌≤◌, [], ◌∷◌, ◌||◌, false, true, is_ok, is_some, length, min, if◌then◌else◌, IfSome, OnSome};
 ghost use Rattle.std.specs.FinMap as map;
@@ -42,7 +42,7 @@ use mq_table::{Head, Kind, timer_among};
 use mq_wire::WireKey;
 use std::alloc::Allocator;
 
-/// Whether a statement is a BLOCK.
+/// Returns whether a statement is a BLOCK.
 fn is_block(said: StatementKind) -> bool
     ensures { result ≡ blocked.is_block said }
 {
@@ -52,7 +52,7 @@ fn is_block(said: StatementKind) -> bool
     }
 }
 
-/// Whether hosts of an older version are in a group. At most two comparisons.
+/// Returns whether hosts of an older version are in a group.
 fn has_older_hosts(head: &Head, now: Moment, m: &mut Meter) -> bool
     ensures hosts { (timers : FinMap nat_cmp SourceTimer) → let hosts = hosts_of (state_of head.now timers) now in result ≡ (hosts.v1 || hosts.v2) }
     ensures spent { Spends 0 2 m.old m.new }
@@ -62,9 +62,8 @@ fn has_older_hosts(head: &Head, now: Moment, m: &mut Meter) -> bool
 }
 
 impl<F: Family> Status<F> {
-    /// The number of the group of a BLOCK that can be done where the row of the group stands; None for any other statement, where
-    /// the group isn't held, where something is due for it, where an older host mutes the BLOCK, where it names more than one
-    /// source, and where a source that is asked for could pass the limit of schedules. At most four comparisons.
+    /// Returns the number of the group of a BLOCK that can be applied where the group's row is stored. Returns None for
+    /// any other statement, or if a condition of `CanBlock` fails.
     fn number_blocked<A: Allocator>(
         &self,
         storage: &mut Storage<F::Address, A>,
@@ -111,7 +110,7 @@ impl<F: Family> Status<F> {
         }
     }
 
-    /// Asks for a source of the group of a number, where the router is querier; answers whether the group has the source.
+    /// Asks for a source of the group of a number, if the router is querier. Returns whether the group has the source.
     fn ask<A: Allocator, S: Sink<F::Address>>(
         &self,
         storage: &mut Storage<F::Address, A>,
@@ -160,9 +159,9 @@ impl<F: Family> Status<F> {
         }
     }
 
-    /// What a BLOCK does to a group that is held, where it can be done where the row of the group stands: it names no source, or
-    /// one that the group has or, in INCLUDE, hasn't; its timer is lowered, and what is to go then is sent. Answers whether it is
-    /// done; if not, nothing changes. Another filter isn't forwarded of the group then.
+    /// Applies a BLOCK to a held group where the group's row is stored, if it can be applied there. It names no source,
+    /// or a source that the group has or, in INCLUDE, lacks. The timer is lowered, and what is to go then is sent.
+    /// Returns whether it was applied; if not, nothing changes. The group's filter stays.
     pub(crate) fn block<A: Allocator, S: Sink<F::Address>>(
         &self,
         storage: &mut Storage<F::Address, A>,

@@ -14,7 +14,7 @@ use crate::family::Family;
 use mq_table::Timing;
 use std::marker::Model;
 
-/// What a link of the family `F` is configured with. It has no fault. A contract sees the `Configuration` of the
+/// The configuration of a link of the family `F`. It has no fault. A contract sees the `Configuration` of the
 /// definitions.
 #[derive(Drop)]
 pub struct Config<F: Family> {
@@ -41,11 +41,12 @@ impl<F: Family> Model for Config<F> {
 }
 
 impl<F: Family> Config<F> {
-    /// The configuration of these variables, limits and own address, or the first fault of them: the Robustness
-    /// Variable from 1 to 7, the Query Interval from 1 to 31744 seconds, the Query Response Interval and the Last
-    /// Member (Last Listener) Query Interval in milliseconds, which the response code of the family has to be able to
-    /// say, and the first of them below the Query Interval (RFC 3376 section 8, RFC 3810 section 9). With
-    /// `source_specific` the source-specific range is kept for source-specific multicast (RFC 4604).
+    /// Returns the configuration of these variables, limits and own address, or its first fault.
+    ///
+    /// The Robustness Variable is 1 to 7, and the Query Interval 1 to 31744 seconds. The Query Response Interval and
+    /// the Last Member (Last Listener) Query Interval are in milliseconds, and the response code of the family has to
+    /// carry them. The Query Response Interval is below the Query Interval (RFC 3376 section 8, RFC 3810 section 9).
+    /// With `source_specific` the source-specific range is kept for source-specific multicast (RFC 4604).
     pub fn new(
         robustness: u32,
         query_seconds: u32,
@@ -87,7 +88,7 @@ impl<F: Family> Config<F> {
         })
     }
 
-    /// Each has no fault, and is one of its family. It does nothing: its contract is the fact.
+    /// A lemma: each configuration has no fault, and is of its family. It has no effect at run time.
     pub fn is_faultless(&self)
         ensures faultless { IsFaultless self.now }
         ensures family { self.now.family ≡ F.FAMILY }
@@ -95,42 +96,43 @@ impl<F: Family> Config<F> {
         let _held = self.source_specific;
     }
 
-    /// The variables (RFC 3376 section 8, RFC 3810 section 9).
+    /// Returns the variables (RFC 3376 section 8, RFC 3810 section 9).
     pub fn timing(&self) -> Timing
         ensures { result ≡ self.now.timing }
     {
         self.timing
     }
 
-    /// The Query Response Interval in milliseconds (RFC 3376 section 8.3, RFC 3810 section 9.3).
+    /// Returns the Query Response Interval in milliseconds (RFC 3376 section 8.3, RFC 3810 section 9.3).
     pub fn response_interval(&self) -> u32
         ensures { result ≡ self.now.timing.response_interval }
     {
         self.response_interval
     }
 
-    /// The Last Member (Last Listener) Query Interval in milliseconds (RFC 3376 section 8.8, RFC 3810 section 9.8).
+    /// Returns the Last Member (Last Listener) Query Interval in milliseconds. RFC 3376 section 8.8, RFC 3810 section
+    /// 9.8.
     pub fn last_member_interval(&self) -> u32
         ensures { result ≡ self.now.timing.last_member_interval }
     {
         self.last_member_interval
     }
 
-    /// How much the link may hold.
+    /// Returns how much the link may hold.
     pub fn limits(&self) -> Limits
         ensures { result ≡ self.now.limits }
     {
         self.limits
     }
 
-    /// The router's own address.
+    /// Returns the router's own address.
     pub fn own(&self) -> F::Address
         ensures { F.Address.number result ≡ self.now.own }
     {
         self.own
     }
 
-    /// Whether the source-specific range is kept for source-specific multicast (RFC 4604).
+    /// Returns whether the source-specific range is kept for source-specific multicast (RFC 4604).
     pub fn source_specific(&self) -> bool
         ensures { result ≡ self.now.source_specific }
     {
@@ -138,22 +140,21 @@ impl<F: Family> Config<F> {
     }
 }
 
-/// The defaults of a family have no fault where the router's own address is one that it may have. It does nothing: its
-/// contract is the law.
+/// A lemma: the defaults of a family have no fault if a router may have the own address. It has no effect at run time.
 pub fn defaults_have_no_fault()
     ensures { (family : Family) (own : ℕ) (source_specific : Bool)
         → is_router_address family own ≡ true
         → IsFaultless (configured_by_default family own source_specific) }
 {}
 
-/// Whether a number isn't one of these.
+/// Returns whether a number is outside of a range.
 fn is_outside(low: u32, high: u32, number: u32) -> bool
     ensures { result ≡ is_outside low high number }
 {
     number < low || high < number
 }
 
-/// The first variable that is out of its range.
+/// Returns the first variable that is out of its range.
 fn timing_fault<F: Family>(
     robustness: u32,
     query_seconds: u32,
@@ -180,7 +181,7 @@ fn timing_fault<F: Family>(
     None
 }
 
-/// The first limit that is out of its range.
+/// Returns the first limit that is out of its range.
 fn limit_fault(limits: &Limits) -> Option<LimitName>
     ensures { result ≡ spec.limit_fault limits.now }
 {
@@ -199,7 +200,7 @@ fn limit_fault(limits: &Limits) -> Option<LimitName>
     None
 }
 
-/// The first fault beside those of the variables: of the limits, then of the router's own address.
+/// Returns the first fault beside those of the variables: of the limits, then of the router's own address.
 fn limits_or_own_fault<F: Family>(limits: &Limits, own: F::Address) -> Option<ConfigFault>
     ensures { let own_is_none = not (is_router_address F.FAMILY (F.Address.number own)) in
         result ≡ else_fault (as_fault (spec.limit_fault limits.now)) (first_named ((ConfigFault.OwnAddress, own_is_none) ∷ [])) }

@@ -1,21 +1,21 @@
-//! What a link is configured with.
+//! The limits, the defaults and the faults of a link's configuration.
 
 ghost use Rattle.std.specs.Prelude.{◌≡◌};
 
 use std::fmt;
 use thiserror::Error;
 
-/// How much a link may hold at most.
+/// The limits of what a link may hold.
 #[derive(Clone, Copy, Debug, PartialEq, Eq)]
 pub struct Limits {
-    /// How many groups, from 1 to 65535.
+    /// The most groups, from 1 to 65535.
     pub groups: u32,
-    /// How many sources a group may have, from 1 to 1024.
+    /// The most sources of a group, from 1 to 1024.
     pub group_sources: u32,
-    /// How many sources all groups may have together, from 1 to 65535.
+    /// The most sources of all groups together, from 1 to 65535.
     pub sources: u32,
-    /// How many schedules of specific queries there may be, from 1 to 65535. A group has two at most: one
-    /// for itself, and one for its sources.
+    /// The most schedules of specific queries, from 1 to 65535. A group has two at most: one for itself, and one for
+    /// its sources.
     pub scheduled: u32,
 }
 
@@ -30,12 +30,12 @@ pub struct Defaults {
     pub response_interval: u32,
     /// The Last Member (Last Listener) Query Interval in milliseconds.
     pub last_member_interval: u32,
-    /// How much the link may hold.
+    /// The limits of what the link may hold.
     pub limits: Limits,
 }
 
 impl Defaults {
-    /// The defaults where a group may have so many sources.
+    /// Returns the defaults for groups of at most `group_sources` sources.
     pub(crate) const fn with_group_sources(group_sources: u32) -> Defaults
         ensures { result ≡ record {
           robustness = 2;
@@ -87,26 +87,26 @@ impl fmt::Display for LimitName {
 /// A fault of a configuration: the first of these that holds.
 #[derive(Clone, Copy, Debug, PartialEq, Eq, Error)]
 pub enum ConfigFault {
-    /// The robustness variable is outside of 1 to 7.
+    /// A robustness variable outside of 1 to 7.
     #[error("the robustness variable is not within 1 to 7")]
     Robustness,
-    /// The query interval is outside of 1 to 31744 seconds.
+    /// A query interval outside of 1 to 31744 seconds.
     #[error("the query interval is not within 1 to 31744 seconds")]
     QueryInterval,
-    /// The query response interval is below one unit of its code, not below the query interval, or above the
-    /// greatest value of the code.
+    /// A query response interval out of range. It is below one unit of its code, not below the query interval, or above
+    /// the greatest value of the code.
     #[error("the query response interval is not below the query interval, or no code says it")]
     ResponseInterval,
-    /// The last member query interval is below one unit of its code or above the greatest value of the code.
+    /// A last member query interval below one unit of its code or above the greatest value of the code.
     #[error("no code says the last member query interval")]
     LastMember,
-    /// A limit is out of its range.
+    /// A limit out of its range.
     #[error("the limit {which} is out of its range")]
     Limit {
-        /// The first such limit.
+        /// The first limit that is out of its range.
         which: LimitName,
     },
-    /// No router may send queries from the own address.
+    /// An own address from which no router may send queries.
     #[error("the router's own address is none that it may send queries from")]
     OwnAddress,
 }

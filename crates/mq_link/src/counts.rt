@@ -1,4 +1,4 @@
-//! What a link counts.
+//! The counters of a link.
 
 ghost use Rattle.std.specs.Prelude.{◌≡◌, ◌+◌, ◌<◌};
 ghost use Rattle.mq_count.specs.Streams.{counted_on};
@@ -10,17 +10,17 @@ use crate::answers::{DropReason, MessageKind, Refusal};
 use crate::statement::Verdict;
 use std::marker::Model;
 
-/// How many reasons there are for a datagram to be dropped.
+/// The number of reasons to drop a datagram.
 const REASONS: usize = 10;
 
-/// How many kinds of messages are counted.
+/// The number of kinds of messages that are counted.
 const KINDS: usize = 5;
 
-/// How many names there are for a record that is refused.
+/// The number of reasons to refuse a record.
 const REFUSALS: usize = 7;
 
-/// What a link counts. Each counter stays at the greatest number once it has come to it. A contract sees the
-/// `Counters` of the definitions.
+/// The counters of a link. Each stays at the greatest number once it has reached it. A contract sees the `Counters` of
+/// the definitions.
 #[derive(Drop)]
 pub struct Counts {
     received: u64,
@@ -57,7 +57,7 @@ impl Model for Counts {
     } };
 }
 
-/// The place of a reason in the order of the numbers.
+/// Returns the place of a reason in the order of the numbers.
 fn reason_place(reason: DropReason) -> usize
     ensures number { result + 1 ≡ reason_number reason }
     ensures within { result < 10 }
@@ -65,7 +65,7 @@ fn reason_place(reason: DropReason) -> usize
     usize::from(reason.number()) - 1
 }
 
-/// The place of a kind in the order of the numbers.
+/// Returns the place of a kind in the order of the numbers.
 fn kind_place(kind: MessageKind) -> usize
     ensures number { result + 1 ≡ kind_number kind }
     ensures within { result < 5 }
@@ -79,7 +79,7 @@ fn kind_place(kind: MessageKind) -> usize
     }
 }
 
-/// The place of a name in the order of the numbers.
+/// Returns the place of a name in the order of the numbers.
 fn refusal_place(name: Refusal) -> usize
     ensures number { result + 1 ≡ refusal_number name }
     ensures within { result < 7 }
@@ -96,7 +96,7 @@ fn refusal_place(name: Refusal) -> usize
 }
 
 impl Counts {
-    /// Nothing is counted.
+    /// Returns counters at zero.
     pub(crate) fn none() -> Counts
         ensures { result ≡ no_counts }
     {
@@ -121,7 +121,7 @@ impl Counts {
         self.received = self.received.saturating_add(1);
     }
 
-    /// Counts what a datagram spells.
+    /// Counts a parsed message.
     pub(crate) fn count_spelled(&mut self, kind: MessageKind)
         ensures { self.new ≡ spec.count_spelled kind self.old }
     {
@@ -175,7 +175,7 @@ impl Counts {
         self.refused_by[place] = self.refused_by[place].saturating_add(1);
     }
 
-    /// Counts what became of a statement.
+    /// Counts the verdict on a statement.
     pub(crate) fn count_verdict(&mut self, verdict: Verdict)
         ensures { self.new ≡ spec.count_verdict (verdict_of verdict) self.old }
     {
@@ -186,7 +186,7 @@ impl Counts {
         }
     }
 
-    /// Counts so many queries that were sent, and so many that were not.
+    /// Counts queries that were sent, and queries that were not.
     pub(crate) fn count_answers(&mut self, sent: u64, unsent: u64)
         ensures { self.new ≡ record self.old { sent = counted_on self.old.sent sent; unsent = counted_on self.old.unsent unsent } }
     {
@@ -194,70 +194,70 @@ impl Counts {
         self.unsent = self.unsent.saturating_add(unsent);
     }
 
-    /// How many datagrams were received.
+    /// Returns the number of datagrams that were received.
     pub fn received(&self) -> u64
         ensures { result ≡ self.now.received }
     {
         self.received
     }
 
-    /// How many of them were dropped.
+    /// Returns the number of datagrams that were dropped.
     pub fn dropped(&self) -> u64
         ensures { result ≡ self.now.dropped }
     {
         self.dropped
     }
 
-    /// How many of them were dropped for a reason.
+    /// Returns the number of datagrams that were dropped for a reason.
     pub fn dropped_by(&self, reason: DropReason) -> u64
         ensures { result ≡ self.now.dropped_by reason }
     {
         self.dropped_by[reason_place(reason)]
     }
 
-    /// How many of them spelled a message of a kind, dropped ones included.
+    /// Returns the number of datagrams that were parsed as a message of a kind, with the dropped ones.
     pub fn spelled(&self, kind: MessageKind) -> u64
         ensures { result ≡ self.now.spelled kind }
     {
         self.spelled[kind_place(kind)]
     }
 
-    /// How many records were applied, also where they changed nothing.
+    /// Returns the number of records that were applied, with those that changed nothing.
     pub fn applied(&self) -> u64
         ensures { result ≡ self.now.applied }
     {
         self.applied
     }
 
-    /// How many records said nothing for this link.
+    /// Returns the number of records that said nothing for this link.
     pub fn ignored(&self) -> u64
         ensures { result ≡ self.now.ignored }
     {
         self.ignored
     }
 
-    /// How many records were refused.
+    /// Returns the number of records that were refused.
     pub fn refused(&self) -> u64
         ensures { result ≡ self.now.refused }
     {
         self.refused
     }
 
-    /// How many records were refused by a name.
+    /// Returns the number of records that were refused by a name.
     pub fn refused_by(&self, name: Refusal) -> u64
         ensures { result ≡ self.now.refused_by name }
     {
         self.refused_by[refusal_place(name)]
     }
 
-    /// How many queries the outlet sent.
+    /// Returns the number of queries that the outlet sent.
     pub fn sent(&self) -> u64
         ensures { result ≡ self.now.sent }
     {
         self.sent
     }
 
-    /// How many queries it did not send.
+    /// Returns the number of queries that the outlet did not send.
     pub fn unsent(&self) -> u64
         ensures { result ≡ self.now.unsent }
     {

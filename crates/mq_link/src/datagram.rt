@@ -1,4 +1,4 @@
-//! What a datagram does to a link: first what is due, then the datagram is read, and dropped, or taken.
+//! The effect of a datagram on a link: first what is due, then the datagram is read, and dropped or taken.
 
 ghost use Rattle.std.specs.Prelude.{◌≡◌, ◌+◌, ◌*◌, ◌^◌, ◌≤◌, ◌||◌, ℕ, Bool, true, max, None, Ok, length};
 ghost use Rattle.std.specs.FinMap as map;
@@ -30,7 +30,7 @@ use mq_count::Moment;
 use mq_wire::{Message, QueryVersion, WireFault, WireKey};
 use std::alloc::Allocator;
 
-/// What a message is counted as.
+/// Returns the kind as which a message is counted.
 fn kind_of<K: WireKey>(message: &Message<'_, K>) -> MessageKind
     ensures { result ≡ spec.kind_of (numbered_message K.number message.now) }
 {
@@ -45,7 +45,7 @@ fn kind_of<K: WireKey>(message: &Message<'_, K>) -> MessageKind
     }
 }
 
-/// Counts a datagram that was read so.
+/// Counts a datagram that was read with this result.
 fn count_read<K: WireKey>(counts: &mut Counts, read: &Result<Message<'_, K>, WireFault>)
     ensures { counts.new ≡ spec.count_read (numbered_read K.number read.now) counts.old }
 {
@@ -56,16 +56,14 @@ fn count_read<K: WireKey>(counts: &mut Counts, read: &Result<Message<'_, K>, Wir
 }
 
 impl<F: Family, A: Allocator> Router<F, A> {
-    /// Counts a datagram that was read so.
+    /// Counts a datagram that was read with this result.
     fn count_read(&mut self, read: &Result<Message<'_, F::Address>, WireFault>)
         ensures { self.new ≡ record self.old { counters = spec.count_read (numbered_read F.Address.number read.now) self.old.counters } }
     {
         count_read(&mut self.counts, read);
     }
 
-    /// Takes a message that isn't dropped: hears a query, and takes the records of any other. At most 24 comparisons for
-    /// each source that is held, 20 for each group or one for each that the tick changed, and 64 for each byte that it has at least
-    /// (`least_length`).
+    /// Takes a message that isn't dropped: a query, or the records of any other message.
     fn take_message<B: Allocator, O: Outlet<F::Address>>(
         &mut self,
         work: &mut Workspace<F, B>,
@@ -115,8 +113,7 @@ impl<F: Family, A: Allocator> Router<F, A> {
         }
     }
 
-    /// Reads a datagram, counts it, and drops it or takes it. At most 24 comparisons for each source that is held, 20 for
-    /// each group or one for each that the tick changed, and 64 for each byte of the datagram.
+    /// Reads a datagram, counts it, and drops it or takes it.
     fn take_in<B: Allocator, O: Outlet<F::Address>>(
         &mut self,
         work: &mut Workspace<F, B>,
@@ -156,8 +153,8 @@ impl<F: Family, A: Allocator> Router<F, A> {
         }
     }
 
-    /// A datagram that came at `now`: what is due then is done, the datagram is dropped or taken, and the answers of the
-    /// outlet are counted.
+    /// Handles a datagram that came at `now`. It does what is due then, drops or takes the datagram, and counts the
+    /// answers of the outlet.
     pub(crate) fn receive<B: Allocator, O: Outlet<F::Address>>(
         &mut self,
         work: &mut Workspace<F, B>,

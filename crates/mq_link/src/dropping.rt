@@ -1,4 +1,4 @@
-//! Why datagrams are dropped.
+//! The reasons to drop datagrams.
 
 ghost use Rattle.std.specs.Prelude.{◌≡◌};
 ghost use Rattle.mq_wire.specs.Numbered.{numbered_message, numbered_query};
@@ -11,7 +11,7 @@ use crate::config::Config;
 use crate::family::Family;
 use mq_wire::{Message, Query, WireFault};
 
-/// The reason of a fault of the bytes, one of the numbers 1 to 4.
+/// Returns the reason of a fault of the bytes, with a number from 1 to 4.
 pub fn reason_of_fault(fault: WireFault) -> DropReason
     ensures { result ≡ receive.reason_of_fault fault }
 {
@@ -23,8 +23,8 @@ pub fn reason_of_fault(fault: WireFault) -> DropReason
     }
 }
 
-/// Why a datagram that was read so is dropped, if it is: the reason of the lowest number that holds (RFC 3376 sections
-/// 4, 6.6.2 and 7.3.2, RFC 3810 sections 5, 7.4 and 7.6.2).
+/// Returns the reason to drop a datagram, if there is one: the reason of the lowest number that holds. RFC 3376
+/// sections 4, 6.6.2 and 7.3.2, RFC 3810 sections 5, 7.4 and 7.6.2.
 pub fn drop_reason<F: Family>(
     config: &Config<F>,
     envelope: &F::Envelope,
@@ -45,7 +45,7 @@ pub fn drop_reason<F: Family>(
     }
 }
 
-/// The first reason of the numbers 8 to 10 that holds.
+/// Returns the first reason of the numbers 8 to 10 that holds.
 fn message_fault<F: Family>(
     config: &Config<F>,
     source: F::Address,
@@ -62,7 +62,7 @@ fn message_fault<F: Family>(
     }
 }
 
-/// Why a query is dropped: it is the router's own, or in IGMP from 0.0.0.0 or of version 1.
+/// Returns the reason to drop a query: it is the router's own, or in IGMP from 0.0.0.0 or of version 1.
 fn query_fault<F: Family>(
     config: &Config<F>,
     source: F::Address,
@@ -81,7 +81,7 @@ fn query_fault<F: Family>(
     }
 }
 
-/// Why an older Report, a Leave or a Done is dropped: its group isn't admitted.
+/// Returns the reason to drop an older Report, a Leave or a Done: its group isn't admitted.
 fn group_fault<F: Family>(config: &Config<F>, group: F::Address) -> Option<DropReason>
     ensures { result ≡ first_named (receive.message_tests config.now 0 (Message.Leave (F.Address.number group))) }
 {

@@ -1,4 +1,4 @@
-//! What a link is handed, one event after the other.
+//! The events of a link, one after the other.
 
 ghost use Rattle.std.specs.Prelude.{◌≤◌, ◌^◌, map, All};
 ghost use Rattle.mq_link.specs.Events.{event_of, moment_at, HasRun};
@@ -15,7 +15,7 @@ pub enum Event<'a, F: Family> {
     Tick(Moment),
     /// A datagram.
     Datagram {
-        /// What its packet says of it.
+        /// The facts of its packet.
         envelope: F::Envelope,
         /// Its bytes without the IP header.
         body: &'a [u8],
@@ -24,9 +24,9 @@ pub enum Event<'a, F: Family> {
     },
 }
 
-/// Hands all events to a link, in their order: to `tick` or to `receive`. The answers to the datagrams are not told. So
-/// whatever the events, what the link does and what the outlet is handed is a run of them as the definitions have it; and
-/// where `Link::new` made the link, it is a run from its start.
+/// Gives all events to a link, in order, by `tick` or `receive`. The answers to the datagrams are not returned. For any
+/// events, the acts of the link and the messages of the outlet are a run as the definitions have it. If `Link::new`
+/// made the link, it is a run from its start.
 pub fn run<F: Family, A: Allocator, O: Outlet<F::Address>>(
     link: &mut Link<F, A>,
     events: &[Event<'_, F>],

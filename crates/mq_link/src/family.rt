@@ -1,4 +1,4 @@
-//! What a link has to know of its family of messages.
+//! The facts of a family of messages that a link needs.
 
 ghost use Rattle.std.specs.Prelude.{◌≡◌, ◌≤◌, ◌==◌, ℕ, Bool};
 ghost use Rattle.mq_wire.specs.Canon.{canon, IsCurrent, source_count, Writes};
@@ -19,7 +19,7 @@ pub trait Family {
     /// The addresses of its packets.
     type Address: WireKey;
 
-    /// What is known of a datagram beside its bytes.
+    /// The facts of a datagram beside its bytes.
     type Envelope: Copy;
 
     ghost FAMILY: { wire.Family };
@@ -28,25 +28,25 @@ pub trait Family {
 
     ghost RESPONSE_UNIT: { ℕ };
 
-    /// The unit of the maximum response code in milliseconds, which is the least that it can say (RFC 3376 section
-    /// 4.1.1, RFC 3810 section 5.1.3).
+    /// The unit of the maximum response code in milliseconds, which is its least value. RFC 3376 section 4.1.1, RFC
+    /// 3810 section 5.1.3.
     const RESPONSE_UNIT: u32;
 
     ghost GREATEST_RESPONSE: { ℕ };
 
-    /// The greatest value in milliseconds that the maximum response code can say.
+    /// The greatest value of the maximum response code in milliseconds.
     const GREATEST_RESPONSE: u32;
 
     ghost V1_MUTES_LEAVE: { Bool };
 
-    /// Whether hosts of version 1 mute Leave (RFC 3376 section 7.3.2).
+    /// True if hosts of version 1 mute Leave (RFC 3376 section 7.3.2).
     const V1_MUTES_LEAVE: bool;
 
-    /// The source of a datagram.
+    /// Returns the source of a datagram.
     fn source(envelope: &Self::Envelope) -> Self::Address
         ensures { Self.Address.number result ≡ (envelope_of envelope.now).source };
 
-    /// The message that the bytes of a datagram spell, without the IP header, or the first fault.
+    /// Returns the message of a datagram's bytes, without the IP header, or the first fault.
     fn read<'a>(
         envelope: &Self::Envelope,
         body: &'a [u8],
@@ -54,8 +54,8 @@ pub trait Family {
         ensures { numbered_read Self.Address.number result
             ≡ receive.read_of FAMILY (receive.pseudo_of FAMILY (envelope_of envelope.now) body.entry.now) body.entry.now };
 
-    /// Writes a query at the front of `out` as the router at `own` sends it, leaves the bytes behind it, and answers
-    /// how many bytes it has. The query is of IGMPv3 or MLDv2, with at most 65535 sources.
+    /// Writes a query at the front of `out` as the router at `own` sends it, and returns its number of bytes. The bytes
+    /// after it stay. The query is of IGMPv3 or MLDv2, with at most 65535 sources.
     fn write(
         own: Self::Address,
         query: &Query<'_, Self::Address>,
@@ -66,48 +66,49 @@ pub trait Family {
         ensures { Writes (canon FAMILY (Self.Address.number own) (numbered_query Self.Address.number query.now))
             out.old out.new result };
 
-    /// Whether a group is one that hosts report and a link keeps (RFC 3376 section 5, RFC 3810 section 6).
+    /// Returns whether hosts report a group and a link keeps it (RFC 3376 section 5, RFC 3810 section 6).
     fn is_admitted(group: Self::Address) -> bool
         ensures { result ≡ family.is_admitted FAMILY (Self.Address.number group) };
 
-    /// Whether a group is in the range that may be kept for source-specific multicast (RFC 4604 section 2).
+    /// Returns whether a group is in the range that may be kept for source-specific multicast (RFC 4604 section 2).
     fn in_source_specific_range(group: Self::Address) -> bool
         ensures { result ≡ family.in_source_specific_range FAMILY (Self.Address.number group) };
 
-    /// Whether a router may have this address and send queries from it (RFC 3810 section 5.1.14).
+    /// Returns whether a router may have this address and send queries from it (RFC 3810 section 5.1.14).
     fn is_router_address(address: Self::Address) -> bool
         ensures { result ≡ family.is_router_address FAMILY (Self.Address.number address) };
 
-    /// Whether an address is the unspecified one, all of whose octets are 0.
+    /// Returns whether an address is the unspecified one, with all octets 0.
     fn is_zero(address: Self::Address) -> bool
         ensures { result ≡ (Self.Address.number address == 0) };
 
-    /// Whether two addresses have the same octets.
+    /// Returns whether two addresses have the same octets.
     fn is_same(a: Self::Address, b: Self::Address) -> bool
         ensures { result ≡ (Self.Address.number a == Self.Address.number b) };
 
-    /// The unspecified address, all of whose octets are 0.
+    /// Returns the unspecified address, with all octets 0.
     fn unspecified() -> Self::Address
         ensures { Self.Address.number result ≡ 0 };
 
-    /// Where general queries go: 224.0.0.1 or ff02::1 (RFC 3376 section 4.1.12, RFC 3810 section 5.1.15).
+    /// Returns the destination of general queries: 224.0.0.1 or ff02::1. RFC 3376 section 4.1.12, RFC 3810 section
+    /// 5.1.15.
     fn general_destination() -> Self::Address
         ensures { Self.Address.number result ≡ family.general_destination FAMILY };
 
-    /// Why a datagram is dropped for what is known of it beside its bytes: the first reason of the numbers 5 to 7 that
-    /// holds, which MLD alone has.
+    /// Returns the first reason of the numbers 5 to 7 that holds for an envelope, if there is one. MLD alone has these
+    /// reasons.
     fn envelope_fault(envelope: &Self::Envelope) -> Option<DropReason>
         ensures { result ≡ first_named (receive.envelope_tests FAMILY (envelope_of envelope.now)) };
 
-    /// Whether the source is 0.0.0.0, from which a query of IGMP is dropped.
+    /// Returns whether the source is 0.0.0.0, from which a query of IGMP is dropped.
     fn is_zero_of_igmp(source: Self::Address) -> bool
         ensures { result ≡ receive.is_zero_of_igmp FAMILY (Self.Address.number source) };
 
-    /// Whether a query is one of IGMPv1.
+    /// Returns whether a query is of IGMPv1.
     fn is_of_igmpv1(version: &QueryVersion<'_, Self::Address>) -> bool
         ensures { result ≡ receive.is_of_igmpv1 FAMILY (numbered_version version.now) };
 
-    /// What a link is configured with by default.
+    /// Returns the default configuration of a link.
     fn defaults() -> Defaults
         ensures { result ≡ defaults_of FAMILY };
 

@@ -13,20 +13,20 @@ use mq_wire::{Message, Query, QueryVersion, Small, WireFault, read_igmp, write_i
 #[derive(Clone, Copy)]
 pub struct Igmp;
 
-/// What is known of a datagram of IGMP beside its bytes.
+/// The facts of an IGMP datagram beside its bytes.
 #[derive(Clone, Copy)]
 pub struct IgmpEnvelope {
     /// The source of its packet.
     pub source: Addr4,
 }
 
-/// How many addresses have the same first octet.
+/// The number of addresses with the same first octet.
 const FIRST_OCTET: u32 = 1 << 24;
 
 /// All systems, 224.0.0.1.
 const ALL_SYSTEMS: [u8; 4] = [224, 0, 0, 1];
 
-/// The number of an address, most significant octet first.
+/// Returns the number of an address, most significant octet first.
 fn number_of(address: Addr4) -> u32
     ensures { result ≡ address }
 {

@@ -1,5 +1,5 @@
-//! What a record does to its group where that stands, without a copy of its row: where it leaves the sources as they are but for
-//! the timers of those that it names, and asks for nothing.
+//! A record that is applied where its group's row is stored, without a copy. It only changes the timers of the sources
+//! that it names, and asks for nothing.
 
 ghost use Rattle.std.specs.Prelude.{◌≡◌, ℕ, ◌+◌, ◌*◌, ◌≤◌, ◌||◌, [], ◌∷◌, false, true, is_ok, is_some, length, map as list_map, min, IfSome, MatchOption, OnSome, None, Some};
 ghost use Rattle.std.specs.FinMap as map;
@@ -32,8 +32,8 @@ use mq_sched::Sink;
 use mq_table::Kind;
 use std::alloc::Allocator;
 
-/// The kind of a record that sets the timers of the sources that it names anew, leaves the others alone, and asks for nothing; None
-/// for any other statement.
+/// Returns the kind of a record that only sets the timers of its sources anew, or None for any other statement. The
+/// record leaves the other sources alone, and asks for nothing.
 pub(crate) fn restarting(said: StatementKind) -> Option<Kind>
     ensures { MatchOption result (is_restart said ≡ false) (λ kind. (said ≡ StatementKind.Record kind) × (restarts kind ≡ true)) }
 {
@@ -47,9 +47,9 @@ pub(crate) fn restarting(said: StatementKind) -> Option<Kind>
 }
 
 impl<F: Family> Status<F> {
-    /// What a record of IS_IN or ALLOW does to a group that is held and for which nothing is due, where the group has each source
-    /// that it names: their timers are set anew where they stand, and their sendings stay. Answers whether another filter is
-    /// forwarded of the group then; or None, where it is another statement or such a group isn't held, and then nothing changes.
+    /// Applies a record of IS_IN or ALLOW to a held group where the group's row is stored. Nothing is due for the
+    /// group, and it has each source that the record names. Their timers are set anew, and their sendings stay. Returns
+    /// whether the group's filter changed. For any other statement or group, it returns None and changes nothing.
     pub(crate) fn refresh<A: Allocator>(
         &self,
         storage: &mut Storage<F::Address, A>,
@@ -74,7 +74,7 @@ impl<F: Family> Status<F> {
             MatchOption result (Spends 0 (most_tried said size count) storage.old.meter storage.new.meter)
             (λ _. Spends (min size count) most storage.old.meter storage.new.meter) }
         ensures moved { MovesWithin (length named.now + moved_by_edit) storage.old storage.new }
-        ensures moves { OnSome result (Spends 0 (length named.now + 2 + bitlen (map.len storage.old.held.groups)) storage.old.moves storage.new.moves) }
+        ensures moves { OnSome result (Spends (length named.now) (length named.now + 2 + bitlen (map.len storage.old.held.groups)) storage.old.moves storage.new.moves) }
     {
         let _kind = restarting(said)?;
         self.lemma_is_sound();
@@ -97,8 +97,8 @@ impl<F: Family> Status<F> {
         )
     }
 
-    /// What a statement does to its group where that stands, if it can be done there: by `refresh`, or by `block`. Answers whether
-    /// another filter is forwarded of the group then; or None, where it can't, and then nothing changes.
+    /// Applies a statement where its group's row is stored, by `refresh` or by `block`, if it can be applied there.
+    /// Returns whether the group's filter changed. If it can't be applied there, it returns None and changes nothing.
     pub(crate) fn apply_in_place<A: Allocator, S: Sink<F::Address>>(
         &self,
         storage: &mut Storage<F::Address, A>,
@@ -129,7 +129,7 @@ impl<F: Family> Status<F> {
             (λ _. Spends (min size count) (6 * (size + count) + 17 + bitlen (map.len storage.old.held.groups)) storage.old.meter storage.new.meter) }
         ensures moved { let size = sources_of (group_at storage.old.held.groups (F.Address.number sought.address)) in
             MovesWithin (size + length named.now + moved_by_edit) storage.old storage.new }
-        // No source but those that are named is moved for what is heard again.
+        // A record that only sets timers anew moves no source but the named ones.
         ensures moves { let size = sources_of (group_at storage.old.held.groups (F.Address.number sought.address)) in
             let count = length named.now in
             let digits = bitlen (map.len storage.old.held.groups) in

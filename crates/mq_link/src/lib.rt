@@ -1,20 +1,20 @@
 //! One link: the multicast router side of one attached network, for IGMP (RFC 3376) or MLD (RFC 3810).
 //!
-//! Its definitions stand here, and the names of its answers:
-//! - what became of a datagram: `Received`, with a `DropReason` or the counts of its records, each of which
-//!   was applied, ignored, or refused by a `Refusal`;
-//! - what a configuration may hold: `Limits`, and the `ConfigFault` of one that may not be;
-//! - what is counted: `MessageKind`.
+//! The definitions, and the names of results:
+//! - The result of a datagram: `Received`, with a `DropReason` or the counts of its records. Each record was applied,
+//!   ignored, or refused by a `Refusal`.
+//! - A configuration: its `Limits`, and its `ConfigFault`.
+//! - The counted messages: `MessageKind`.
 //!
-//! The code stands below them:
-//! - the family: `Family`, which `Igmp` and `Mld` implement, each with its envelope;
-//! - the configuration: `Config`, made where it has no fault;
-//! - why a datagram is dropped: `dropping`;
-//! - what goes out: the `Outlet` that takes datagrams;
-//! - what is counted: `Counts`;
-//! - the whole, over all of these: `Link`, or `BareLink` with a `Workspace` that many may use, and what it hands out of its groups: `HeldEntries`, `HeldGroup`, with the types of
-//!   their parts;
-//! - and a run of it over any events: `run`.
+//! The code:
+//! - The family: `Family`, which `Igmp` and `Mld` implement, each with its envelope.
+//! - A configuration without a fault: `Config`.
+//! - The reasons to drop a datagram: `dropping`.
+//! - The receiver of the datagrams that a link sends: `Outlet`.
+//! - The counters: `Counts`.
+//! - The whole link: `Link`, or `BareLink` with a `Workspace` that many links may use.
+//! - The held groups of a link: `HeldEntries`, `HeldGroup`, with the types of their parts.
+//! - A run of a link over any events: `run`.
 #![tactic(auto)]
 
 pub mod answers;

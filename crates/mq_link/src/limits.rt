@@ -1,4 +1,4 @@
-//! Whether what a statement would leave passes a limit.
+//! The limits that a statement could exceed.
 
 ghost use Rattle.std.specs.Prelude.{◌≡◌, ℕ, ◌+◌, ◌≤◌, is_some};
 ghost use Rattle.std.specs.FinMap as map;
@@ -25,8 +25,8 @@ use mq_sched::Schedule;
 use mq_table::{Group, Source, SourceTimer};
 use std::alloc::Allocator;
 
-/// What is known of the change of a group that is not kept yet, beside the new group itself: whether the group is held
-/// before it, with how many sources and with which schedule; and the schedule after it.
+/// The facts of a group's change that is not kept yet, beside the new group itself. They are whether the group is held
+/// before it, with how many sources and with which schedule, and the schedule after it.
 #[derive(Clone, Copy)]
 pub(crate) struct Change {
     pub(crate) is_held: bool,
@@ -35,7 +35,7 @@ pub(crate) struct Change {
     pub(crate) schedule: Schedule,
 }
 
-/// The first limit that so many groups, sources of one group, sources in all, and schedules pass, in this order.
+/// Returns the first limit that these numbers exceed: of groups, sources of one group, sources in all, and schedules.
 fn limit_passed(
     limits: &Limits,
     groups: usize,
@@ -58,7 +58,7 @@ fn limit_passed(
     }
 }
 
-/// Whether some source of the list has a sending to go beside the next.
+/// Returns whether some source of the list has a sending to go beside the next.
 fn any_has_more<K: Key>(row: &[Source<K>]) -> bool
     ensures { result ≡ list_any item_has_more row.now }
 {
@@ -68,7 +68,7 @@ fn any_has_more<K: Key>(row: &[Source<K>]) -> bool
     })
 }
 
-/// Whether the sources of a group have sendings to go after a round at `now`. At most one comparison.
+/// Returns whether the sources of a group have sendings to go after a round at `now`.
 fn sources_stay_due<K: Key, A: Allocator>(
     schedule: &Schedule,
     group: &Group<K, A>,
@@ -86,7 +86,7 @@ fn sources_stay_due<K: Key, A: Allocator>(
     }
 }
 
-/// Whether a group's query has a sending to go after a round at `now`. At most one comparison.
+/// Returns whether a group's query has a sending to go after a round at `now`.
 fn group_stays_due(schedule: &Schedule, now: Moment, m: &mut Meter) -> bool
     ensures stays { (timing : Timing) → result ≡ is_some (group_counted timing now schedule.now.group_query) }
     ensures spent { Spends 0 1 m.old m.new }
@@ -97,7 +97,7 @@ fn group_stays_due(schedule: &Schedule, now: Moment, m: &mut Meter) -> bool
     }
 }
 
-/// How many schedules a group has after a round at `now`, none of which is done by this. At most two comparisons.
+/// Returns the number of schedules that a group has after a round at `now`. The round is not done.
 fn schedules_after_round<K: Key, A: Allocator>(
     schedule: &Schedule,
     group: &Group<K, A>,
@@ -116,8 +116,8 @@ fn schedules_after_round<K: Key, A: Allocator>(
 }
 
 impl<K: Key, A: Allocator> Storage<K, A> {
-    /// The first limit that the groups would pass if one of them were changed so into a group that was worked on, and then
-    /// had sent what is due at `now`. No group is changed by this. At most two comparisons.
+    /// Returns the first limit that the groups would exceed after a change of one of them, if any. The group was worked
+    /// on, and would then send what is due at `now`. No group is changed by this.
     pub(crate) fn refusal<B: Allocator>(
         &mut self,
         after: &Group<K, B>,

@@ -1,4 +1,4 @@
-//! The whole of one link.
+//! One link with a workspace of its own.
 
 ghost use Rattle.std.specs.Prelude.{◌≡◌, ℕ, ◌+◌, ◌*◌, ◌<◌, ◌≤◌, ◌^◌, [], length, map as map_each, IfOk, IfSome, is_ok, is_some};
 ghost use Rattle.std.specs.FinMap as map;
@@ -39,8 +39,9 @@ use mq_table::Timing;
 use std::alloc::{Allocator, Global};
 use std::marker::Model;
 
-/// One link of a multicast router with a workspace of its own, as the definitions have it: its configuration, its state, and how
-/// many comparisons it has made and items it has moved. All storage is taken by `new`, and no other call takes any.
+/// One link of a multicast router with a workspace of its own. A contract sees the link of the definitions: its
+/// configuration, its state, how many comparisons it has made, and how many items it has moved. `new` allocates all
+/// storage, and no other call allocates.
 #[derive(Drop)]
 pub struct Link<F: Family, A: Allocator = Global> {
     bare: BareLink<F, A>,
@@ -66,9 +67,9 @@ impl<F: Family, A: Allocator> Model for Link<F, A> {
 }
 
 impl<F: Family, A: Allocator + Copy> Link<F, A> {
-    /// A link that starts at `start`: nothing is held, and it is querier, with its first general query due (RFC 3376
-    /// section 8.7, RFC 3810 section 9.7). It takes all memory that its limits allow, or answers `Memory` where that was
-    /// refused: only `new` can run out of memory.
+    /// Returns a link that starts at `start`: nothing is held, and it is querier, with its first general query due. RFC
+    /// 3376 section 8.7, RFC 3810 section 9.7. It allocates all memory that its limits allow, or fails with `Memory` if
+    /// that is refused. Only `new` can run out of memory.
     pub fn new(alloc: A, config: Config<F>, start: Moment) -> Result<Link<F, A>, Memory>
         requires in_range { start ≤ 2 ^ 53 }
         ensures { IfOk result (λ link. link ≡ record { config = config; state = link_at config start; spent = 0; moved = 0; changed = [] }) }
@@ -78,7 +79,7 @@ impl<F: Family, A: Allocator + Copy> Link<F, A> {
 }
 
 impl<F: Family, A: Allocator> Link<F, A> {
-    /// How many bytes `new_in` takes of memory; or none, where no memory has as many.
+    /// Returns the bytes that `new_in` allocates from `memory`, or None if no memory has as many.
     pub fn size(config: &Config<F>) -> Option<usize>
         ensures { IsSize (bytes_of_workspace F.Address.row config.now.limits + bytes_of_link (page.the_row u16 A.row ⟦<A as Allocator>⟧) F.Address.row config.now.limits) result }
     {
@@ -88,7 +89,8 @@ impl<F: Family, A: Allocator> Link<F, A> {
         )
     }
 
-    /// The same, of memory that vectors are made of. It is granted where that memory has `size` of the configuration.
+    /// Returns a link as `new` does, allocated from `memory`. It succeeds if `memory` has `size` bytes for the
+    /// configuration.
     pub fn new_in<M: VectorSource<A>>(
         memory: &mut M,
         config: Config<F>,
@@ -105,12 +107,12 @@ impl<F: Family, A: Allocator> Link<F, A> {
         })
     }
 
-    /// Does what is due at or before `now`; a moment before the last one counts as the last one. In this order: timers end;
-    /// the other querier's deadline ends; the general query is sent, if it is due; then what is due for the groups (RFC 3376
-    /// sections 6.5, 6.6.2 and 6.6.3, RFC 3810 sections 7.5, 7.6.2 and 7.6.3). However late it is called, each goes once.
-    /// Behind it the next moment is later than `now`. At least one comparison for each group that has something to do, and two
-    /// more; at most four for each source, 44 for each group and three more; before the next moment, three at most. What is
-    /// moved to keep the groups is at most six for each source and 136 for each group; before the next moment nothing.
+    /// Handles what is due at or before `now`; a moment before the last one counts as the last one.
+    ///
+    /// In this order timers end, the other querier's deadline ends, the general query is sent if it is due, and the
+    /// queries that are due for the groups are sent. However late the call is, each query is sent once. Afterwards
+    /// `next_deadline()` is later than `now`. RFC 3376 sections 6.5, 6.6.2 and 6.6.3, RFC 3810 sections 7.5, 7.6.2 and
+    /// 7.6.3.
     pub fn tick<O: Outlet<F::Address>>(&mut self, now: Moment, outlet: &mut O)
         requires in_range { now ≤ 2 ^ 53 }
         ensures config { self.new.config ≡ self.old.config }
@@ -130,12 +132,11 @@ impl<F: Family, A: Allocator> Link<F, A> {
         self.bare.tick_in(&mut self.workspace, now, outlet);
     }
 
-    /// Takes a datagram that came at `now`: first it does what a tick does then; then the datagram is read, and dropped, or
-    /// taken. Answers what became of it. The envelope is what its packet says of it, the body its bytes without the IP
-    /// header (RFC 3376 sections 4, 6.4 and 7.3.2, RFC 3810 sections 5, 7.4 and 8.3.2). At most 64 comparisons for each
-    /// byte of the body and for each group and source that is held as it comes, and 64 more, whatever its records are; at
-    /// least two, and what its records take. What is moved to keep the groups is at most 256 for each byte of the body and for
-    /// each group and source.
+    /// Receives a datagram that came at `now`, and returns its result.
+    ///
+    /// First it does what a tick does then. Then the datagram is read, and dropped or taken. The envelope has the facts
+    /// of its packet, and `body` has its bytes without the IP header. The bounds hold whatever its records are. RFC
+    /// 3376 sections 4, 6.4 and 7.3.2, RFC 3810 sections 5, 7.4 and 8.3.2.
     pub fn receive<O: Outlet<F::Address>>(
         &mut self,
         envelope: &F::Envelope,
@@ -157,15 +158,15 @@ impl<F: Family, A: Allocator> Link<F, A> {
             .receive_in(&mut self.workspace, envelope, body, now, outlet)
     }
 
-    /// The link's configuration.
+    /// Returns the link's configuration.
     pub fn config(&self) -> &Config<F>
         ensures { result.now ≡ self.now.config }
     {
         self.bare.config()
     }
 
-    /// Its state is one that a link may be in, and after a tick its next moment will be later than that of the tick. It does
-    /// nothing: its contract is the fact.
+    /// A lemma: a link may be in this state, and after a tick its next moment is later than that of the tick. It has no
+    /// effect at run time.
     pub fn is_well_formed(&self)
         ensures formed { IsWellFormed self.now.config self.now.state }
         ensures later { (now : ℕ) → now < next_of (tick_of self.now.config now self.now.state).state }
@@ -173,72 +174,74 @@ impl<F: Family, A: Allocator> Link<F, A> {
         self.bare.is_well_formed();
     }
 
-    /// The link's counters; the link is given up.
+    /// Returns the link's counters, and gives up the link.
     pub fn into_counts(self) -> Counts
         ensures { result ≡ self.state.counters }
     {
         self.bare.into_counts()
     }
 
-    /// The link's counters.
+    /// Returns the link's counters.
     pub fn counts(&self) -> &Counts
         ensures { result.now ≡ self.now.state.counters }
     {
         self.bare.counts()
     }
 
-    /// How many comparisons `tick` and `receive` have made. It stays at the greatest u64.
+    /// Returns the number of comparisons that `tick` and `receive` have made. It stays at the greatest u64.
     pub fn spent(&self) -> u64
         ensures { result ≡ self.now.spent }
     {
         self.bare.spent()
     }
 
-    /// How many items of lists `tick` and `receive` have moved to keep the groups. It stays at the greatest u64.
+    /// Returns the number of list items that `tick` and `receive` have moved to keep the groups. It stays at the
+    /// greatest u64.
     pub fn moved(&self) -> u64
         ensures { result ≡ self.now.moved }
     {
         self.bare.moved()
     }
 
-    /// Whether it is querier (RFC 3376 section 6.6.2, RFC 3810 section 7.6.2).
+    /// Returns whether the router is querier (RFC 3376 section 6.6.2, RFC 3810 section 7.6.2).
     pub fn is_querier(&self) -> bool
         ensures { result ≡ is_querier self.now.state.election.role }
     {
         self.bare.is_querier()
     }
 
-    /// The other router that is querier, or None where this one is: the router of a lower address whose query came last.
+    /// Returns the other router that is querier, or None if this one is. It is the router of a lower address whose
+    /// query came last.
     pub fn other_querier(&self) -> Option<OtherQuerier<F::Address>>
         ensures { IsOtherOf F.Address.number self.now.state.election.role result }
     {
         self.bare.other_querier()
     }
 
-    /// The timing in force: the configured one, but for what was taken over from the queries of other routers (RFC 3376
-    /// sections 4.1.6 and 4.1.7, RFC 3810 sections 5.1.8 and 5.1.9).
+    /// Returns the timing in force. It is the configured one, except for what was adopted from the queries of other
+    /// routers (RFC 3376 sections 4.1.6 and 4.1.7, RFC 3810 sections 5.1.8 and 5.1.9).
     pub fn timing(&self) -> Timing
         ensures { result ≡ self.now.state.election.timing }
     {
         self.bare.timing()
     }
 
-    /// All groups that it holds, by ascending address, each as it stands in the storage.
+    /// Returns all held groups by ascending address, each as it is stored.
     pub fn entries(&self) -> HeldEntries<'_, F::Address, A>
         ensures { result ≡ map.entries self.now.state.groups }
     {
         self.bare.entries()
     }
 
-    /// How many groups it holds.
+    /// Returns the number of held groups.
     pub fn len(&self) -> usize
         ensures { result ≡ map.len self.now.state.groups }
     {
         self.bare.len()
     }
 
-    /// The group at a place, its rank in the ascending list of the addresses of all groups, counted from 0, as it stands in
-    /// the storage.
+    /// Returns the group at a place, as it is stored. Its place is its rank in the ascending list of the addresses of
+    /// all groups, counted from 0.
     pub fn entry(&self, place: usize) -> HeldGroup<'_, F::Address>
         requires place { place < map.len self.now.state.groups }
         ensures place { HasPlace self.now.state.groups (F.Address.number result.address) place }
@@ -251,7 +254,7 @@ impl<F: Family, A: Allocator> Link<F, A> {
         self.bare.entry(place)
     }
 
-    /// A group as it stands in the storage, or None where it isn't held. It compares addresses on a meter of its own: neither
+    /// Returns a group as it is stored, or None if it isn't held. It compares addresses on a meter of its own: neither
     /// `spent` nor the bound counts that.
     pub fn find(&self, group: F::Address) -> Option<HeldGroup<'_, F::Address>>
         ensures held { is_some result ≡ map.contains_key self.now.state.groups (F.Address.number group) }
@@ -260,10 +263,10 @@ impl<F: Family, A: Allocator> Link<F, A> {
         self.bare.find(group)
     }
 
-    /// The addresses of the groups that the last `tick` or `receive` has changed, ascending: those of which another filter is
-    /// forwarded after the tick, or after one of the datagram's records, than before it (RFC 3376 section 6.3, RFC 3810 section
-    /// 7.3). A timer that is refreshed changes nothing. They are at most twice as many as groups may be held: those that the tick
-    /// ended, and those that records made.
+    /// Returns the addresses of the groups that the last `tick` or `receive` has changed, ascending. Their filter is
+    /// another after the tick, or after one of the datagram's records, than before it (RFC 3376 section 6.3, RFC 3810
+    /// section 7.3). A refreshed timer changes nothing. There are at most twice as many as groups may be held: those
+    /// that the tick ended, and those that records made.
     pub fn changed(&self) -> &[F::Address]
         ensures changed { map_each F.Address.number result.now ≡ self.now.changed }
         ensures few { length result.now ≤ 2 * self.now.config.limits.groups }
@@ -271,16 +274,16 @@ impl<F: Family, A: Allocator> Link<F, A> {
         self.workspace.changed()
     }
 
-    /// When a tick has something to do next: the earliest of all deadlines and due moments. It compares two moments on a
-    /// meter of its own: neither `spent` nor the bound counts that.
+    /// Returns the next moment at which a tick has something to do: the earliest of all deadlines and due moments. It
+    /// compares two moments on a meter of its own: neither `spent` nor the bound counts that.
     pub fn next_deadline(&self) -> Moment
         ensures { result ≡ next_of self.now.state }
     {
         self.bare.next_deadline()
     }
 
-    /// Whether what a source sends to a group is forwarded, as of the last moment handed in (RFC 3376 section 6.3, RFC
-    /// 3810 section 7.3). It compares addresses on a meter of its own: neither `spent` nor the bound counts that.
+    /// Returns whether a group forwards what a source sends, at the last moment that was given. RFC 3376 section 6.3,
+    /// RFC 3810 section 7.3. It compares addresses on a meter of its own: neither `spent` nor the bound counts that.
     pub fn forwards(&self, group: F::Address, source: F::Address) -> bool
         ensures { result ≡ state.forwards self.now.state (F.Address.number group) (F.Address.number source) }
     {

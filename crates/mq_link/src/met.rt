@@ -1,4 +1,4 @@
-//! How many records of one datagram have met each group, or have changed it, by the numbers of the groups.
+//! The number of records of one datagram that have met or changed each group, by the numbers of the groups.
 
 ghost use Rattle.std.specs.Prelude.{◌≡◌, ℕ, ◌<◌, ◌≤◌, nat_le, nat_lt, length, slice_index, IfOk, is_ok};
 ghost use Rattle.std.specs.List.{All};
@@ -12,15 +12,15 @@ use mq_sets::Memory;
 use std::alloc::Allocator;
 use std::marker::Model;
 
-/// How many records of a datagram may meet a group that is held. Those after them are refused.
+/// The number of records of a datagram that may meet a held group. Those after them are refused.
 const MEETINGS: u8 = 4;
 
-/// How many records of a datagram have met the group of each number while it was held, as far as that is told apart: of the
-/// fifth it is known that it is one too many. A contract sees the list of these counts, by the number. Nothing is looked for,
-/// compared or moved, and it takes three bytes for each group that may be held.
+/// The number of records of a datagram that have met the group of each number while it was held. Counts above four are
+/// not distinguished: the fifth record is one too many. A contract sees the list of these counts, by the number.
+/// Nothing is searched for, compared or moved. It has three bytes for each group that may be held.
 #[derive(Drop)]
 pub(crate) struct MetGroups<A: Allocator> {
-    // By the number.
+    // The count of each number.
     counts: Vec<u8, A>,
     // The numbers whose count isn't zero, each once, in the order in which they were met.
     numbers: Vec<u16, A>,
@@ -53,14 +53,14 @@ fn set_to_zero<A: Allocator>(counts: &mut Vec<u8, A>, numbers: &[u16])
 }
 
 impl<A: Allocator> MetGroups<A> {
-    /// How many bytes `with_room` takes; or none, where no memory has as many.
+    /// Returns the bytes that `with_room` allocates, or None if no memory has as many.
     pub(crate) fn size(groups: usize) -> Option<usize>
         ensures { IsSize (bytes_of_marks groups) result }
     {
         both_sizes(vector_size::<u8>(groups), vector_size::<u16>(groups))
     }
 
-    /// No group was met, with memory for so many of them, or `Memory` where that was refused.
+    /// Returns counts of zero, with memory for `groups` groups. Fails with `Memory` if memory is refused.
     #[tactic(auto, unfolding(crate::specs::Sizes::bytes_of_marks))]
     pub(crate) fn with_room<M: VectorSource<A>>(
         memory: &mut M,
@@ -78,14 +78,14 @@ impl<A: Allocator> MetGroups<A> {
 }
 
 impl<A: Allocator> MetGroups<A> {
-    /// The numbers of the groups that were met, each once, in the order in which they were.
+    /// Returns the numbers of the groups that were met, each once, in the order in which they were met.
     pub(crate) fn numbers(&self) -> &[u16]
         ensures { AreListed self.now result.now }
     {
         &self.numbers
     }
 
-    /// Whether the group of a number was met.
+    /// Returns whether the group of a number was met.
     pub(crate) fn is_met(&self, number: u16) -> bool
         requires number { number < length self.now }
         ensures { result ≡ nat_lt 0 (slice_index self.now number) }
@@ -93,7 +93,7 @@ impl<A: Allocator> MetGroups<A> {
         self.counts[number as usize] > 0
     }
 
-    /// Forgets all groups. It looks at those alone that were met.
+    /// Forgets all groups. It looks only at those that were met.
     pub(crate) fn clear(&mut self)
         ensures none { AreNone self.new }
         ensures room { length self.new ≡ length self.old }
@@ -102,7 +102,7 @@ impl<A: Allocator> MetGroups<A> {
         self.numbers.clear();
     }
 
-    /// One record more meets the group of a number. Answers whether as many as may have met it before.
+    /// Counts a record that meets the group of a number. Returns whether as many as may have met it before.
     pub(crate) fn meets_again(&mut self, number: u16) -> bool
         requires number { number < length self.old }
         ensures again { result ≡ nat_le 4 (slice_index self.old number) }

@@ -14,7 +14,7 @@ use mq_wire::{Message, Query, QueryVersion, Small, WireFault, read_mld, write_ml
 #[derive(Clone, Copy)]
 pub struct Mld;
 
-/// What is known of a datagram of MLD beside its bytes.
+/// The facts of an MLD datagram beside its bytes.
 #[derive(Clone, Copy)]
 pub struct MldEnvelope {
     /// The source of its packet.
@@ -23,21 +23,21 @@ pub struct MldEnvelope {
     pub destination: Addr6,
     /// The hop limit of its packet.
     pub hop_limit: u8,
-    /// Whether its packet has a Router Alert option.
+    /// True if its packet has a Router Alert option.
     pub alert: bool,
 }
 
 /// All nodes, ff02::1.
 const ALL_NODES: [u8; 16] = [0xff, 2, 0, 0, 0, 0, 0, 0, 0, 0, 0, 0, 0, 0, 0, 1];
 
-/// The number of an address, most significant octet first.
+/// Returns the number of an address, most significant octet first.
 fn number_of(address: Addr6) -> u128
     ensures { result ≡ address }
 {
     u128::from_be_bytes(address.octets())
 }
 
-/// Whether an address is in fe80::/10.
+/// Returns whether an address is in fe80::/10.
 fn is_link_local(address: Addr6) -> bool
     ensures { result ≡ is_link_local address }
 {

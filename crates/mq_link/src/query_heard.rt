@@ -1,4 +1,4 @@
-//! What a query that is heard does to the election and to the groups.
+//! The effect of a received query on the election and on the groups.
 
 ghost use Rattle.std.specs.Prelude.{◌≡◌, ℕ, ◌+◌, ◌-◌, ◌*◌, ◌^◌, ◌<◌, ◌≤◌, ◌==◌, true, IfSome, length, vec_capacity};
 ghost use Rattle.std.specs.FinMap as map;
@@ -49,9 +49,8 @@ fn lower_sources<K: WireKey, A: Allocator>(
     }
 }
 
-/// Lowers what a query asks for in its group: nothing with the S flag set; else the group timer, or the timers of its
-/// sources (RFC 3376 section 6.6.1, RFC 3810 section 7.6.1). At most one comparison, or for each source that it names one
-/// for each binary digit of the number of the group's sources and one more.
+/// Lowers the timers that a query asks for in its group. With the S flag set it lowers none. Otherwise it lowers the
+/// group timer, or the timers of its sources (RFC 3376 section 6.6.1, RFC 3810 section 7.6.1).
 fn lower<K: WireKey, A: Allocator>(
     group: &mut Group<K, A>,
     version: &QueryVersion<'_, K>,
@@ -80,8 +79,7 @@ fn lower<K: WireKey, A: Allocator>(
 }
 
 impl<K: WireKey, A: Allocator> Storage<K, A> {
-    /// Drops what is to go for the group of a number, if anything is. At most one comparison for each of its sources, four
-    /// more, and one for each binary digit of how many groups there are.
+    /// Drops what is to go for the group of a number, if anything is.
     fn clear_group<B: Allocator>(&mut self, number: u16, group: &mut Group<K, B>)
         requires number { IsNumber self.old.held number }
         requires served { (address : ℕ) → HasNumber self.old.held address number →
@@ -107,9 +105,8 @@ impl<K: WireKey, A: Allocator> Storage<K, A> {
         }
     }
 
-    /// Drops what is to go for each group, as a router does that is no longer querier (RFC 3376 section 6.6.2, RFC 3810
-    /// section 7.6.2). Groups for which nothing is to go are left alone. At most one comparison for each source, and 20
-    /// for each group.
+    /// Drops what is to go for each group, after the router has lost its role. Groups for which nothing is to go are
+    /// left alone. RFC 3376 section 6.6.2, RFC 3810 section 7.6.2.
     fn clear_groups<B: Allocator>(&mut self, numbers: &mut Vec<u16, B>, group: &mut Group<K, B>)
         requires space { map.len self.old.held.groups ≤ vec_capacity numbers.old }
         requires ready { IsReady group.old.room self.old }
@@ -129,8 +126,7 @@ impl<K: WireKey, A: Allocator> Storage<K, A> {
         }
     }
 
-    /// Lowers what a query asks for in its group, if that is held. At most one comparison for each source of the group, 12
-    /// for each source that the query names, and 39 more.
+    /// Lowers the timers that a query asks for in its group, if that is held.
     fn lower_held<B: Allocator>(
         &mut self,
         query: &Query<'_, K>,
@@ -165,7 +161,7 @@ impl<K: WireKey, A: Allocator> Storage<K, A> {
     }
 }
 
-/// What a query says of its querier; one of an older version says nothing.
+/// Returns the announcement of the querier in a query; a query of an older version has none.
 fn announcement<K: WireKey>(version: &QueryVersion<'_, K>) -> Option<Announced>
     requires carried { IfSome (announced_by (numbered_version version.now)) IsCarried }
     ensures { result ≡ announced_by (numbered_version version.now) }
@@ -179,10 +175,9 @@ fn announcement<K: WireKey>(version: &QueryVersion<'_, K>) -> Option<Announced>
 }
 
 impl<F: Family> Status<F> {
-    /// Takes a query that was heard from another router (RFC 3376 sections 6.6.1 and 6.6.2, RFC 3810 sections 7.6.1 and
-    /// 7.6.2): the election takes note of it; a router that loses the role by it drops what is to go for each group; then
-    /// what the query asks for is lowered, by the timing that is in force then. At most two comparisons for each source
-    /// that is held, 20 for each group, 12 for each source that the query names, and 40 more.
+    /// Handles a query from another router. First the election handles it. A router that loses the role by it drops
+    /// what is to go for each group. Then the timers that the query asks for are lowered, by the timing that is in
+    /// force then. RFC 3376 sections 6.6.1 and 6.6.2, RFC 3810 sections 7.6.1 and 7.6.2.
     fn hear_query<A: Allocator, B: Allocator>(
         &mut self,
         storage: &mut Storage<F::Address, A>,
@@ -218,8 +213,7 @@ impl<F: Family> Status<F> {
 }
 
 impl<F: Family, A: Allocator> Router<F, A> {
-    /// Takes a query that was heard from another router. At most two comparisons for each source that is held, 20 for each
-    /// group, 12 for each source that the query names, and 40 more.
+    /// Handles a query from another router.
     pub(crate) fn hear<B: Allocator>(
         &mut self,
         work: &mut Workspace<F, B>,

@@ -31,8 +31,9 @@ use mq_sets::Memory;
 use std::alloc::Allocator;
 use std::marker::Model;
 
-/// All that the calls of a link change: the router's status, the groups with their storage, and what was counted. What is due, a
-/// query that is heard, a statement and the records of a Report are its steps, each of which is lent a workspace. A contract sees a `RouterValue`, and each is one that a router may be.
+/// The changing parts of a link: the router's status, the groups with their storage, and the counters. Its steps are
+/// what is due, a received query, a statement and the records of a Report. Each uses a workspace of the caller. A
+/// contract sees a `RouterValue`, which a router may have.
 #[derive(Drop)]
 pub(crate) struct Router<F: Family, A: Allocator> {
     pub(crate) status: Status<F>,
@@ -57,7 +58,7 @@ impl<F: Family, A: Allocator> Model for Router<F, A> {
 }
 
 impl<F: Family, A: Allocator> Router<F, A> {
-    /// That of a link that starts at a moment, or `Memory`, where that was refused.
+    /// Returns the router of a link that starts at a moment. Fails with `Memory` if memory is refused.
     pub(crate) fn new<M: VectorSource<A>>(
         memory: &mut M,
         config: Config<F>,
@@ -85,8 +86,8 @@ impl<F: Family, A: Allocator> Router<F, A> {
 }
 
 impl<F: Family, A: Allocator> Router<F, A> {
-    /// What each is: its groups are sound, its status is one that a router may have, and no more is put by than packing its rows
-    /// moves. It does nothing: its contract is the fact.
+    /// A lemma: the groups are sound, and a router may have this status. The reserve of moves is at most what packing
+    /// the rows moves. It has no effect at run time.
     pub(crate) fn lemma_is_stored(&self)
         ensures put_by { self.now.put_by ≤ sources_in self.now.groups + map.len self.now.groups }
         ensures sound { AreSound self.now.at self.now.groups }
@@ -99,56 +100,56 @@ impl<F: Family, A: Allocator> Router<F, A> {
         self.status.lemma_is_sound();
     }
 
-    /// Its configuration.
+    /// Returns its configuration.
     pub(crate) fn config(&self) -> &Config<F>
         ensures { result.now ≡ self.now.at.config }
     {
         self.status.config()
     }
 
-    /// Its election.
+    /// Returns its election.
     pub(crate) fn election(&self) -> &Election<F::Address>
         ensures { result.now.state ≡ self.now.at.election }
     {
         self.status.election()
     }
 
-    /// The groups that it holds.
+    /// Returns the groups that it holds.
     pub(crate) fn held(&self) -> &HeldGroups<F::Address, A>
         ensures { result.now.groups ≡ self.now.groups }
     {
         &self.storage.held
     }
 
-    /// What it has counted.
+    /// Returns its counters.
     pub(crate) fn counts(&self) -> &Counts
         ensures { result.now ≡ self.now.counters }
     {
         &self.counts
     }
 
-    /// What it has counted, where it is no longer needed.
+    /// Returns its counters, and gives up the router.
     pub(crate) fn into_counts(self) -> Counts
         ensures { result ≡ self.counters }
     {
         self.counts
     }
 
-    /// How many comparisons it has made.
+    /// Returns the number of comparisons that it has made.
     pub(crate) fn spent(&self) -> u64
         ensures { result ≡ self.now.spent }
     {
         self.storage.meter.spent()
     }
 
-    /// How many items it has moved to keep its lists.
+    /// Returns the number of items that it has moved to keep its lists.
     pub(crate) fn moved(&self) -> u64
         ensures { result ≡ self.now.moved }
     {
         self.storage.moves.made()
     }
 
-    /// Counts so many queries that were sent, and so many that were not.
+    /// Counts queries that were sent, and queries that were not.
     pub(crate) fn count_answers(&mut self, sent: u64, unsent: u64)
         ensures { self.new ≡ record self.old { counters = record self.old.counters { sent = counted_on self.old.counters.sent sent; unsent = counted_on self.old.counters.unsent unsent } } }
     {
@@ -162,7 +163,7 @@ impl<F: Family, A: Allocator> Router<F, A> {
         self.counts.count_dropped(reason);
     }
 
-    /// Counts what became of a statement.
+    /// Counts the verdict on a statement.
     pub(crate) fn count_verdict(&mut self, verdict: Verdict)
         ensures { self.new ≡ record self.old { counters = counters.count_verdict (verdict_of verdict) self.old.counters } }
     {

@@ -1,4 +1,4 @@
-//! What lies between the schedules of queries and the outlet.
+//! The sender of queries, between their schedules and the outlet.
 
 ghost use Rattle.std.specs.Prelude.{◌≡◌, ◌≤◌, ◌==◌, ◌<◌, ◌↔◌, IsTrue, ℕ, false, [], not, if◌then◌else◌, length, take, map};
 ghost use Rattle.mq_count.specs.Streams.{counted_on};
@@ -20,10 +20,10 @@ use mq_table::Timing;
 use mq_wire::{Qrv, QuerierFields, Query, QueryVersion, Sources, WireKey};
 use std::marker::Model;
 
-/// How many bytes the longest query has, one of IGMP with 366 sources. The longest of MLD, with 89, has 1452.
+/// The bytes of the longest query, which is of IGMP with 366 sources. The longest of MLD, with 89, has 1452.
 const LONGEST: usize = 1476;
 
-/// What all queries of a router have in common: its own address and the timing in force.
+/// The own address and the timing in force, which all queries of a router carry.
 #[derive(Drop)]
 pub(crate) struct QueryTerms<F: Family> {
     own: F::Address,
@@ -45,15 +45,15 @@ impl<F: Family> Model for QueryTerms<F> {
 }
 
 impl<F: Family> QueryTerms<F> {
-    /// The terms of a router so configured.
+    /// Returns the terms of a router with this configuration.
     pub(crate) fn of(config: &Config<F>) -> QueryTerms<F>
         ensures { result ≡ record { own = config.now.own; timing = config.now.timing } }
     {
         QueryTerms::new(config, config.timing())
     }
 
-    /// The terms of a router so configured where this timing is in force. Its response interval and its last member
-    /// interval are always the configured ones.
+    /// Returns the terms of a router with this configuration and this timing in force. Its response interval and its
+    /// last member interval are always the configured ones.
     fn new(config: &Config<F>, timing: Timing) -> QueryTerms<F>
         requires { KeepsIntervals config.now.timing timing }
         ensures { result ≡ record { own = config.now.own; timing = timing } }
@@ -66,7 +66,7 @@ impl<F: Family> QueryTerms<F> {
         }
     }
 
-    /// A query with the variables that are in force.
+    /// Returns a query with the variables that are in force.
     fn query_with<'q>(
         &self,
         group: F::Address,
@@ -90,8 +90,8 @@ impl<F: Family> QueryTerms<F> {
         }
     }
 
-    /// The fields of a query: a general one asks for group zero with the response interval, any other for its group with
-    /// the last member interval.
+    /// Returns the fields of a query. A general query asks for group zero with the response interval, any other for its
+    /// group with the last member interval.
     fn fields<'q>(&self, query: QueryParts<'q, F::Address>) -> Query<'q, F::Address>
         ensures { numbered_query F.Address.number result
             ≡ spec.fields_sent self.now.timing (query_of F.Address.number query.entry) }
@@ -105,7 +105,7 @@ impl<F: Family> QueryTerms<F> {
         }
     }
 
-    /// Writes a query that one message holds to the front, and answers where it goes and how many bytes it has.
+    /// Writes a query that one message holds to the front, and returns its destination and its number of bytes.
     fn write(&self, query: QueryParts<'_, F::Address>, out: &mut [u8]) -> (F::Address, usize)
         requires fits { FitsOne F.FAMILY (query_of F.Address.number query) }
         requires length { length out.old ≡ 1476 }
@@ -124,7 +124,7 @@ impl<F: Family> QueryTerms<F> {
     }
 }
 
-/// Where a query for a group goes: a general one, for group zero, to all hosts.
+/// Returns the destination of a query for a group. A general query, for group zero, goes to all hosts.
 fn destination<F: Family>(group: F::Address) -> F::Address
     ensures { F.Address.number result
         ≡ (if F.Address.number group == 0 then family.general_destination F.FAMILY else F.Address.number group) }
@@ -136,7 +136,7 @@ fn destination<F: Family>(group: F::Address) -> F::Address
     }
 }
 
-/// Whether one message holds a query.
+/// Returns whether one message holds a query.
 fn fits_one<F: Family>(query: &QueryParts<'_, F::Address>) -> bool
     ensures { IsTrue result ↔ FitsOne F.FAMILY (query_of F.Address.number query.now) }
 {
@@ -146,9 +146,9 @@ fn fits_one<F: Family>(query: &QueryParts<'_, F::Address>) -> bool
     }
 }
 
-/// An outlet with what its sending needs: the terms of a router, and how many messages it answered by true and by false
-/// since they were set. It hands over each query that one message holds. Both are lent, so that it is known what they
-/// are once it ends.
+/// An outlet with the terms of a router, and counts of its answers. They are the numbers of messages that it answered
+/// by true and by false since the terms were set. It receives each query that one message holds. Terms and outlet are
+/// borrowed, so that it is known what they are once the sender ends.
 #[derive(Drop)]
 pub(crate) struct Sender<'a, F: Family, O> {
     terms: &'a mut QueryTerms<F>,
@@ -158,7 +158,7 @@ pub(crate) struct Sender<'a, F: Family, O> {
 }
 
 impl<'a, F: Family, O: Outlet<F::Address>> Sender<'a, F, O> {
-    /// A sender to this outlet on these terms. Each call of a link sets them anew.
+    /// Returns a sender to this outlet on these terms. Each call of a link sets them anew.
     pub(crate) fn new(terms: &'a mut QueryTerms<F>, outlet: &'a mut O) -> Sender<'a, F, O>
         ensures same_terms { result.terms.ghost_name ≡ terms.entry.ghost_name }
         ensures terms { result.terms.now ≡ terms.old }
@@ -175,7 +175,7 @@ impl<'a, F: Family, O: Outlet<F::Address>> Sender<'a, F, O> {
         }
     }
 
-    /// From now on queries go on the terms of this router where this timing is in force, and are counted from 0.
+    /// Sets the terms to those of this configuration and timing, and the counts to 0.
     pub(crate) fn begin(&mut self, config: &Config<F>, timing: Timing)
         requires { KeepsIntervals config.now.timing timing }
         ensures { self.new ≡ record self.old {
@@ -189,14 +189,14 @@ impl<'a, F: Family, O: Outlet<F::Address>> Sender<'a, F, O> {
         self.unsent = 0;
     }
 
-    /// How many queries were sent so far.
+    /// Returns the number of queries that were sent so far.
     pub(crate) fn sent(&self) -> u64
         ensures { result ≡ self.now.sent }
     {
         self.sent
     }
 
-    /// How many were not.
+    /// Returns the number of queries that were not sent so far.
     pub(crate) fn unsent(&self) -> u64
         ensures { result ≡ self.now.unsent }
     {
@@ -211,7 +211,7 @@ impl<'a, F: Family, O: Outlet<F::Address>> Sender<'a, F, O> {
         self.send(query);
     }
 
-    /// Hands over one datagram, and counts the answer.
+    /// Gives one datagram to the outlet, and counts the answer.
     fn hand_over(&mut self, to: F::Address, bytes: &[u8]) -> bool
         ensures terms { self.new.terms ≡ self.old.terms }
         ensures same_outlet { self.new.outlet.ghost_name ≡ self.old.outlet.ghost_name }

@@ -1,4 +1,4 @@
-//! What a statement for a group does: it is ignored, refused, or applied.
+//! The effect of a statement for a group: it is ignored, refused, or applied.
 
 ghost use Rattle.std.specs.Prelude.{◌≡◌, ℕ, ◌+◌, ◌*◌, ◌^◌, ◌<◌, ◌≤◌, ◌||◌, Bool, [], if◌then◌else◌, false, true, length, map as list_map, IfSome, IsSome, None, OnSome, Some, vec_capacity};
 ghost use Rattle.std.specs.FinMap as map;
@@ -45,7 +45,7 @@ use mq_table::{Head, Hosts, Kind, Loaded, OlderVersion, translate};
 use mq_wire::WireKey;
 use std::alloc::Allocator;
 
-/// What one message says of one group, whose sources are named apart from it.
+/// The statement of one message on one group, whose sources are named apart from it.
 #[derive(Clone, Copy)]
 pub(crate) enum StatementKind {
     /// A record of a Report of IGMPv3 or MLDv2, of a kind that is listed.
@@ -56,7 +56,7 @@ pub(crate) enum StatementKind {
     OlderLeave,
 }
 
-/// What became of a statement.
+/// The verdict on a statement.
 #[derive(Clone, Copy)]
 pub(crate) enum Verdict {
     Applied,
@@ -64,17 +64,17 @@ pub(crate) enum Verdict {
     Refused(Refusal),
 }
 
-/// What is muted in a group, whatever its hosts.
+/// The muting rules of a group, whatever its hosts.
 #[derive(Clone, Copy)]
 pub(crate) struct MutingRules {
-    /// Whether hosts of version 1 mute Leave and TO_IN, as in IGMP (RFC 3376 section 7.3.2).
+    /// True if hosts of version 1 mute Leave and TO_IN, as in IGMP (RFC 3376 section 7.3.2).
     pub(crate) v1_mutes_leave: bool,
-    /// Whether the group is in the range that is kept for source-specific multicast, and the statement is one that
-    /// doesn't count there (RFC 4604 sections 3.1, 3.5 and 3.7).
+    /// True if the group is in the range kept for source-specific multicast, and the statement doesn't count there. RFC
+    /// 4604 sections 3.1, 3.5 and 3.7.
     pub(crate) is_muted: bool,
 }
 
-/// A Leave or Done acts as TO_IN of no source.
+/// Returns the record as which a Leave or Done acts: TO_IN of no source.
 fn leave_as(hosts: Hosts, muting: MutingRules) -> Option<(Kind, bool)>
     ensures { (named : NamedSources) → acts_as muting.v1_mutes_leave muting.is_muted hosts (statement_of StatementKind.OlderLeave named) ≡ with_sources named result }
 {
@@ -84,15 +84,15 @@ fn leave_as(hosts: Hosts, muting: MutingRules) -> Option<(Kind, bool)>
     }
 }
 
-/// A record with the sources that it names, unless it is muted.
+/// Returns a record with the sources that it names, unless it is muted.
 fn unless_muted(kind: Kind, is_muted: bool) -> Option<(Kind, bool)>
     ensures { result ≡ (if is_muted then None else Some (kind, false)) }
 {
     if is_muted { None } else { Some((kind, false)) }
 }
 
-/// As which record a record acts in its group. At most two comparisons; none, where it is heard from hosts that still want the
-/// sources that it names, for no older host mutes that.
+/// Returns the record as which a record acts in its group. No older host mutes a record that only sets timers anew, so
+/// it takes no comparison.
 fn record_as(
     head: &Head,
     kind: Kind,
@@ -113,8 +113,8 @@ fn record_as(
     }
 }
 
-/// As which record a statement acts in its group, and whether without the sources that are named; None where it is
-/// ignored. At most two comparisons.
+/// Returns the record as which a statement acts in its group, and whether without its named sources. Returns None if
+/// the statement is ignored.
 fn acted_as(
     head: &Head,
     said: StatementKind,
@@ -140,10 +140,11 @@ fn acted_as(
 }
 
 impl<K: Key, A: Allocator> Scratch<K, A> {
-    /// What a statement changes of a group, which is read where it stands: the new group is written down, and with it the
-    /// sources to ask for, ascending, each of which the new group has. There is room for the sources of the group and of the
-    /// statement together. Answers whether the group is to be asked for, and whether another filter is forwarded of it then;
-    /// or None, where the statement is ignored. The set that is named loses its sources where they don't count.
+    /// Writes the change of a group by a statement into this memory; the group is read where it is stored. The change
+    /// is the new group and the sources to ask for, which ascend and which the new group has. There is room for the
+    /// sources of the group and of the statement together. Returns whether the group is to be asked for, and whether
+    /// its filter changes. Returns None if the statement is ignored. The named set loses its sources if they don't
+    /// count.
     fn change(
         &mut self,
         stored: &HeldGroup<'_, K>,
@@ -167,9 +168,9 @@ impl<K: Key, A: Allocator> Scratch<K, A> {
         ensures met { self.new.met ≡ self.old.met }
         ensures changed { self.new.changed ≡ self.old.changed }
 
-        // At most two comparisons, and one for each source of the group and of the statement; where it is a record of IS_IN, ALLOW
-        // or BLOCK that names one source, for them one for each binary digit of how many the group has; at least one for each of
-        // those that are fewer, the sources of the group or those that count.
+        // At most two comparisons, and one for each source of the group and of the statement. If it is a record of
+        // IS_IN, ALLOW or BLOCK that names one source, the sources take one for each binary digit of the group's number
+        // of sources. At least one for each source of the shorter list: the sources of the group or those that count.
         ensures spent { let before = group_stored K.number stored.now in
             let acts = acts_as muting.v1_mutes_leave muting.is_muted (hosts_of before at.now.moment) (statement_of said (named_in K.number self.old.named.members)) in
             Spends (least_merge (size_of before) acts) (most_changed said (size_of before) (length self.old.named.members)) m.old m.new }
@@ -201,9 +202,8 @@ impl<K: Key, A: Allocator> Scratch<K, A> {
         Some(loaded)
     }
 
-    /// Does to the group that has changed, and to its schedule, what the change asks for: what lost its ground is dropped,
-    /// and the querier starts the queries for the group and for the sources to ask for, each of which the group has. At
-    /// most one comparison where the group is asked for, and two for each of its sources where some are.
+    /// Applies the queries of a change to the changed group and its schedule. Queries that have lost their cause are
+    /// dropped. The querier starts the queries for the group and for the sources to ask for, which the group has.
     fn ask(&mut self, schedule: &mut Schedule, asks_group: bool, at: &InForce, m: &mut Meter)
         requires in_range { at.now.moment ≤ 2 ^ 53 }
         requires ascending { IsAscending K.number self.old.asked.items }
@@ -236,7 +236,7 @@ impl<K: Key, A: Allocator> Scratch<K, A> {
     }
 }
 
-/// Counts that a record has changed the group of a number, where it has one and another filter is forwarded of it.
+/// Counts that a record has changed the group of a number, if it has one and its filter changed.
 fn count_changed<A: Allocator>(changed: &mut MetGroups<A>, number: Option<u16>, changes: bool)
     requires number { IfSome number (λ number. number < length changed.old) }
     ensures { changed.new ≡ (if changes then option_map_or (counted_again changed.old) number changed.old else changed.old) }
@@ -247,8 +247,8 @@ fn count_changed<A: Allocator>(changed: &mut MetGroups<A>, number: Option<u16>, 
 }
 
 impl<F: Family> Status<F> {
-    /// Whether a statement doesn't count for its group: one of mode EXCLUDE or of an older version in the source-specific
-    /// range, where that is kept (RFC 4604 sections 3.1, 3.5 and 3.7).
+    /// Returns whether a statement doesn't count for its group. These are statements of mode EXCLUDE or of an older
+    /// version in the source-specific range, if that is kept (RFC 4604 sections 3.1, 3.5 and 3.7).
     fn is_muted(&self, group: F::Address, said: StatementKind) -> bool
         ensures { (named : NamedSources) → result ≡ record_spec.is_muted self.now.config (F.Address.number group) (statement_of said named) }
     {
@@ -260,12 +260,10 @@ impl<F: Family> Status<F> {
         }
     }
 
-    /// What a statement does for a group that is admitted and was looked for: it is ignored where older hosts or the
-    /// source-specific range mute it; refused where what it would leave passes a limit, and then nothing is changed or sent;
-    /// else applied, and what it asks for is sent at once. The sources that it names stand in `work`, where it is counted for
-    /// a group of which another filter is forwarded then. At most six comparisons for each source of the group and each that
-    /// it names, seventeen more, and one for each binary digit of how many groups there are; at least one for each of those that
-    /// are fewer, the sources of the group or those that count.
+    /// Applies a statement to an admitted group that was searched for. It is ignored if older hosts or the
+    /// source-specific range mute it. It is refused if it would exceed a limit, and then nothing is changed or sent.
+    /// Otherwise it is applied, and what it asks for is sent at once. The sources that it names stand in `work`, which
+    /// counts the group if its filter changed.
     pub(crate) fn apply<A: Allocator, B: Allocator, S: Sink<F::Address>>(
         &self,
         storage: &mut Storage<F::Address, A>,
@@ -297,7 +295,8 @@ impl<F: Family> Status<F> {
             Spends (least_work self.now (F.Address.number sought.address) said_so storage.old.held.groups) (6 * sizes + 17 + bitlen (map.len storage.old.held.groups)) storage.old.meter storage.new.meter }
         ensures moved { let sizes = sources_of (group_at storage.old.held.groups (F.Address.number sought.address)) + length work.old.named.members in
             MovesWithin (5 * sizes + moved_by_edit) storage.old storage.new }
-        // What is heard again is done where the group stands: no source but those that are named is moved.
+        // A record that only sets timers anew is applied where the group is stored: no source but the named ones is
+        // moved.
         ensures in_place { let size = sources_of (group_at storage.old.held.groups (F.Address.number sought.address)) in
             let count = length work.old.named.members in
             let digits = bitlen (map.len storage.old.held.groups) in
@@ -316,7 +315,8 @@ impl<F: Family> Status<F> {
         }
     }
 
-    /// The same on a copy of the group's row: it is changed there, looked over for the earliest of its moments, and put back.
+    /// Applies a statement to a copy of the group's row. The copy is changed, looked over for the earliest of its
+    /// moments, and put back.
     fn apply_to_copy<A: Allocator, B: Allocator, S: Sink<F::Address>>(
         &self,
         storage: &mut Storage<F::Address, A>,

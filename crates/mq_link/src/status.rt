@@ -1,4 +1,4 @@
-//! What a router is at a moment: its configuration, who is querier, and the timing in force.
+//! The status of a router at a moment: its configuration, the querier, and the timing in force.
 
 ghost use Rattle.std.specs.Prelude.{◌≡◌, ◌^◌, ◌<◌, ◌≤◌, ◌∷◌, [], if◌then◌else◌, IfSome};
 ghost use Rattle.mq_count.specs.Spending.{Spends};
@@ -16,7 +16,7 @@ use mq_sched::{Announced, Election};
 use mq_table::Timing;
 use std::marker::Model;
 
-/// What is in force at a moment: the timing, and whether the router is querier.
+/// The moment, the timing in force, and whether the router is querier.
 #[derive(Clone, Copy)]
 pub(crate) struct InForce {
     pub(crate) moment: Moment,
@@ -24,8 +24,8 @@ pub(crate) struct InForce {
     pub(crate) is_querier: bool,
 }
 
-/// The configuration of a router, its election, and the last moment that it was told. A contract sees the `Setting` of
-/// the definitions; every status has a configuration without faults, and an election of that configuration.
+/// The configuration of a router, its election, and the last moment that was given. A contract sees the `Setting` of
+/// the definitions. Every status has a configuration without faults, and an election of that configuration.
 #[derive(Drop)]
 pub(crate) struct Status<F: Family> {
     config: Config<F>,
@@ -46,7 +46,7 @@ impl<F: Family> Model for Status<F> {
 }
 
 impl<F: Family> Status<F> {
-    /// That of a router that starts at a moment: it is querier.
+    /// Returns the status of a router that starts at a moment: it is querier.
     pub(crate) fn new(config: Config<F>, start: Moment) -> Status<F>
         requires in_range { start ≤ 2 ^ 53 }
         ensures { result ≡ record { config = config; election = election_at config.timing start; now = start } }
@@ -60,8 +60,8 @@ impl<F: Family> Status<F> {
         }
     }
 
-    /// Its configuration has no fault and is one of the family, and the timing in force is in range. It does nothing: its
-    /// contract is the fact.
+    /// A lemma: the configuration has no fault and is of the family, and the timing in force is in range. It has no
+    /// effect at run time.
     pub(crate) fn lemma_is_sound(&self)
         ensures faultless { IsFaultless self.now.config }
         ensures family { self.now.config.family ≡ F.FAMILY }
@@ -73,28 +73,28 @@ impl<F: Family> Status<F> {
         let _moment = self.moment;
     }
 
-    /// The configuration.
+    /// Returns the configuration.
     pub(crate) fn config(&self) -> &Config<F>
         ensures { result.now ≡ self.now.config }
     {
         &self.config
     }
 
-    /// The election.
+    /// Returns the election.
     pub(crate) fn election(&self) -> &Election<F::Address>
         ensures { result.now.state ≡ self.now.election }
     {
         &self.election
     }
 
-    /// The last moment that it was told.
+    /// Returns the last moment that was given.
     pub(crate) fn moment(&self) -> Moment
         ensures { result ≡ self.now.now }
     {
         self.moment
     }
 
-    /// What is in force.
+    /// Returns the moment, the timing in force, and whether the router is querier.
     pub(crate) fn in_force(&self) -> InForce
         ensures in_force { result ≡ record {
           moment = self.now.now;
@@ -110,7 +110,7 @@ impl<F: Family> Status<F> {
         }
     }
 
-    /// A moment comes: what ends then of the election ends. Answers whether a general query is due. One comparison.
+    /// Handles a moment: what ends then of the election ends. Returns whether a general query is due.
     pub(crate) fn tick(&mut self, now: Moment, m: &mut Meter) -> bool
         requires in_range { now ≤ 2 ^ 53 }
         ensures ticked { self.new ≡ record self.old { election = ticked self.old.config.timing now self.old.election; now = now } }
@@ -122,8 +122,7 @@ impl<F: Family> Status<F> {
         self.election.tick(now, m)
     }
 
-    /// The election takes note of a query from another router. Answers whether this one loses the role by it. One
-    /// comparison.
+    /// Handles a query from another router in the election. Returns whether this router loses the role by it.
     pub(crate) fn hear(
         &mut self,
         source: F::Address,

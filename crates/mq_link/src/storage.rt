@@ -1,4 +1,4 @@
-//! The storage of the groups, and what the work on them takes.
+//! The storage of the groups, and the memory for the work on them.
 
 ghost use Rattle.std.specs.Prelude.{◌≡◌, ℕ, ◌+◌, ◌-◌, ◌*◌, ◌^◌, ◌<◌, ◌≤◌, true, false, length, min, IfOk, is_ok, MatchOption, []};
 ghost use Rattle.std.specs.FinMap as map;
@@ -30,8 +30,8 @@ use mq_sets::{Memory, SourceSet, Spot};
 use mq_table::{FilterMode, Group, Source};
 use std::alloc::Allocator;
 
-/// What the work on the records of a datagram takes: the group that one of them works on, the sources that it names, those to
-/// ask for, and how many records have met each group, and have changed it.
+/// The memory for the work on the records of a datagram. It has the group of a record, the sources that the record
+/// names, and those to ask for. It also has the number of records that have met each group, and have changed it.
 #[derive(Drop)]
 pub(crate) struct Scratch<K: Key, A: Allocator> {
     pub(crate) group: Group<K, A>,
@@ -42,7 +42,7 @@ pub(crate) struct Scratch<K: Key, A: Allocator> {
 }
 
 impl<K: Key, A: Allocator> Scratch<K, A> {
-    /// How many bytes `with_room` takes; or none, where no memory has as many.
+    /// Returns the bytes that `with_room` allocates, or None if no memory has as many.
     pub(crate) fn size(groups: usize, sources: usize) -> Option<usize>
         requires counted { sources < 2 ^ 32 }
         ensures { IsSize (bytes_of_scratch (item_bytes K.row) (item_bytes (source.the_row K.row)) groups sources) result }
@@ -58,8 +58,8 @@ impl<K: Key, A: Allocator> Scratch<K, A> {
         both_sizes(both_sizes(of_sources, marks), marks)
     }
 
-    /// With room for so many groups to be met, of at most so many sources, and for a record that names no more; or `Memory`,
-    /// where that was refused.
+    /// Returns memory for `groups` groups of at most `sources` sources, and for a record that names no more. Fails with
+    /// `Memory` if memory is refused.
     #[tactic(auto, unfolding(crate::specs::Sizes::bytes_of_scratch))]
     pub(crate) fn with_room<M: VectorSource<A>>(
         memory: &mut M,
@@ -83,8 +83,8 @@ impl<K: Key, A: Allocator> Scratch<K, A> {
     }
 }
 
-/// Lists of groups, with room for all: the numbers of those that are due, or that records changed, and what puts them in order;
-/// the addresses of those that a call changed; and what puts these together.
+/// Lists of groups, with room for all. They are the numbers of groups that are due or that records changed, and the
+/// addresses of groups that a call changed. The others serve to put these in order and together.
 #[derive(Drop)]
 pub(crate) struct Lists<K: Key, A: Allocator> {
     pub(crate) due: Vec<u16, A>,
@@ -95,7 +95,7 @@ pub(crate) struct Lists<K: Key, A: Allocator> {
 }
 
 impl<K: Key, A: Allocator> Lists<K, A> {
-    /// How many bytes `with_room` takes; or none, where no memory has as many.
+    /// Returns the bytes that `with_room` allocates, or None if no memory has as many.
     pub(crate) fn size(groups: usize) -> Option<usize>
         requires counted { groups < 2 ^ 32 }
         ensures { IsSize (bytes_of_lists (item_bytes K.row) groups) result }
@@ -108,8 +108,8 @@ impl<K: Key, A: Allocator> Lists<K, A> {
         )
     }
 
-    /// For so many groups; or `Memory`, where that was refused. A call may change twice as many: those that a tick ends, and those
-    /// that come in their place.
+    /// Returns lists for `groups` groups. Fails with `Memory` if memory is refused. A call may change twice as many
+    /// groups: those that a tick ends, and those that come in their place.
     #[tactic(auto, unfolding(crate::specs::Sizes::bytes_of_lists))]
     pub(crate) fn with_room<M: VectorSource<A>>(
         memory: &mut M,
@@ -130,8 +130,8 @@ impl<K: Key, A: Allocator> Lists<K, A> {
     }
 }
 
-/// The groups that a router holds, and how many comparisons and moves the work on them has made. All storage is taken as it is
-/// made.
+/// The groups that a router holds, with the number of comparisons and moves of the work on them. All storage is
+/// allocated when it is made.
 #[derive(Drop)]
 pub(crate) struct Storage<K: Key, A: Allocator> {
     pub(crate) held: HeldGroups<K, A>,
@@ -139,15 +139,14 @@ pub(crate) struct Storage<K: Key, A: Allocator> {
     pub(crate) moves: Moves,
 }
 
-/// A group that was looked for: its address, and its number, or as an `Err` the spot where it would go.
+/// A group that was searched for: its address, and its number, or as an `Err` the spot where it would go.
 #[derive_where(Clone, Copy)]
 pub(crate) struct Sought<K: Key> {
     pub(crate) address: K,
     pub(crate) found: Result<u16, Spot>,
 }
 
-/// Looks for a group. At most two comparisons more than the binary digits of how many groups there are; at least one, where a
-/// group is held.
+/// Searches for a group by its address.
 pub(crate) fn find<K: Key, A: Allocator>(
     held: &HeldGroups<K, A>,
     address: K,
@@ -165,8 +164,8 @@ pub(crate) fn find<K: Key, A: Allocator>(
     }
 }
 
-/// A group that was looked for, as it stands in the storage. One that isn't held is INCLUDE without sources, and nothing is
-/// due for it. No comparison.
+/// Returns a group that was searched for, as it is stored. A group that isn't held is INCLUDE without sources, with
+/// nothing due. No comparison.
 pub(crate) fn look<K: Key, A: Allocator>(
     held: &HeldGroups<K, A>,
     sought: Sought<K>,
@@ -192,7 +191,8 @@ pub(crate) fn look<K: Key, A: Allocator>(
 }
 
 impl<K: Key, A: Allocator> Storage<K, A> {
-    /// No groups, with room for as many as the limits allow; or `Memory`, where that was refused.
+    /// Returns a storage without groups, with room for as many as the limits allow. Fails with `Memory` if memory is
+    /// refused.
     pub(crate) fn with_room<M: VectorSource<A>>(
         memory: &mut M,
         limits: &Limits,
@@ -213,16 +213,15 @@ impl<K: Key, A: Allocator> Storage<K, A> {
 }
 
 impl<K: Key, A: Allocator> Storage<K, A> {
-    /// The groups have no more sources than there may be. It does nothing: its contract is the fact.
+    /// A lemma: the groups have no more sources than there may be. It has no effect at run time.
     pub(crate) fn lemma_sources_fit(&self)
         ensures { sources_in self.now.held.groups ≤ self.now.held.source_room }
     {
         let _free = self.held.free_sources();
     }
 
-    /// Puts a group that was worked on back under its number. One that is INCLUDE without sources, and so no longer held,
-    /// stays until it is taken out. At most one comparison for each of its sources, four more, and one for each binary digit of
-    /// how many groups there are.
+    /// Puts a group that was worked on back under its number. INCLUDE without sources, which is no longer held, stays
+    /// until it is removed.
     pub(crate) fn put<B: Allocator>(&mut self, number: u16, group: &Group<K, B>, schedule: Schedule)
         requires number { IsNumber self.old.held number }
         requires held { is_vacant group.now.state ≡ false → IsHeld group.now.state }
@@ -240,9 +239,8 @@ impl<K: Key, A: Allocator> Storage<K, A> {
             .put(number, group, schedule, &mut self.meter, &mut self.moves);
     }
 
-    /// Keeps a group that was worked on, which was looked for: it is put back, made, or, where it isn't held before or after,
-    /// left alone. One that is held stays held. Answers its number, where it is held. At most one comparison for each of its
-    /// sources, four more, and one for each binary digit of how many groups there are.
+    /// Keeps a group that was searched for and worked on, and returns its number if it is held. It is put back or
+    /// inserted. If it isn't held before or after, it is left alone. A group that is held stays held.
     pub(crate) fn keep<B: Allocator>(
         &mut self,
         sought: Sought<K>,
@@ -280,7 +278,7 @@ impl<K: Key, A: Allocator> Storage<K, A> {
         }
     }
 
-    /// Makes a group that was worked on, at the spot where it goes. Answers its number.
+    /// Inserts a group that was worked on at its spot, and returns its number.
     fn insert<B: Allocator>(
         &mut self,
         spot: Spot,

@@ -1,5 +1,5 @@
-//! What a tick does: what is due for the router, and then for those groups that have a moment at or before it. No other
-//! group is touched.
+//! The effect of a tick: what is due for the router, and then for the groups that have a moment at or before it. No
+//! other group is touched.
 
 ghost use Rattle.std.specs.Prelude.{◌≡◌, ℕ, ◌+◌, ◌-◌, ◌*◌, ◌^◌, ◌<◌, ◌≤◌, true, false, [], ◌∷◌, ◌++◌, if◌then◌else◌, length, max, None, Some, map as list_map};
 ghost use Rattle.std.specs.Option.{option_map};
@@ -41,8 +41,8 @@ use mq_wire::WireKey;
 use std::alloc::Allocator;
 
 impl InForce {
-    /// Ends the timers of a group that have run out, and sends what is due for it then. Answers whether another filter is
-    /// forwarded of it then. At most three comparisons for each of its sources, and six more.
+    /// Ends the timers of a group that have expired, and sends what is due for it then. Returns whether its filter
+    /// changed.
     fn serve<K: WireKey, A: Allocator, S: Sink<K>>(
         &self,
         address: K,
@@ -77,9 +77,8 @@ impl InForce {
 }
 
 impl<K: WireKey, A: Allocator> Storage<K, A> {
-    /// Serves the group of a number, and puts it back; one that is INCLUDE without sources then stays until it is taken out.
-    /// Answers its address, where another filter is forwarded of it then. At most four comparisons for each of its sources,
-    /// ten more, and one for each binary digit of how many groups there are.
+    /// Serves the group of a number, and puts it back. INCLUDE without sources then stays until it is removed.
+    /// Returns the group's address if its filter changed.
     fn tick_group<B: Allocator, S: Sink<K>>(
         &mut self,
         number: u16,
@@ -118,10 +117,8 @@ impl<K: WireKey, A: Allocator> Storage<K, A> {
         changes.then_some(address)
     }
 
-    /// Ends what has run out of the groups, and sends what is due for them, by ascending group. Those that have no moment
-    /// at or before it are left alone. Lists the addresses of those of which another filter is forwarded then. At least one
-    /// comparison for each group that has such a moment, and one more, where there is another group; at most four for each
-    /// source, 44 for each group and one more; where no group has such a moment, one at most.
+    /// Ends the expired timers of the groups, and sends what is due for them, by ascending group. Groups that have no
+    /// moment at or before this one are left alone. Lists the addresses of the groups whose filter changed.
     fn tick_groups<B: Allocator, S: Sink<K>>(
         &mut self,
         lists: &mut Lists<K, B>,
@@ -175,7 +172,7 @@ impl<K: WireKey, A: Allocator> Storage<K, A> {
     }
 }
 
-/// The later of two moments. One comparison.
+/// Returns the later of two moments.
 fn later(a: Moment, b: Moment, m: &mut Meter) -> Moment
     ensures later { result ≡ max a b }
     ensures spent { Spends 1 1 m.old m.new }
@@ -193,11 +190,9 @@ fn send_general<F: Family, O: Outlet<F::Address>>(is_due: bool, sender: &mut Sen
 }
 
 impl<F: Family> Status<F> {
-    /// Does what is due at or before `now`, in this order: the end of the other querier's deadline; the general query; the
-    /// end of timers, and what is due for the groups. The sender begins anew, on the terms that are in force then. Lists the
-    /// addresses of the groups of which another filter is forwarded then. At least one comparison for each group that has such
-    /// a moment, and one more; at most four for each source, 44 for each group and two more; where no group has such a moment,
-    /// two at most.
+    /// Handles what is due at or before `now`. In this order it handles the end of the other querier's deadline, the
+    /// general query, the end of timers, and what is due for the groups. The sender begins anew, on the terms that are
+    /// in force then. Lists the addresses of the groups whose filter changed.
     fn do_due<A: Allocator, B: Allocator, O: Outlet<F::Address>>(
         &mut self,
         storage: &mut Storage<F::Address, A>,
@@ -243,9 +238,8 @@ impl<F: Family> Status<F> {
 }
 
 impl<F: Family, A: Allocator> Router<F, A> {
-    /// Does what is due at or before `now`; a moment before the last one counts as the last one. The workspace lists the
-    /// groups that it changes, and no others. At least one comparison for each group that has something to do, and two more;
-    /// at most four for each source, 44 for each group and three more; before the next moment, three at most.
+    /// Handles what is due at or before `now`; a moment before the last one counts as the last one. The workspace lists
+    /// the groups that it changes, and no others.
     pub(crate) fn come_to<B: Allocator, O: Outlet<F::Address>>(
         &mut self,
         work: &mut Workspace<F, B>,
@@ -280,7 +274,7 @@ impl<F: Family, A: Allocator> Router<F, A> {
         );
     }
 
-    /// A tick: what is due then is done, and the answers of the outlet are counted.
+    /// Handles a tick: what is due then is done, and the answers of the outlet are counted.
     pub(crate) fn tick<B: Allocator, O: Outlet<F::Address>>(
         &mut self,
         work: &mut Workspace<F, B>,

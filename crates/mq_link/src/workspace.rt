@@ -1,4 +1,4 @@
-//! What calls of links work in, which many links may use in turn.
+//! The memory for calls of links, which many links may use in turn.
 
 ghost use Rattle.std.specs.Prelude.{◌≡◌, ◌*◌, ◌≤◌, [], length, map, IfOk, is_ok};
 ghost use Rattle.mq_arena.specs.Vectors.{IsSize, Takes};
@@ -13,11 +13,15 @@ use mq_sets::Memory;
 use std::alloc::{Allocator, Global};
 use std::marker::Model;
 
-/// What the calls of a link work in, for as long as one of them lasts: a group, the sources that a record names and those to ask
-/// for, the groups that the records of a datagram meet and change, and the numbers of those that are due. Between two calls it has
-/// the addresses of the groups that the last of them changed, and nothing else of a link; so one workspace may be lent to the calls
-/// of many links, in any order. A contract sees for how many groups it has room, for how many sources of one, and these addresses;
-/// no call depends on what it held before. `with_room` takes the memory.
+/// The memory for one call of a link.
+///
+/// It has a group, the sources that a record names and those to ask for. It also has the groups that the records of a
+/// datagram meet and change, and the numbers of those that are due. Between two calls it has the addresses of the
+/// groups that the last call changed, and nothing else of a link. So the calls of many links may use one workspace, in
+/// any order.
+///
+/// A contract sees the number of groups for which it has room, of sources of one, and these addresses. No call depends
+/// on its content before. `with_room` allocates.
 #[derive(Drop)]
 pub struct Workspace<F: Family, A: Allocator = Global> {
     pub(crate) scratch: Scratch<F::Address, A>,
@@ -44,8 +48,8 @@ impl<F: Family, A: Allocator> Model for Workspace<F, A> {
 }
 
 impl<F: Family, A: Allocator + Copy> Workspace<F, A> {
-    /// One for links of these limits, and of any that allow no more groups and no more sources of one; or `Memory`, where that
-    /// was refused.
+    /// Returns a workspace for links of these limits, or of limits with no more groups and sources of one. Fails with
+    /// `Memory` if memory is refused.
     pub fn with_room(alloc: A, limits: &Limits) -> Result<Workspace<F, A>, Memory>
         ensures { IfOk result (λ w. w ≡ record { groups = limits.now.groups; group_sources = limits.now.group_sources; changed = [] }) }
     {
@@ -54,7 +58,7 @@ impl<F: Family, A: Allocator + Copy> Workspace<F, A> {
 }
 
 impl<F: Family, A: Allocator> Workspace<F, A> {
-    /// How many bytes `with_room_in` takes; or none, where no memory has as many.
+    /// Returns the bytes that `with_room_in` allocates, or None if no memory has as many.
     pub fn size(limits: &Limits) -> Option<usize>
         ensures { IsSize (bytes_of_workspace F.Address.row limits.now) result }
     {
@@ -65,7 +69,8 @@ impl<F: Family, A: Allocator> Workspace<F, A> {
         )
     }
 
-    /// The same, of memory that vectors are made of. It is granted where that memory has `size` of the limits.
+    /// Returns a workspace as `with_room` does, allocated from `memory`. It succeeds if `memory` has `size` bytes for
+    /// the limits.
     #[tactic(auto, unfolding(crate::specs::Sizes::bytes_of_room))]
     pub fn with_room_in<M: VectorSource<A>>(
         memory: &mut M,
@@ -83,10 +88,10 @@ impl<F: Family, A: Allocator> Workspace<F, A> {
         })
     }
 
-    /// The addresses of the groups that the last call that it was lent to has changed, ascending: those of which another filter is
-    /// forwarded after the tick, or after one of the datagram's records, than before it (RFC 3376 section 6.3, RFC 3810 section
-    /// 7.3). Of a fresh one there are none. They are at most twice as many as groups may be held: those that the tick ended, and
-    /// those that records made.
+    /// Returns the addresses of the groups that the last call with this workspace has changed, ascending. Their filter
+    /// is another after the tick, or after one of the datagram's records, than before it (RFC 3376 section 6.3, RFC
+    /// 3810 section 7.3). A fresh workspace has none. There are at most twice as many as groups may be held: those that
+    /// the tick ended, and those that records made.
     pub fn changed(&self) -> &[F::Address]
         ensures changed { map F.Address.number result.now ≡ self.now.changed }
         ensures few { length result.now ≤ 2 * self.now.groups }
@@ -94,7 +99,7 @@ impl<F: Family, A: Allocator> Workspace<F, A> {
         &self.lists.changed
     }
 
-    /// Whether the calls of a link of these limits may be lent it.
+    /// Returns whether the calls of a link of these limits may use the workspace.
     pub fn suffices(&self, limits: &Limits) -> bool
         ensures { result ≡ spec.suffices limits.now self.now }
     {

@@ -1,4 +1,4 @@
--- What the page asks of a querier.
+-- The request of the page for a querier.
 use Rattle.std.specs.Prelude.{◌≡◌, ℕ, ◌^◌, ◌-◌, ◌==◌, nat_lt, not, Bool, true, false, Option, None, Some, Result, Ok, Err, unwrap_or, if◌then◌else◌}
 use Rattle.mq_check.specs.declared.check_terms.CheckTerms.{CheckTerms}
 use Rattle.mq_link.specs.Configuration.{Configuration, configuration_fault, IsFaultless}
@@ -9,18 +9,18 @@ use Rattle.mq_page.specs.declared.page_fault.PageFault.{PageFault}
 use Rattle.mq_page.specs.declared.page_fault.PageFault.TheVariants as fault
 use Rattle.mq_page.specs.declared.settings.Settings.{Settings}
 
--- the configuration, of a family and an own address
+-- the configuration of a family and an own address
 abbrev pub configuration_asked : Family → (own : ℕ) → Settings → Configuration
 configuration_asked family own s =
     configured family (variables s.robustness s.query_interval s.response_interval s.last_member_interval)
     (record { groups = s.groups; group_sources = s.group_sources; sources = s.sources; scheduled = s.scheduled })
     own (not (s.source_specific == 0))
 
--- the moment up to which it runs; 2^64 - 1 says that none is asked for
+-- the moment until which it runs; 2^64 - 1 stands for none
 abbrev pub until_asked : Settings → Option ℕ
 until_asked s = if s.until == 2 ^ 64 - 1 then None else Some s.until
 
--- the lines of changes, and the citations, where their numbers aren't 0
+-- the lines of changes, and the citations, if their numbers aren't 0
 abbrev pub replay_asked : Settings → Asked
 replay_asked s = record { until = until_asked s; changes = not (s.changes == 0) }
 
@@ -31,11 +31,11 @@ check_asked s = record { within = s.within; until = until_asked s; cite = not (s
 abbrev pub is_too_large : (until : Option ℕ) → Bool
 is_too_large until = nat_lt (2 ^ 53) (unwrap_or until 0)
 
--- nothing is refused
+-- the request is accepted
 abbrev pub IsAccepted : Configuration → (until : Option ℕ) → Type 0
 IsAccepted config until = (is_too_large until ≡ false) × IsFaultless config
 
--- why it is refused: the first of these that holds
+-- the request is refused for the first of these that holds
 abbrev pub IsRefused : Configuration → (until : Option ℕ) → PageFault → Type 0
 IsRefused config until fault.UntilTooLarge = is_too_large until ≡ true
 IsRefused config until (fault.Configuration f) = (is_too_large until ≡ false) × (configuration_fault config ≡ Some f)
@@ -47,7 +47,7 @@ IsRefused config until (fault.Waiting number) = ⊥
 IsRefused config until fault.ConversionRead = ⊥
 IsRefused config until (fault.Conversion number f) = ⊥
 
--- the configuration that is asked for was made, or the fault is its first one
+-- the requested configuration was made, or the fault is its first one
 abbrev pub IsConfigured : (asked : Configuration) → Result Configuration PageFault → Type 0
 IsConfigured asked (Ok config) = IsFaultless asked × (config ≡ asked)
 IsConfigured asked (Err (fault.Configuration f)) = configuration_fault asked ≡ Some f

@@ -1,4 +1,4 @@
--- What the calls come to.
+-- The results of the calls.
 use Rattle.std.specs.Prelude.{◌≡◌, ◌⊎◌, ℕ, false, List, [], Option, Some, Result, Err}
 use Rattle.mq_check.specs.declared.check_terms.CheckTerms.{CheckTerms}
 use Rattle.mq_check.specs.CheckedCaptures.{Checks}
@@ -17,12 +17,12 @@ use Rattle.mq_page.specs.Asked.{IsAccepted, IsRefused}
 use Rattle.mq_page.specs.Faults.{of_check, of_conversion, of_replay, outcome_of}
 use Rattle.mq_page.specs.Telling.{IsTold}
 
--- a capture of which nothing was read
+-- a capture before anything was read
 abbrev pub unread : List ℕ → InputState
 unread capture = record { ahead = Some capture; taken = 0; failed = false }
 
--- What a library's call over a capture comes to, by what it does of one from its state before and after, of a text before and
--- after, and its answer: it was made, and wrote this text; or memory for it ran out, and nothing was written.
+-- The result of a library's call over a capture. It was made, and wrote this text, or its memory ran out, and nothing
+-- was written. `Does` is the effect of the call on the state, the text and the result.
 abbrev pub IsMade : {X E : Type 0} → (Does : (old new : InputState) → (before after : Option (List ℕ)) → Result X E → Type 0)
     → (count : X → ℕ) → (fault : E → PageFault) → (capture text : List ℕ) → (outcome : Result ℕ PageFault) → Type 0
 IsMade {X} {E} Does count fault capture text outcome =
@@ -42,7 +42,7 @@ pub record ConvertsInto (choice : Choice) (capture old new : List ℕ) (answer :
   pub text : List ℕ
   pub outcome : Result ℕ PageFault
   pub told : IsTold outcome text old new answer
-  pub converts : IsMade (Converts choice) (λ unread. unread.count) of_conversion capture text outcome
+  pub converts : IsMade (Converts choice) (λ counts. counts.unread.count) of_conversion capture text outcome
 
 -- the request was refused, before anything was written
 abbrev pub IsRefusal : Configuration → (until : Option ℕ) → (text : List ℕ) → (outcome : Result ℕ PageFault) → Type 0

@@ -1,4 +1,4 @@
--- The faults of the calls below, as the page is told of them.
+-- The faults of the calls below, as the page receives them.
 use Rattle.std.specs.Prelude.{ℕ, Result, Ok, Err}
 use Rattle.mq_check.specs.declared.check_fault.CheckFault.{CheckFault}
 use Rattle.mq_check.specs.declared.check_fault.CheckFault.TheVariants as check
@@ -9,7 +9,7 @@ use Rattle.mq_replay.specs.declared.replay_fault.ReplayFault.TheVariants as repl
 use Rattle.mq_page.specs.declared.page_fault.PageFault.{PageFault}
 use Rattle.mq_page.specs.declared.page_fault.PageFault.TheVariants.{Full, Memory, Capture, Gap, Waiting, ConversionRead, Conversion}
 
--- a write that failed found no room
+-- the fault of a replay; a failed write found no room
 abbrev pub of_replay : ReplayFault → PageFault
 of_replay (replay.Pcap f) = Capture f
 of_replay replay.Write = Full
@@ -29,7 +29,7 @@ of_check (check.Gap number) = Gap number
 of_check (check.Waiting number) = Waiting number
 of_check check.Memory = Memory
 
--- what a call came to: a count, or a fault
+-- the outcome of a call: a count, or a fault
 abbrev pub outcome_of : {X E : Type 0} → (count : X → ℕ) → (fault : E → PageFault) → Result X E → Result ℕ PageFault
 outcome_of count fault (Ok x) = Ok (count x)
 outcome_of count fault (Err e) = Err (fault e)

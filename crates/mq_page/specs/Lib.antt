@@ -1,5 +1,6 @@
 pub mod Asked
 pub mod Calls
 pub mod Faults
+pub mod Sentences
 pub mod Statuses
 pub mod Telling

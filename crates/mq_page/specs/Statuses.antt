@@ -11,7 +11,7 @@ use Rattle.mq_pcap.specs.declared.fault.PcapFault.TheVariants as capture
 use Rattle.mq_page.specs.declared.page_fault.PageFault.{PageFault}
 use Rattle.mq_page.specs.declared.page_fault.PageFault.TheVariants.{Full, Memory, Capture, Gap, Waiting, ConversionRead, Conversion, UntilTooLarge, Configuration}
 
--- 10 more than the number of the fault in the texts of the program
+-- the status of a capture's fault: 10 more than the number of the fault in the texts of the program
 abbrev pub capture_status : PcapFault → ℕ
 capture_status capture.Read = 11
 capture_status capture.Magic = 12
@@ -22,7 +22,7 @@ capture_status (capture.CutData number) = 16
 capture_status (capture.TooLong number) = 17
 capture_status capture.Endless = 18
 
--- 30 more
+-- the status of a block's fault: 30 more
 abbrev pub block_status : BlockFault → ℕ
 block_status block.NoCapture = 32
 block_status block.Version = 33
@@ -40,7 +40,7 @@ limit_status limit.GroupSources = 62
 limit_status limit.Sources = 63
 limit_status limit.Scheduled = 64
 
--- 50 more
+-- the status of a configuration's fault: 50 more
 abbrev pub configuration_status : ConfigFault → ℕ
 configuration_status config.Robustness = 51
 configuration_status config.QueryInterval = 52
@@ -60,7 +60,7 @@ status_of ConversionRead = 31
 status_of (Conversion number f) = block_status f
 status_of (Configuration f) = configuration_status f
 
--- the number of the record that has a fault, 0 where none has it
+-- the number of the record with the fault, or 0
 abbrev pub record_of : PcapFault → ℕ
 record_of capture.Read = 0
 record_of capture.Magic = 0
@@ -71,7 +71,7 @@ record_of (capture.CutData number) = number
 record_of (capture.TooLong number) = number
 record_of capture.Endless = 0
 
--- that of the record or the block
+-- the number of the record or the block with the fault, or 0
 abbrev pub number_of : PageFault → ℕ
 number_of Full = 0
 number_of Memory = 0

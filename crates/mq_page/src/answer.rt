@@ -1,14 +1,14 @@
-//! What a call answers.
+//! The answer of a call.
 
-/// What a call answers.
+/// The answer of a call.
 #[repr(C)]
 #[derive(Clone, Copy, Debug, PartialEq, Eq)]
 pub struct Answer {
-    /// What it came to: 0 where all was done, or the number of its fault.
+    /// The status: 0 if all was done, or the number of its fault.
     pub status: u64,
-    /// How many bytes of the text stand at the front of the memory.
+    /// The number of bytes of the text at the front of the memory.
     pub written: u64,
-    /// Where all was done, what was counted: the packets of a listing, the packets of a conversion whose link type isn't read,
-    /// the findings of a check. Otherwise the record or the block that has the fault, if one has it.
+    /// The count if all was done: the packets of a listing, the converted packets with unread link types, or the
+    /// findings of a check. Otherwise it is the record or the block that has the fault, if one has it.
     pub number: u64,
 }

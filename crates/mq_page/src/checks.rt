@@ -11,6 +11,7 @@ use crate::work_room::WorkRoom;
 use mq_check::{CheckTerms, CheckedFamily, check};
 use mq_count::Watched;
 use mq_lines::LineKey;
+use mq_pcap::Ready;
 
 /// Checks the querier of a capture that has the address `own`.
 pub(crate) fn check_at<F: CheckedFamily>(
@@ -42,7 +43,14 @@ where
     };
     let mut reader = Watched::new(capture);
     let mut writer = Watched::new(written);
-    let outcome = match check(&rest, querier.config, terms, &mut reader, &mut writer) {
+    let outcome = match check(
+        &rest,
+        querier.config,
+        terms,
+        &Ready,
+        &mut reader,
+        &mut writer,
+    ) {
         Ok(totals) => Ok(totals.findings),
         Err(fault) => Err(of_check(fault)),
     };

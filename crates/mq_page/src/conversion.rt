@@ -1,6 +1,6 @@
 //! The conversion of a capture.
 
-ghost use Rattle.std.specs.Prelude.{None};
+ghost use Rattle.std.specs.Prelude.{None, false};
 ghost use Rattle.mq_page.specs.Calls.{ConvertsInto};
 
 use crate::answer::Answer;
@@ -9,10 +9,11 @@ use crate::telling::told;
 use crate::work_room::WorkRoom;
 use mq_convert::{Choice, convert};
 use mq_count::Watched;
+use mq_pcap::Ready;
 
 /// Writes all packets of a capture as one classic capture of Ethernet.
 pub(crate) fn convert_all(capture: &[u8], memory: &'static mut [u128], text: &mut [u8]) -> Answer
-    ensures { ConvertsInto (record { interface = None; vlan = None }) capture.now text.old text.new result }
+    ensures { ConvertsInto (record { interface = None; vlan = None; once = false }) capture.now text.old text.new result }
 {
     let Some(room) = WorkRoom::of(memory, text.len()) else {
         return told(Err(PageFault::Memory), &[], text);
@@ -24,11 +25,12 @@ pub(crate) fn convert_all(capture: &[u8], memory: &'static mut [u128], text: &mu
     let choice = Choice {
         interface: None,
         vlan: None,
+        once: false,
     };
     let mut reader = Watched::new(capture);
     let mut writer = Watched::new(written);
-    let outcome = match convert(&rest, choice, &mut reader, &mut writer) {
-        Ok(unread) => Ok(unread.count),
+    let outcome = match convert(&rest, choice, &Ready, &mut reader, &mut writer) {
+        Ok(counts) => Ok(counts.unread.count),
         Err(fault) => Err(of_conversion(fault)),
     };
     told(outcome, writer.into_inner().written(), text)

@@ -1,10 +1,14 @@
 //! The calls, as the page makes them.
 
-ghost use Rattle.std.specs.Prelude.{◌≡◌, ◌≤◌, None, length};
+ghost use Rattle.std.specs.Prelude.{◌≡◌, ◌≤◌, None, false, length, min};
 ghost use Rattle.std.specs.Int.{w32, w128, from_be_bytes};
 ghost use Rattle.mq_wire.specs.Family.{Igmp as FamilyIgmp, Mld as FamilyMld};
+ghost use Rattle.mq_page.specs.declared.page_fault.PageFault.{PageFault as ThePageFault};
 ghost use Rattle.mq_page.specs.Asked.{check_asked, configuration_asked, replay_asked};
 ghost use Rattle.mq_page.specs.Calls.{ChecksInto, ConvertsInto, ListsInto, ReplaysInto};
+ghost use Rattle.mq_page.specs.Sentences.{sentence};
+ghost use Rattle.mq_page.specs.Statuses.{number_of, status_of};
+ghost use Rattle.mq_page.specs.Telling.{in_front};
 
 use crate::answer::Answer;
 use crate::checks::check_at;
@@ -30,7 +34,7 @@ pub extern "C" fn page_show(capture: &[u8], memory: LentMemory, text: &mut [u8])
 /// Writes all packets of a capture as one classic capture of Ethernet.
 #[unsafe(no_mangle)]
 pub extern "C" fn page_convert(capture: &[u8], memory: LentMemory, text: &mut [u8]) -> Answer
-    ensures { ConvertsInto (record { interface = None; vlan = None }) capture.now text.old text.new result }
+    ensures { ConvertsInto (record { interface = None; vlan = None; once = false }) capture.now text.old text.new result }
 {
     convert_all(capture, memory.into_units(), text)
 }
@@ -115,12 +119,14 @@ pub extern "C" fn page_check_mld(
     )
 }
 
-/// Writes what the library says of the fault that an answer tells, as far as there is room, and answers how many bytes that is;
-/// none, where it tells of no fault.
+/// Writes the sentence for the fault of an answer, as far as there is room, and returns its number of bytes. For an
+/// answer without a fault it returns none.
 #[unsafe(no_mangle)]
 pub extern "C" fn page_fault_text(answer: &Answer, text: &mut [u8]) -> usize
     ensures room { result ≤ length text.old }
     ensures length { length text.new ≡ length text.old }
+    ensures written { (fault : ThePageFault) → status_of fault ≡ answer.now.status → number_of fault ≡ answer.now.number → result ≡ min (length text.old) (length (sentence fault)) }
+    ensures sentence { (fault : ThePageFault) → status_of fault ≡ answer.now.status → number_of fault ≡ answer.now.number → text.new ≡ in_front (sentence fault) text.old }
 {
     match fault_of(answer.status, answer.number) {
         Some(fault) => put_in_front(sentence_of(fault).as_slice(), text),

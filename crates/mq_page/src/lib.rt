@@ -1,8 +1,9 @@
-//! The module for WebAssembly of the page: it lists, converts, replays and checks a capture that lies in its memory.
+//! The module for WebAssembly of the page: it lists, converts, replays and checks a capture in its memory.
 //!
-//! - What crosses: `answer`, `settings`, and the faults with their statuses and sentences: `page_fault`, `statuses`, `status_faults`, `sentence`.
-//! - The memory that the page lends for the work: `work_room`, `text_room`; and what a call tells of it: `telling`.
-//! - The calls: `listing`, `conversion`, `replays`, `checks`; and as the page calls them: `exports`.
+//! - The data that cross: `answer`, `settings`, and the faults with their statuses and sentences: `page_fault`,
+//!   `statuses`, `status_faults`, `sentence`.
+//! - The memory of the page for the work: `work_room`, `text_room`. The result of a call: `telling`.
+//! - The calls: `listing`, `conversion`, `replays`, `checks`. Their functions for the page: `exports`.
 #![tactic(auto)]
 
 mod answer;

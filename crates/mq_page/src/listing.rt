@@ -7,6 +7,7 @@ use crate::page_fault::{PageFault, of_replay};
 use crate::telling::told;
 use crate::work_room::WorkRoom;
 use mq_count::Watched;
+use mq_pcap::Ready;
 use mq_replay::show;
 
 /// Lists a capture: a line for each packet.
@@ -22,7 +23,7 @@ pub(crate) fn list(capture: &[u8], memory: &'static mut [u128], text: &mut [u8])
     } = room;
     let mut reader = Watched::new(capture);
     let mut writer = Watched::new(written);
-    let outcome = match show(&rest, &mut reader, &mut writer) {
+    let outcome = match show(&rest, &Ready, &mut reader, &mut writer) {
         Ok(count) => Ok(count),
         Err(fault) => Err(of_replay(fault)),
     };

@@ -1,4 +1,4 @@
-//! Why a call did not do all that it was asked for.
+//! The reasons why a call did not do all of its request.
 
 ghost use Rattle.std.specs.Prelude.{◌≡◌};
 ghost use Rattle.mq_page.specs.Faults as spec;
@@ -8,52 +8,42 @@ use mq_convert::{BlockFault, ConvertFault};
 use mq_link::ConfigFault;
 use mq_pcap::PcapFault;
 use mq_replay::ReplayFault;
-use thiserror::Error;
 
-/// Why a call did not do all that it was asked for.
-#[derive(Clone, Copy, Debug, PartialEq, Eq, Error)]
+/// The reason why a call did not do all of its request.
+#[derive(Clone, Copy, Debug, PartialEq, Eq)]
 pub enum PageFault {
-    /// The text is longer than the memory that was lent for it.
-    #[error("the text is longer than the memory for it")]
+    /// A text longer than the memory for it.
     Full,
-    /// The memory for the work doesn't suffice.
-    #[error("out of memory")]
+    /// Memory for the work that doesn't suffice.
     Memory,
-    /// The capture has a fault.
-    #[error("{0}")]
+    /// A fault of the capture.
     Capture(PcapFault),
-    /// A moment lies more than a day behind the one before it.
-    #[error("more than a day lies between record {number} and what is before it")]
+    /// A moment more than a day after the one before it.
     Gap {
-        /// The number of the packet behind the gap, or of the one that would follow the last.
+        /// The number of the packet after the gap, or of the packet that would follow the last.
         number: u64,
     },
-    /// In a check more queries waited for those that they go with than there is room for.
-    #[error("too many queries wait at record {number}")]
+    /// More pending queries in a check than there is room for; they wait for their partners.
     Waiting {
-        /// The number of the packet at which that came to be, or of the one that would follow the last.
+        /// The number of the packet at which there was no room, or of the packet that would follow the last.
         number: u64,
     },
-    /// A read of a capture that is converted failed.
-    #[error("a read of the capture failed")]
+    /// A failed read of a capture that is converted.
     ConversionRead,
-    /// A block of a capture that is converted has a fault.
-    #[error("block {number}: {fault}")]
+    /// A fault in a block of a capture that is converted.
     Conversion {
         /// The block's number.
         number: u64,
-        /// What is wrong with it.
+        /// The fault of the block.
         fault: BlockFault,
     },
-    /// The moment up to which a replay or a check is to run is above 2^53.
-    #[error("the end is later than any moment")]
+    /// A moment above 2^53 until which a replay or a check is to run.
     UntilTooLarge,
-    /// The querier can't be configured so.
-    #[error("{0}")]
+    /// A configuration that no querier can have.
     Configuration(ConfigFault),
 }
 
-/// The fault of a listing or of a replay. A write that failed found no room.
+/// Returns the fault of a listing or of a replay. A failed write found no room.
 pub(crate) fn of_replay(fault: ReplayFault) -> PageFault
     ensures { result ≡ spec.of_replay fault }
 {
@@ -65,7 +55,7 @@ pub(crate) fn of_replay(fault: ReplayFault) -> PageFault
     }
 }
 
-/// The fault of a conversion.
+/// Returns the fault of a conversion.
 pub(crate) fn of_conversion(fault: ConvertFault) -> PageFault
     ensures { result ≡ spec.of_conversion fault }
 {
@@ -77,7 +67,7 @@ pub(crate) fn of_conversion(fault: ConvertFault) -> PageFault
     }
 }
 
-/// The fault of a check.
+/// Returns the fault of a check.
 pub(crate) fn of_check(fault: CheckFault) -> PageFault
     ensures { result ≡ spec.of_check fault }
 {

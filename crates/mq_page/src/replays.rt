@@ -10,6 +10,7 @@ use crate::telling::told;
 use crate::work_room::WorkRoom;
 use mq_count::Watched;
 use mq_lines::LineKey;
+use mq_pcap::Ready;
 use mq_replay::{Asked, CapturedFamily, replay};
 
 /// Replays a capture to a querier with the address `own`.
@@ -41,7 +42,14 @@ where
     };
     let mut reader = Watched::new(capture);
     let mut writer = Watched::new(written);
-    let outcome = match replay(&rest, querier.config, asked, &mut reader, &mut writer) {
+    let outcome = match replay(
+        &rest,
+        querier.config,
+        asked,
+        &Ready,
+        &mut reader,
+        &mut writer,
+    ) {
         Ok(_counts) => Ok(0),
         Err(fault) => Err(of_replay(fault)),
     };

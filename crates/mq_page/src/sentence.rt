@@ -1,29 +1,136 @@
 //! The sentence of a fault.
 
-use crate::page_fault::PageFault;
-use mq_text::{Text, put};
-use std::fmt;
-use std::fmt::Write;
+ghost use Rattle.std.specs.Prelude.{◌≡◌, ◌++◌, ◌≤◌, length};
+ghost use Rattle.std.specs.Fmt.{decimal};
+ghost use Rattle.arrayvec.specs.ArrayVec.{array_vec_len};
+ghost use Rattle.mq_page.specs.Sentences.{sentence, capture_sentence, block_sentence, configuration_sentence};
 
-/// A sentence in the making, which has room for as much as a text.
-#[derive(Drop)]
-struct Sentence {
-    text: Text,
+use crate::page_fault::PageFault;
+use mq_convert::BlockFault;
+use mq_link::{ConfigFault, LimitName};
+use mq_pcap::PcapFault;
+use mq_text::{Text, put, put_decimal};
+
+/// Returns the words for a fault.
+pub(crate) fn sentence_of(fault: PageFault) -> Text
+    ensures { result.items ≡ sentence fault }
+{
+    let mut text = Text::new();
+    put_sentence(&mut text, fault);
+    text
 }
 
-impl Write for Sentence {
-    fn write_str(&mut self, more: &str) -> fmt::Result {
-        if more.len() > self.text.remaining_capacity() {
-            return Err(fmt::Error);
+fn put_sentence(text: &mut Text, fault: PageFault)
+    requires { array_vec_len text.old ≡ 0 }
+    ensures { text.new.items ≡ text.old.items ++ sentence fault }
+{
+    match fault {
+        PageFault::Full => put(text, b"the text is longer than the memory for it"),
+        PageFault::Memory => put(text, b"out of memory"),
+        PageFault::Capture(fault) => put_capture(text, fault),
+        PageFault::Gap { number } => put_numbered(
+            text,
+            b"more than a day lies between record ",
+            number,
+            b" and what is before it",
+        ),
+        PageFault::Waiting { number } => {
+            put_numbered(text, b"too many queries wait at record ", number, b"");
         }
-        put(&mut self.text, more.as_bytes());
-        Ok(())
+        PageFault::ConversionRead => put(text, b"a read of the capture failed"),
+        PageFault::Conversion { number, fault } => {
+            put_numbered(text, b"block ", number, b": ");
+            put_block(text, fault);
+        }
+        PageFault::UntilTooLarge => put(text, b"the end is later than any moment"),
+        PageFault::Configuration(fault) => put_configuration(text, fault),
     }
 }
 
-/// What the library says of a fault.
-pub(crate) fn sentence_of(fault: PageFault) -> Text {
-    let mut sentence = Sentence { text: Text::new() };
-    let _ = write!(sentence, "{fault}");
-    sentence.text
+/// Puts a number between two texts.
+fn put_numbered(text: &mut Text, before: &[u8], number: u64, after: &[u8])
+    requires start { array_vec_len text.old ≡ 0 }
+    requires before { length before.now ≤ 40 }
+    requires after { length after.now ≤ 40 }
+    ensures text { text.new.items ≡ text.old.items ++ (before.now ++ (decimal number ++ after.now)) }
+    ensures room { array_vec_len text.new ≤ 100 }
+{
+    put(text, before);
+    put_decimal(text, number);
+    put(text, after);
+}
+
+fn put_capture(text: &mut Text, fault: PcapFault)
+    requires { array_vec_len text.old ≡ 0 }
+    ensures { text.new.items ≡ text.old.items ++ capture_sentence fault }
+{
+    match fault {
+        PcapFault::Read => put(text, b"a read failed"),
+        PcapFault::Magic => put(text, b"no capture: the magic number is unknown"),
+        PcapFault::Version => put(text, b"the version of the capture is not 2.4"),
+        PcapFault::LinkType => put(text, b"the link type of the capture is neither 1 nor 101"),
+        PcapFault::CutHeader { number } => {
+            put_numbered(text, b"the header of record ", number, b" is cut");
+        }
+        PcapFault::CutData { number } => {
+            put_numbered(text, b"the data of record ", number, b" are cut");
+        }
+        PcapFault::TooLong { number } => {
+            put_numbered(text, b"record ", number, b" has more than 262144 bytes");
+        }
+        PcapFault::Endless => put(text, b"there are more than 4294967295 records"),
+    }
+}
+
+fn put_block(text: &mut Text, fault: BlockFault)
+    requires { array_vec_len text.old ≤ 100 }
+    ensures { text.new.items ≡ text.old.items ++ block_sentence fault }
+{
+    match fault {
+        BlockFault::NoCapture => put(text, b"no capture"),
+        BlockFault::Version => put(text, b"another version"),
+        BlockFault::Order => put(text, b"a section of no byte order"),
+        BlockFault::Length => put(text, b"an impossible length"),
+        BlockFault::Interface => put(text, b"a packet of an interface that wasn't described"),
+        BlockFault::Interfaces => put(text, b"too many interfaces"),
+        BlockFault::Moment => put(text, b"a moment that has no place in a classic capture"),
+        BlockFault::Cut => put(text, b"the file ends within it"),
+        BlockFault::Endless => put(text, b"too many blocks"),
+    }
+}
+
+fn put_configuration(text: &mut Text, fault: ConfigFault)
+    requires { array_vec_len text.old ≡ 0 }
+    ensures { text.new.items ≡ text.old.items ++ configuration_sentence fault }
+{
+    match fault {
+        ConfigFault::Robustness => put(text, b"the robustness variable is not within 1 to 7"),
+        ConfigFault::QueryInterval => {
+            put(text, b"the query interval is not within 1 to 31744 seconds");
+        }
+        ConfigFault::ResponseInterval => put(
+            text,
+            b"the query response interval is not below the query interval, or no code says it",
+        ),
+        ConfigFault::LastMember => put(text, b"no code says the last member query interval"),
+        ConfigFault::Limit { which } => put_limit(text, which),
+        ConfigFault::OwnAddress => put(
+            text,
+            b"the router's own address is none that it may send queries from",
+        ),
+    }
+}
+
+fn put_limit(text: &mut Text, which: LimitName)
+    requires { array_vec_len text.old ≡ 0 }
+    ensures { text.new.items ≡ text.old.items ++ configuration_sentence (ConfigFault.Limit which) }
+{
+    put(text, b"the limit ");
+    match which {
+        LimitName::Groups => put(text, b"groups"),
+        LimitName::GroupSources => put(text, b"group_sources"),
+        LimitName::Sources => put(text, b"sources"),
+        LimitName::Scheduled => put(text, b"scheduled"),
+    }
+    put(text, b" is out of its range");
 }

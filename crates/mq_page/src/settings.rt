@@ -1,4 +1,4 @@
-//! What the page asks of a querier.
+//! The request of the page for a querier.
 
 ghost use Rattle.std.specs.Prelude.{◌≡◌, false, true, MatchResult};
 ghost use Rattle.mq_page.specs.Asked.{IsAccepted, IsConfigured, IsRefused, configuration_asked, is_too_large, until_asked};
@@ -7,7 +7,7 @@ use crate::page_fault::PageFault;
 use mq_count::Moment;
 use mq_link::{Config, Family, Limits};
 
-/// What the page asks of a querier, beside its family and its address.
+/// The request of the page for a querier, beside its family and its address.
 #[repr(C)]
 #[derive(Clone, Copy)]
 pub struct Settings {
@@ -19,28 +19,28 @@ pub struct Settings {
     pub response_interval: u32,
     /// The Last Member (Last Listener) Query Interval in milliseconds.
     pub last_member_interval: u32,
-    /// How many groups it holds at most.
+    /// The most groups that it holds.
     pub groups: u32,
-    /// How many sources a group has at most.
+    /// The most sources of a group.
     pub group_sources: u32,
-    /// How many sources all groups have at most.
+    /// The most sources of all groups.
     pub sources: u32,
-    /// How many schedules of queries there are at most.
+    /// The most schedules of queries.
     pub scheduled: u32,
-    /// Whether the source-specific range is kept for source-specific multicast; 0 says no.
+    /// The flag to keep the source-specific range for source-specific multicast; 0 says no.
     pub source_specific: u32,
-    /// Whether a replay has lines for the groups that each event changes; 0 says no.
+    /// The flag for lines of a replay for the groups that each event changes; 0 says no.
     pub changes: u32,
     /// The tolerance of a check in milliseconds.
     pub within: u32,
-    /// Whether a check has the section of the standard behind each finding; 0 says no.
+    /// The flag for the section of the standard after each finding of a check; 0 says no.
     pub cite: u32,
-    /// The moment up to which a replay or a check runs at least, in milliseconds; 2^64 - 1 says that none is asked for.
+    /// The moment until which a replay or a check runs at least, in milliseconds; 2^64 - 1 stands for none.
     pub until: u64,
 }
 
 impl Settings {
-    /// The moment up to which a replay or a check runs at least, where one is asked for.
+    /// Returns the moment until which a replay or a check runs at least, if one is requested.
     pub(crate) fn end(&self) -> Option<u64>
         ensures { result ≡ until_asked self.now }
     {
@@ -51,7 +51,7 @@ impl Settings {
     }
 }
 
-/// The moment of so many milliseconds, where they are given.
+/// Returns the moment of these milliseconds, if they are given.
 fn moment_of(until: Option<u64>) -> Result<Option<Moment>, PageFault>
     ensures { MatchResult result
         (λ moment. (moment ≡ until) × (is_too_large until ≡ false))
@@ -66,7 +66,7 @@ fn moment_of(until: Option<u64>) -> Result<Option<Moment>, PageFault>
     }
 }
 
-/// The configuration of a querier with this address, or the first fault of it.
+/// Returns the configuration of a querier with this address, or its first fault.
 fn config_of<F: Family>(own: F::Address, settings: &Settings) -> Result<Config<F>, PageFault>
     ensures { IsConfigured (configuration_asked F.FAMILY (F.Address.number own) settings.now) result }
 {
@@ -90,16 +90,16 @@ fn config_of<F: Family>(own: F::Address, settings: &Settings) -> Result<Config<F
     }
 }
 
-/// A querier that can be as it is asked for.
+/// A querier with an accepted request.
 #[derive(Drop)]
 pub(crate) struct Querier<F: Family> {
     /// Its configuration.
     pub(crate) config: Config<F>,
-    /// The moment up to which a replay or a check of it runs at least, where one is asked for.
+    /// The moment until which a replay or a check of it runs at least, if one is requested.
     pub(crate) until: Option<Moment>,
 }
 
-/// The querier with this address, or why it is refused.
+/// Returns the querier with this address, or the reason to refuse it.
 pub(crate) fn querier_of<F: Family>(
     own: F::Address,
     settings: &Settings,

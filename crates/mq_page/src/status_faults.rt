@@ -1,4 +1,4 @@
-//! The faults that statuses name.
+//! The faults of statuses.
 
 ghost use Rattle.std.specs.Prelude.{◌≡◌, Some};
 ghost use Rattle.mq_convert.specs.declared.fault.BlockFault.{BlockFault as TheBlockFault};
@@ -12,7 +12,7 @@ use mq_convert::BlockFault;
 use mq_link::{ConfigFault, LimitName};
 use mq_pcap::PcapFault;
 
-/// The fault that has this status and this number, if one has.
+/// Returns the fault with this status and this number, if there is one.
 pub(crate) fn fault_of(status: u64, number: u64) -> Option<PageFault>
     ensures { (fault : ThePageFault) → status_of fault ≡ status → number_of fault ≡ number → result ≡ Some fault }
 {

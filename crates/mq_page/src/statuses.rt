@@ -8,10 +8,10 @@ use mq_convert::BlockFault;
 use mq_link::{ConfigFault, LimitName};
 use mq_pcap::PcapFault;
 
-/// All was done.
+/// The status for success.
 pub(crate) const DONE: u64 = 0;
 
-/// The status of a fault.
+/// Returns the status of a fault.
 pub(crate) fn status_of(fault: PageFault) -> u64
     ensures { result ≡ spec.status_of fault }
 {
@@ -83,7 +83,7 @@ fn limit_status(which: LimitName) -> u64
     }
 }
 
-/// The number of the record or the block that has a fault; 0 where none has it.
+/// Returns the number of the record or the block that has a fault, or 0.
 pub(crate) fn number_of(fault: PageFault) -> u64
     ensures { result ≡ spec.number_of fault }
 {

@@ -1,4 +1,4 @@
-//! What the page is told of a call.
+//! The result of a call for the page.
 
 ghost use Rattle.std.specs.Prelude.{◌≡◌, ◌++◌, ◌≤◌, length, take, drop, min};
 ghost use Rattle.mq_page.specs.Telling as spec;
@@ -8,8 +8,8 @@ use crate::answer::Answer;
 use crate::page_fault::PageFault;
 use crate::statuses::{DONE, number_of, status_of};
 
-/// Writes the text to the front of the page's memory, as far as there is room, and tells the outcome. A text that is longer is
-/// told as that.
+/// Writes the text to the front of the page's memory, as far as there is room, and returns the answer. A longer text is
+/// a fault.
 pub(crate) fn told(outcome: Result<u64, PageFault>, text: &[u8], memory: &mut [u8]) -> Answer
     ensures { IsTold outcome text.now memory.old memory.new result }
 {
@@ -29,8 +29,8 @@ pub(crate) fn told(outcome: Result<u64, PageFault>, text: &[u8], memory: &mut [u
     }
 }
 
-/// What is told of an outcome whose text has so many bytes, where there is room for some. A write fails only where the room
-/// ends, so the second case doesn't come; no clause of the calls below says that.
+/// Returns the outcome for the page, by the bytes of the text and the room. A write fails only at the end of the room,
+/// so the second case doesn't come; no clause of the calls below says that.
 fn fitted(outcome: Result<u64, PageFault>, written: usize, room: usize) -> Result<u64, PageFault>
     ensures { result ≡ spec.fitted outcome written room }
 {
@@ -43,7 +43,7 @@ fn fitted(outcome: Result<u64, PageFault>, written: usize, room: usize) -> Resul
     outcome
 }
 
-/// Writes a text to the front of memory, as far as there is room, and answers how far that is.
+/// Writes a text to the front of memory, as far as there is room, and returns how far that is.
 pub(crate) fn put_in_front(text: &[u8], memory: &mut [u8]) -> usize
     ensures stands { memory.new ≡ in_front text.now memory.old }
     ensures written { result ≡ min (length memory.old) (length text.now) }

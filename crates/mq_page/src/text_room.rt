@@ -1,4 +1,4 @@
-//! Room for a text, which takes as much of it as it has room for.
+//! Memory for a text, which takes as much of it as there is room for.
 
 ghost use Rattle.std.specs.Prelude.{◌≡◌, ◌-◌, ◌≤◌, [], Some};
 
@@ -6,21 +6,21 @@ use mq_arena::Lodged;
 use std::io;
 use std::io::Write;
 
-/// Room for a text, and as much of the text as was written.
+/// Memory for a text, and as much of the text as was written.
 #[derive(Drop)]
 pub(crate) struct TextRoom {
     bytes: Vec<u8, Lodged>,
 }
 
 impl TextRoom {
-    /// The room of an empty vector.
+    /// Returns the memory of an empty vector.
     pub(crate) fn of(bytes: Vec<u8, Lodged>) -> TextRoom
         ensures { result.bytes ≡ bytes }
     {
         TextRoom { bytes }
     }
 
-    /// What was written.
+    /// Returns the written text.
     pub(crate) fn written(&self) -> &[u8]
         ensures { result.now ≡ self.now.bytes.items }
     {
@@ -28,7 +28,7 @@ impl TextRoom {
     }
 }
 
-/// A write takes what there is room for, and nothing where there is none.
+/// Writing takes as many bytes as there is room for, and none without room.
 impl Write for TextRoom {
     ghost contents = { λ room. Some room.bytes.items };
 

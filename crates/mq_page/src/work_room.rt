@@ -1,4 +1,4 @@
-//! The memory that the page lends for the work of a call.
+//! The memory of the page for the work of a call.
 
 ghost use Rattle.std.specs.Prelude.{◌≡◌, [], IfSome};
 
@@ -13,7 +13,7 @@ pub(crate) struct WorkRoom {
 }
 
 impl WorkRoom {
-    /// The memory of a call whose text goes to memory of so many bytes; or none, where there isn't room for as much text.
+    /// Returns the memory of a call whose text goes to `length` bytes, or None if there isn't room for as much text.
     pub(crate) fn of(memory: &'static mut [u128], length: usize) -> Option<WorkRoom>
         ensures { IfSome result (λ room. room.text.bytes.items ≡ []) }
     {

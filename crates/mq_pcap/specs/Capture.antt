@@ -1,5 +1,5 @@
--- A classic pcap file: a header of 24 bytes, and then records, each a header of 16 bytes and as many bytes of
--- data as were captured. All fields have the byte order in which the file's magic number is one of two.
+-- A classic pcap file. It has a header of 24 bytes, and then records. Each record is a header of 16 bytes and the
+-- captured bytes. All fields have the byte order in which the file's magic number is one of two.
 use Rattle.std.specs.Prelude.{◌≡◌, ℕ, ◌+◌, ◌*◌, ◌/◌, ◌%◌, ◌<◌, ◌≤◌, nat_lt, Bool, true, false, not, ◌&&◌, ◌==◌, List, [], ◌∷◌, ◌++◌, length, drop, Option, None, Some, Result, Ok, Err}
 use Rattle.byteorder.specs.Endian.{big_number, little_number}
 use Rattle.mq_pcap.specs.declared.link_type.LinkType.TheVariants as link
@@ -12,7 +12,7 @@ use Rattle.mq_pcap.specs.declared.fault.PcapFault.{PcapFault}
 use Rattle.mq_pcap.specs.declared.fault.PcapFault.TheVariants as fault
 use Rattle.mq_pcap.specs.Tests.{first_that_holds}
 
--- whether a fault is that of a stream whose read failed
+-- a fault is that of a failed read
 abbrev pub is_read : PcapFault → Bool
 is_read fault.Read = true
 is_read fault.Magic = false
@@ -36,8 +36,8 @@ abbrev pub magic_of : Fraction → ℕ
 magic_of Microseconds = 0xa1b2c3d4
 magic_of Nanoseconds = 0xa1b23c4d
 
--- the rest of a file's header, in this byte order: version 2.4, and in the low 16 bits of the last field a
--- link type that is known
+-- The rest of a file's header, in this byte order. It has version 2.4, and a known link type in the low 16 bits of the
+-- last field.
 unfoldable pub header_in : Endian → Fraction → List ℕ → Result Form PcapFault
 header_in order fraction bytes =
     let kind = field order 20 4 bytes % 65536 in
@@ -48,7 +48,7 @@ header_in order fraction bytes =
     ∷ [])
     (Err fault.LinkType)
 
--- what the bytes of a file's header say, or the first fault
+-- the form in the bytes of a file's header, or the first fault
 unfoldable pub header_of : List ℕ → Result Form PcapFault
 header_of bytes = first_that_holds
     ((nat_lt (length bytes) 24, Err (fault.CutHeader 0))
@@ -59,29 +59,28 @@ header_of bytes = first_that_holds
     ∷ [])
     (Err fault.Magic)
 
--- a packet: its moment in milliseconds, and its bytes
+-- a packet: its time in milliseconds, and its bytes
 pub record Captured : Type 0 where
   pub stamp : ℕ
   pub bytes : List ℕ
 
--- whole milliseconds of a fraction of a second; one of a second or more is added like any other
+-- whole milliseconds of a fraction of a second; a fraction of a second or more is added like any other
 abbrev pub milliseconds : Fraction → ℕ → ℕ
 milliseconds Microseconds fraction = fraction / 1000
 milliseconds Nanoseconds fraction = fraction / 1000000
 
--- what a record's header says: the moment, and how many bytes were captured; the fourth field, the original
--- length, isn't looked at
+-- The time and the captured length in a record's header. The fourth field, the original length, is not read.
 abbrev pub stamp_of : Form → List ℕ → ℕ
 stamp_of form header = field form.order 0 4 header * 1000 + milliseconds form.fraction (field form.order 4 4 header)
 
 abbrev pub captured_length : Form → List ℕ → ℕ
 captured_length form header = field form.order 8 4 header
 
--- the most bytes that a packet may have
+-- the most bytes of a packet
 abbrev pub most_bytes : ℕ
 most_bytes = 262144
 
--- bytes are one record, with this packet
+-- bytes are one record with this packet
 pub record IsRecord (form : Form) (bytes : List ℕ) (packet : Captured) : Type 0 where
   pub header : List ℕ
   pub parts : bytes ≡ header ++ packet.bytes
@@ -94,7 +93,7 @@ pub record IsRecord (form : Form) (bytes : List ℕ) (packet : Captured) : Type 
 abbrev pub endless : ℕ
 endless = 4294967296
 
--- the fault of the bytes that stand where record `number` should, up to the end of the file, if they have one
+-- the fault of the bytes from record `number` to the end of the file, if they have one
 abbrev pub record_fault : Form → (number : ℕ) → List ℕ → Option PcapFault
 record_fault form number bytes = first_that_holds
     ((nat_lt (length bytes) 1, None)
@@ -105,8 +104,8 @@ record_fault form number bytes = first_that_holds
     ∷ [])
     None
 
--- The bytes from where record `number` should stand to the end of the file are these packets, and then the
--- file ends, or its next record has the fault.
+-- The bytes from record `number` to the end of the file are these packets. After them the file ends, or its next record
+-- has the fault.
 abbrev pub AreRecords : Form → (number : ℕ) → List ℕ → List Captured → Option PcapFault → Type 0
 AreRecords form number bytes [] None = bytes ≡ []
 AreRecords form number bytes [] (Some f) = record_fault form number bytes ≡ Some f
@@ -114,7 +113,7 @@ AreRecords form number bytes (packet ∷ packets) end =
     (first rest : List ℕ) × (bytes ≡ first ++ rest) × IsRecord form first packet × (number < endless)
     × AreRecords form (number + 1) rest packets end
 
--- A whole file is a capture of these packets, which ends as `end` says: with the file, or with a fault.
+-- A whole file is a capture of these packets. It ends with the file, or with the fault `end`.
 abbrev pub Captures : List ℕ → Result Form PcapFault → List Captured → Option PcapFault → Type 0
 Captures bytes (Ok form) packets end =
     (header_of bytes ≡ Ok form) × AreRecords form 1 (drop 24 bytes) packets end

@@ -1,28 +1,27 @@
--- What it is to take bytes from a stream.
+-- Bytes read from a stream.
 use Rattle.std.specs.Prelude.{◌≡◌, ℕ, ◌<◌, ◌≤◌, ◌||◌, Bool, is_err, List, length, take, Option, Result, Ok, Err}
 use Rattle.std.specs.Io.KnownBytes.{Consumes, IsAtEnd}
 use Rattle.mq_count.specs.declared.streams.Watched.{Watched}
 use Rattle.mq_count.specs.Streams.{inner_of, has_failed, taken_from, counted_on}
 
--- a stream that is read: its bytes that are still ahead, where they are known, how many it has handed out,
--- and whether a call has failed
+-- An input stream. It has the remaining bytes, if they are known, the number of bytes read, and whether a call failed.
 pub record InputState : Type 0 where
   pub ahead : Option (List ℕ)
   pub taken : ℕ
   pub failed : Bool
 
--- that of a watched reader, where the bytes ahead of the stream in it are known by ‘remaining’
+-- the input of a watched reader, whose inner stream has the remaining bytes ‘remaining’
 abbrev pub input_of : {R : Type 0} → (remaining : R → Option (List ℕ)) → Watched R → InputState
 input_of remaining reader =
     record { ahead = remaining (inner_of reader); taken = taken_from reader; failed = has_failed reader }
 
--- from old to new these bytes were taken
+-- from old to new these bytes were read
 pub record Takes (old new : InputState) (bytes : List ℕ) : Type 0 where
   pub ahead : Consumes old.ahead new.ahead bytes
   pub taken : new.taken ≡ counted_on old.taken (length bytes)
 
--- What filling a buffer comes to: `Ok n` says that its first n bytes are those taken, fewer than it has only
--- at the end of the stream; an error, that the stream failed before it was full.
+-- The result of filling a buffer. `Ok n`: its first n bytes are those read, and fewer than its length only at the end
+-- of the stream. An error: the stream failed before the buffer was full.
 abbrev pub FillsWith : {E : Type 0} → InputState → (buffer bytes : List ℕ) → Result ℕ E → Type 0
 FillsWith new buffer bytes (Ok n) =
     (bytes ≡ take n buffer) × (n ≤ length buffer) × (n < length buffer → IsAtEnd new.ahead)

@@ -1,5 +1,4 @@
--- What a frame of a capture carries: at each layer a list of tests in their order, the first of which that
--- holds decides.
+-- The message of a frame, by a list of tests at each layer. The first test that holds decides.
 use Rattle.std.specs.Prelude.{ℕ, ◌+◌, ◌*◌, ◌/◌, ◌%◌, nat_lt, Bool, false, not, ◌&&◌, ◌||◌, ◌==◌, List, [], ◌∷◌, length, drop, slice_index, slice_range}
 use Rattle.std.specs.Int.{w32, w128, from_be_bytes}
 use Rattle.byteorder.specs.Endian.{big_number}
@@ -10,7 +9,7 @@ use Rattle.mq_pcap.specs.declared.frame.Inner.TheVariants as inner
 use Rattle.mq_pcap.specs.Tests.{first_that_holds}
 use Rattle.mq_pcap.specs.Options.{has_router_alert}
 
--- a message of IGMP or MLD with what its packet says of it, or why there is none
+-- a message of IGMP or MLD with fields of its packet, or the reason why there is none
 pub data Carried : Type 0 where
   Igmp : (source : ℕ) (body : List ℕ) → Carried
   Mld : (source destination hop_limit : ℕ) (alert : Bool) (body : List ℕ) → Carried
@@ -18,7 +17,7 @@ pub data Carried : Type 0 where
   Cut : Carried
   Fragment : Carried
 
--- an answer of the code as such
+-- a result of the code as such data
 abbrev pub carried_of : Inner → Carried
 carried_of (inner.Igmp source body) = Igmp source body.now
 carried_of (inner.Mld source destination hop_limit alert body) = Mld source destination hop_limit alert body.now
@@ -34,18 +33,18 @@ word_at place bytes = big_number 2 (drop place bytes)
 abbrev pub version_of : List ℕ → ℕ
 version_of packet = slice_index packet 0 / 16
 
--- how many bytes an IPv4 header has, in all and with the packet's body
+-- the bytes of an IPv4 header, and of its packet
 abbrev pub header_length : List ℕ → ℕ
 header_length packet = slice_index packet 0 % 16 * 4
 
 abbrev pub total_length : List ℕ → ℕ
 total_length packet = word_at 2 packet
 
--- the flag More Fragments is set, or the offset behind it is not 0
+-- the flag More Fragments is set, or the offset after it is not 0
 abbrev pub is_fragment : List ℕ → Bool
 is_fragment packet = word_at 6 packet / 0x2000 % 2 == 1 || not (word_at 6 packet % 0x2000 == 0)
 
--- what an IPv4 packet carries: a whole IGMP message (protocol 2), without padding
+-- the content of an IPv4 packet: a whole IGMP message (protocol 2), without padding
 unfoldable pub in_ipv4 : List ℕ → Carried
 in_ipv4 packet = first_that_holds
     ((nat_lt (length packet) 20, Cut)
@@ -68,11 +67,11 @@ mld_in packet alert body = Mld
     alert
     body
 
--- how many bytes a hop-by-hop header has, at the front of a payload
+-- the bytes of a hop-by-hop header at the front of a payload
 abbrev pub options_length : List ℕ → ℕ
 options_length payload = slice_index payload 1 * 8 + 8
 
--- what stands behind a hop-by-hop header: it names the next header, 44 a fragment's and 58 an ICMPv6 message
+-- the content after a hop-by-hop header, by its next header: 44 for a fragment, 58 for an ICMPv6 message
 unfoldable pub behind_options : List ℕ → List ℕ → Carried
 behind_options packet payload = first_that_holds
     ((nat_lt (length payload) 8 || nat_lt (length payload) (options_length payload), Other)
@@ -89,8 +88,8 @@ payload_length packet = word_at 4 packet
 abbrev pub payload_of : List ℕ → List ℕ
 payload_of packet = slice_range packet 40 (40 + payload_length packet)
 
--- what an IPv6 packet carries: a whole MLD message, at once (next header 58) or behind one hop-by-hop header
--- (next header 0)
+-- The content of an IPv6 packet. A whole MLD message comes at once (next header 58) or after one hop-by-hop header
+-- (next header 0).
 unfoldable pub in_ipv6 : List ℕ → Carried
 in_ipv6 packet = first_that_holds
     ((nat_lt (length packet) 40, Cut)
@@ -102,12 +101,12 @@ in_ipv6 packet = first_that_holds
     ∷ [])
     (behind_options packet (payload_of packet))
 
--- what stands behind an Ethernet header, by the type that it names
+-- the content after an Ethernet header, by the type that it names
 unfoldable pub in_type : ℕ → List ℕ → Carried
 in_type kind packet = first_that_holds
     ((kind == 0x0800, in_ipv4 packet) ∷ (kind == 0x86dd, in_ipv6 packet) ∷ []) Other
 
--- what an Ethernet frame carries: the type stands at 12, or behind one tag (type 0x8100) at 16
+-- the content of an Ethernet frame: the type stands at 12, or after one tag (type 0x8100) at 16
 unfoldable pub in_ethernet : List ℕ → Carried
 in_ethernet frame = first_that_holds
     ((nat_lt (length frame) 14, Cut)
@@ -116,7 +115,7 @@ in_ethernet frame = first_that_holds
     ∷ [])
     (in_type (word_at 16 frame) (drop 18 frame))
 
--- what a packet without a link header carries
+-- the content of a packet without a link header
 unfoldable pub in_raw_ip : List ℕ → Carried
 in_raw_ip packet = first_that_holds
     ((nat_lt (length packet) 1, Cut)
@@ -125,7 +124,7 @@ in_raw_ip packet = first_that_holds
     ∷ [])
     Other
 
--- what a frame of a capture carries
+-- the content of a frame of a capture
 abbrev pub carried_in : LinkType → List ℕ → Carried
 carried_in Ethernet frame = in_ethernet frame
 carried_in RawIp frame = in_raw_ip frame

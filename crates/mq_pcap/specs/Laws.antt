@@ -13,7 +13,7 @@ OneCapture =
     → Captures bytes header packets end → Captures bytes header' packets' end'
     → (header ≡ header') × (packets ≡ packets') × (end ≡ end')
 
--- these faults of a beginning of what is there are faults of all of it
+-- these faults of a prefix are faults of the whole
 abbrev pub FaultsStay : Type 0
 FaultsStay =
     (form : Form) (number : ℕ) (bytes more : List ℕ)

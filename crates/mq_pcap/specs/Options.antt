@@ -1,5 +1,4 @@
--- The options of an IPv6 hop-by-hop header, and Router Alert among them, which MLD messages carry (RFC 3810
--- section 5).
+-- The options of an IPv6 hop-by-hop header, with the Router Alert of MLD messages (RFC 3810 section 5).
 use Rattle.std.specs.Prelude.{ℕ, zero, suc, ◌+◌, nat_lt, Bool, ◌==◌, ◌&&◌, if◌then◌else◌, List, [], ◌∷◌, length, drop, slice_index, slice_range}
 use Rattle.std.specs.List.{list_any}
 use Rattle.byteorder.specs.Endian.{big_number}
@@ -8,9 +7,8 @@ use Rattle.byteorder.specs.Endian.{big_number}
 abbrev pub HeaderOption : Type 0
 HeaderOption = ℕ × List ℕ
 
--- The options in these bytes, one after the other, up to the first that doesn't fit: type 0 (Pad1) is one
--- byte alone; behind every other type stand the number of its data's bytes, and the data. At most so many
--- options as the first argument says.
+-- The consecutive options in these bytes, up to the first that does not fit, and at most `most`. Type 0 (Pad1) is a
+-- single byte. After every other type stand the number of data bytes, and the data.
 abbrev pub options_within : ℕ → List ℕ → List HeaderOption
 options_within zero bytes = []
 options_within (suc most) [] = []
@@ -23,11 +21,11 @@ options_within (suc most) (kind ∷ bytes) =
     then (kind, slice_range bytes 1 end) ∷ options_within most (drop end bytes)
     else [])
 
--- all of them: there are no more options than bytes
+-- all options: there are no more options than bytes
 abbrev pub options_of : List ℕ → List HeaderOption
 options_of bytes = options_within (length bytes) bytes
 
--- type 5, two bytes of data, and the value 0, which says that the packet is an MLD message
+-- type 5, two bytes of data, and the value 0, which marks an MLD message
 abbrev pub is_router_alert : HeaderOption → Bool
 is_router_alert option = option.0 == 5 && (length option.1 == 2 && big_number 2 option.1 == 0)
 

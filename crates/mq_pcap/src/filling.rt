@@ -1,4 +1,4 @@
-//! Filling a buffer from a stream that hands out pieces of any size.
+//! Filling of a buffer from a stream that returns pieces of any size.
 
 ghost use Rattle.std.specs.Prelude.{◌≡◌, IfErr};
 ghost use Rattle.mq_pcap.specs.Filling.{Fills, input_of};
@@ -7,8 +7,8 @@ use crate::fault::PcapFault;
 use mq_count::Watched;
 use std::io::Read;
 
-/// Reads until the buffer is full or the stream ends, and answers how many bytes the buffer has then. A
-/// read that gives no byte is the end of the stream. A fault is `Read`.
+/// Reads until the buffer is full or the stream ends, and returns the number of bytes read. A read of no byte is the
+/// end of the stream. The fault is `Read`.
 #[inline(always)]
 pub(crate) fn fill<R: Read>(reader: &mut Watched<R>, buffer: &mut [u8]) -> Result<usize, PcapFault>
     ensures fills { Fills

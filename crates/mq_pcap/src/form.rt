@@ -1,4 +1,4 @@
-//! The form of a capture, as the header of its file says it.
+//! The form of a capture, from the header of its file.
 
 ghost use Rattle.std.specs.Prelude.{◌≡◌, ◌+◌, ◌≤◌, false, length, IfErr, IfOk};
 ghost use Rattle.mq_pcap.specs.Capture.{is_read, header_of, header_in, field, milliseconds};
@@ -16,14 +16,14 @@ pub enum Endian {
     Little,
 }
 
-/// What the fraction of a second of a record's moment counts.
+/// The unit of the fraction of a second in a record's time.
 #[derive(Clone, Copy, Debug, PartialEq, Eq)]
 pub enum Fraction {
     Microseconds,
     Nanoseconds,
 }
 
-/// How the records of a capture are to be read.
+/// The form of a capture's records.
 #[derive(Clone, Copy, Debug, PartialEq, Eq)]
 pub struct Form {
     pub order: Endian,
@@ -31,7 +31,7 @@ pub struct Form {
     pub link: LinkType,
 }
 
-/// The number of the bytes of a file's header.
+/// The bytes of a file's header.
 pub(crate) const FILE_HEADER: usize = 24;
 
 const MICROSECONDS: u32 = 0xa1b2_c3d4;
@@ -39,7 +39,7 @@ const MICROSECONDS: u32 = 0xa1b2_c3d4;
 const NANOSECONDS: u32 = 0xa1b2_3c4d;
 
 impl Endian {
-    /// The 16 bits at a place.
+    /// Returns the 16 bits at a place.
     pub fn word(self, bytes: &[u8], place: usize) -> u16
         requires { place + 2 ≤ length bytes.now }
         ensures { result ≡ field self place 2 bytes.now }
@@ -50,7 +50,7 @@ impl Endian {
         }
     }
 
-    /// The 32 bits at a place.
+    /// Returns the 32 bits at a place.
     pub fn double_word(self, bytes: &[u8], place: usize) -> u32
         requires { place + 4 ≤ length bytes.now }
         ensures { result ≡ field self place 4 bytes.now }
@@ -63,7 +63,7 @@ impl Endian {
 }
 
 impl Fraction {
-    /// Whole milliseconds of a fraction of a second.
+    /// Returns the whole milliseconds of a fraction of a second.
     pub(crate) fn whole_ms(self, fraction: u32) -> u32
         ensures { result ≡ milliseconds self fraction }
     {
@@ -75,7 +75,7 @@ impl Fraction {
 }
 
 impl Form {
-    /// The form that a file's header says, or the first fault.
+    /// Returns the form in a file's header, or the first fault.
     #[tactic(auto, unfolding(crate::specs::Capture::header_of))]
     pub(crate) fn of_header(bytes: &[u8]) -> Result<Form, PcapFault>
         ensures form { result ≡ header_of bytes.now }
@@ -102,7 +102,7 @@ impl Form {
         Err(PcapFault::Magic)
     }
 
-    /// The rest of a file's header, behind the magic number.
+    /// Returns the form in the rest of a file's header, after the magic number.
     #[tactic(auto, unfolding(crate::specs::Capture::header_in))]
     fn of_rest(order: Endian, fraction: Fraction, bytes: &[u8]) -> Result<Form, PcapFault>
         requires { 24 ≤ length bytes.now }

@@ -1,4 +1,4 @@
-//! From a frame to the message that it carries.
+//! The message of a frame.
 
 ghost use Rattle.std.specs.Prelude.{◌≡◌, ◌+◌, ◌≤◌, ◌<◌, length, slice_range};
 ghost use Rattle.std.specs.Int.{w32, w128, from_be_bytes};
@@ -9,7 +9,7 @@ use crate::link_type::LinkType;
 use crate::options::has_router_alert;
 use mq_count::{Addr4, Addr6};
 
-/// What a frame carries.
+/// The content of a frame.
 #[derive(Clone, Copy)]
 pub enum Inner<'a> {
     /// An IGMP message.
@@ -27,7 +27,7 @@ pub enum Inner<'a> {
         destination: Addr6,
         /// The packet's hop limit; MLD messages have 1.
         hop_limit: u8,
-        /// Whether a hop-by-hop header has the Router Alert of MLD (type 5, two bytes, value 0).
+        /// The presence of the Router Alert of MLD in a hop-by-hop header (type 5, two bytes, value 0).
         alert: bool,
         /// The message, without the headers and without padding.
         body: &'a [u8],
@@ -40,14 +40,14 @@ pub enum Inner<'a> {
     Fragment,
 }
 
-/// What the Ethernet type of a frame with a tag is, and those of IPv4 and IPv6.
+/// The Ethernet types of a tag, of IPv4 and of IPv6.
 const TAGGED: u16 = 0x8100;
 
 const IPV4: u16 = 0x0800;
 
 const IPV6: u16 = 0x86dd;
 
-/// The protocol of IGMP in an IPv4 header, and the next headers of an IPv6 packet that are looked at.
+/// The protocol of IGMP in an IPv4 header, and the next headers of an IPv6 packet that are checked.
 const IGMP: u8 = 2;
 
 const HOP_BY_HOP: u8 = 0;
@@ -56,7 +56,7 @@ const FRAGMENT: u8 = 44;
 
 const ICMPV6: u8 = 58;
 
-/// What a frame carries, read in place.
+/// Returns the content of a frame, in place.
 #[inline(always)]
 pub fn unwrap_frame(link: LinkType, frame: &[u8]) -> Inner<'_>
     ensures { carried_of result ≡ carried_in link frame.now }
@@ -85,7 +85,7 @@ fn ethernet(frame: &[u8]) -> Inner<'_>
     by_type(Endian::Big.word(frame, 16), &frame[18..])
 }
 
-/// What stands behind an Ethernet header, by the type that it names.
+/// Returns the content after an Ethernet header, by the type that it names.
 #[inline(always)]
 #[tactic(auto, unfolding(crate::specs::Frame::in_type))]
 fn by_type(kind: u16, packet: &[u8]) -> Inner<'_>
@@ -170,7 +170,7 @@ fn ipv6(packet: &[u8]) -> Inner<'_>
     hop_by_hop(packet, payload)
 }
 
-/// What stands behind a hop-by-hop header.
+/// Returns the content after a hop-by-hop header.
 #[inline(always)]
 #[tactic(auto, unfolding(crate::specs::Frame::behind_options))]
 fn hop_by_hop<'a>(packet: &'a [u8], payload: &'a [u8]) -> Inner<'a>
@@ -191,7 +191,7 @@ fn hop_by_hop<'a>(packet: &'a [u8], payload: &'a [u8]) -> Inner<'a>
     }
 }
 
-/// A message of ICMPv6 with what its packet's header says.
+/// Returns a message of ICMPv6 with fields of its packet's header.
 #[inline(always)]
 fn mld<'a>(packet: &'a [u8], alert: bool, body: &'a [u8]) -> Inner<'a>
     requires { 40 ≤ length packet.now }

@@ -11,6 +11,7 @@ mod options;
 pub mod reader;
 pub mod reader_state;
 mod record;
+mod supply;
 
 pub use fault::PcapFault;
 pub use form::{Endian, Form, Fraction};
@@ -18,3 +19,4 @@ pub use frame::{Inner, unwrap_frame};
 pub use link_type::LinkType;
 pub use reader_state::{Packet, PcapReader, Progress};
 pub use record::GREATEST_PACKET;
+pub use supply::{Ready, Supply};

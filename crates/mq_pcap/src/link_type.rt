@@ -1,4 +1,4 @@
-//! What the frames of a capture begin with.
+//! Link types of captures.
 
 /// The link type of a capture.
 #[derive(Clone, Copy, Debug, PartialEq, Eq)]

@@ -5,16 +5,16 @@ ghost use Rattle.mq_pcap.specs.Options as spec;
 
 use byteorder::{BigEndian, ByteOrder};
 
-/// The type of an option that is one byte alone.
+/// The type of an option of one byte.
 const PAD1: u8 = 0;
 
-/// The type of Router Alert, and how many bytes of data it has.
+/// The type of Router Alert, and the number of its data bytes.
 const ROUTER_ALERT: u8 = 5;
 
 const ROUTER_ALERT_LENGTH: usize = 2;
 
-/// Whether Router Alert with the value of MLD is among the options. The walk stops at an option that
-/// doesn't fit.
+/// Returns whether Router Alert with the value of MLD is among the options. The walk stops at an option that does not
+/// fit.
 pub(crate) fn has_router_alert(options: &[u8]) -> bool
     ensures { result ≡ spec.has_router_alert options.now }
 {
@@ -36,7 +36,7 @@ fn is_router_alert(kind: u8, content: &[u8]) -> bool
         && BigEndian::read_u16(content) == 0
 }
 
-/// The type and the data of the first option, and the bytes behind it; or None where none fits.
+/// Returns the type and the data of the first option, and the bytes after it, or None if none fits.
 fn first_option(bytes: &[u8]) -> Option<(u8, &[u8], &[u8])>
     ensures option { MatchOption result
         (spec.options_of bytes.now ≡ [])

@@ -1,4 +1,4 @@
-//! The packets of a capture, one after another.
+//! The packets of a capture, in order.
 
 ghost use Rattle.std.specs.Prelude.{◌≡◌, ◌+◌, ◌≤◌, length};
 ghost use Rattle.mq_pcap.specs.Capture.{most_bytes};
@@ -10,7 +10,8 @@ use crate::filling::fill;
 use crate::form::{FILE_HEADER, Form};
 use crate::link_type::LinkType;
 use crate::reader_state::{Packet, PcapReader, Progress};
-use crate::record::read_record;
+use crate::record::{RECORD_HEADER, read_record};
+use crate::supply::Supply;
 use mq_count::Watched;
 use std::io::Read;
 
@@ -29,15 +30,23 @@ impl PcapReader {
         })
     }
 
-    /// What the frames of the capture begin with.
+    /// Returns the link type of the capture.
     pub fn link(&self) -> LinkType
         ensures { result ≡ (form_of self.now).link }
     {
         self.form.link
     }
 
-    /// Reads the next packet into the front of `buffer`, which has room for `GREATEST_PACKET`; None at the end
-    /// of the capture. After a fault it answers the same fault, and after None it answers None, and then neither
+    /// Returns whether reading the next record may wait, since not all its bytes are at hand.
+    pub fn may_wait<S: Supply>(&self, supply: &S) -> bool {
+        let mut header = [0; RECORD_HEADER];
+        let there = supply.at_hand(&mut header);
+        let length = self.form.order.double_word(&header, 8) as usize;
+        there < RECORD_HEADER || there - RECORD_HEADER < length
+    }
+
+    /// Reads the next packet into the front of `buffer`, or returns None at the end of the capture. `buffer` has room
+    /// for `GREATEST_PACKET`. After a fault it returns the same fault, and after None it returns None. Then it neither
     /// reads nor writes.
     pub fn next<R: Read>(
         &mut self,

@@ -1,4 +1,4 @@
-//! What a reader of captures keeps from call to call.
+//! The state of a reader of captures between calls.
 
 ghost use Rattle.std.specs.Prelude.{◌≤◌, ◌^◌};
 ghost use Rattle.mq_pcap.specs.Capture.{most_bytes};
@@ -6,30 +6,30 @@ ghost use Rattle.mq_pcap.specs.Capture.{most_bytes};
 use crate::fault::PcapFault;
 use crate::form::Form;
 
-/// A packet of a capture. Its bytes are the first ones of the buffer that was lent.
+/// A packet of a capture. Its bytes are the first ones of the caller's buffer.
 #[derive(Clone, Copy, Debug, PartialEq, Eq)]
 pub struct Packet {
-    /// The moment of the packet in milliseconds: its seconds, and its fraction's whole milliseconds.
+    /// The packet's time in milliseconds: its seconds, and the whole milliseconds of its fraction.
     pub stamp_ms: u64,
-    /// How many bytes were captured, at most `GREATEST_PACKET`.
+    /// The number of captured bytes, at most `GREATEST_PACKET`.
     pub length: usize,
     ghost within: { length ≤ most_bytes },
     ghost in_range: { stamp_ms ≤ 2 ^ 53 },
 }
 
-/// How far a reader is.
+/// The progress of a reader.
 #[derive(Clone, Copy, Debug, PartialEq, Eq)]
 pub enum Progress {
-    /// A record may follow.
+    /// Reading: a record may follow.
     Reading,
-    /// The stream has ended behind a record.
+    /// The end of the stream, after a record.
     Ended,
-    /// There was a fault.
+    /// A fault.
     Stopped(PcapFault),
 }
 
-/// A capture that is read from a stream, record by record. It keeps no packet and no stream: both the
-/// stream and the buffer for a packet are lent to each call, and have to be the same stream each time.
+/// A reader of a capture from a stream, record by record. It keeps no packet and no stream: each call borrows both the
+/// stream, always the same, and a buffer for a packet.
 #[derive(Drop)]
 pub struct PcapReader {
     pub(crate) form: Form,

@@ -12,14 +12,14 @@ use crate::reader_state::Packet;
 use mq_count::Watched;
 use std::io::Read;
 
-/// The most bytes that a packet may have.
+/// The most bytes of a packet.
 pub const GREATEST_PACKET: usize = 262_144;
 
 /// The first record number that no capture may have.
 const ENDLESS: u64 = 4_294_967_296;
 
-/// The bytes of a record's header, and where its fields stand.
-const RECORD_HEADER: usize = 16;
+/// The bytes of a record's header.
+pub(crate) const RECORD_HEADER: usize = 16;
 
 /// Reads the record of a number.
 #[inline(always)]

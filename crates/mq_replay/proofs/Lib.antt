@@ -15,3 +15,4 @@ pub mod Replays
 pub mod Shown
 pub mod Ticking
 pub mod WrittenReplays
+pub mod WrittenEarly

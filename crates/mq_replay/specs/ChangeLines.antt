@@ -9,13 +9,13 @@ use Rattle.mq_table.specs.Group.{GroupState, is_include, timer_at}
 use Rattle.mq_held.specs.Groups.{Groups, group_at}
 use Rattle.mq_lines.specs.Text.{address_text, line_of}
 
--- what is forwarded of a group: nothing; only what some sources send; or all but what some send
+-- The filter of a group: nothing is forwarded, only what some sources send, or all but what some send.
 abbrev pub filter_name : (is_include : Bool) → (sources : List ℕ) → List ℕ
 filter_name true [] = codes " none"
 filter_name true (s ∷ ss) = codes " include"
 filter_name false sources = codes " exclude"
 
--- such a source: behind an exclamation mark where what it sends isn't forwarded
+-- a named source, after an exclamation mark if it isn't forwarded
 abbrev pub named_text : Family → (is_include : Bool) → (source : ℕ) → List ℕ
 named_text family true source = codes " " ++ address_text family source
 named_text family false source = codes " !" ++ address_text family source
@@ -27,7 +27,7 @@ named_sources g = filter (λ s. names g.mode (timer_at g s)) (map.keys g.sources
 abbrev pub filter_text : Family → (is_include : Bool) → (sources : List ℕ) → List ℕ
 filter_text family is_include sources = filter_name is_include sources ++ flat_map (named_text family is_include) sources
 
--- a group of which another filter is forwarded from a moment on
+-- the line of a group whose filter has changed at a moment
 abbrev pub change_start : Family → (moment group : ℕ) → List ℕ
 change_start family moment group = decimal moment ++ codes " change " ++ address_text family group
 
@@ -35,12 +35,12 @@ abbrev pub change_line : Family → (moment group : ℕ) → GroupState → List
 change_line family moment group g =
     change_start family moment group ++ line_of (filter_text family (is_include g.mode) (named_sources g))
 
--- groups, in their order; of one that isn't held nothing is forwarded
+-- the lines of groups, in order; a group that isn't held forwards nothing
 abbrev pub change_lines : Family → (moment : ℕ) → Groups → (addresses : List ℕ) → List ℕ
 change_lines family moment groups addresses =
     flat_map (λ address. change_line family moment address (group_at groups address).group) addresses
 
--- lines that are written where they are asked for
+-- lines that are written if they are requested
 abbrev pub lines_asked : (asked : Bool) → List ℕ → List ℕ
 lines_asked true lines = lines
 lines_asked false lines = []

@@ -1,4 +1,4 @@
--- What is printed of a capture: a line for each of its packets.
+-- The listing of a capture: a line for each of its packets.
 use Rattle.std.specs.Prelude.{◌≡◌, ◌⊎◌, ℕ, ◌+◌, ◌-◌, max, Bool, false, true, List, [], ◌∷◌, ◌++◌, length, Option, None, Some, Result, Ok, Err, unwrap_or, codes}
 use Rattle.std.specs.Fmt.{decimal}
 use Rattle.std.specs.Io.KnownBytes.{Appends, IsAtEnd}
@@ -18,7 +18,7 @@ use Rattle.mq_lines.specs.Text.{address_text}
 use Rattle.mq_replay.specs.declared.replay_fault.ReplayFault.{ReplayFault}
 use Rattle.mq_replay.specs.declared.replay_fault.ReplayFault.TheVariants as answer
 
--- what a line says of the message that a packet carries, or why there is none; it ends the line
+-- the text of the message of a packet, or of the reason why there is none; it ends the line
 abbrev pub IsSaid : Carried → List ℕ → Type 0
 IsSaid (Igmp source body) text =
     (flag : Bool) × (line : List ℕ) × IsLineOf family.Igmp [] body flag line
@@ -40,12 +40,13 @@ abbrev pub IsPacketLine : LinkType → (number moment : ℕ) → (frame line : L
 IsPacketLine link number moment frame line =
     (said : List ℕ) × IsSaid (carried_in link frame) said × (line ≡ place_text number moment ++ said)
 
--- The moment of a packet: its stamp less that of the capture's first packet, or the moment of the packet before,
--- whichever is greater. So that of the first packet is 0.
+-- The moment of a packet: its stamp less that of the capture's first packet. If the moment of the packet before is
+-- greater, it is that moment. The moment of the first packet is 0.
 abbrev pub moment_of : (first : Option ℕ) (before stamp : ℕ) → ℕ
 moment_of first before stamp = max (stamp - unwrap_or first stamp) before
 
--- the lines of packets, one after the other: the number of the next, and what its moment is counted from
+-- The lines of packets, one after the other. `number` is that of the next packet, and its moment is counted from
+-- `first` and `before`.
 abbrev pub AreLines : LinkType → (first : Option ℕ) (before number : ℕ) → List Captured → List ℕ → Type 0
 AreLines link first before number [] text = text ≡ []
 AreLines link first before number (packet ∷ packets) text =
@@ -53,18 +54,18 @@ AreLines link first before number (packet ∷ packets) text =
     (line : List ℕ) × (rest : List ℕ) × (text ≡ line ++ rest) × IsPacketLine link number moment packet.bytes line
     × AreLines link (Some (unwrap_or first packet.stamp)) moment (number + 1) packets rest
 
--- The listing of a capture: the lines of its packets, numbered from 1. One whose header has a fault has none.
+-- The listing of a capture: the lines of its packets, numbered from 1. A capture with a fault in its header has none.
 abbrev pub IsListing : Result Form PcapFault → List Captured → List ℕ → Type 0
 IsListing (Ok form) packets text = AreLines form.link None 0 1 packets text
 IsListing (Err f) packets text = text ≡ []
 
--- Why a fault of the bytes that were taken is one of the whole file: they end it, or the fault doesn't depend on
+-- A fault of the bytes that were read is a fault of the whole file. They end the file, or the fault doesn't depend on
 -- what follows.
 abbrev pub IsOfTheFile : Result Form PcapFault → PcapFault → (bytes : List ℕ) → InputState → Type 0
 IsOfTheFile (Ok form) f bytes new = IsKnownThere f new
 IsOfTheFile (Err f') f bytes new = (length bytes ≡ 24) ⊎ IsAtEnd new.ahead
 
--- what the input does, by the answer
+-- the end of the input, by the result
 abbrev pub IsEndedBy : Result Form PcapFault → (packets : List Captured) → (end : Option PcapFault) → (bytes : List ℕ) → (old new : InputState) → Result ℕ ReplayFault → Type 0
 IsEndedBy header packets end bytes old new (Ok count) =
     (end ≡ None) × IsAtEnd new.ahead × (count ≡ length packets) × (new.failed ≡ old.failed)
@@ -75,14 +76,14 @@ IsEndedBy header packets end bytes old new (Err answer.Write) = Unit {0}
 IsEndedBy header packets end bytes old new (Err (answer.Gap number)) = ⊥
 IsEndedBy header packets end bytes old new (Err answer.Memory) = bytes ≡ []
 
--- what was written of the listing: all of it, or where a write failed a beginning
+-- the written part of the listing: all of it, or a prefix if a write failed
 abbrev pub IsWritten : (old new : Option (List ℕ)) → List ℕ → Result ℕ ReplayFault → Type 0
 IsWritten old new text (Err answer.Write) = GrowsByBeginning old new text
 IsWritten old new text r = Appends old new text
 
--- A capture was shown. Some bytes were taken from the input, and what was written is the listing of the capture
--- that they are, taken as a whole file. They are the whole file, or its beginning up to a fault that what follows
--- doesn't change, unless a read or a write failed.
+-- A capture was shown. Some bytes were read from the input. As a whole file they are a capture, and its listing was
+-- written. They are the whole file, or its prefix up to a fault that later bytes don't change, unless a read or a write
+-- failed.
 pub record Shows (old new : InputState) (before after : Option (List ℕ)) (r : Result ℕ ReplayFault) : Type 0 where
   pub bytes : List ℕ
   pub header : Result Form PcapFault
@@ -95,7 +96,7 @@ pub record Shows (old new : InputState) (before after : Option (List ℕ)) (r : 
   pub ended : IsEndedBy header packets end bytes old new r
   pub written : IsWritten before after text r
 
--- whether an answer, of a listing or of a replay, is a failed write
+-- the result, of a listing or of a replay, is a failed write
 abbrev pub is_failed_write : {T : Type 0} → Result T ReplayFault → Bool
 is_failed_write (Ok x) = false
 is_failed_write (Err (answer.Pcap f)) = false

@@ -1,4 +1,4 @@
--- The line of a changed group as the code comes to it: by the timers of its sources.
+-- The line of a changed group as the code builds it: by the timers of its sources.
 use Rattle.std.specs.Prelude.{ℕ, Bool, true, false, List, [], Some, codes}
 use Rattle.mq_wire.specs.Family.{Family}
 use Rattle.mq_table.specs.declared.timers.FilterMode.{FilterMode}
@@ -7,7 +7,7 @@ use Rattle.mq_table.specs.Filter.{names}
 use Rattle.mq_table.specs.Group.{is_include}
 use Rattle.mq_replay.specs.ChangeLines.{named_text}
 
--- whether the filter of a group of this mode names a source with this timer
+-- the filter of a group in this mode names a source with this timer
 abbrev pub is_named : FilterMode → SourceTimer → Bool
 is_named mode timer = names mode (Some timer)
 
@@ -17,7 +17,7 @@ name_by true true = codes " include"
 name_by true false = codes " none"
 name_by false some = codes " exclude"
 
--- a source where it is named
+-- the text of a source, if it is named
 abbrev pub if_named : (is_named : Bool) → List ℕ → List ℕ
 if_named true text = text
 if_named false text = []

@@ -1,4 +1,4 @@
--- What the parts of a listing come to that go to a writer by way of a buffer.
+-- The results of the parts of a listing that go to a writer through a buffer.
 use Rattle.std.specs.Prelude.{ℕ, List, ◌++◌, Option, None, Result, Ok, Err}
 use Rattle.mq_pcap.specs.declared.fault.PcapFault.{PcapFault}
 use Rattle.mq_pcap.specs.declared.form.Form.{Form}
@@ -10,7 +10,7 @@ use Rattle.mq_replay.specs.declared.replay_fault.ReplayFault.{ReplayFault}
 use Rattle.mq_replay.specs.declared.replay_fault.ReplayFault.TheVariants as answer
 use Rattle.mq_replay.specs.Listing.{IsSaid, place_text, AreLines, IsListing, IsEndedBy}
 
--- what is said of a packet was put
+-- the text of a packet was put
 pub record PutsSaid {T E : Type 0} (old new : Option (List ℕ)) (held left : List ℕ) (carried : Carried) (r : Result T E) : Type 0 where
   pub said : List ℕ
   pub is_said : IsSaid carried said
@@ -22,12 +22,12 @@ pub record PutsPacket {T E : Type 0} (old new : Option (List ℕ)) (held left : 
   pub is_said : IsSaid carried said
   pub put : Puts old new held left (place_text number moment ++ said) r
 
--- a listing was put, or where a write failed a beginning of it was written
+-- a listing was put, or a prefix of it was written if a write failed
 abbrev pub IsPut : (old new : Option (List ℕ)) → (held left text : List ℕ) → Result ℕ ReplayFault → Type 0
 IsPut old new held left text (Err answer.Write) = GrowsByBeginning old new (held ++ text)
 IsPut old new held left text r = Passes old new held left text
 
--- the lines of the packets behind a file's header were put
+-- the lines of the packets after a file's header were put
 pub record PutsPackets (form : Form) (old new : InputState) (before after : Option (List ℕ)) (held left : List ℕ) (r : Result ℕ ReplayFault) : Type 0 where
   pub bytes : List ℕ
   pub packets : List Captured

@@ -1,4 +1,4 @@
--- What the parts of a replay come to that go to a writer by way of a buffer.
+-- The results of the parts of a replay that go to a writer through a buffer.
 use Rattle.std.specs.Prelude.{◌≡◌, ◌⊎◌, ℕ, List, ◌++◌, Option, None, Result, Ok, Err}
 use Rattle.std.specs.Io.KnownBytes.{IsAtEnd}
 use Rattle.mq_pcap.specs.declared.fault.PcapFault.{PcapFault}
@@ -17,13 +17,13 @@ use Rattle.mq_replay.specs.Replaying.{ReadCapture, IsEndedBy, text_of, packets_t
 use Rattle.mq_replay.specs.Report.{Report, reported}
 use Rattle.mq_replay.specs.Steps.{begun_with}
 
--- the answer of a replay whose link has these counters then
+-- the result of a replay whose link has these counters afterwards
 abbrev pub counted : {T : Type 0} → Counters → Result T ReplayFault → Result Counters ReplayFault
 counted counters (Ok x) = Ok counters
 counted counters (Err f) = Err f
 
--- What was put: the text of the report; where a read failed, that of the packets that were read; and where a write failed,
--- a beginning of that one was written, or, if the file had ended, of the report.
+-- The text of the report was put. If a read failed, it was the text of the packets that were read. If a write failed, a
+-- prefix of that text was written, or a prefix of the report if the file had ended.
 abbrev pub IsReportPut : Configuration → Asked → ReadCapture → InputState → (before after : Option (List ℕ)) → (held left : List ℕ) → Result Counters ReplayFault → Type 0
 IsReportPut config asked c new before after held left (Err answer.Write) =
     GrowsByBeginning before after (held ++ packets_text config asked c)
@@ -41,11 +41,11 @@ pub record PutsReport (config : Configuration) (asked : Asked) (old new : InputS
   pub ended : IsEndedBy config asked read old new r
   pub put : IsReportPut config asked read new before after held left r
 
--- a capture of which these bytes stand behind its header
+-- the capture with these bytes after its header
 abbrev pub behind_header : Form → List ℕ → List Captured → Option PcapFault → ReadCapture
 behind_header form bytes packets end = record { bytes = bytes; header = Ok form; packets = packets; end = end }
 
--- the report of what stands behind a file's header was put
+-- the report of the bytes after a file's header was put
 pub record PutsRecords (config : Configuration) (asked : Asked) (form : Form) (old new : InputState) (before after : Option (List ℕ)) (held left : List ℕ)
     (r : Result Counters ReplayFault) : Type 0 where
   pub bytes : List ℕ
@@ -56,12 +56,12 @@ pub record PutsRecords (config : Configuration) (asked : Asked) (form : Form) (o
   pub ended : IsEndedBy config asked (behind_header form bytes packets end) old new r
   pub put : IsReportPut config asked (behind_header form bytes packets end) new before after held left r
 
--- what is reported behind the packets of a file that has ended: the moment of the last, and the number of the next
+-- the report after the packets of a file that has ended: the moment of the last, and the number of the next
 abbrev pub rest_of : Configuration → Asked → (last number : ℕ) → LinkState → Report
 rest_of config asked last number link =
     reported config asked number None None (record { replayed = begun_with asked.changes link; moment = last; gap = None })
 
--- that was put, or a beginning of it was written
+-- that report was put, or a prefix of it was written
 abbrev pub IsRestPut : Report → (before after : Option (List ℕ)) → (held left : List ℕ) → Result Counters ReplayFault → Type 0
 IsRestPut report before after held left (Ok counters) = (report.answer ≡ Ok counters) × Passes before after held left report.text
 IsRestPut report before after held left (Err (answer.Gap number)) = (report.answer ≡ Err (answer.Gap number)) × Passes before after held left report.text

@@ -1,4 +1,4 @@
--- What an outlet that prints queries makes of them.
+-- The effects of queries on an outlet that prints them.
 use Rattle.std.specs.Prelude.{◌≡◌, ℕ, Bool, true, ◌||◌, List, Option, Result, Ok, Err, is_ok, is_err, IfOk, map as list_map}
 use Rattle.mq_count.specs.Streams.{inner_of, has_failed}
 use Rattle.mq_wire.specs.Family.{Family}
@@ -12,7 +12,7 @@ use Rattle.mq_text.specs.Printing.{Puts}
 use Rattle.mq_replay.specs.declared.query_outlet.QueryLines.{QueryLines}
 use Rattle.mq_replay.specs.ReplayLines.{query_line, query_lines}
 
--- what a query makes of the outlet: its line is put at its moment, unless a write failed before
+-- the effect of a query on the outlet: its line is put at its moment, unless a write failed before
 abbrev pub PutsQuery : {W : Type 0} → (W → Option (List ℕ)) → Family → (old : QueryLines W) → Outgoing → (new : QueryLines W) → Result Unit LineFault → Type 0
 PutsQuery contents family old query new (Ok u) =
     Puts (contents (inner_of old.writer.now)) (contents (inner_of new.writer.now)) old.buffer.now.items new.buffer.now.items (query_line family old.moment query) new.answer
@@ -26,7 +26,7 @@ pub record TakesQuery {W : Type 0} (contents : W → Option (List ℕ)) (family 
   pub sent_is : sent ≡ is_ok new.answer
   pub puts : PutsQuery contents family old (record { to = to; bytes = bytes }) new old.answer
 
--- A tick of a link, and the lines of the messages that it sent were put: all of them, where no write failed.
+-- A tick of a link, whose messages were put as lines: all of them, if no write failed.
 pub record TicksPrinting (family : Family) (now : ℕ) (before after : LinkValue) (old new : Option (List ℕ)) (held left : List ℕ) (r : Result Unit LineFault) : Type 0 where
   pub messages : List Outgoing
   pub answers : List Bool
@@ -34,7 +34,7 @@ pub record TicksPrinting (family : Family) (now : ℕ) (before after : LinkValue
   pub put : Puts old new held left (query_lines family now messages) r
   pub all_sent : IfOk r (λ u. answers ≡ list_map (λ message. true) messages)
 
--- The same of a datagram, with what the link answered.
+-- A datagram of a link, whose messages were put as lines, with the link's answer.
 pub record ReceivesPrinting (family : Family) (envelope : Envelope) (bytes : List ℕ) (now : ℕ) (before after : LinkValue) (old new : Option (List ℕ)) (held left : List ℕ) (r : Result Received LineFault) : Type 0 where
   pub answer : Received
   pub messages : List Outgoing

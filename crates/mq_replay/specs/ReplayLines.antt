@@ -1,5 +1,4 @@
--- The lines of a replay: of the queries that a link sends, of the datagrams that it is handed, and of what it holds at
--- the end.
+-- The lines of a replay: queries that a link sends, datagrams that it receives, and its state at the end.
 use Rattle.std.specs.Prelude.{ℕ, Bool, true, false, List, [], ◌++◌, Option, None, Some, codes}
 use Rattle.std.specs.List.{flat_map}
 use Rattle.std.specs.Fmt.{decimal}
@@ -20,33 +19,33 @@ use Rattle.mq_link.specs.Counters.{Counters, reason_number}
 use Rattle.mq_link.specs.Sent.{Outgoing}
 use Rattle.mq_lines.specs.Text.{address_text, line_of}
 
--- a query as it is sent at a moment: where it goes, and its bytes in lower-case hexadecimal
+-- a query as it is sent at a moment: its destination, and its bytes in lower-case hexadecimal
 abbrev pub query_start : Family → (moment to : ℕ) → List ℕ
 query_start family moment to = decimal moment ++ codes " send " ++ address_text family to ++ codes " "
 
 abbrev pub query_line : Family → (moment : ℕ) → Outgoing → List ℕ
 query_line family moment query = line_of (query_start family moment query.to ++ encode_lower query.bytes)
 
--- queries as they are sent at one moment, in their order
+-- the queries of one moment, in order
 abbrev pub query_lines : Family → (moment : ℕ) → List Outgoing → List ℕ
 query_lines family moment queries = flat_map (query_line family moment) queries
 
--- how many records of a datagram were applied, ignored and refused, or the number of the reason why it was dropped
+-- the numbers of applied, ignored and refused records of a datagram, or the number of the reason to drop it
 abbrev pub received_text : Received → List ℕ
 received_text (Taken applied ignored refused) =
     codes "taken " ++ decimal applied ++ codes " " ++ decimal ignored ++ codes " " ++ decimal refused
 received_text (Dropped reason) = codes "dropped " ++ decimal (reason_number reason)
 
--- the moment of a packet, what is done with it, and its number
+-- the moment of a packet, its treatment, and its number
 abbrev pub packet_text : (moment : ℕ) (what : List ℕ) (number : ℕ) → List ℕ
 packet_text moment what number = decimal moment ++ what ++ decimal number
 
--- a datagram that the link was handed: its source, and what the link answered
+-- a datagram that the link received: its source, and the link's answer
 abbrev pub receipt_line : Family → (moment number source : ℕ) → Received → List ℕ
 receipt_line family moment number source answer =
     line_of (packet_text moment (codes " receive ") number ++ codes " " ++ address_text family source ++ codes " " ++ received_text answer)
 
--- why a packet isn't handed to the link; a message is of the other family
+-- the reason why a packet isn't for the link; a message is of the other family
 abbrev pub skipped_text : Carried → List ℕ
 skipped_text (Igmp source body) = codes "other"
 skipped_text (Mld source destination hop_limit alert body) = codes "other"
@@ -58,7 +57,7 @@ abbrev pub skip_line : (moment number : ℕ) → Carried → List ℕ
 skip_line moment number carried =
     line_of (packet_text moment (codes " skip ") number ++ codes " " ++ skipped_text carried)
 
--- the moment at which the replay ends, and who is querier then: the router itself, or another
+-- the moment of the end of the replay, and the querier then: the router itself, or another
 abbrev pub role_text : (is_querier : Bool) → List ℕ
 role_text true = codes "querier"
 role_text false = codes "other"
@@ -71,7 +70,7 @@ abbrev pub mode_text : FilterMode → List ℕ
 mode_text Include = codes "include"
 mode_text (Exclude deadline) = codes "exclude " ++ decimal deadline
 
--- a source after a space: with the deadline of its timer, or behind an exclamation mark where the timer is stopped
+-- a source after a space: with the deadline of its timer, or after an exclamation mark if the timer is stopped
 abbrev pub timer_text : Family → (source : ℕ) → SourceTimer → List ℕ
 timer_text family source Stopped = codes " !" ++ address_text family source
 timer_text family source (Running deadline sendings) = codes " " ++ address_text family source ++ codes "=" ++ decimal deadline
@@ -80,7 +79,7 @@ timer_text family source (Running deadline sendings) = codes " " ++ address_text
 abbrev pub timers_text : Family → GroupState → List ℕ
 timers_text family g = flat_map (λ (e : ℕ × SourceTimer). timer_text family e.0 e.1) (map.entries g.sources)
 
--- a timer behind its name, where it runs
+-- a timer after its name, if it runs
 abbrev pub deadline_text : (name : List ℕ) → Option ℕ → List ℕ
 deadline_text name None = []
 deadline_text name (Some deadline) = name ++ decimal deadline
@@ -100,7 +99,7 @@ group_line family group g =
 abbrev pub group_lines : Family → Groups → List ℕ
 group_lines family groups = flat_map (λ (e : ℕ × ScheduledGroup). group_line family e.0 e.1.group) (map.entries groups)
 
--- what was counted in all: of datagrams, of records, and of queries
+-- the counters of datagrams, of records, and of queries
 abbrev pub datagram_counts_text : Counters → List ℕ
 datagram_counts_text c = codes "received " ++ decimal c.received ++ codes " dropped " ++ decimal c.dropped
 

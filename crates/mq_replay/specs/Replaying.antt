@@ -1,4 +1,4 @@
--- What the contract of a replay says, and those of its parts.
+-- The contract of a replay, and those of its parts.
 use Rattle.std.specs.Prelude.{◌≡◌, ◌⊎◌, ℕ, ◌≤◌, true, List, [], length, Option, None, Result, Ok, Err}
 use Rattle.std.specs.Io.KnownBytes.{Appends, IsAtEnd}
 use Rattle.mq_pcap.specs.declared.fault.PcapFault.{PcapFault}
@@ -15,14 +15,14 @@ use Rattle.mq_replay.specs.declared.replay_fault.ReplayFault.TheVariants as answ
 use Rattle.mq_replay.specs.Listing.{IsOfTheFile}
 use Rattle.mq_replay.specs.Report.{report_of, so_far}
 
--- What was read of a capture: its bytes, taken as a whole file.
+-- The read part of a capture: its bytes, taken as a whole file.
 pub record ReadCapture : Type 0 where
   pub bytes : List ℕ
   pub header : Result Form PcapFault
   pub packets : List Captured
   pub end : Option PcapFault
 
--- The text and the answer of its report, and the text of its packets alone.
+-- the text and the result of its report, and the text of its packets alone
 abbrev pub text_of : Configuration → Asked → ReadCapture → List ℕ
 text_of config asked c = (report_of config asked c.header c.packets c.end).text
 
@@ -32,7 +32,7 @@ answer_of config asked c = (report_of config asked c.header c.packets c.end).ans
 abbrev pub packets_text : Configuration → Asked → ReadCapture → List ℕ
 packets_text config asked c = so_far config asked c.header c.packets
 
--- Why the answer is that of the whole file: the bytes that were read end it, or what follows them doesn't matter.
+-- The result is that of the whole file: the bytes that were read end it, or the bytes after them don't matter.
 abbrev pub IsEndedBy : Configuration → Asked → ReadCapture → (old new : InputState) → Result Counters ReplayFault → Type 0
 IsEndedBy config asked c old new (Ok counters) =
     (answer_of config asked c ≡ Ok counters) × IsAtEnd new.ahead × (new.failed ≡ old.failed)
@@ -45,8 +45,8 @@ IsEndedBy config asked c old new (Err (answer.Gap number)) =
 IsEndedBy config asked c old new (Err answer.Write) = Unit {0}
 IsEndedBy config asked c old new (Err answer.Memory) = c.bytes ≡ []
 
--- What was written: the text of the report; where a read failed, that of the packets that were read; and where a write
--- failed, a beginning of that one, or, if the file had ended, of the report.
+-- The text of the report was written. If a read failed, it was the text of the packets that were read. If a write
+-- failed, it was a prefix of that text, or a prefix of the report if the file had ended.
 abbrev pub IsWritten : Configuration → Asked → ReadCapture → InputState → (before after : Option (List ℕ)) → Result Counters ReplayFault → Type 0
 IsWritten config asked c new before after (Err answer.Write) =
     GrowsByBeginning before after (packets_text config asked c)
@@ -55,8 +55,8 @@ IsWritten config asked c new before after (Err (answer.Pcap fault.Read)) = Appen
 IsWritten config asked c new before after (Err answer.Memory) = Appends before after []
 IsWritten config asked c new before after r = Appends before after (text_of config asked c)
 
--- A capture was replayed. Some bytes were taken from the input, and what was written and answered is what the report
--- of the capture has that they are, taken as a whole file.
+-- A capture was replayed. Some bytes were read from the input. As a whole file they are a capture, and the text and the
+-- result of its report were written and returned.
 pub record Replays (config : Configuration) (asked : Asked) (old new : InputState) (before after : Option (List ℕ))
     (r : Result Counters ReplayFault) : Type 0 where
   pub read : ReadCapture

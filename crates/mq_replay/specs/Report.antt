@@ -1,5 +1,5 @@
--- What a replay writes: a line for each query that the link sends and for each packet; where they are asked for, lines for the
--- groups that each event changes; and at the end what the link holds.
+-- The text of a replay: a line for each query that the link sends and for each packet. If they are requested, there are
+-- lines for the groups that each event changes. At the end are lines for the state of the link.
 use Rattle.std.specs.Prelude.{ℕ, zero, suc, ◌+◌, max, nat_lt, Bool, true, false, List, [], ◌∷◌, ◌++◌, length, filter, map as list_map, Option, None, Some, Result, Ok, Err, unwrap_or}
 use Rattle.std.specs.Ordering.{nat_cmp}
 use Rattle.std.specs.FinMap as map
@@ -29,46 +29,46 @@ use Rattle.mq_replay.specs.ChangeLines.{change_lines, lines_asked}
 use Rattle.mq_replay.specs.Listing.{moment_of}
 use Rattle.mq_replay.specs.ReplayLines.{query_lines, receipt_line, skip_line, end_lines}
 
--- A replay under way: the link, the text so far, and whether the lines of the groups that change are asked for.
+-- A replay under way: the link, the text so far, and whether the lines of changed groups are requested.
 pub record Replayed : Type 0 where
   pub link : LinkState
   pub text : List ℕ
   pub changes : Bool
 
--- the link starts at 0, and nothing is written
+-- the replay at the start: the link starts at 0, and nothing is written
 abbrev pub at_the_start : Configuration → (changes : Bool) → Replayed
 at_the_start config changes = record { link = link_at config 0; text = []; changes = changes }
 
--- what the outlet of a replay answers: each message is sent
+-- the answers of a replay's outlet: each message is sent
 abbrev pub all_sent : List Outgoing → List Bool
 all_sent messages = list_map (λ message. true) messages
 
--- a step of the link at a moment: a line for each message
+-- the replay after a step of the link at a moment, with a line for each message
 abbrev pub after_step : Configuration → (moment : ℕ) → Step → Replayed → Replayed
 after_step config moment step r =
     let messages = outgoing_of config step in
     record r { link = answered (all_sent messages) step; text = r.text ++ query_lines config.family moment messages }
 
--- some addresses, ascending, each once
+-- these addresses in ascending order, each once
 abbrev pub in_order : List ℕ → List ℕ
 in_order addresses = map.keys (map.from_entries {R = nat_cmp} (list_map (λ address. (address, address)) addresses))
 
--- those of them that pass a test
+-- those of the addresses that pass a test, in ascending order
 abbrev pub those_among : (test : ℕ → Bool) → (addresses : List ℕ) → List ℕ
 those_among test addresses = filter test (in_order addresses)
 
--- the lines of the groups that were changed at a moment, behind all other lines of the event that changed them
+-- the replay with the lines of the groups that were changed at a moment, after all other lines of the event
 abbrev pub with_changes : Family → (moment : ℕ) → (changed : List ℕ) → Replayed → Replayed
 with_changes family moment changed r =
     record r { text = r.text ++ lines_asked r.changes (change_lines family moment r.link.groups changed) }
 
--- a tick at a moment: it changes only groups that are held
+-- the replay after a tick at a moment, which only changes groups that are held
 unfoldable pub ticked_at : Configuration → (moment : ℕ) → Replayed → Replayed
 ticked_at config moment r =
     with_changes config.family moment (those_among (changed_by_tick config moment r.link) (map.keys r.link.groups))
     (after_step config moment (tick_of config moment r.link) r)
 
--- Ticks at the link's next moments, one after the other, as long as these are before a limit; `most` at most.
+-- The replay after ticks at the link's next moments, while these are before a limit. There are at most `most`.
 unfoldable pub ticked_within : (most : ℕ) → Configuration → (limit : ℕ) → Replayed → Replayed
 ticked_within zero config limit r = r
 ticked_within (suc most) config limit r =
@@ -77,17 +77,17 @@ ticked_within (suc most) config limit r =
       | false ↦ r
     ]
 
--- All ticks before a limit. After each the link's next moment is later, so they are no more than the moments before the
--- limit.
+-- The replay after all ticks before a limit. After each the link's next moment is later, so there are at most as many
+-- as moments before the limit.
 abbrev pub ticked_before : Configuration → (limit : ℕ) → Replayed → Replayed
 ticked_before config limit r = ticked_within limit config limit r
 
--- A datagram that the link is handed: what its packet says of it, and its bytes.
+-- A datagram for the link: its envelope, and its bytes.
 pub record Datagram : Type 0 where
   pub envelope : Envelope
   pub body : List ℕ
 
--- the datagram of a packet that carries a message of the family; of IGMP only the source is looked at
+-- the datagram of a packet that carries a message of the family; for IGMP only the source is looked at
 abbrev pub datagram_of : Family → Carried → Option Datagram
 datagram_of family.Igmp (Igmp source body) =
     Some (record { envelope = record { source = source; destination = 0; hop_limit = 0; alert = false }; body = body })
@@ -98,7 +98,7 @@ datagram_of family.Mld (Mld source destination hop_limit alert body) = Some (rec
 })
 datagram_of family.Mld carried = None
 
--- the groups that a datagram speaks of, by what was read of it; a query changes none
+-- the groups that a datagram names, by what was read of it; a query changes none
 abbrev pub spoken_of : Result (Message ℕ) WireFault → List ℕ
 spoken_of (Err fault) = []
 spoken_of (Ok (AQuery query)) = []
@@ -106,13 +106,13 @@ spoken_of (Ok (OldReport version group)) = group ∷ []
 spoken_of (Ok (Leave group)) = group ∷ []
 spoken_of (Ok (AReport records)) = list_map (λ r. r.group) records
 
--- the groups that a datagram changes: only such that are held before it, and such that it speaks of
+-- the groups that a datagram changes: only groups that were held before, or that it names
 abbrev pub changed_at : Configuration → (moment : ℕ) → Datagram → LinkState → List ℕ
 changed_at config moment datagram link =
     let read = read_of config.family (pseudo_of config.family datagram.envelope datagram.body) datagram.body in
     those_among (changed_by_datagram config datagram.envelope datagram.body moment link) (map.keys link.groups ++ spoken_of read)
 
--- the datagram of packet `number` at its moment: the messages that the link sends, and then what it answers
+-- the replay after the datagram of packet `number` at its moment: the messages that the link sends, and then its answer
 unfoldable pub received_at : Configuration → (moment number : ℕ) → Datagram → Replayed → Replayed
 received_at config moment number datagram r =
     let receipt = receipt_of config datagram.envelope datagram.body moment r.link in
@@ -122,29 +122,30 @@ received_at config moment number datagram r =
       text = after.text ++ receipt_line config.family moment number datagram.envelope.source receipt.answer;
     })
 
--- a packet that has a datagram for the link, or is skipped
+-- the replay after a packet that has a datagram for the link, or is skipped
 abbrev pub taken_or_skipped : Configuration → (moment number : ℕ) → Carried → Option Datagram → Replayed → Replayed
 taken_or_skipped config moment number carried (Some datagram) r = received_at config moment number datagram r
 taken_or_skipped config moment number carried None r =
     record r { text = r.text ++ skip_line moment number carried }
 
--- packet `number` at its moment: first what happens before that
+-- the replay after packet `number` at its moment, and after the ticks before it
 unfoldable pub with_packet : Configuration → (moment number : ℕ) → Carried → Replayed → Replayed
 with_packet config moment number carried r =
     taken_or_skipped config moment number carried (datagram_of config.family carried) (ticked_before config moment r)
 
--- a moment lies more than a day behind the moment before it
+-- a moment is more than a day after the moment before it
 abbrev pub is_gap : (before moment : ℕ) → Bool
 is_gap before moment = nat_lt (before + 86400000) moment
 
--- What packets come to: the replay, the moment of the last one, and where a gap ended it, the number of the packet
--- behind that gap.
+-- The course of packets: the replay, and the moment of the last one. If a gap ended it, `gap` is the number of the
+-- packet after that gap.
 pub record Course : Type 0 where
   pub replayed : Replayed
   pub moment : ℕ
   pub gap : Option ℕ
 
--- packets, one after the other, up to the first gap: the number of the next, and what its moment is counted from
+-- The course of packets up to the first gap. `number` is that of the next packet, and its moment is counted from
+-- `first` and `before`.
 unfoldable pub with_packets : Configuration → LinkType → (first : Option ℕ) → (before number : ℕ) → List Captured → Replayed → Course
 with_packets config link first before number [] r = record { replayed = r; moment = before; gap = None }
 with_packets config link first before number (packet ∷ packets) r =
@@ -156,16 +157,16 @@ with_packets config link first before number (packet ∷ packets) r =
           (with_packet config moment number (carried_in link packet.bytes) r)
     ]
 
--- the packets of a capture, numbered from 1
+-- the course of a capture's packets, numbered from 1
 abbrev pub with_all_packets : Configuration → (changes : Bool) → Form → List Captured → Course
 with_all_packets config changes form packets = with_packets config form.link None 0 1 packets (at_the_start config changes)
 
--- A report: its text, and the counters at the end of the run, or why it ends before.
+-- A report: its text, and the counters at the end of the run, or the reason why it ends before.
 pub record Report : Type 0 where
   pub text : List ℕ
   pub answer : Result Counters ReplayFault
 
--- up to and including a moment, and then what the link is and holds
+-- the report at a moment: all ticks up to it and at it, and then the state of the link
 unfoldable pub ended_at : Configuration → (moment : ℕ) → Replayed → Report
 ended_at config moment r =
     let done = ticked_before config (moment + 1) r in
@@ -176,15 +177,16 @@ ended_at config moment r =
       answer = Ok done.link.counters;
     }
 
--- where a fault or a gap ends it, nothing more is written
+-- the report that a fault or a gap ends: nothing more is written
 abbrev pub broken_off : ReplayFault → Course → Report
 broken_off fault course = record { text = course.replayed.text; answer = Err fault }
 
--- the moment at which a replay ends: that of the last packet, or the one that is asked for, if that is later
+-- the moment of the end of a replay: that of the last packet, or the requested one if it is later
 abbrev pub last_moment : (until : Option ℕ) → Course → ℕ
 last_moment until course = max course.moment (unwrap_or until 0)
 
--- what stands behind the packets: the capture's end or its fault, unless a gap comes first; the number of the next packet
+-- The report after the packets. There is the capture's end or its fault, unless a gap comes first. `number` is that of
+-- the next packet.
 abbrev pub reported : Configuration → Asked → (number : ℕ) → (end : Option PcapFault) → (gap : Option ℕ) → Course → Report
 reported config asked number end (Some gap) course = broken_off (Gap gap) course
 reported config asked number (Some fault) None course = broken_off (Pcap fault) course
@@ -194,7 +196,7 @@ reported config asked number None None course =
       | false ↦ ended_at config (last_moment asked.until course) course.replayed
     ]
 
--- The report of a capture: what its header says, its packets, and its end.
+-- The report of a capture, by its header, its packets, and its end.
 abbrev pub report_of : Configuration → Asked → Result Form PcapFault → List Captured → (end : Option PcapFault) → Report
 report_of config asked (Err fault) packets end = record { text = []; answer = Err (Pcap fault) }
 report_of config asked (Ok form) packets end =

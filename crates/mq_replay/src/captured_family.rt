@@ -11,7 +11,7 @@ use mq_pcap::Inner;
 /// A datagram that a packet carries.
 #[derive(Drop)]
 pub struct CapturedDatagram<'a, E> {
-    /// What the packet says of it.
+    /// The facts of its packet.
     pub envelope: E,
     /// Its bytes, without the IP header.
     pub body: &'a [u8],
@@ -22,7 +22,7 @@ pub trait CapturedFamily: Family
 where
     Self::Address: LineKey,
 {
-    /// The datagram that a packet carries, if it carries one of this family.
+    /// Returns the datagram that a packet carries, if it carries one of this family.
     fn datagram<'a>(inner: &Inner<'a>) -> Option<CapturedDatagram<'a, Self::Envelope>>
         ensures { IsDatagramOf Self.FAMILY Self.envelope_of (carried_of inner.now) result };
 

@@ -20,7 +20,7 @@ use mq_text::{LineFault, Text, make_room};
 use std::alloc::Allocator;
 use std::io::Write;
 
-/// Puts, where they are asked for, the lines of the groups that the last call of a link has changed.
+/// Puts the lines of the groups that the last call of a link has changed, if they are requested.
 pub(crate) fn put_changes<F: Family, A: Allocator, W: Write>(
     link: &Link<F, A>,
     moment: Moment,
@@ -42,7 +42,7 @@ where
     put_each(link, moment, buffer, writer)
 }
 
-/// Puts the line of each.
+/// Puts the line of each group that the last call has changed.
 fn put_each<F: Family, A: Allocator, W: Write>(
     link: &Link<F, A>,
     moment: Moment,
@@ -63,7 +63,7 @@ where
     Ok(())
 }
 
-/// Puts the line of a group; of one that isn't held nothing is forwarded.
+/// Puts the line of a group. A group that isn't held forwards nothing.
 fn put_group<F: Family, A: Allocator, W: Write>(
     link: &Link<F, A>,
     moment: Moment,

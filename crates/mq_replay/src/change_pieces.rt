@@ -14,7 +14,7 @@ use mq_lines::{LineKey, put_address};
 use mq_table::{FilterMode, Source};
 use mq_text::{Text, put};
 
-/// Puts the beginning of the line at the end, up to the sources that the filter names.
+/// Puts the start of the line at the end, up to the sources that the filter names.
 pub(crate) fn put_change_start<K: LineKey>(
     buffer: &mut Text,
     moment: Moment,
@@ -32,7 +32,7 @@ pub(crate) fn put_change_start<K: LineKey>(
     put_name(buffer, mode.is_include(), names_one(mode, sources));
 }
 
-/// Puts the line of a group of which nothing is forwarded at the end.
+/// Puts the line of a group that forwards nothing at the end.
 pub(crate) fn put_none<K: LineKey>(buffer: &mut Text, moment: Moment, address: K)
     requires { array_vec_len buffer.old + 80 ≤ 4096 }
     ensures { buffer.new.items ≡ buffer.old.items ++ ((change_start K.family moment (K.number address) ++ codes " none") ++ codes "\n") }
@@ -44,7 +44,7 @@ pub(crate) fn put_none<K: LineKey>(buffer: &mut Text, moment: Moment, address: K
     put(buffer, b"\n");
 }
 
-/// Puts which of the three kinds of filter it is at the end.
+/// Puts the kind of the filter at the end: one of three.
 fn put_name(buffer: &mut Text, is_include: bool, some: bool)
     requires { array_vec_len buffer.old + 8 ≤ 4096 }
     ensures { buffer.new.items ≡ buffer.old.items ++ name_by is_include some }
@@ -58,7 +58,7 @@ fn put_name(buffer: &mut Text, is_include: bool, some: bool)
     }
 }
 
-/// Whether the filter of a group of this mode, with these sources, names one.
+/// Returns whether the filter of a group in this mode, with these sources, names one.
 fn names_one<K: LineKey>(mode: &FilterMode, sources: &[Source<K>]) -> bool
     ensures { result ≡ list_any (λ x. is_named mode.now x.timer) sources.now }
 {

@@ -18,10 +18,10 @@ use mq_text::{LineFault, Text};
 use std::alloc::Allocator;
 use std::io::Write;
 
-/// How far apart two moments of a replay may be at most, in milliseconds.
+/// The greatest distance between two moments of a replay, in milliseconds.
 const A_DAY: u32 = 86_400_000;
 
-/// Whether a moment lies more than a day behind the one before it.
+/// Returns whether a moment is more than a day after the one before it.
 pub fn is_gap(before: Moment, moment: Moment) -> bool
     requires { before ≤ 2 ^ 53 }
     ensures { result ≡ spec.is_gap before moment }
@@ -30,7 +30,7 @@ pub fn is_gap(before: Moment, moment: Moment) -> bool
     !Meter::new().reached(moment, latest)
 }
 
-/// The moment at which a replay ends: that of the last packet, or the one that is asked for, if that is later.
+/// Returns the moment of the end of a replay: that of the last packet, or the requested one if it is later.
 pub(crate) fn last_moment(until: Option<Moment>, last: Moment) -> Moment
     ensures { result ≡ max last (unwrap_or until 0) }
 {
@@ -40,7 +40,7 @@ pub(crate) fn last_moment(until: Option<Moment>, last: Moment) -> Moment
     }
 }
 
-/// Does the ticks up to and including the end of a replay, and puts what the link is and holds then.
+/// Ticks up to and including the end of a replay, and puts the state of the link then.
 pub(crate) fn put_ending<F: CapturedFamily, A: Allocator, W: Write>(
     link: &mut Link<F, A>,
     end: Moment,

@@ -15,8 +15,8 @@ use mq_text::{LineFault, Text};
 use std::alloc::Allocator;
 use std::io::Write;
 
-/// Does a tick of a link: puts the line of each query that it sends, and then, where they are asked for, those of the groups
-/// that it changes.
+/// Ticks a link, and puts the line of each query that it sends. Then it puts the lines of the groups that it changes,
+/// if they are requested.
 pub(crate) fn tick_at<F: CapturedFamily, A: Allocator, W: Write>(
     link: &mut Link<F, A>,
     moment: Moment,

@@ -11,7 +11,7 @@ use mq_count::Watched;
 use mq_text::{LineFault, Text, make_room, put};
 use std::io::Write;
 
-/// How many bytes are put at once.
+/// The number of bytes that are put at once.
 const AT_ONCE: usize = 64;
 
 /// Puts bytes in lower-case hexadecimal.

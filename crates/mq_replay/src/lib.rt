@@ -1,9 +1,9 @@
-//! What is printed of captures: their listings, and their replays on a link.
+//! The printed text of captures: their listings, and their replays on a link.
 //!
-//! - The listing of a capture: `show`, and its replay on a link: `replay`, of which something is `Asked`; and `ReplayFault`, which
-//!   says why one ended early.
+//! - The listing of a capture: `show`. Its replay on a link: `replay`, with a request `Asked`. The reason why one ended
+//!   early: `ReplayFault`.
 //! - The families whose datagrams captures carry: `CapturedFamily`, `CapturedDatagram`.
-//! - The moments of a capture's packets: `Stamps` and `first_moment`, and `is_gap`, which says that two lie too far apart.
+//! - The moments of a capture's packets: `Stamps` and `first_moment`, and `is_gap` for two that are too far apart.
 #![tactic(auto)]
 
 mod asked;
@@ -24,6 +24,7 @@ mod replaying;
 mod sent_queries;
 mod stamps;
 mod ticks;
+mod waiting;
 
 pub use asked::Asked;
 pub use captured_family::{CapturedDatagram, CapturedFamily};

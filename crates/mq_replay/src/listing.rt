@@ -15,18 +15,20 @@ ghost use Rattle.mq_replay.specs.Putting.{PutsListing, PutsPacket, PutsPackets, 
 
 use crate::replay_fault::{ReplayFault, is_failed_write};
 use crate::stamps::Stamps;
+use crate::waiting::write_before_wait;
 use mq_count::Watched;
 use mq_lines::{LineKey, put_address, put_igmp, put_mld};
-use mq_pcap::{GREATEST_PACKET, Inner, LinkType, PcapReader, unwrap_frame};
+use mq_pcap::{GREATEST_PACKET, Inner, LinkType, PcapReader, Supply, unwrap_frame};
 use mq_text::{LineFault, Text, flush, make_room, put, put_decimal};
 use std::alloc::Allocator;
 use std::io::{Read, Write};
 
-/// Writes a line for each packet of a capture, and answers how many they are. Memory for one packet is taken
-/// before anything is read or written. Where the capture has a fault, the lines of all packets before it are
-/// written first.
-pub fn show<A: Allocator, R: Read, W: Write>(
+/// Writes a line for each packet of a capture, and returns how many there are. Memory for one packet is allocated
+/// before anything is read or written. If the capture has a fault, the lines of all packets before it are written
+/// first. Before a read that may wait by the stream's `supply`, the lines of all packets so far are written.
+pub fn show<A: Allocator, S: Supply, R: Read, W: Write>(
     alloc: A,
+    supply: &S,
     reader: &mut Watched<R>,
     writer: &mut Watched<W>,
 ) -> Result<u64, ReplayFault>
@@ -41,12 +43,13 @@ pub fn show<A: Allocator, R: Read, W: Write>(
         Ok(packet) => packet,
         Err(_) => return Err(ReplayFault::Memory),
     };
-    show_by(packet.as_mut_slice(), reader, writer)
+    show_by(packet.as_mut_slice(), supply, reader, writer)
 }
 
-/// The same with room for a packet that is lent.
-fn show_by<R: Read, W: Write>(
+/// Writes the lines of a capture, with memory of the caller for a packet.
+fn show_by<S: Supply, R: Read, W: Write>(
     packet: &mut [u8],
+    supply: &S,
     reader: &mut Watched<R>,
     writer: &mut Watched<W>,
 ) -> Result<u64, ReplayFault>
@@ -59,7 +62,7 @@ fn show_by<R: Read, W: Write>(
     ensures no_memory { result ≡ Err ReplayFault.Memory → ⊥ }
 {
     let mut buffer = Text::new();
-    let answer = put_listing(packet, &mut buffer, reader, writer);
+    let answer = put_listing(packet, supply, &mut buffer, reader, writer);
     if is_failed_write(&answer) {
         return answer;
     }
@@ -68,8 +71,9 @@ fn show_by<R: Read, W: Write>(
 }
 
 /// Puts the lines of a capture.
-fn put_listing<R: Read, W: Write>(
+fn put_listing<S: Supply, R: Read, W: Write>(
     packet: &mut [u8],
+    supply: &S,
     buffer: &mut Text,
     reader: &mut Watched<R>,
     writer: &mut Watched<W>,
@@ -83,13 +87,14 @@ fn put_listing<R: Read, W: Write>(
     ensures no_memory { result ≡ Err ReplayFault.Memory → ⊥ }
 {
     let mut capture = PcapReader::open(reader)?;
-    put_packets(&mut capture, packet, buffer, reader, writer)
+    put_packets(&mut capture, packet, supply, buffer, reader, writer)
 }
 
 /// Puts the lines of the packets of a capture before its first packet was read.
-fn put_packets<R: Read, W: Write>(
+fn put_packets<S: Supply, R: Read, W: Write>(
     capture: &mut PcapReader,
     packet: &mut [u8],
+    supply: &S,
     buffer: &mut Text,
     reader: &mut Watched<R>,
     writer: &mut Watched<W>,
@@ -111,6 +116,7 @@ fn put_packets<R: Read, W: Write>(
         let moment = stamps.moment_of_next(read.stamp_ms);
         let frame = &packet[..read.length];
         put_packet(number, moment, capture.link(), frame, buffer, writer)?;
+        write_before_wait(capture, supply, buffer, writer)?;
     }
     Ok(number)
 }
@@ -146,7 +152,7 @@ fn put_place(buffer: &mut Text, number: u64, moment: u64)
     put(buffer, b" ");
 }
 
-/// Puts what is said of a packet, to the end of its line.
+/// Puts the text of a packet, to the end of its line.
 fn put_said<W: Write>(
     inner: Inner<'_>,
     buffer: &mut Text,

@@ -1,4 +1,4 @@
-//! What a replay does with one packet.
+//! One packet of a replay.
 
 ghost use Rattle.std.specs.Prelude.{◌≡◌, ◌≤◌, ◌^◌, ◌||◌, is_err};
 ghost use Rattle.mq_count.specs.Streams.{inner_of, has_failed};
@@ -19,7 +19,7 @@ use mq_text::{LineFault, Text};
 use std::alloc::Allocator;
 use std::io::Write;
 
-/// Does the ticks before a packet, and then hands its datagram to the link, or skips it: puts the lines of all this.
+/// Ticks before a packet, then gives its datagram to the link or skips it, and puts the lines of all this.
 pub(crate) fn replay_packet<F: CapturedFamily, A: Allocator, W: Write>(
     link: &mut Link<F, A>,
     moment: Moment,
@@ -46,8 +46,8 @@ where
     }
 }
 
-/// Hands a datagram to a link: puts the lines of the queries that it sends, that of its answer, and then, where they are asked
-/// for, those of the groups that it changes.
+/// Gives a datagram to a link, and puts the lines of the queries that it sends and of its answer. Then it puts the
+/// lines of the groups that it changes, if they are requested.
 fn hand_over<F: CapturedFamily, A: Allocator, W: Write>(
     link: &mut Link<F, A>,
     moment: Moment,

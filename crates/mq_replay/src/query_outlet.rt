@@ -9,8 +9,8 @@ use mq_link::Outlet;
 use mq_text::{LineFault, Text};
 use std::io::Write;
 
-/// Puts the line of each query at one moment. It answers true where the line was put. Once a write has failed it puts
-/// nothing more.
+/// An outlet that puts the line of each query at one moment. It answers true if the line was put. Once a write has
+/// failed it puts nothing more.
 #[derive(Drop)]
 pub(crate) struct QueryLines<'a, W> {
     buffer: &'a mut Text,
@@ -20,7 +20,7 @@ pub(crate) struct QueryLines<'a, W> {
 }
 
 impl<'a, W: Write> QueryLines<'a, W> {
-    /// For queries at this moment.
+    /// Returns an outlet for queries at this moment.
     pub(crate) fn new(
         buffer: &'a mut Text,
         writer: &'a mut Watched<W>,
@@ -41,7 +41,7 @@ impl<'a, W: Write> QueryLines<'a, W> {
         }
     }
 
-    /// Whether each line so far was put, or a write failed.
+    /// Returns whether each line so far was put, or a write failed.
     pub(crate) fn answer(&self) -> Result<(), LineFault>
         ensures { result ≡ self.now.answer }
     {

@@ -1,4 +1,4 @@
-//! Why a capture was not shown or replayed to its end.
+//! The reasons why a capture was not shown or replayed to its end.
 
 ghost use Rattle.std.specs.Prelude.{◌≡◌};
 ghost use Rattle.mq_replay.specs.Listing as spec;
@@ -8,23 +8,23 @@ use mq_pcap::PcapFault;
 use mq_text::LineFault;
 use thiserror::Error;
 
-/// Why a capture was not shown or replayed to its end.
+/// The reason why a capture was not shown or replayed to its end.
 #[derive(Clone, Copy, Debug, PartialEq, Eq, Error)]
 pub enum ReplayFault {
-    /// The capture has a fault, or a read of it failed.
+    /// A fault of the capture, or a failed read of it.
     #[error("{0}")]
     Pcap(PcapFault),
-    /// A write failed, or took none of the bytes that it was given.
+    /// A failed write, or a write that took none of its bytes.
     #[error("write failed")]
     Write,
-    /// A moment lies more than a day behind the one before it.
+    /// A moment more than a day after the one before it.
     #[error("gap before record {number}")]
     Gap {
-        /// The number of the packet behind the gap; or of the one that would follow the last, where the gap
-        /// is before the end of the replay.
+        /// The number of the packet after the gap. If the gap is before the end of the replay, it is the number of the
+        /// packet that would follow the last.
         number: u64,
     },
-    /// A growth was refused.
+    /// A refused growth.
     #[error("out of memory")]
     Memory,
 }
@@ -45,7 +45,7 @@ impl From<LineFault> for ReplayFault {
     }
 }
 
-/// Whether a listing or a replay broke off since a write failed.
+/// Returns whether a listing or a replay ended because a write failed.
 pub(crate) fn is_failed_write<T>(answer: &Result<T, ReplayFault>) -> bool
     ensures { result ≡ spec.is_failed_write answer.now }
 {

@@ -17,7 +17,7 @@ use mq_pcap::Inner;
 use mq_text::{LineFault, Text, make_room};
 use std::io::Write;
 
-/// Puts the line of a query that is sent at a moment: where it goes, and its bytes.
+/// Puts the line of a query that is sent at a moment: its destination, and its bytes.
 pub(crate) fn put_query<K: LineKey, W: Write>(
     moment: Moment,
     to: K,
@@ -36,8 +36,8 @@ pub(crate) fn put_query<K: LineKey, W: Write>(
     put_end(buffer, writer)
 }
 
-/// Puts the line of a datagram that the link was handed at a moment, with its number and its source, and what the
-/// link answered.
+/// Puts the line of a datagram that the link received at a moment. The line has its number, its source, and the link's
+/// answer.
 pub(crate) fn put_receipt<K: LineKey, W: Write>(
     moment: Moment,
     number: u64,
@@ -56,7 +56,7 @@ pub(crate) fn put_receipt<K: LineKey, W: Write>(
     Ok(())
 }
 
-/// Puts the line of a packet that isn't handed to the link. One with a message is of the other family.
+/// Puts the line of a packet that isn't for the link. A packet with a message is of the other family.
 pub(crate) fn put_skip<W: Write>(
     moment: Moment,
     number: u64,
@@ -74,7 +74,7 @@ pub(crate) fn put_skip<W: Write>(
     Ok(())
 }
 
-/// Puts the line of the moment at which a replay ends, and of whether the router is querier then.
+/// Puts the line of the moment of the end of a replay, and of whether the router is querier then.
 pub(crate) fn put_role<W: Write>(
     moment: Moment,
     is_querier: bool,
@@ -91,7 +91,7 @@ pub(crate) fn put_role<W: Write>(
     Ok(())
 }
 
-/// Puts the line of what was counted.
+/// Puts the line of the counters.
 pub(crate) fn put_counts<W: Write>(
     counts: &Counts,
     buffer: &mut Text,

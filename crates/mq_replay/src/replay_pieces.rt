@@ -25,7 +25,7 @@ pub(crate) fn put_moment(buffer: &mut Text, moment: Moment)
     put(buffer, &digits[..count]);
 }
 
-/// Puts the beginning of a query's line at the end, up to its bytes.
+/// Puts the start of a query's line at the end, up to its bytes.
 pub(crate) fn put_query_start<K: LineKey>(buffer: &mut Text, moment: Moment, to: K)
     requires { array_vec_len buffer.old + 67 ≤ 4096 }
     ensures { buffer.new.items ≡ buffer.old.items ++ spec.query_start K.family moment (K.number to) }
@@ -36,7 +36,7 @@ pub(crate) fn put_query_start<K: LineKey>(buffer: &mut Text, moment: Moment, to:
     put(buffer, b" ");
 }
 
-/// Puts the moment of a packet, what is done with it, and its number at the end.
+/// Puts the moment of a packet, its treatment, and its number at the end.
 fn put_packet(buffer: &mut Text, moment: Moment, what: &[u8], number: u64)
     requires { array_vec_len buffer.old + 40 + length what.now ≤ 4096 }
     ensures text { buffer.new.items ≡ buffer.old.items ++ spec.packet_text moment what.now number }
@@ -47,7 +47,7 @@ fn put_packet(buffer: &mut Text, moment: Moment, what: &[u8], number: u64)
     put_decimal(buffer, number);
 }
 
-/// Puts the line of a datagram that the link was handed at the end.
+/// Puts the line of a datagram that the link received at the end.
 pub(crate) fn put_receipt_line<K: LineKey>(
     buffer: &mut Text,
     moment: Moment,
@@ -66,7 +66,7 @@ pub(crate) fn put_receipt_line<K: LineKey>(
     put(buffer, b"\n");
 }
 
-/// Puts what became of a datagram at the end.
+/// Puts the answer to a datagram at the end.
 fn put_answer(buffer: &mut Text, answer: Received)
     requires { array_vec_len buffer.old + 70 ≤ 4096 }
     ensures text { buffer.new.items ≡ buffer.old.items ++ spec.received_text answer }
@@ -103,7 +103,7 @@ pub(crate) fn put_skip_line(buffer: &mut Text, moment: Moment, number: u64, inne
     put(buffer, b"\n");
 }
 
-/// Puts why a packet is skipped at the end.
+/// Puts the reason to skip a packet at the end.
 fn put_skipped(buffer: &mut Text, inner: &Inner<'_>)
     requires { array_vec_len buffer.old + 8 ≤ 4096 }
     ensures text { buffer.new.items ≡ buffer.old.items ++ spec.skipped_text (carried_of inner.now) }
@@ -116,7 +116,7 @@ fn put_skipped(buffer: &mut Text, inner: &Inner<'_>)
     }
 }
 
-/// Puts the line of the moment at which a replay ends, and of the role then, at the end.
+/// Puts the line of the moment of the end of a replay, and of the role then, at the end.
 pub(crate) fn put_role_line(buffer: &mut Text, moment: Moment, is_querier: bool)
     requires { array_vec_len buffer.old + 40 ≤ 4096 }
     ensures { buffer.new.items ≡ buffer.old.items ++ spec.end_line moment is_querier }
@@ -133,7 +133,7 @@ pub(crate) fn put_role_line(buffer: &mut Text, moment: Moment, is_querier: bool)
     );
 }
 
-/// Puts the beginning of a group's line at the end, up to its sources.
+/// Puts the start of a group's line at the end, up to its sources.
 pub(crate) fn put_group_start<K: LineKey>(buffer: &mut Text, address: K, mode: FilterMode)
     requires { array_vec_len buffer.old + 80 ≤ 4096 }
     ensures { buffer.new.items ≡ buffer.old.items ++ spec.group_start K.family (K.number address) mode }
@@ -187,7 +187,7 @@ pub(crate) fn put_older_hosts(buffer: &mut Text, v1: Option<Moment>, v2: Option<
     put(buffer, b"\n");
 }
 
-/// Puts a timer at the end behind its name, where it runs.
+/// Puts a timer at the end after its name, if it runs.
 fn put_deadline(buffer: &mut Text, name: &[u8], deadline: Option<Moment>)
     requires { array_vec_len buffer.old + 20 + length name.now ≤ 4096 }
     ensures text { buffer.new.items ≡ buffer.old.items ++ spec.deadline_text name.now deadline }
@@ -211,7 +211,7 @@ pub(crate) fn put_counts_line(buffer: &mut Text, counts: &Counts)
     put(buffer, b"\n");
 }
 
-/// Puts at the end how many datagrams were received and dropped.
+/// Puts the numbers of received and dropped datagrams at the end.
 fn put_datagram_counts(buffer: &mut Text, counts: &Counts)
     requires { array_vec_len buffer.old + 60 ≤ 4096 }
     ensures text { buffer.new.items ≡ buffer.old.items ++ spec.datagram_counts_text counts.now }
@@ -221,7 +221,7 @@ fn put_datagram_counts(buffer: &mut Text, counts: &Counts)
     put_count(buffer, b" dropped ", counts.dropped());
 }
 
-/// Puts at the end how many records were applied, ignored and refused.
+/// Puts the numbers of applied, ignored and refused records at the end.
 fn put_record_counts(buffer: &mut Text, counts: &Counts)
     requires { array_vec_len buffer.old + 90 ≤ 4096 }
     ensures text { buffer.new.items ≡ buffer.old.items ++ spec.record_counts_text counts.now }
@@ -232,7 +232,7 @@ fn put_record_counts(buffer: &mut Text, counts: &Counts)
     put_count(buffer, b" refused ", counts.refused());
 }
 
-/// Puts at the end how many queries were sent, and how many were not.
+/// Puts the numbers of sent and unsent queries at the end.
 fn put_query_counts(buffer: &mut Text, counts: &Counts)
     requires { array_vec_len buffer.old + 60 ≤ 4096 }
     ensures text { buffer.new.items ≡ buffer.old.items ++ spec.query_counts_text counts.now }
@@ -242,7 +242,7 @@ fn put_query_counts(buffer: &mut Text, counts: &Counts)
     put_count(buffer, b" unsent ", counts.unsent());
 }
 
-/// Puts a number at the end behind its name.
+/// Puts a number at the end after its name.
 fn put_count(buffer: &mut Text, name: &[u8], count: u64)
     requires { array_vec_len buffer.old + 20 + length name.now ≤ 4096 }
     ensures text { buffer.new.items ≡ buffer.old.items ++ (name.now ++ decimal count) }

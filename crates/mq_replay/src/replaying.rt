@@ -17,24 +17,30 @@ use crate::ending::{is_gap, last_moment, put_ending};
 use crate::one_packet::replay_packet;
 use crate::replay_fault::{ReplayFault, is_failed_write};
 use crate::stamps::{Stamps, first_moment};
+use crate::waiting::write_before_wait;
 use mq_count::{Moment, Watched};
 use mq_lines::LineKey;
 use mq_link::{Config, Counts, Link};
-use mq_pcap::{GREATEST_PACKET, PcapReader, unwrap_frame};
+use mq_pcap::{GREATEST_PACKET, PcapReader, Supply, unwrap_frame};
 use mq_text::{Text, flush};
 use std::alloc::Allocator;
 use std::io::{Read, Write};
 
-/// Replays a capture: a link so configured, which starts at 0, is handed its datagrams at their moments, with a tick at
-/// each of its next moments between. Writes a line for each query that is sent and for each packet, where they are asked for lines
-/// for the groups that each event changes, and at the end what the link is and holds; and answers what it counted. The end is
-/// the moment of the last packet, or the one that is asked for, if that is later.
-/// All memory is taken before anything is read or written. Where the capture has a fault or a gap, the lines of all that
-/// comes before it are written first.
-pub fn replay<F: CapturedFamily, A: Allocator + Copy, R: Read, W: Write>(
+/// Replays a capture on a link with this configuration, and returns its counters.
+///
+/// The link starts at 0, and receives the datagrams of the capture at their moments, with a tick at each of its next
+/// moments between. The replay writes a line for each query that is sent and for each packet. If they are requested, it
+/// writes lines for the groups that each event changes. At the end it writes the state of the link. The end is the
+/// moment of the last packet, or the requested one if it is later.
+///
+/// All memory is allocated before anything is read or written. If the capture has a fault or a gap, the lines of all
+/// that comes before it are written first. Before a read that may wait by the stream's `supply`, the lines so far are
+/// written.
+pub fn replay<F: CapturedFamily, A: Allocator + Copy, S: Supply, R: Read, W: Write>(
     alloc: A,
     config: Config<F>,
     asked: Asked,
+    supply: &S,
     reader: &mut Watched<R>,
     writer: &mut Watched<W>,
 ) -> Result<Counts, ReplayFault>
@@ -54,15 +60,23 @@ where
     let Ok(mut link) = Link::new(alloc, config, first_moment()) else {
         return Err(ReplayFault::Memory);
     };
-    replay_on(&mut link, asked, packet.as_mut_slice(), reader, writer)?;
+    replay_on(
+        &mut link,
+        asked,
+        packet.as_mut_slice(),
+        supply,
+        reader,
+        writer,
+    )?;
     Ok(link.into_counts())
 }
 
-/// The same on a link that is made, with room for a packet that is lent.
-fn replay_on<F: CapturedFamily, A: Allocator, R: Read, W: Write>(
+/// Replays a capture on a link at its start, with memory of the caller for a packet.
+fn replay_on<F: CapturedFamily, A: Allocator, S: Supply, R: Read, W: Write>(
     link: &mut Link<F, A>,
     asked: Asked,
     packet: &mut [u8],
+    supply: &S,
     reader: &mut Watched<R>,
     writer: &mut Watched<W>,
 ) -> Result<(), ReplayFault>
@@ -79,7 +93,7 @@ where
     ensures no_memory { result ≡ Err ReplayFault.Memory → ⊥ }
 {
     let mut buffer = Text::new();
-    let answer = put_replay(link, asked, packet, &mut buffer, reader, writer);
+    let answer = put_replay(link, asked, packet, supply, &mut buffer, reader, writer);
     if is_failed_write(&answer) {
         return answer;
     }
@@ -88,10 +102,11 @@ where
 }
 
 /// Puts the lines of a capture.
-fn put_replay<F: CapturedFamily, A: Allocator, R: Read, W: Write>(
+fn put_replay<F: CapturedFamily, A: Allocator, S: Supply, R: Read, W: Write>(
     link: &mut Link<F, A>,
     asked: Asked,
     packet: &mut [u8],
+    supply: &S,
     buffer: &mut Text,
     reader: &mut Watched<R>,
     writer: &mut Watched<W>,
@@ -109,15 +124,25 @@ where
     ensures no_memory { result ≡ Err ReplayFault.Memory → ⊥ }
 {
     let mut capture = PcapReader::open(reader)?;
-    put_packets(link, asked, &mut capture, packet, buffer, reader, writer)
+    put_packets(
+        link,
+        asked,
+        &mut capture,
+        packet,
+        supply,
+        buffer,
+        reader,
+        writer,
+    )
 }
 
 /// Puts the lines of the packets of a capture before its first packet was read, and of the end.
-fn put_packets<F: CapturedFamily, A: Allocator, R: Read, W: Write>(
+fn put_packets<F: CapturedFamily, A: Allocator, S: Supply, R: Read, W: Write>(
     link: &mut Link<F, A>,
     asked: Asked,
     capture: &mut PcapReader,
     packet: &mut [u8],
+    supply: &S,
     buffer: &mut Text,
     reader: &mut Watched<R>,
     writer: &mut Watched<W>,
@@ -150,11 +175,12 @@ where
         last = moment;
         let inner = unwrap_frame(capture.link(), &packet[..read.length]);
         replay_packet(link, moment, number, asked.changes, &inner, buffer, writer)?;
+        write_before_wait(capture, supply, buffer, writer)?;
     }
     put_rest(link, asked, last, number, buffer, writer)
 }
 
-/// Puts what stands behind the packets of a capture that has ended: what the link is and holds at the end of the replay,
+/// Puts the text after the packets of a capture that has ended. It is the state of the link at the end of the replay,
 /// unless there is a gap before that.
 fn put_rest<F: CapturedFamily, A: Allocator, W: Write>(
     link: &mut Link<F, A>,

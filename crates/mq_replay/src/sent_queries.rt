@@ -1,4 +1,4 @@
-//! The calls of a link, with the lines of the queries that it sends by them.
+//! The calls of a link, with the lines of the queries that it sends.
 
 ghost use Rattle.std.specs.Prelude.{◌≡◌, ◌≤◌, ◌^◌, ◌||◌, is_err};
 ghost use Rattle.mq_count.specs.Streams.{inner_of, has_failed};
@@ -13,7 +13,7 @@ use mq_text::{LineFault, Text};
 use std::alloc::Allocator;
 use std::io::Write;
 
-/// Does what is due at a moment, and puts the line of each query that the link sends.
+/// Ticks a link at a moment, and puts the line of each query that it sends.
 pub(crate) fn tick<F: Family, A: Allocator, W: Write>(
     link: &mut Link<F, A>,
     now: Moment,
@@ -35,8 +35,8 @@ where
     queries.answer()
 }
 
-/// Hands the link a datagram that came at a moment, and puts the line of each query that it sends then. Answers what
-/// became of the datagram.
+/// Gives the link a datagram that came at a moment, and puts the line of each query that it sends then. Returns the
+/// result of the datagram.
 pub(crate) fn receive<F: Family, A: Allocator, W: Write>(
     link: &mut Link<F, A>,
     envelope: &F::Envelope,

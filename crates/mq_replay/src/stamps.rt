@@ -1,21 +1,21 @@
-//! From the stamps of a capture's packets to their moments.
+//! The moments of a capture's packets, from their stamps.
 
 ghost use Rattle.std.specs.Prelude.{◌≡◌, unwrap_or, Some};
 ghost use Rattle.mq_replay.specs.Listing.{moment_of};
 
 use mq_count::Moment;
 
-/// What is kept of the stamps of the packets so far: what the moments of those to come are counted from.
+/// The kept stamps of the packets so far, from which the moments of later packets are counted.
 #[derive(Clone, Copy)]
 pub struct Stamps {
-    /// The stamp of the first packet, where there was one.
+    /// The stamp of the first packet, if there was one.
     first: Option<u64>,
     /// The moment of the last packet, 0 before the first.
     before: u64,
 }
 
 impl Stamps {
-    /// Before the first packet.
+    /// Returns the state before the first packet.
     pub fn new() -> Stamps
         ensures { result ≡ record { first = None; before = 0 } }
     {
@@ -25,7 +25,7 @@ impl Stamps {
         }
     }
 
-    /// The moment of the next packet.
+    /// Returns the moment of the next packet.
     pub fn moment_of_next(&mut self, stamp: u64) -> u64
         ensures moment { result ≡ moment_of self.old.first self.old.before stamp }
         ensures after { self.new ≡ record { first = Some (unwrap_or self.old.first stamp); before = result } }
@@ -40,7 +40,7 @@ impl Stamps {
     }
 }
 
-/// The moment of the first packet.
+/// Returns the moment of the first packet.
 pub fn first_moment() -> Moment
     ensures { result ≡ 0 }
 {

@@ -14,8 +14,7 @@ use mq_text::{LineFault, Text};
 use std::alloc::Allocator;
 use std::io::Write;
 
-/// Does the ticks of a link at its next moments, one after the other, as long as these are before `limit`: puts their
-/// lines.
+/// Ticks a link at its next moments, while these are before `limit`, and puts their lines.
 pub(crate) fn tick_before<F: CapturedFamily, A: Allocator, W: Write>(
     link: &mut Link<F, A>,
     limit: Moment,

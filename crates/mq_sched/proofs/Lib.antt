@@ -14,4 +14,5 @@ pub mod StayHeld
 pub mod Collecting
 pub mod Room
 pub mod Shrinking
+pub mod WrittenAbove
 pub mod FittingRounds

@@ -111,14 +111,24 @@ module _ (nodes leaves numbers : List ℕ) (count : ℕ) (known : AreNumbered le
   pub due-at : (now q : ℕ) → IsLeafOf numbers count (get_or leaves q 0) q → is_number_due (moments_at nodes leaves numbers count) now q ≡ nat_le (get_or nodes (get_or leaves q 0) 0) now
   due-at now q is = ap (has_come now) (get-moments_at q ∙ moment-there (get_or leaves q 0) q is)
 
-  pub due-none : (now q : ℕ) → (IsLeafOf numbers count (get_or leaves q 0) q → ⊥) → is_number_due (moments_at nodes leaves numbers count) now q ≡ false
-  due-none now q absent =
-      ap (has_come now)
-      (get-moments_at q
+  -- and whether it is there
+  pub there-at : (q : ℕ) → IsLeafOf numbers count (get_or leaves q 0) q → map.contains_key (moments_at nodes leaves numbers count) q ≡ true
+  there-at q is = ap is_some (get-moments_at q ∙ moment-there (get_or leaves q 0) q is)
+
+  -- a number without a leaf has no moment
+  moment-none : (q : ℕ) → (IsLeafOf numbers count (get_or leaves q 0) q → ⊥) → map.get (moments_at nodes leaves numbers count) q ≡ None
+  moment-none q absent =
+      get-moments_at q
       ∙ ⊎_elim
       (λ (there : (leaf : ℕ) × IsLeafOf numbers count leaf q). absurd (absent (subst (λ leaf. IsLeafOf numbers count leaf q) (sym (leaf-told there.0 q there.1)) there.1)))
       (λ (none : ((leaf : ℕ) → IsLeafOf numbers count leaf q → ⊥) × (moment_at nodes leaves numbers count q ≡ None)). none.1)
-      (moment-cases q))
+      (moment-cases q)
+
+  pub due-none : (now q : ℕ) → (IsLeafOf numbers count (get_or leaves q 0) q → ⊥) → is_number_due (moments_at nodes leaves numbers count) now q ≡ false
+  due-none now q absent = ap (has_come now) (moment-none q absent)
+
+  pub there-none : (q : ℕ) → (IsLeafOf numbers count (get_or leaves q 0) q → ⊥) → map.contains_key (moments_at nodes leaves numbers count) q ≡ false
+  there-none q absent = ap is_some (moment-none q absent)
 
   -- each number that is there stands among them once
   pub numbers-once : (q : ℕ) → times q (drop count numbers) ≡ (if map.contains_key (moments_at nodes leaves numbers count) q then 1 else 0)

@@ -1,15 +1,15 @@
--- Which router of a link asks the hosts: the one of the lowest address (RFC 3376 section 6.6.2, RFC 3810
--- section 7.6.2), for as long as it is heard (sections 8.5 and 9.5). The S flag of a query does not suppress
--- the election (sections 4.1.5 and 5.1.7).
+-- The election of a link's querier. The router with the lowest address is querier (RFC 3376 section 6.6.2, RFC 3810
+-- section 7.6.2), as long as it is heard (sections 8.5 and 9.5). The S flag of a query does not suppress the election
+-- (sections 4.1.5 and 5.1.7).
 use Rattle.std.specs.Prelude.{ℕ, ◌+◌, ◌-◌, Bool, true, false, not, ◌&&◌, ◌||◌, if◌then◌else◌, nat_lt, nat_le, ◌==◌, List, [], ◌∷◌, Option, None, Some}
 use Rattle.mq_table.specs.declared.timing.Timing.{Timing}
 use Rattle.mq_table.specs.Timing.{query_interval, other_querier_present, startup_interval, startup_count}
 use Rattle.mq_sched.specs.declared.announced.Announced.{Announced}
 use Rattle.mq_sched.specs.Sending.{SentQuery, GeneralQuery}
 
--- The querier has the moment at which its general query is due, and how many of the queries at startup
--- are still to go; any other router has the source address of the last query that set its deadline, up to
--- which that querier is taken to be there.
+-- The role of a router. The querier has the moment of its next general query, and the number of startup queries still
+-- to go. Any other router has the source address of the last query that set its deadline. Until this deadline that
+-- querier is assumed to be there.
 pub data Role : Type 0 where
   Querier : (due startup_queries : ℕ) → Role
   Other : (address deadline : ℕ) → Role
@@ -23,18 +23,18 @@ abbrev pub is_querier : Role → Bool
 is_querier (Querier due startup_queries) = true
 is_querier (Other address deadline) = false
 
--- at its start a router is querier (RFC 2236 section 3, whose election RFC 3376 section 6.6.2 takes; RFC 3810
--- section 7.6.2), and all queries of startup are to go (sections 8.7 and 9.7)
+-- The state at the start: the router is querier, and all startup queries are to go (sections 8.7 and 9.7). RFC 2236
+-- section 3, whose election RFC 3376 section 6.6.2 takes; RFC 3810 section 7.6.2.
 abbrev pub election_at : Timing → ℕ → ElectionState
 election_at configured start =
     record { role = Querier start (startup_count configured); timing = configured }
 
--- a value that was heard; zero stands for none, and restores the configured one
+-- a value that a query carried; zero stands for none, and restores the configured value
 abbrev pub heard_or : ℕ → ℕ → ℕ
 heard_or configured value = if value == 0 then configured else value
 
--- A router takes over the robustness variable of every query that has one, and, where it isn't the
--- querier, the query interval (RFC 3376 sections 4.1.6 and 4.1.7, RFC 3810 sections 5.1.8 and 5.1.9).
+-- The timing after a query. A router adopts the robustness variable of every query that has one. If it isn't querier,
+-- it also adopts the query interval (RFC 3376 sections 4.1.6 and 4.1.7, RFC 3810 sections 5.1.8 and 5.1.9).
 abbrev pub adopted : Timing → (is_other : Bool) → Option Announced → Timing → Timing
 adopted configured is_other None timing = timing
 adopted configured is_other (Some said) timing = record {
@@ -45,13 +45,12 @@ adopted configured is_other (Some said) timing = record {
   last_member_interval = timing.last_member_interval;
 }
 
--- whether a query of this source takes the role from a querier
+-- a query from this source takes the role from a querier
 abbrev pub loses_role : (own source : ℕ) → Role → Bool
 loses_role own source role = is_querier role && nat_lt source own
 
--- What a query that is heard does, in this order: a lower address than the router's own makes it
--- another than the querier; then the timing is adopted; then a lower address sets the deadline, by the
--- timing that has been adopted.
+-- The state after a query was received, in this order. If its address is lower than the router's own, the router is no
+-- longer querier. Then the timing is adopted. Then a lower address sets the deadline, by the adopted timing.
 abbrev pub heard : (configured : Timing) → (own now source : ℕ) → Option Announced
     → ElectionState → ElectionState
 heard configured own now source announced e =
@@ -60,13 +59,13 @@ heard configured own now source announced e =
     let timing = adopted configured is_other announced e.timing in
     record { role = if lower then Other source (now + other_querier_present timing) else e.role; timing = timing }
 
--- whether the other querier's deadline has come
+-- the other querier's deadline has come
 abbrev pub deadline_ended : ℕ → Role → Bool
 deadline_ended now (Querier due startup_queries) = false
 deadline_ended now (Other address deadline) = nat_le deadline now
 
--- Then the router is querier again, with the configured timing and a general query that is due at
--- once, and without another startup.
+-- The state after the end of that deadline. The router is querier again, with the configured timing and a general query
+-- that is due at once, and without another startup.
 abbrev pub returned : (configured : Timing) → ℕ → ElectionState → ElectionState
 returned configured now e =
     if deadline_ended now e.role
@@ -77,17 +76,17 @@ abbrev pub general_is_due : ℕ → Role → Bool
 general_is_due now (Querier due startup_queries) = nat_le due now
 general_is_due now (Other address deadline) = false
 
--- After a general query the next is due after the startup interval, while queries of startup are still
--- to go, and else after the query interval (RFC 3376 sections 8.2, 8.6 and 8.7, RFC 3810 sections 9.2, 9.6
--- and 9.7).
+-- The role after a general query, with the moment of the next. While startup queries are still to go, it is due after
+-- the startup interval, and otherwise after the query interval. RFC 3376 sections 8.2, 8.6 and 8.7, RFC 3810 sections
+-- 9.2, 9.6 and 9.7.
 abbrev pub after_general : Timing → ℕ → Role → Role
 after_general timing now (Querier due startup_queries) =
     let interval = if nat_lt 1 startup_queries then startup_interval timing else query_interval timing in
     Querier (now + interval) (startup_queries - 1)
 after_general timing now (Other address deadline) = Other address deadline
 
--- What a tick does to the election: the end of the other querier's deadline, and then the general
--- query, if it is due. However late the tick comes, one goes.
+-- The state after a tick: the end of the other querier's deadline, and then the general query, if it is due. One is
+-- sent, however late the tick comes.
 abbrev pub ticked : (configured : Timing) → ℕ → ElectionState → ElectionState
 ticked configured now e =
     let r = returned configured now e in
@@ -99,8 +98,7 @@ abbrev pub general_messages : (configured : Timing) → ℕ → ElectionState �
 general_messages configured now e =
     if general_is_due now (returned configured now e).role then GeneralQuery ∷ [] else []
 
--- when the election has something to do next: the general query, or the end of the other querier's
--- deadline
+-- the next moment of the election: the general query, or the end of the other querier's deadline
 abbrev pub next_moment : Role → ℕ
 next_moment (Querier due startup_queries) = due
 next_moment (Other address deadline) = deadline

@@ -1,4 +1,4 @@
--- Words of the worked examples of schedules and of the election.
+-- Values of the worked examples of schedules and of the election.
 use Rattle.std.specs.Prelude.{ℕ, Option, Some}
 use Rattle.mq_table.specs.declared.timing.Timing.{Timing}
 use Rattle.mq_table.specs.Examples.{default_timing}
@@ -11,7 +11,7 @@ the_group = 3892379905
 abbrev pub scheduled : ℕ → ℕ → Option QuerySchedule
 scheduled sendings due = Some (record { sendings = sendings; due = due })
 
--- the defaults with another robustness variable, and with what a query announces
+-- the defaults with another robustness variable, and with the values that a query announces
 abbrev pub robust : ℕ → Timing
 robust robustness = record default_timing { robustness = robustness }
 

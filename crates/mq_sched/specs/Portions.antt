@@ -1,18 +1,18 @@
--- A list in portions, as the sources of one sending go in messages of what one packet holds.
+-- A list in portions: the sources of one sending, as messages carry them.
 use Rattle.std.specs.Prelude.{ℕ, zero, suc, List, [], ◌∷◌, length, take, drop}
 
--- the first n, then the portions of the rest, but no more portions than `most`
+-- the first n, then the portions of the rest, but at most `most` portions
 abbrev pub portions_within : (most n : ℕ) → List ℕ → List (List ℕ)
 portions_within most n [] = []
 portions_within zero n (x ∷ xs) = []
 portions_within (suc most) n (x ∷ xs) = take n (x ∷ xs) ∷ portions_within most n (drop n (x ∷ xs))
 
--- A list in portions of n, the last one shorter or full; of an empty list there is none. A portion has one member
--- at least, so there are no more portions than members.
+-- A list in portions of n; the last one may be shorter. An empty list has none. A portion has at least one member, so
+-- there are no more portions than members.
 abbrev pub portions_of : ℕ → List ℕ → List (List ℕ)
 portions_of n xs = portions_within (length xs) n xs
 
--- each member of a list but the last is as said
+-- each member of a list but the last has this property
 abbrev pub AllButLast : {X : Type 0} → (X → Type 0) → List X → Type 0
 AllButLast P [] = Unit {0}
 AllButLast P (x ∷ []) = Unit {0}

@@ -1,5 +1,5 @@
--- Sending specific queries (RFC 3376 sections 6.6.3.1 and 6.6.3.2, RFC 3810 sections 7.6.3.1 and
--- 7.6.3.2): what starts them, which go at a moment, and what is still to go then.
+-- Specific queries: their start, their sending, and what is still to go afterwards. RFC 3376 sections 6.6.3.1 and
+-- 6.6.3.2, RFC 3810 sections 7.6.3.1 and 7.6.3.2.
 use Rattle.std.specs.Prelude.{ℕ, ◌+◌, ◌-◌, Bool, true, false, if◌then◌else◌, nat_lt, nat_le, List, [], ◌∷◌, ◌++◌, map as list_map, filter, Option, None, Some}
 use Rattle.std.specs.FinMap as map
 use Rattle.mq_table.specs.declared.timing.Timing.{Timing}
@@ -12,16 +12,16 @@ use Rattle.mq_table.specs.Sendings.{some_source, has_sendings, above, sendings_s
 use Rattle.mq_sched.specs.Portions.{portions_of}
 use Rattle.mq_sched.specs.Schedule.{QuerySchedule, ScheduleState, ScheduledGroup, settled}
 
--- A query that a router sends: general, to a group, or to a group for some of its sources, which
--- ascend (RFC 3376 section 4.1.11, RFC 3810 section 5.1.13). `s` is the flag Suppress Router-Side Processing:
--- routers that hear it lower nothing (sections 4.1.5 and 5.1.7).
+-- A query that a router sends. It is general, to a group, or to a group for some of its sources, which ascend (RFC 3376
+-- section 4.1.11, RFC 3810 section 5.1.13). `s` is the flag Suppress Router-Side Processing: routers that receive it
+-- lower nothing (sections 4.1.5 and 5.1.7).
 pub data SentQuery : Type 0 where
   GeneralQuery : SentQuery
   GroupQuery : (group : ℕ) (s : Bool) → SentQuery
   SourcesQuery : (group : ℕ) (s : Bool) (sources : List ℕ) → SentQuery
 
--- Send Q(G): the group timer is lowered, and as many queries as the last member query count are to
--- go, the first now. INCLUDE has no group timer, and no row of the tables asks for its group.
+-- Send Q(G). The group timer is lowered, and the last member query count of queries are to go, the first now. INCLUDE
+-- has no group timer, and no row of the tables asks for its group.
 abbrev pub group_asked : Timing → ℕ → ScheduledGroup → ScheduledGroup
 group_asked timing now e = record {
   group = group_lowered timing now e.group;
@@ -34,9 +34,8 @@ group_asked timing now e = record {
   };
 }
 
--- Send Q(G,asked): each source asked for whose timer is above the last member query time is lowered to
--- it and gets the last member query count of sendings. If there is one, a sending is due now; else the
--- schedule stays.
+-- Send Q(G,asked). Each source asked for whose timer is above the last member query time is lowered to it, and gets the
+-- last member query count of sendings. If there is one, a sending is due now; otherwise the schedule stays.
 abbrev pub sources_asked : Timing → ℕ → Set → ScheduledGroup → ScheduledGroup
 sources_asked timing now asked e =
     let g = e.group in
@@ -48,15 +47,15 @@ sources_asked timing now asked e =
       };
     }
 
--- the queries of a row of the tables are sent by the querier alone (RFC 3376 sections 6.4.2 and 6.6.3.2,
--- RFC 3810 sections 7.1 and 7.4.2)
+-- The effect of a row's queries, which only the querier sends. RFC 3376 sections 6.4.2 and 6.6.3.2, RFC 3810 sections
+-- 7.1 and 7.4.2.
 abbrev pub acted : (is_querier : Bool) → Timing → ℕ → (query_group : Bool) → (query : Set)
     → ScheduledGroup → ScheduledGroup
 acted false timing now query_group query e = e
 acted true timing now query_group query e =
     sources_asked timing now query (if query_group then group_asked timing now e else e)
 
--- what a record leaves of a group and its schedule: the change, what it drops, and what it asks
+-- a group and its schedule after a record: the change, what it drops, and what it asks
 abbrev pub after_change : (is_querier : Bool) → Timing → ℕ → GroupChange → ScheduleState → ScheduledGroup
 after_change is_querier timing now change schedule =
     let e : ScheduledGroup = record { group = change.group; schedule = settled change.group schedule } in
@@ -84,8 +83,8 @@ group_messages timing now group e =
     then GroupQuery group (is_ahead (lowered_to timing now) (group_deadline e.group.mode)) ∷ []
     else []
 
--- the queries for the sources that have sendings to go, with S set those whose timer is above the last member query time, and
--- then the others with S clear
+-- The queries for the sources that have sendings to go. Those whose timer is above the last member query time go with S
+-- set, and then the others with S clear.
 abbrev pub waiting_messages : (per_query : ℕ) → Timing → ℕ → ℕ → GroupState → List SentQuery
 waiting_messages per_query timing now group g =
     sources_queries per_query group true (sources_where (has_sendings g ∩ above timing now g) g)
@@ -95,15 +94,15 @@ abbrev pub source_messages : (per_query : ℕ) → Timing → ℕ → ℕ → Sc
 source_messages per_query timing now group e =
     if is_due now e.schedule.sources_due then waiting_messages per_query timing now group e.group else []
 
--- What a group sends in one round, at or after the moment that is due: its group query, with S set
--- where the group timer is above the last member query time; then the sources that have sendings to
--- go, with S set those whose timer is above that time, and then the others with S clear. The sources of
--- either flag go in as few messages as hold them, ascending.
+-- The queries of a group in one round, at or after the moment that is due. First goes its group query, with S set if
+-- the group timer is above the last member query time. Then go the sources that have sendings to go: with S set those
+-- whose timer is above that time, and then the others with S clear. The sources of either flag go in ascending order,
+-- in as few messages as hold them.
 abbrev pub messages_due : (per_query : ℕ) → Timing → ℕ → (group : ℕ) → ScheduledGroup → List SentQuery
 messages_due per_query timing now group e =
     group_messages timing now group e ++ source_messages per_query timing now group e
 
--- one sending fewer, and the next after the last member query interval, where one is still to go
+-- the group query with one sending fewer, and the next after the last member query interval, if one is still to go
 abbrev pub group_counted : Timing → ℕ → Option QuerySchedule → Option QuerySchedule
 group_counted timing now None = None
 group_counted timing now (Some q) =
@@ -114,12 +113,12 @@ group_counted timing now (Some q) =
     else None)
     else Some q
 
--- when the sources are due next, if one has a sending to go
+-- the moment when the sources are due next, if one has a sending to go
 abbrev pub sources_due_next : Timing → ℕ → GroupState → Option ℕ
 sources_due_next timing now g =
     if some_source (has_sendings g) g then Some (now + timing.last_member_interval) else None
 
--- The state after a round, however late it comes: each thing that was sent has one sending fewer.
+-- The state after a round, however late it comes. Each query that was sent has one sending fewer.
 abbrev pub after_round : Timing → ℕ → ScheduledGroup → ScheduledGroup
 after_round timing now e =
     let due = is_due now e.schedule.sources_due in

@@ -1,4 +1,4 @@
-//! What a query says of its querier.
+//! The announcement of a querier in a query.
 
 ghost use Rattle.std.specs.Prelude.{◌≡◌};
 ghost use Rattle.std.specs.Option.{SomeIff};
@@ -6,9 +6,9 @@ ghost use Rattle.mq_sched.specs.Announcement.{Announcement, IsCarried};
 
 use std::marker::Model;
 
-/// The Robustness Variable and the Query Interval in whole seconds, as a query of version 3 of IGMP
-/// or version 2 of MLD announces them in QRV and QQIC; 0 stands for none (RFC 3376 sections 4.1.6
-/// and 4.1.7, RFC 3810 sections 5.1.8 and 5.1.9). A contract sees it as these two numbers.
+/// The Robustness Variable and the Query Interval in whole seconds; 0 stands for none. A query of IGMPv3 or MLDv2
+/// announces them in QRV and QQIC (RFC 3376 sections 4.1.6 and 4.1.7, RFC 3810 sections 5.1.8 and 5.1.9). A contract
+/// sees these two numbers.
 #[derive(Clone, Copy, Debug, PartialEq, Eq)]
 pub struct Announced {
     robustness: u32,
@@ -28,8 +28,8 @@ impl Model for Announced {
 }
 
 impl Announced {
-    /// What a query with these values announces, or None where a field can't carry one of them: the
-    /// robustness variable at most 7, the query interval at most 31744 seconds.
+    /// Returns the announcement of a query with these values, or None if a field can't carry one of them. The
+    /// robustness variable is at most 7, the query interval at most 31744 seconds.
     pub fn new(robustness: u32, query_seconds: u32) -> Option<Announced>
         ensures { let a : Announcement = record { robustness = robustness; query_seconds = query_seconds } in
             SomeIff result (IsCarried a) a }
@@ -44,21 +44,21 @@ impl Announced {
         }
     }
 
-    /// Each value is one that its field can carry. It does nothing: its contract is the fact.
+    /// A lemma: the field of each value can carry it. It has no effect at run time.
     pub fn is_carried(self)
         ensures { IsCarried self }
     {
         let _held = self.robustness;
     }
 
-    /// The Robustness Variable, or 0 for none.
+    /// Returns the Robustness Variable, or 0 for none.
     pub fn robustness(self) -> u32
         ensures { result ≡ self.robustness }
     {
         self.robustness
     }
 
-    /// The Query Interval in seconds, or 0 for none.
+    /// Returns the Query Interval in seconds, or 0 for none.
     pub fn query_seconds(self) -> u32
         ensures { result ≡ self.query_seconds }
     {

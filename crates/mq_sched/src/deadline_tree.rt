@@ -1,6 +1,6 @@
 //! A tree of deadlines, with the earliest of them at its top.
 
-ghost use Rattle.std.specs.Prelude.{◌≡◌, ℕ, ◌+◌, ◌-◌, ◌*◌, ◌<◌, ◌≤◌, ◌==◌, [], min, length, take, drop, slice_index, if◌then◌else◌, IfOk, MatchOption, is_ok};
+ghost use Rattle.std.specs.Prelude.{◌≡◌, ℕ, ◌+◌, ◌-◌, ◌*◌, ◌/◌, ◌<◌, ◌≤◌, ◌==◌, [], min, length, take, drop, slice_index, if◌then◌else◌, IfOk, MatchOption, is_ok};
 ghost use Rattle.std.specs.List.{count_by};
 ghost use Rattle.mq_arena.specs.Vectors.{IsSize, Takes};
 ghost use Rattle.mq_count.specs.Spending.{Spends};
@@ -17,15 +17,17 @@ use mq_sets::Memory;
 use std::alloc::{Allocator, Global};
 use std::marker::Model;
 
-/// Deadlines at the leaves of a binary tree. Of n deadlines the leaves have the numbers from n to 2n - 1, and the
-/// nodes above them those from 1 to n - 1: below node i stand the nodes 2i and 2i + 1, and it has the earlier of
-/// their deadlines. So the earliest of all is at node 1, and a deadline that changes is compared once on each level
-/// above it. A contract sees the deadlines of the nodes by their numbers; node 0 is no node.
-/// `with_room` takes the memory, and no other call takes any. Each node that is written is counted as a move.
+/// Deadlines at the leaves of a binary tree.
+///
+/// With n deadlines the leaves have the numbers from n to 2n - 1, and the nodes above them those from 1 to n - 1. Below
+/// node i stand the nodes 2i and 2i + 1, and it has the earlier of their deadlines. So the earliest of all is at node
+/// 1, and a deadline that changes is compared once on each level above it. A contract sees the deadlines of the nodes
+/// by their numbers; node 0 is no node. `with_room` allocates, and no other call does. Each node that is written counts
+/// as a move.
 #[derive(Drop)]
 pub(crate) struct DeadlineTree<A: Allocator = Global> {
     nodes: Vec<Moment, A>,
-    // Whether a node has the deadline of the left one of the two below it.
+    // True for a node that has the deadline of its left child.
     lefts: Vec<bool, A>,
     room: usize,
 }
@@ -46,7 +48,7 @@ impl<A: Allocator> Model for DeadlineTree<A> {
 }
 
 impl<A: Allocator> DeadlineTree<A> {
-    /// How many bytes `with_room` takes; or none, where no memory has as many.
+    /// Returns the bytes that `with_room` allocates, or None if no memory has as many.
     pub(crate) fn size(room: usize) -> Option<usize>
         requires { room ≤ 65536 }
         ensures { IsSize (bytes_of_tree room) result }
@@ -54,7 +56,7 @@ impl<A: Allocator> DeadlineTree<A> {
         both_sizes(vector_size::<Moment>(2 * room), vector_size::<bool>(room))
     }
 
-    /// No deadlines, with room for so many; or `Memory`, where that memory was refused.
+    /// Returns a tree without deadlines, with room for `room`. Fails with `Memory` if memory is refused.
     #[tactic(auto, unfolding(crate::specs::Sizes::bytes_of_tree))]
     pub(crate) fn with_room<M: VectorSource<A>>(
         memory: &mut M,
@@ -73,7 +75,7 @@ impl<A: Allocator> DeadlineTree<A> {
 }
 
 impl<A: Allocator> DeadlineTree<A> {
-    /// The earliest deadline, or None where there is none. No comparison.
+    /// Returns the earliest deadline, or None if there is none. No comparison.
     pub(crate) fn earliest(&self) -> Option<Moment>
         ensures { MatchOption result (self.now.count ≡ 0) (IsEarliestLeaf self.now.nodes self.now.count) }
     {
@@ -83,7 +85,7 @@ impl<A: Allocator> DeadlineTree<A> {
         Some(self.nodes[1])
     }
 
-    /// The deadline of a leaf.
+    /// Returns the deadline of a leaf.
     pub(crate) fn moment(&self, leaf: usize) -> Moment
         requires leaf { leaf < 2 * self.now.count }
         ensures { result ≡ slice_index self.now.nodes leaf }
@@ -91,8 +93,8 @@ impl<A: Allocator> DeadlineTree<A> {
         self.nodes[leaf]
     }
 
-    /// One deadline more, at the last leaf. The one at the first leaf, whose node gets two leaves below it, goes to
-    /// the leaf before.
+    /// Adds a deadline at the last leaf. The node of the first leaf gets two leaves below it, and its deadline goes to
+    /// the leaf before the last.
     pub(crate) fn grow(&mut self, due: Moment, m: &mut Meter, moves: &mut Moves)
         requires room { self.old.count < self.old.room }
         ensures count { self.new.count ≡ self.old.count + 1 }
@@ -113,7 +115,7 @@ impl<A: Allocator> DeadlineTree<A> {
         settle(&mut self.nodes, &mut self.lefts, 2 * count + 1, m, moves);
     }
 
-    /// A leaf has another deadline.
+    /// Changes the deadline of a leaf.
     pub(crate) fn change(&mut self, leaf: usize, due: Moment, m: &mut Meter, moves: &mut Moves)
         requires leaf { self.old.count ≤ leaf }
         requires within { leaf < 2 * self.old.count }
@@ -131,8 +133,8 @@ impl<A: Allocator> DeadlineTree<A> {
         settle(&mut self.nodes, &mut self.lefts, leaf, m, moves);
     }
 
-    /// A leaf's deadline is gone, and the last two leaves with it: the later deadline of these two, whose leaf is
-    /// answered, goes to the leaf given up, and the other to the node above them, which is a leaf then.
+    /// Removes a leaf's deadline, and with it the last two leaves. The later deadline of these two, whose leaf is
+    /// returned, goes to the leaf given up. The other goes to the node above them, which is a leaf afterwards.
     pub(crate) fn shrink(&mut self, leaf: usize, m: &mut Meter, moves: &mut Moves) -> usize
         requires leaf { self.old.count ≤ leaf }
         requires within { leaf < 2 * self.old.count }
@@ -143,7 +145,8 @@ impl<A: Allocator> DeadlineTree<A> {
         ensures leaves { let last = self.old.count - 1 in
             (other : ℕ) → last ≤ other → other < 2 * last →
             slice_index self.new.nodes other ≡ slice_index self.old.nodes (leaf_before last leaf result other) }
-        ensures spent { Spends 0 (bitlen (self.old.count - 1)) m.old m.new }
+        ensures spent { let others = self.old.count - 1 in
+            Spends (min 1 (others / 2)) (bitlen others) m.old m.new }
         ensures moves { Spends 2 (2 + bitlen (self.old.count - 1)) moves.old moves.new }
     {
         let last = self.lefts.len() - 1;
@@ -158,9 +161,8 @@ impl<A: Allocator> DeadlineTree<A> {
         later
     }
 
-    /// Writes the leaves whose deadlines are at or before `now` at the front of `leaves`, each as the number of leaves
-    /// before it, and returns how many they are. One comparison where there is a deadline; and for each that is due, at most one more for each binary
-    /// digit of how many others there are, but none more than there are deadlines.
+    /// Writes the leaves whose deadlines are at or before `now` at the front of `leaves`, and returns their number.
+    /// Each is written as the number of leaves before it.
     pub(crate) fn due(&self, now: Moment, leaves: &mut [u16], m: &mut Meter) -> usize
         requires space { self.now.count ≤ length leaves.old }
         ensures within { result ≤ self.now.count }

@@ -1,6 +1,6 @@
 //! An index of the groups' earliest deadlines, by the numbers of the groups.
 
-ghost use Rattle.std.specs.Prelude.{◌≡◌, ℕ, ◌+◌, ◌-◌, ◌*◌, ◌^◌, ◌<◌, ◌≤◌, min, length, take, drop, true, false, if◌then◌else◌, IfOk, MatchOption, Some, is_ok};
+ghost use Rattle.std.specs.Prelude.{◌≡◌, ℕ, ◌+◌, ◌-◌, ◌*◌, ◌/◌, ◌^◌, ◌<◌, ◌≤◌, min, length, take, drop, true, false, if◌then◌else◌, IfOk, MatchOption, Some, is_ok};
 ghost use Rattle.std.specs.FinMap as map;
 ghost use Rattle.std.specs.List.{All};
 ghost use Rattle.mq_arena.specs.Vectors.{IsSize, Takes};
@@ -28,9 +28,9 @@ use std::marker::Model;
 #[derive(Drop)]
 pub struct Deadlines<A: Allocator = Global> {
     tree: DeadlineTree<A>,
-    // By the number; what stands at one that isn't there says nothing.
+    // The leaf of each number; the entry of a number without a moment has no meaning.
     leaves: Vec<u32, A>,
-    // By the leaf; what stands before the first leaf says nothing.
+    // The number of each leaf; an entry before the first leaf has no meaning.
     numbers: Vec<u16, A>,
     room: usize,
 }
@@ -56,7 +56,7 @@ impl<A: Allocator> Model for Deadlines<A> {
 }
 
 impl<A: Allocator> Deadlines<A> {
-    /// Returns how many bytes `with_room` takes, or none if no memory has as many.
+    /// Returns the bytes that `with_room` allocates, or None if no memory has as many.
     pub fn size(room: usize) -> Option<usize>
         requires numbered { room ≤ 2 ^ 16 }
         ensures { IsSize (bytes_of_moments room) result }
@@ -67,7 +67,8 @@ impl<A: Allocator> Deadlines<A> {
         )
     }
 
-    /// Makes an index without moments, with room for those of the numbers below `room`. Fails with `Memory` if memory is refused.
+    /// Returns an index without moments, with room for the numbers below `room`. Fails with `Memory` if memory is
+    /// refused.
     #[tactic(auto, unfolding(crate::specs::Sizes::bytes_of_moments))]
     pub fn with_room<M: VectorSource<A>>(
         memory: &mut M,
@@ -87,7 +88,7 @@ impl<A: Allocator> Deadlines<A> {
 }
 
 impl<A: Allocator> Deadlines<A> {
-    /// Returns how many numbers have a moment.
+    /// Returns the number of numbers that have a moment.
     pub fn len(&self) -> usize
         ensures len { result ≡ map.len self.now.moments }
         ensures within { result ≤ self.now.room }
@@ -111,7 +112,7 @@ impl<A: Allocator> Deadlines<A> {
         self.tree.earliest()
     }
 
-    /// Adds a number with its moment. At most one comparison for each binary digit of how many there are.
+    /// Adds a number with its moment.
     pub fn insert(&mut self, number: u16, due: Moment, m: &mut Meter, moves: &mut Moves)
         requires number { number < self.old.room }
         requires absent { map.contains_key self.old.moments number ≡ false }
@@ -132,12 +133,12 @@ impl<A: Allocator> Deadlines<A> {
         moves.count(2);
     }
 
-    /// Removes a number with its moment. At most one comparison for each binary digit of how many others there are.
+    /// Removes a number with its moment.
     pub fn remove(&mut self, number: u16, m: &mut Meter, moves: &mut Moves)
         requires there { map.contains_key self.old.moments number ≡ true }
         ensures moments { self.new ≡ record self.old { moments = map.remove self.old.moments number } }
         ensures spent { let others = map.len self.old.moments - 1 in
-            Spends 0 (bitlen others) m.old m.new }
+            Spends (min 1 (others / 2)) (bitlen others) m.old m.new }
         ensures moves { let others = map.len self.old.moments - 1 in
             Spends 4 (4 + bitlen others) moves.old moves.new }
     {
@@ -149,7 +150,7 @@ impl<A: Allocator> Deadlines<A> {
         moves.count(2);
     }
 
-    /// Replaces the moment of a number. At most one comparison for each binary digit of how many others there are.
+    /// Replaces the moment of a number.
     pub fn change(&mut self, number: u16, due: Moment, m: &mut Meter, moves: &mut Moves)
         requires there { map.contains_key self.old.moments number ≡ true }
         ensures moments { self.new ≡ record self.old { moments = map.insert self.old.moments number due } }
@@ -171,11 +172,12 @@ impl<A: Allocator> Deadlines<A> {
         self.tree.moment(leaf)
     }
 
-    /// Returns whether a number has a moment at or before `now`. At most one comparison.
+    /// Returns whether a number has a moment at or before `now`.
     pub fn is_due(&self, number: u16, now: Moment, m: &mut Meter) -> bool
         requires number { number < self.now.room }
         ensures due { result ≡ is_number_due self.now.moments now number }
-        ensures spent { Spends 0 1 m.old m.new }
+        ensures spent { let count = if map.contains_key self.now.moments number then 1 else 0 in
+            Spends count count m.old m.new }
     {
         let leaf = self.leaves[number as usize] as usize;
         let first = self.numbers.len() / 2;
@@ -185,8 +187,8 @@ impl<A: Allocator> Deadlines<A> {
         m.reached(self.tree.moment(leaf), now)
     }
 
-    /// Writes the numbers whose moments are at or before `now` at the front of `numbers`, each once, in any order. Returns how
-    /// many they are.
+    /// Writes the numbers whose moments are at or before `now` at the front of `numbers`, each once, in any order.
+    /// Returns how many there are.
     pub fn due(&self, now: Moment, numbers: &mut [u16], m: &mut Meter) -> usize
         requires space { map.len self.now.moments ≤ length numbers.old }
         ensures within { result ≤ map.len self.now.moments }

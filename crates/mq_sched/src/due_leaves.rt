@@ -9,8 +9,8 @@ ghost use Rattle.mq_sched.specs.DeadlineTree.{IsTreeBut, sum_below, one_if_due};
 use crate::node_pairs::nodes_below;
 use mq_count::{Meter, Moment};
 
-/// Writes the leaves at or below a node whose deadlines are at or before `now`, as the node's own is, to `leaves`
-/// from `from` on, each as the number of leaves before it, and returns where they end. One comparison for each node above the leaves that is due itself.
+/// Writes the leaves at or below a node that are due at `now` into `leaves`, from `from` on. The node itself is due.
+/// Each leaf is written as the number of leaves before it. Returns the place after the last.
 pub(crate) fn collect(
     nodes: &[Moment],
     lefts: &[bool],

@@ -1,5 +1,4 @@
-//! The election of the querier, and the general queries of the router that is it (RFC 3376 sections
-//! 6.6.2 and 8, RFC 3810 sections 7.6.2 and 9).
+//! The election of the querier, and its general queries. RFC 3376 sections 6.6.2 and 8, RFC 3810 sections 7.6.2 and 9.
 
 ghost use Rattle.std.specs.Prelude.{◌≡◌, ◌^◌, ◌≤◌, ◌<◌, Bool, nat_lt, [], ◌∷◌, if◌then◌else◌};
 ghost use Rattle.mq_count.specs.Spending.{Spends};
@@ -14,9 +13,8 @@ use mq_table::Timing;
 use std::cmp::Ordering;
 use std::marker::Model;
 
-/// A router's part in the election of its link's querier, and the moment of its next general query
-/// while it is querier itself. A contract sees its own address, its configured timing, and the state
-/// of the definitions.
+/// A router's part in the election of its link's querier. While it is querier, it has the moment of its next general
+/// query. A contract sees the router's own address, its configured timing, and the state of the definitions.
 #[derive(Drop)]
 pub struct Election<K: Key> {
     own: K,
@@ -33,7 +31,7 @@ impl<K: Key> Model for Election<K> {
     ghost view = { λ e. record { own = K.number e.own; configured = e.configured; state = record { role = role_in K.number e.role; timing = e.in_force } } };
 }
 
-/// Whether an address is lower than the router's own. One comparison.
+/// Returns whether an address is lower than the router's own.
 fn is_lower<K: Key>(source: K, own: K, m: &mut Meter) -> bool
     ensures answer { result ≡ nat_lt (K.number source) (K.number own) }
     ensures spent { Spends 1 1 m.old m.new }
@@ -41,15 +39,15 @@ fn is_lower<K: Key>(source: K, own: K, m: &mut Meter) -> bool
     matches!(source.order(own, m), Ordering::Less)
 }
 
-/// A value that was heard; zero stands for none, and restores the configured one.
+/// Returns a value that a query carried; zero stands for none, and restores the configured value.
 fn heard_or(configured: u32, value: u32) -> u32
     ensures { result ≡ heard_or configured value }
 {
     if value == 0 { configured } else { value }
 }
 
-/// The timing in force after a query: the robustness variable that it announces, and the query
-/// interval too where the router isn't querier.
+/// Returns the timing in force after a query: the robustness variable that it announces is adopted. If the router isn't
+/// querier, so is the query interval.
 fn adopted(
     configured: Timing,
     is_other: bool,
@@ -76,8 +74,8 @@ fn adopted(
 }
 
 impl<K: Key> Election<K> {
-    /// The election of a router with this address and timing at its start: it is querier, its
-    /// general query is due at once, and all queries of startup are to go.
+    /// Returns the election of a router at its start. It is querier, its general query is due at once, and all startup
+    /// queries are to go.
     pub fn new(own: K, configured: Timing, start: Moment) -> Election<K>
         ensures own { result.own ≡ K.number own }
         ensures configured { result.configured ≡ configured }
@@ -91,9 +89,9 @@ impl<K: Key> Election<K> {
         }
     }
 
-    /// Takes note of a query that was heard at `now` from this source, and of what it announces;
-    /// one of an older version announces nothing. Answers whether the router was querier and is no
-    /// longer: its caller then drops what it had to send. One comparison.
+    /// Handles a query that was received at `now` from this source, and what it announces. A query of an older version
+    /// announces nothing. Returns whether the router was querier and is no longer: then its caller drops what it still
+    /// had to send.
     pub fn hear(
         &mut self,
         source: K,
@@ -124,9 +122,9 @@ impl<K: Key> Election<K> {
         was_querier && lower
     }
 
-    /// Does what is due at or before `now`: the end of the other querier's deadline, after which the
-    /// router is querier again with its configured timing, and the general query. Answers whether a
-    /// general query goes, one however late the call comes. One comparison.
+    /// Handles what is due at or before `now`: the end of the other querier's deadline, and the general query. After
+    /// the deadline the router is querier again, with its configured timing. Returns whether a general query is sent,
+    /// one however late the call comes.
     pub fn tick(&mut self, now: Moment, m: &mut Meter) -> bool
         requires in_range { now ≤ 2 ^ 53 }
         ensures state { self.new ≡ record self.old { state = ticked self.old.configured now self.old.state } }
@@ -152,7 +150,7 @@ impl<K: Key> Election<K> {
         true
     }
 
-    /// Whether the router is querier.
+    /// Returns whether the router is querier.
     pub fn is_querier(&self) -> bool
         ensures { result ≡ is_querier self.now.state.role }
     {
@@ -162,7 +160,7 @@ impl<K: Key> Election<K> {
         }
     }
 
-    /// The other router that is querier, or None where this one is.
+    /// Returns the other router that is querier, or None if this one is.
     pub fn other_querier(&self) -> Option<OtherQuerier<K>>
         ensures { IsOtherOf K.number self.now.state.role result }
     {
@@ -172,15 +170,14 @@ impl<K: Key> Election<K> {
         }
     }
 
-    /// The timing in force: the configured one, but for what was taken over from queries.
+    /// Returns the timing in force: the configured one, except for what was adopted from queries.
     pub fn timing(&self) -> Timing
         ensures { result ≡ self.now.state.timing }
     {
         self.in_force
     }
 
-    /// When there is something to do next: the general query of the querier, or for any other router
-    /// the end of the other querier's deadline.
+    /// Returns the next moment: that of the querier's general query, or the end of the other querier's deadline.
     pub fn next_moment(&self) -> Moment
         ensures { result ≡ next_moment self.now.state.role }
     {

@@ -5,7 +5,7 @@ ghost use Rattle.std.specs.List.{All};
 ghost use Rattle.mq_sched.specs.Deadlines.{AreNumbered};
 ghost use Rattle.mq_sched.specs.DeadlineTree.{leaf_after};
 
-/// The number of a leaf, or another where there is no such leaf.
+/// Returns the number of a leaf, or `other` if there is no leaf there.
 pub(crate) fn number_or(numbers: &[u16], leaf: usize, other: u16) -> u16
     ensures { result ≡ slice_index_or numbers.now leaf other }
 {
@@ -16,7 +16,7 @@ pub(crate) fn number_or(numbers: &[u16], leaf: usize, other: u16) -> u16
     }
 }
 
-/// The number of a leaf gets another leaf.
+/// Gives the number of a leaf another leaf.
 fn hand_over(leaves: &mut [u32], numbers: &mut [u16], leaf: usize, other: usize)
     requires leaf { leaf < length numbers.old }
     requires other { other < length numbers.old }
@@ -30,8 +30,8 @@ fn hand_over(leaves: &mut [u32], numbers: &mut [u16], leaf: usize, other: usize)
     leaves[number as usize] = other as u32;
 }
 
-/// A leaf is given up, and with it the last two of `last + 1` leaves: the number of `later`, which is one of them, has the leaf
-/// given up, and the number of the other one the node above them.
+/// Gives up a leaf, and with it the last two of `last + 1` leaves. The number of `later`, which is one of them, gets
+/// the leaf given up. The number of the other one gets the node above them.
 pub(crate) fn give_up_number(
     leaves: &mut [u32],
     numbers: &mut [u16],
@@ -59,7 +59,7 @@ pub(crate) fn give_up_number(
     hand_over(leaves, numbers, 4 * last + 1 - later, last);
 }
 
-/// Writes over each leaf, which is told by how far it stands behind the first one, its number.
+/// Replaces each leaf by its number. A leaf is given by its distance from the first one.
 pub(crate) fn write_numbers(numbers: &[u16], leaves: &mut [u16])
     requires { All (λ leaf. leaf < length numbers.now) leaves.old }
     ensures { leaves.new ≡ map (slice_index numbers.now) leaves.old }

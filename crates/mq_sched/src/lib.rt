@@ -1,8 +1,8 @@
-//! Which groups are due: `Deadlines`, an index of the held groups' earliest deadlines, by their numbers.
+//! The moments at which a router sends queries.
 //!
-//! When a router asks: the specific queries that are still to go for one group (RFC 3376 section
-//! 6.6.3, RFC 3810 section 7.6.3), general queries, and the election of the querier (RFC 3376 section
-//! 6.6.2, RFC 3810 section 7.6.2).
+//! - The groups that are due: `Deadlines`, an index of the held groups' earliest deadlines by number.
+//! - The specific queries that are still to go for one group (RFC 3376 section 6.6.3, RFC 3810 section 7.6.3).
+//! - General queries, and the election of the querier (RFC 3376 section 6.6.2, RFC 3810 section 7.6.2).
 #![tactic(auto)]
 
 pub mod announced;

@@ -3,7 +3,7 @@
 ghost use Rattle.std.specs.Prelude.{◌≡◌, ◌*◌, ◌^◌, ◌<◌, length};
 ghost use Rattle.mq_sched.specs.DeadlineTree.{first_below, second_below};
 
-/// The two nodes below a node: that whose deadline it has, and the other one.
+/// Returns the two nodes below a node: first the node that has its deadline, then the other.
 pub(crate) fn nodes_below(lefts: &[bool], node: usize) -> (usize, usize)
     requires node { node < length lefts.now }
     requires numbered { 2 * length lefts.now < 2 ^ 64 }

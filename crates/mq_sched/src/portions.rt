@@ -1,4 +1,4 @@
-//! The sources of one sending, in messages of what one holds.
+//! The sources of one sending, split into messages.
 
 ghost use Rattle.std.specs.Prelude.{◌≡◌, ℕ, ◌<◌, ◌≤◌, List, [], ◌∷◌, ◌++◌, length, map};
 ghost use Rattle.arrayvec.specs.ArrayVec.{array_vec_len};
@@ -25,7 +25,7 @@ struct Collected<K: Key> {
 }
 
 impl<K: Key> Collected<K> {
-    /// Nothing is collected.
+    /// Returns an empty collection.
     fn new(group: K, s: bool, per_query: usize) -> Collected<K>
         ensures group { result.group ≡ group }
         ensures flag { result.s ≡ s }
@@ -40,7 +40,7 @@ impl<K: Key> Collected<K> {
         }
     }
 
-    /// Sends what is collected, and collects for the next message.
+    /// Sends what is collected, and starts the next message.
     fn send<S: Sink<K>>(&mut self, sink: &mut S)
         ensures sent { let query = SourcesQuery (K.number self.old.group) self.old.s (map K.number self.old.sources.items) in
             Sends S.takes sink.old (query ∷ []) sink.new }
@@ -55,7 +55,7 @@ impl<K: Key> Collected<K> {
         self.sources.clear();
     }
 
-    /// Collects one more, and sends what is collected where the message is full then.
+    /// Collects one more source, and sends what is collected if the message is full.
     fn push<S: Sink<K>>(&mut self, source: K, sink: &mut S)
         requires room { array_vec_len self.old.sources < self.old.per_query }
         requires most { self.old.per_query ≤ 366 }
@@ -84,8 +84,7 @@ impl<K: Key> Collected<K> {
     }
 }
 
-/// Whether a source has a sending to go with this S flag: set where its timer is above the limit. At
-/// most one comparison.
+/// Returns whether a source has a sending to go with this S flag. It is set if the source's timer is above the limit.
 fn goes<K: Key>(source: &Source<K>, s: bool, limit: Moment, m: &mut Meter) -> bool
     ensures answer { result ≡ goes_with limit s source.now }
     ensures spent { Spends 0 1 m.old m.new }
@@ -93,8 +92,7 @@ fn goes<K: Key>(source: &Source<K>, s: bool, limit: Moment, m: &mut Meter) -> bo
     source.timer.has_sendings() && runs_on(source.timer.deadline(), limit, m) == s
 }
 
-/// Sends the queries for those of a group's sources that go with an S flag. At most one comparison
-/// for each source.
+/// Sends the queries for those of a group's sources that go with an S flag.
 pub(crate) fn send_sources<K: Key, S: Sink<K>>(
     group: K,
     s: bool,

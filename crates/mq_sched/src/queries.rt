@@ -2,11 +2,11 @@
 
 use mq_count::Moment;
 
-/// How many sendings of a query are still to go, and when the next is due.
+/// The number of sendings of a query that are still to go, and the moment of the next.
 #[derive(Clone, Copy)]
 pub struct QuerySchedule {
-    /// How many are to go.
+    /// The number of sendings to go.
     pub sendings: u32,
-    /// When the next is due.
+    /// The moment when the next is due.
     pub due: Moment,
 }

@@ -1,4 +1,4 @@
-//! What is still to go for one group.
+//! The specific queries that are still to go for one group.
 
 ghost use Rattle.std.specs.Prelude.{◌≡◌, ℕ, ◌+◌, ◌*◌, ◌^◌, ◌≤◌, true, Some, IsSome, length, min};
 ghost use Rattle.mq_count.specs.Spending.{Spends};
@@ -6,7 +6,7 @@ ghost use Rattle.mq_sets.specs.Ascending.{IsAscending, set_of};
 ghost use Rattle.mq_table.specs.Group.{timer_at};
 ghost use Rattle.mq_table.specs.Stored.{size_of};
 ghost use Rattle.mq_table.specs.Sendings.{some_source, has_sendings};
-ghost use Rattle.mq_sched.specs.Rounds.{is_due_at};
+ghost use Rattle.mq_sched.specs.Rounds.{compared_for, is_due_at};
 ghost use Rattle.mq_sched.specs.Schedule.{ScheduledGroup, no_schedule, settled, cleared};
 ghost use Rattle.mq_sched.specs.Sending.{group_asked, sources_asked};
 
@@ -16,15 +16,18 @@ use mq_table::{FilterMode, Group, Timing, any_has_sendings};
 use std::alloc::Allocator;
 use std::marker::Model;
 
-/// The specific queries that are still to go for one group: its group-specific query, and from when
-/// on those for its sources. How many are to go for a source stands with the source's timer in its
-/// group. A contract sees it as the state of the definitions.
+/// The specific queries that are still to go for one group.
 ///
-/// What starts queries: `start_group` and `start_sources`, where a record asks for them. What time
-/// does: `round`. What is dropped: `settle`, after each change of the group, and `clear`, where the
-/// router is no longer querier. What may be asked: `group_query`, `sources_due`, `is_due`. All take the group
-/// that the schedule is of. For a record the order is `settle`, `start_group`, `start_sources`,
-/// `round`; moments don't go back.
+/// They are its group-specific query, and the moment of the next queries for its sources. The sendings to go for a
+/// source are kept with the source's timer in its group. A contract sees the state of the definitions.
+///
+/// - Started by a record: `start_group` and `start_sources`.
+/// - Sent in time: `round`.
+/// - Dropped: `settle` after each change of the group, and `clear` if the router is no longer querier.
+/// - Read: `group_query`, `sources_due`, `is_due`.
+///
+/// All take the group of the schedule. For a record the order is `settle`, `start_group`, `start_sources`, `round`.
+/// Moments don't go back.
 #[derive(Clone, Copy)]
 pub struct Schedule {
     pub(crate) group_query: Option<QuerySchedule>,
@@ -42,7 +45,7 @@ impl Model for Schedule {
 }
 
 impl Schedule {
-    /// Nothing is to go.
+    /// Returns a schedule with nothing to go.
     pub fn none() -> Schedule
         ensures { result ≡ no_schedule }
     {
@@ -52,24 +55,26 @@ impl Schedule {
         }
     }
 
-    /// The group query that is to go, if there is one.
+    /// Returns the group query that is to go, if there is one.
     pub fn group_query(&self) -> Option<QuerySchedule>
         ensures { result ≡ self.now.group_query }
     {
         self.group_query
     }
 
-    /// When the sources that have sendings to go are due, if one has.
+    /// Returns the moment when the sources that have sendings to go are due, if one has.
     pub fn sources_due(&self) -> Option<Moment>
         ensures { result ≡ self.now.sources_due }
     {
         self.sources_due
     }
 
-    /// Whether something is due at or before a moment. At most two comparisons.
+    /// Returns whether something is due at or before a moment. The sources are compared only if the group query isn't
+    /// due.
     pub fn is_due(&self, now: Moment, m: &mut Meter) -> bool
         ensures due { result ≡ is_due_at now self.now }
         ensures spent { Spends 0 2 m.old m.new }
+        ensures compared { let count = compared_for now self.now in Spends count count m.old m.new }
     {
         if let Some(query) = &self.group_query {
             if m.reached(query.due, now) {
@@ -82,9 +87,8 @@ impl Schedule {
         }
     }
 
-    /// Starts the group-specific query of a group: its timer is lowered to the last member query
-    /// time, and the last member query count of sendings are to go, the first at once (RFC 3376
-    /// section 6.6.3.1, RFC 3810 section 7.6.3.1). At most one comparison.
+    /// Starts the group-specific query of a group. Its timer is lowered to the last member query time. The last member
+    /// query count of sendings are to go, the first at once (RFC 3376 section 6.6.3.1, RFC 3810 section 7.6.3.1).
     pub fn start_group<K: Key, A: Allocator>(
         &mut self,
         group: &mut Group<K, A>,
@@ -107,9 +111,8 @@ impl Schedule {
         }
     }
 
-    /// Drops what a record or the end of timers has left without its ground: the group query of a
-    /// group that is INCLUDE, and the moment for sources where none has a sending to go. No
-    /// comparison.
+    /// Drops what has lost its cause after a record or expired timers. This is the group query of a group in INCLUDE,
+    /// and the moment for sources if none has a sending to go. No comparison.
     pub fn settle<K: Key, A: Allocator>(&mut self, group: &Group<K, A>)
         ensures { self.new ≡ settled group.now.state self.old }
     {
@@ -121,10 +124,9 @@ impl Schedule {
         }
     }
 
-    /// Starts the group-and-source-specific query for sources that the group holds: those whose
-    /// timers are above the last member query time are lowered to it, the last member query count of
-    /// sendings are to go for each, and the first is due at once. Where there is none, all stays (RFC
-    /// 3376 section 6.6.3.2, RFC 3810 section 7.6.3.2). At most two comparisons for each source of the group.
+    /// Starts the group-and-source-specific query for sources that the group holds. Their timers above the last member
+    /// query time are lowered to it. The last member query count of sendings are to go for each of these sources, the
+    /// first at once. If there is none, nothing changes (RFC 3376 section 6.6.3.2, RFC 3810 section 7.6.3.2).
     pub fn start_sources<K: Key, A: Allocator>(
         &mut self,
         group: &mut Group<K, A>,
@@ -146,8 +148,8 @@ impl Schedule {
         }
     }
 
-    /// Drops all that was to go, as a router does that is no longer querier; no timer changes (RFC 3376
-    /// section 6.6.2, RFC 3810 section 7.6.2). No comparison.
+    /// Drops all that was to go, if the router is no longer querier. No timer changes. No comparison. RFC 3376 section
+    /// 6.6.2, RFC 3810 section 7.6.2.
     pub fn clear<K: Key, A: Allocator>(&mut self, group: &mut Group<K, A>)
         ensures cleared { let e : ScheduledGroup = record { group = group.old.state; schedule = self.old } in
             record { group = group.new.state; schedule = self.new } ≡ cleared e }
@@ -158,7 +160,7 @@ impl Schedule {
     }
 }
 
-/// Whether some source of the group has a sending to go.
+/// Returns whether some source of the group has a sending to go.
 fn has_sendings<K: Key, A: Allocator>(group: &Group<K, A>) -> bool
     ensures { result ≡ some_source (has_sendings group.now.state) group.now.state }
 {

@@ -1,4 +1,4 @@
-//! What is sent for a group at one moment.
+//! The queries that are sent for a group at one moment.
 
 ghost use Rattle.std.specs.Prelude.{◌≡◌, ◌+◌, ◌-◌, ◌*◌, ◌^◌, ◌<◌, ◌≤◌, if◌then◌else◌, nat_lt, length, slice_range};
 ghost use Rattle.mq_count.specs.Spending.{Spends};
@@ -19,7 +19,7 @@ use mq_count::{Key, Meter, Moment};
 use mq_table::{Group, SendingPlaces, Source, Timing, places_of_sendings, runs_on};
 use std::alloc::Allocator;
 
-/// A query that was sent at `now`, if it is to go once more.
+/// Returns a query that was sent at `now` with one sending fewer, if one is still to go.
 fn counted(query: &QuerySchedule, now: Moment, timing: &Timing) -> Option<QuerySchedule>
     requires { now ≤ 2 ^ 53 }
     ensures { result ≡ (if nat_lt 1 query.now.sendings
@@ -36,7 +36,7 @@ fn counted(query: &QuerySchedule, now: Moment, timing: &Timing) -> Option<QueryS
     }
 }
 
-/// The sources of a list at some places.
+/// Returns the sources of a list at some places.
 fn part_of<K: Key>(row: &[Source<K>], places: SendingPlaces) -> &[Source<K>]
     requires ordered { places.first ≤ places.end }
     requires within { places.end ≤ length row.now }
@@ -45,9 +45,9 @@ fn part_of<K: Key>(row: &[Source<K>], places: SendingPlaces) -> &[Source<K>]
     &row[places.first..places.end]
 }
 
-/// Sends the queries for the sources of a group that have sendings to go, whose row this is: those whose timers are above the last
-/// member query time with S set, and then the others with S clear (RFC 3376 section 6.6.3.2, RFC 3810 section 7.6.3.2). Answers
-/// from which place up to which they stand. At most two comparisons for each source.
+/// Sends the queries for the sources of a group that have sendings to go; `row` has its sources. Those whose timers are
+/// above the last member query time go with S set, and then the others with S clear. Returns their places. RFC 3376
+/// section 6.6.3.2, RFC 3810 section 7.6.3.2.
 pub fn send_waiting<K: Key, S: Sink<K>>(
     address: K,
     row: &[Source<K>],
@@ -75,7 +75,7 @@ pub fn send_waiting<K: Key, S: Sink<K>>(
 }
 
 impl Schedule {
-    /// Sends the group query, where it is due, and counts it.
+    /// Sends the group query, if it is due, and counts it.
     fn send_group_query<'a, K: Key, A: Allocator, S: Sink<K>>(
         &mut self,
         address: K,
@@ -103,8 +103,7 @@ impl Schedule {
         }
     }
 
-    /// Sends the queries for the sources that have sendings to go, where they are due, and counts
-    /// them.
+    /// Sends the queries for the sources that have sendings to go, if they are due, and counts them.
     fn send_source_queries<K: Key, A: Allocator, S: Sink<K>>(
         &mut self,
         address: K,
@@ -138,8 +137,8 @@ impl Schedule {
         }
     }
 
-    /// The sources that have sendings to go were sent at `now`, and counted: where one has a sending left, the next are due a last
-    /// member query interval later. No comparison.
+    /// Counts the sources that have sendings to go, which were sent at `now`. If one has a sending left, the next are
+    /// due a last member query interval later. No comparison.
     pub fn count_sources(&mut self, some_left: bool, now: Moment, timing: &Timing)
         requires in_range { now ≤ 2 ^ 53 }
         ensures { let next = if some_left then Some (now + timing.now.last_member_interval) else None in
@@ -152,13 +151,13 @@ impl Schedule {
         };
     }
 
-    /// Sends what is due for the group of this address, at or before `now`, once however late: the
-    /// group query first, then the sources that have sendings to go, those whose timers are above the
-    /// last member query time with S set, and then the others with S clear, ascending, in as few
-    /// messages as hold them. What was sent has one sending fewer, and the next is due a last member
-    /// query interval after `now` (RFC 3376 sections 6.6.3.1 and 6.6.3.2, RFC 3810 sections 7.6.3.1
-    /// and 7.6.3.2). A message holds `per_query` sources, at least one and at most 366. At most two
-    /// comparisons for each source, and three more.
+    /// Sends what is due at or before `now` for the group of this address, once however late.
+    ///
+    /// The group query goes first. Then go the sources that have sendings to go: those whose timers are above the last
+    /// member query time with S set, and then the others with S clear. They go in ascending order, in as few messages
+    /// as hold them. Each query that was sent has one sending fewer, and its next is due a last member query interval
+    /// after `now`. A message holds `per_query` sources. RFC 3376 sections 6.6.3.1 and 6.6.3.2, RFC 3810 sections
+    /// 7.6.3.1 and 7.6.3.2.
     pub fn round<K: Key, A: Allocator, S: Sink<K>>(
         &mut self,
         address: K,

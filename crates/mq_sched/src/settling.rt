@@ -1,14 +1,14 @@
-//! How the nodes of a tree of deadlines come to be in order once one of them has another deadline.
+//! The repair of a tree of deadlines after the deadline of one node has changed.
 
 ghost use Rattle.std.specs.Prelude.{◌≡◌, ℕ, ◌+◌, ◌*◌, ◌/◌, ◌<◌, ◌≤◌, min, length, slice_index};
 ghost use Rattle.mq_count.specs.Spending.{Spends};
 ghost use Rattle.mq_sets.specs.Search.{bitlen};
-ghost use Rattle.mq_sched.specs.DeadlineTree.{IsTreeBut, KeepsOther};
+ghost use Rattle.mq_sched.specs.DeadlineTree.{IsTreeBut, KeepsOther, written_above};
 
 use mq_count::{Meter, Moment, Moves};
 
-/// Brings the nodes above a node in order, of which that next above it may not be. It ends at one that had the deadline
-/// of the other node below it, and has it still. The leaves stay as they are.
+/// Repairs the nodes above a node; the one next above it may be out of order. It ends at a node that had the deadline
+/// of its other child and has it still. The leaves don't change.
 pub(crate) fn settle(
     nodes: &mut [Moment],
     lefts: &mut [bool],
@@ -24,7 +24,8 @@ pub(crate) fn settle(
     ensures count { length lefts.new ≡ length lefts.old }
     ensures leaves { (leaf : ℕ) → length lefts.old ≤ leaf → slice_index nodes.new leaf ≡ slice_index nodes.old leaf }
     ensures spent { Spends (min 1 (from / 2)) (bitlen (from / 2)) m.old m.new }
-    ensures moves { Spends 0 (bitlen (from / 2)) moves.old moves.new }
+    ensures moves { let written = written_above lefts.old lefts.new from from in
+        Spends written written moves.old moves.new }
 {
     let mut node = from;
     while node > 1 {

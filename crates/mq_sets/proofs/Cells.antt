@@ -156,8 +156,3 @@ module _ {T : Type 0} (cells : List T) (order free : List ℕ) (item : T) where
           (λ other.
           omega (arith, known.once n, sum_by-cons (is_cell n) cell order, is_cell-other n cell other.1))
           (eqb_tells cell n)
-
--- none of no cells
-pub AreSlots-none : {T : Type 0} (cells : List T) (order free : List ℕ) → cells ≡ [] → order ≡ [] → free ≡ [] → AreSlots cells order free
-AreSlots-none cells order free no_cells no_order no_free =
-    rw (no_cells, no_order, no_free) (record { within = All-nil _; free_within = All-nil _; once = λ n. omega arith; each = refl })

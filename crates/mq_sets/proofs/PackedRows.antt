@@ -80,18 +80,6 @@ pub record IsPackedBy {T : Type 0} (cells packed : List T) (from extents : List 
   pub filled : length packed ≡ sum_by (size_of from) numbers
 
 module _ {T : Type 0} (cells : List T) (from : List Extent) where
-  pub IsPackedBy-none : All IsPlaced from → IsPackedBy cells [] from from []
-  IsPackedBy-none placed = record {
-    size = refl;
-    lengths = refl;
-    placed = placed;
-    rest = λ n d absent. refl;
-    within = λ n d in_list some. absurd (omega (arith, some));
-    row = λ n d in_list some. absurd (omega (arith, some));
-    apart = λ a b d in_a in_b differ some_a some_b. absurd (omega (arith, some_a));
-    filled = refl;
-  }
-
   -- one row more, that of number x
   module _ (packed : List T) (extents : List Extent) (numbers : List ℕ) (x : ℕ) (e y : Extent) (in_list : x < length from) (absent : times x numbers ≡ 0) (here : e ≡ get_or extents x e) (inside : All (IsWithin cells) from) (size_is : y.length ≡ e.length) (start_is : 0 < y.length → y.start ≡ length packed) (placed_is : IsPlaced y) (known : IsPackedBy cells packed from extents numbers) where
     more : List T

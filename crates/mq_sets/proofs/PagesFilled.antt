@@ -57,12 +57,3 @@ module _ (numbers : List ℕ) (pages : List (List ℕ)) (done next : ℕ) (chunk
         full = λ left. subst (All (λ n. n ≡ 384)) (sym sizes) (All-append (λ n. n ≡ 384) (map length pages) (length chunk ∷ []) full (All-cons (λ n. n ≡ 384) (length chunk) [] (omega (arith, size, upto, left)) (All-nil (λ n. n ≡ 384))));
         count = λ left. omega (arith, count, upto, left, length-append pages (chunk ∷ []));
       }
-
--- the first page
-pub IsFilling-first : (numbers : List ℕ) (next : ℕ) (chunk : List ℕ) → next ≡ min (length numbers) 384 → chunk ≡ take next numbers → IsFilling numbers (chunk ∷ []) next
-IsFilling-first numbers next chunk upto is =
-    IsFilling-more numbers [] 0 next chunk (omega arith) refl (All-nil (λ n. n ≡ 384)) refl (λ more. absurd (omega (arith, more))) (omega (arith, upto)) (is ∙ ap (λ n. take n numbers) (omega arith))
-
--- there is room for a page more
-pub room_left : (numbers : List ℕ) (pages : List (List ℕ)) (done limit : ℕ) → IsFilling numbers pages done → done < length numbers → length numbers ≤ 128 * limit → length pages < limit
-room_left numbers pages done limit known left room = omega (arith, known.count left, left, room)

@@ -17,7 +17,7 @@ set_of number xs n = list_any (λ x. number x == n) xs
 abbrev pub item_with : {X : Type 0} → (X → ℕ) → List X → ℕ → Option X
 item_with number xs n = find (λ x. number x == n) xs
 
--- some item has a number exactly where the number is in the set
+-- some item has a number exactly if the number is in the set
 abbrev pub FoundWhereMember : {X : Type 0} → (X → ℕ) → Type 0
 FoundWhereMember {X} number = (xs : List X) (n : ℕ) → is_some (item_with number xs n) ≡ set_of number xs n
 
@@ -25,13 +25,13 @@ FoundWhereMember {X} number = (xs : List X) (n : ℕ) → is_some (item_with num
 abbrev pub FoundHasNumber : {X : Type 0} → (X → ℕ) → Type 0
 FoundHasNumber {X} number = (xs : List X) (n : ℕ) → IfSome (item_with number xs n) (λ x. number x ≡ n)
 
--- the finite map from the items' numbers to a value of each has at a number the value of the item there
+-- the finite map from the items' numbers to values has, at each number, the value of the item there
 abbrev pub MapsEachNumber : {X : Type 0} → (V : Type 0) → (X → ℕ) → Type 0
 MapsEachNumber {X} V number =
     (value : X → V) (xs : List X) (n : ℕ)
     → map_of.get {R = nat_cmp} (map_of.from_entries (map (λ x. (number x, value x)) xs)) n ≡ option_map value (item_with number xs n)
 
--- an ascending list is known by its set: two of one set are equal
+-- an ascending list is known by its set: two lists with the same set are equal
 abbrev pub KnownBySet : {X : Type 0} → (X → ℕ) → Type 0
 KnownBySet {X} number =
     (xs ys : List X) → IsAscending number xs → IsAscending number ys

@@ -1,9 +1,9 @@
--- What a search answers, and how many comparisons it may take.
+-- The result of a search, and the binary digits that bound its comparisons.
 use Rattle.std.specs.Prelude.{ℕ, ◌<◌, ◌≤◌, ◌^◌, ◌↔◌, List, length}
 use Rattle.std.specs.List.{AllWithin}
 use Rattle.std.specs.Int.Digits.{digits_of}
 
--- how many binary digits a number has, none for 0
+-- the number of binary digits of a number, none for 0
 unfoldable pub bitlen : ℕ → ℕ
 bitlen n = length (digits_of 2 n)
 
@@ -13,6 +13,6 @@ pub record IsPlaceFor {X : Type 0} (number : X → ℕ) (xs : List X) (n i : ℕ
   pub below : AllWithin (λ x. number x < n) xs 0 i
   pub above : AllWithin (λ x. n < number x) xs i (length xs)
 
--- a number is below 2 ^ k exactly where it has at most k binary digits
+-- a number is below 2 ^ k exactly if it has at most k binary digits
 abbrev pub BitlenIsLeast : Type 0
 BitlenIsLeast = (n k : ℕ) → (n < 2 ^ k) ↔ (bitlen n ≤ k)

@@ -1,18 +1,18 @@
-//! Where the rows of a pool stand in its cells.
+//! The places of a pool's rows in its cells.
 
 ghost use Rattle.std.specs.Prelude.{◌≡◌, ◌^◌, ◌<◌, ◌≤◌, length, map, slice_index_or, slice_set};
 ghost use Rattle.std.specs.List.{All};
 ghost use Rattle.mq_sets.specs.Pools.{rows_of, IsWithin, AreApart, IsPlaced};
 
-/// Where a row stands in the cells: its first cell's place, and how many cells it has. Both are kept in
-/// 32 bits, so that few bytes are moved where a row is made or removed.
+/// The place of a row in the cells: its first cell, and its number of cells. Both have 32 bits, so that few bytes are
+/// moved if a row is made or removed.
 #[derive(Clone, Copy)]
 pub(crate) struct Extent {
     pub(crate) start: u32,
     pub(crate) length: u32,
 }
 
-/// Where a row of so many cells stands that begins at a place. One of no cells begins at the first.
+/// Returns the extent of a row of `length` cells at `start`. A row without cells begins at the first cell.
 pub(crate) fn extent_at(start: usize, length: usize) -> Extent
     requires start { start < 2 ^ 32 }
     requires length { length < 2 ^ 32 }
@@ -26,7 +26,8 @@ pub(crate) fn extent_at(start: usize, length: usize) -> Extent
     }
 }
 
-/// Writes a row over the front of the one at a place, which is as long or longer, and has no cell in common with another.
+/// Writes a row over the front of the row at a place. The old row is as long or longer, and has no cell in common with
+/// another.
 pub(crate) fn write_over<T: Copy>(
     extents: &mut [Extent],
     cells: &mut [T],

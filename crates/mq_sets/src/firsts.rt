@@ -11,17 +11,17 @@ use mq_count::{Key, Meter};
 use std::alloc::Allocator;
 use std::cmp::Ordering;
 
-/// What has a first number: a number, and a page that isn't empty.
+/// An item with a first number: a number, or a page that isn't empty.
 pub(crate) trait First {
     ghost use Rattle.std.specs.Prelude.{ℕ};
 
     // The first number.
     ghost first_of: { Self → ℕ };
 
-    // Whether there is one.
+    // There is a first number.
     ghost has_first: { Self → Type 0 };
 
-    /// The first number.
+    /// Returns the first number.
     fn first(&self) -> u16
         requires { has_first self.now }
         ensures { result ≡ first_of self.now };
@@ -49,8 +49,8 @@ impl<A: Allocator> First for Vec<u16, A> {
     }
 }
 
-/// The place of the item whose first number has `key`, of items whose first numbers have ascending keys; or as an `Err` the
-/// place where one with that key would go. Takes at most one comparison for each binary digit of the count of items.
+/// Returns the place of the item whose first number has `key`, or as an `Err` the place where it would go. The first
+/// numbers of the items have ascending keys.
 pub(crate) fn search<K: Key, T: First>(
     keys: &[K],
     items: &[T],
@@ -78,8 +78,7 @@ pub(crate) fn search<K: Key, T: First>(
     Err(low)
 }
 
-/// The place where a number goes whose key is `key`, of numbers with ascending keys none of which has that key. Takes at most
-/// one comparison for each binary digit of how many they are.
+/// Returns the place where a number with this key goes, among numbers with ascending keys. None of them has that key.
 pub(crate) fn place_of<K: Key>(keys: &[K], numbers: &[u16], key: K, m: &mut Meter) -> usize
     requires ascending { IsAscending (key_at K.number keys.now) numbers.now }
     requires within { All (λ n. n < length keys.now) numbers.now }

@@ -5,12 +5,12 @@ ghost use Rattle.mq_sets.specs.Ascending.{FoundWhereMember, FoundHasNumber, Maps
 
 use mq_count::Key;
 
-/// An item of an ascending slice: whatever carries a key. A key carries itself.
+/// An item of an ascending slice, which carries a key. A key carries itself.
 pub trait Keyed<K: Key> {
     // The number of the key that the item carries.
     ghost key_number: { Self → ℕ };
 
-    /// The key that the item carries.
+    /// Returns the key that the item carries.
     fn key(&self) -> K
         ensures { K.number result ≡ key_number self.now };
 }
@@ -23,9 +23,8 @@ impl<K: Key> Keyed<K> for K {
     }
 }
 
-/// What a number finds in a list of items: an item exactly where the number is in the list's set,
-/// and one that has the number. The finite map from the items' numbers to some value of each finds
-/// that item's value.
+/// A lemma: a number finds an item in a list exactly if it is in the list's set, and the item has the number. The
+/// finite map from the items' numbers to a value of each finds that item's value.
 pub fn numbers_find_items<K: Key, T: Keyed<K>, V>()
     ensures member { FoundWhereMember T.key_number }
     ensures number { FoundHasNumber T.key_number }

@@ -1,5 +1,5 @@
-//! Ascending sets of sources, the search in an ascending slice, and the merge of two. Each
-//! comparison is counted by the meter that is lent.
+//! Ascending sets of sources, the search in an ascending slice, and the merge of two slices. A meter of the caller
+//! counts each comparison.
 //!
 //! ```text
 //! let mut m = Meter::new();
@@ -15,15 +15,13 @@
 //! }
 //! ```
 //!
-//! - A set: `SourceSet`, with its `InsertFault`. One that is made by `with_room` takes all its memory then,
-//!   or answers `Memory`.
+//! - A set: `SourceSet`, with its `InsertFault`. `with_room` allocates for all members at once, or fails with `Memory`.
 //! - Rows of cells by number, in memory that is reserved once: `Pool`.
 //! - An ordered set of keys, each with a number for its life: `NumberedKeys`, with its `Spot`.
-//! - Ascending slices of whatever carries a key: `Keyed`, `find`, and `merge` with `Merge::next`,
-//!   which hands out `Merged`.
-//! - Laws for the crates above, functions that do nothing: `numbers_find_items`,
-//!   `sets_are_known_by_their_members`, `binary_digits_bound_a_number`, `rules_act_at_each_key`,
-//!   `moves_are_paid`.
+//! - Ascending slices of items that carry a key: `Keyed`, `find`, and `merge` with `Merge::next`, which returns
+//!   `Merged`.
+//! - Laws for the crates above, without effect at run time: `numbers_find_items`, `sets_are_known_by_their_members`,
+//!   `binary_digits_bound_a_number`, `rules_act_at_each_key`, `moves_are_paid`.
 #![tactic(auto)]
 
 mod extents;

@@ -4,7 +4,7 @@ use std::alloc::{AllocError, AllocFailed};
 use std::error::Error;
 use std::fmt;
 
-/// The memory that was wanted was refused.
+/// The error of refused memory.
 #[derive(Clone, Copy, Debug, PartialEq, Eq)]
 pub struct Memory;
 

@@ -1,4 +1,4 @@
-//! What a whole merge hands out.
+//! The whole merge of two slices, and its law for rules.
 
 ghost use Rattle.std.specs.Prelude.{◌≡◌, ℕ, ◌+◌, ◌≤◌, min, length};
 ghost use Rattle.mq_sets.specs.Ascending.{IsAscending, item_with};
@@ -9,8 +9,7 @@ use crate::items::Keyed;
 use crate::merge_state::Merge;
 use mq_count::Key;
 
-/// The merge of two ascending slices. What it hands out in all is ascending, and at each key it is
-/// what the two slices have there.
+/// Returns the merge of two ascending slices. Its items ascend, and at each key they are those of the two slices.
 pub fn merge<'a, K: Key, L: Keyed<K>, R: Keyed<K>>(
     left: &'a [L],
     right: &'a [R],
@@ -20,14 +19,14 @@ pub fn merge<'a, K: Key, L: Keyed<K>, R: Keyed<K>>(
 
     ensures sides { result ≡ record { left = left.now; right = right.now } }
 
-    // All that it hands out is ascending, and has at each number what the two slices have there.
+    // All its items ascend, and at each number they are those of the two slices.
     ensures ascending { let ahead = merged L.key_number R.key_number in
         IsAscending (number_of L.key_number R.key_number) (ahead result) }
     ensures at_each_number { let ahead = merged L.key_number R.key_number in
         (n : ℕ) → item_with (number_of L.key_number R.key_number) (ahead result) n
         ≡ paired (item_with L.key_number left.now n) (item_with R.key_number right.now n) }
 
-    // The comparisons in all: no fewer than the shorter side has items, no more than both have.
+    // The comparisons in all: at least the items of the shorter side, at most those of both.
     ensures compares_at_least { let ahead = merged L.key_number R.key_number in
         min (length left.now) (length right.now) ≤ comparisons_along (ahead result) }
     ensures compares_at_most { let ahead = merged L.key_number R.key_number in
@@ -36,9 +35,8 @@ pub fn merge<'a, K: Key, L: Keyed<K>, R: Keyed<K>>(
     Merge::of(left, right)
 }
 
-/// What a rule makes of each pair of a whole merge, item by item, it makes of the two slices at
-/// each key. So a loop over a merge that pushes what a rule makes of each pair gives an ascending
-/// list, known at each key.
+/// A lemma: a rule that acts on each pair of a merge acts on the two slices at each key. So a loop over a merge that
+/// pushes the rule's result for each pair gives an ascending list, known at each key.
 pub fn rules_act_at_each_key<K: Key, L: Keyed<K>, R: Keyed<K>, T: Keyed<K>>()
     ensures ascending { RulesKeepOrder L.key_number R.key_number T.key_number }
     ensures at_each_number { RulesActAtEachNumber L.key_number R.key_number T.key_number }

@@ -1,4 +1,4 @@
-//! How the rows that are kept by number are packed.
+//! The packing of rows that are kept by number.
 
 ghost use Rattle.std.specs.Prelude.{◌≡◌, ◌+◌, ◌^◌, ◌<◌, ◌≤◌, [], length, map, nat_le, if◌then◌else◌, vec_capacity};
 ghost use Rattle.std.specs.List.{All};
@@ -10,8 +10,8 @@ use mq_count::Moves;
 use std::alloc::Allocator;
 use std::mem;
 
-/// Copies the rows that `numbers` names, one after another, into `packed`, which is empty and has space for them. Each cell
-/// that is copied and each number is counted.
+/// Copies the rows of `numbers`, one after another, into `packed`, which is empty and has space for them. Each copied
+/// cell and each number counts as a move.
 pub(crate) fn pack_named<T: Copy, A: Allocator>(
     extents: &mut [Extent],
     cells: &[T],
@@ -47,8 +47,8 @@ pub(crate) fn pack_named<T: Copy, A: Allocator>(
     moves.count(numbers.len());
 }
 
-/// Makes space for `count` cells behind the last one, so that there are no more than `size`. Where there is none left, the
-/// rows that `numbers` names are packed into `spare`, which is empty, and the two vectors change places.
+/// Makes space for `count` cells after the last one, within `size` cells in all. If there is none left, it packs the
+/// rows of `numbers` into `spare`, which is empty, and the two vectors change places.
 pub(crate) fn make_space_for<T: Copy, A: Allocator>(
     extents: &mut Vec<Extent, A>,
     cells: &mut Vec<T, A>,

@@ -1,4 +1,4 @@
-//! Numbers in pages: a list of lists, each of which has a room that never changes.
+//! Numbers in pages: a list of lists, each with a fixed room.
 
 ghost use Rattle.std.specs.Prelude.{◌≡◌, ◌+◌, ◌-◌, ◌*◌, ◌<◌, ◌≤◌, [], ◌∷◌, ◌++◌, length, map, take, drop, min, sum, slice_index, slice_index_or, slice_set, vec_capacity, not, IfOk, IfErr, IsTrue, is_ok};
 ghost use Rattle.std.specs.List.{All, insert, remove};
@@ -20,17 +20,17 @@ use mq_count::{Key, Meter, Moves};
 use std::alloc::{Allocator, Global};
 use std::marker::Model;
 
-/// For how many numbers a page has room.
+/// The room of a page, in numbers.
 pub(crate) const PAGE_ROOM: usize = 511;
-/// How many numbers two neighbouring pages have at least.
+/// The fewest numbers that two neighbouring pages have together.
 pub(crate) const TWO_PAGES: usize = 256;
-/// How many numbers a page has where all are written anew.
+/// The numbers of a page if all are written anew.
 const FILLED_TO: usize = 384;
-/// How many numbers stay in a full page that is split.
+/// The numbers that stay in a full page that is split.
 const FIRST_HALF: usize = 255;
 
-/// Pages of numbers. A contract sees the list of the pages, each the list of its numbers, and how many pages there may be.
-/// `with_room` takes the memory for them, and no other call takes any.
+/// Pages of numbers. A contract sees the numbers of each page, and the greatest number of pages. `with_room` allocates
+/// for all of them, and no other call allocates.
 #[derive(Drop)]
 pub(crate) struct Pages<A: Allocator = Global> {
     used: Vec<Vec<u16, A>, A>,
@@ -53,7 +53,7 @@ impl<A: Allocator> Model for Pages<A> {
         × (length s.used.items + length s.spare.items ≤ vec_capacity s.spare) };
 }
 
-/// So many empty pages, in a vector with room for `limit`; or `Memory`, where that was refused.
+/// Returns `count` empty pages, in a vector with room for `limit`. Fails with `Memory` if memory is refused.
 fn empty_pages<A: Allocator, M: VectorSource<A>>(
     memory: &mut M,
     count: usize,
@@ -72,7 +72,7 @@ fn empty_pages<A: Allocator, M: VectorSource<A>>(
 }
 
 impl<A: Allocator> Pages<A> {
-    /// How many bytes `with_room` takes; or none, where no memory has as many.
+    /// Returns the bytes that `with_room` allocates, or None if no memory has as many.
     pub(crate) fn size(limit: usize) -> Option<usize>
         ensures { IsSize (bytes_of_pages (item_bytes (page.the_row u16 A.row ⟦<A as Allocator>⟧)) limit) result }
     {
@@ -82,7 +82,7 @@ impl<A: Allocator> Pages<A> {
         )
     }
 
-    /// One empty page, with memory for so many; or `Memory`, where that was refused.
+    /// Returns one empty page, with memory for `limit` pages. Fails with `Memory` if memory is refused.
     #[tactic(auto, unfolding(crate::specs::Sizes::bytes_of_pages))]
     pub(crate) fn with_room<M: VectorSource<A>>(
         memory: &mut M,
@@ -100,14 +100,14 @@ impl<A: Allocator> Pages<A> {
 }
 
 impl<A: Allocator> Pages<A> {
-    /// How many pages there are.
+    /// Returns the number of pages.
     pub(crate) fn count(&self) -> usize
         ensures { result ≡ length self.now.pages }
     {
         self.used.len()
     }
 
-    /// The numbers of a page.
+    /// Returns the numbers of a page.
     pub(crate) fn page(&self, page: usize) -> &[u16]
         requires page { page < length self.now.pages }
         ensures numbers { result.now ≡ slice_index_or self.now.pages page [] }
@@ -116,7 +116,8 @@ impl<A: Allocator> Pages<A> {
         self.used[page].as_slice()
     }
 
-    /// The page whose first number has `key`, other than the first page; or as an `Err` the one that it belongs to.
+    /// Returns the page whose first number has `key`, other than the first page. Otherwise returns as an `Err` the page
+    /// to which the key belongs.
     fn page_of<K: Key>(&self, keys: &[K], key: K, m: &mut Meter) -> Result<usize, usize>
         requires filled { AreFilled (map length self.now.pages) }
         requires ascending { IsAscending (key_at K.number keys.now) (numbers_in self.now.pages) }
@@ -133,7 +134,7 @@ impl<A: Allocator> Pages<A> {
         }
     }
 
-    /// Where the number stands that has `key`, or as an `Err` where one would go.
+    /// Returns the spot of the number that has `key`, or as an `Err` the spot where it would go.
     pub(crate) fn find<K: Key>(&self, keys: &[K], key: K, m: &mut Meter) -> Result<Spot, Spot>
         requires filled { AreFilled (map length self.now.pages) }
         requires ascending { IsAscending (key_at K.number keys.now) (numbers_in self.now.pages) }
@@ -156,7 +157,7 @@ impl<A: Allocator> Pages<A> {
         }
     }
 
-    /// The number at a spot.
+    /// Returns the number at a spot.
     pub(crate) fn number(&self, spot: Spot) -> u16
         requires { IsTaken self.now.pages spot }
         ensures { result ≡ number_at self.now.pages spot }
@@ -180,7 +181,7 @@ impl<A: Allocator> Pages<A> {
         moves.count(numbers.len() - place);
     }
 
-    /// Makes two pages of a full one, and answers the second.
+    /// Splits a full page in two, and returns the second.
     fn split(&mut self, page: usize, moves: &mut Moves) -> usize
         requires page { page < length self.old.pages }
         requires full { length (slice_index_or self.old.pages page []) ≡ 511 }
@@ -220,7 +221,7 @@ impl<A: Allocator> Pages<A> {
         }
     }
 
-    /// The same where the page is full.
+    /// Puts a number at a spot of a full page, which becomes two.
     fn put_in_half(&mut self, spot: Spot, number: u16, moves: &mut Moves)
         requires page { spot.page < length self.old.pages }
         requires place { spot.place ≤ 511 }
@@ -242,7 +243,7 @@ impl<A: Allocator> Pages<A> {
         }
     }
 
-    /// Takes the number at a spot out. Two neighbours that have few numbers left become one page.
+    /// Removes the number at a spot. Two neighbours with few numbers left become one page.
     pub(crate) fn remove(&mut self, spot: Spot, moves: &mut Moves)
         requires taken { IsTaken self.old.pages spot }
         requires filled { AreFilled (map length self.old.pages) }
@@ -262,7 +263,7 @@ impl<A: Allocator> Pages<A> {
         }
     }
 
-    /// Has these numbers alone, in their order, in pages that are three quarters full but for the last.
+    /// Replaces all numbers by these, in order. Each page but the last is three quarters full.
     pub(crate) fn fill(&mut self, numbers: &[u16], moves: &mut Moves)
         requires some { 1 ≤ self.old.limit }
         requires room { length numbers.now ≤ 128 * self.old.limit }
@@ -282,7 +283,7 @@ impl<A: Allocator> Pages<A> {
         }
     }
 
-    /// Leaves no page.
+    /// Removes all pages.
     fn clear(&mut self, moves: &mut Moves)
         ensures pages { self.new ≡ record self.old { pages = [] } }
         ensures moved { let moved = length self.old.pages in Spends moved moved moves.old moves.new }
@@ -294,7 +295,7 @@ impl<A: Allocator> Pages<A> {
         }
     }
 
-    /// One page more, behind the others, with these numbers.
+    /// Appends a page with these numbers.
     fn append(&mut self, numbers: &[u16], moves: &mut Moves)
         requires room { length self.old.pages < self.old.limit }
         requires within { length numbers.now ≤ 511 }
@@ -307,7 +308,7 @@ impl<A: Allocator> Pages<A> {
         moves.count(numbers.len() + 1);
     }
 
-    /// Takes the number at a spot out, and nothing else.
+    /// Removes the number at a spot, and changes nothing else.
     fn take_out(&mut self, spot: Spot, moves: &mut Moves)
         requires taken { IsTaken self.old.pages spot }
         ensures pages { self.new ≡ record self.old {
@@ -321,7 +322,7 @@ impl<A: Allocator> Pages<A> {
         numbers.remove(spot.place);
     }
 
-    /// Whether a page and the one behind it have to become one: one of them is empty, or both together have too few numbers.
+    /// Returns whether a page and the next must become one: one is empty, or both together have too few numbers.
     fn must_join(&self, page: usize) -> bool
         requires page { page < length self.now.pages }
         ensures yes { IsTrue result → (page + 1 < length self.now.pages) × (above_least (map length self.now.pages) page ≡ 0) }
@@ -335,7 +336,7 @@ impl<A: Allocator> Pages<A> {
         first == 0 || second == 0 || first + second < TWO_PAGES
     }
 
-    /// Makes one page of two.
+    /// Joins a page and the next.
     fn join(&mut self, page: usize, moves: &mut Moves)
         requires behind { page + 1 < length self.old.pages }
         requires fits { length (slice_index_or self.old.pages page []) + length (slice_index_or self.old.pages (page + 1) []) ≤ 511 }
@@ -353,7 +354,7 @@ impl<A: Allocator> Pages<A> {
     }
 }
 
-/// Moves what stands behind the first half of a full page into one that is empty.
+/// Moves the numbers after the first half of a full page into an empty page.
 fn halve<A: Allocator>(full: &mut Vec<u16, A>, behind: &mut Vec<u16, A>)
     requires full { length full.old.items ≡ 511 }
     requires empty { behind.old.items ≡ [] }

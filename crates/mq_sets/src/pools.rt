@@ -16,15 +16,15 @@ use std::marker::Model;
 
 /// Rows of cells, one for each number below a limit.
 ///
-/// A row without cells is not in use. A contract sees the rows by their numbers, how many cells they may have together, and
-/// how many cells fit after the last one before the rows are packed. `new` reserves all memory, and no other call allocates.
-/// No edit changes another row or its number.
+/// A row without cells is not in use. A contract sees the rows by their numbers, and the most cells that they may have
+/// together. It also sees the number of cells that fit after the last one before the rows are packed. `new` reserves
+/// all memory, and no other call allocates. No edit changes another row or its number.
 ///
-/// All cells stand in one vector. `replace` writes a row over the old one if it is no longer than that. Otherwise it writes the
-/// row after the last cell and forgets the old one. At the end of the vector it packs the rows in use: it copies them, one after
-/// another, into a second vector of the same size, and the two change places. Each vector has room for all cells that the rows
-/// may have, a quarter more, and one cell for each row. So packing copies and looks at no more than four times the cells that
-/// were written after the last one since it packed before.
+/// All cells stand in one vector. `replace` writes a row over the old one if it is no longer than that. Otherwise it
+/// writes the row after the last cell and forgets the old one. At the end of the vector it packs the rows in use. It
+/// copies them, one after another, into a second vector of the same size, and the two change places. Each vector has
+/// room for all cells that the rows may have, a quarter more, and one cell for each row. So packing copies and looks at
+/// no more than four times the cells that were written after the last one since the packing before.
 #[derive(Drop)]
 pub struct Pool<T: Copy, A: Allocator = Global> {
     extents: Vec<Extent, A>,
@@ -57,7 +57,7 @@ impl<T: Copy, A: Allocator> Model for Pool<T, A> {
 }
 
 impl<T: Copy, A: Allocator> Pool<T, A> {
-    /// Returns how many bytes `new` takes, or none if no memory has as many.
+    /// Returns the bytes that `new` allocates, or None if no memory has as many.
     pub fn size(rows: usize, cells: usize) -> Option<usize>
         requires counted { cells_reserved rows cells < 2 ^ 32 }
         ensures { IsSize (bytes_of_rows (item_bytes T.row) rows cells) result }
@@ -96,7 +96,7 @@ impl<T: Copy, A: Allocator> Pool<T, A> {
 }
 
 impl<T: Copy, A: Allocator> Pool<T, A> {
-    /// Returns how many rows there are, those without cells included.
+    /// Returns the number of rows, with those that have no cells.
     pub fn rows(&self) -> usize
         ensures { result ≡ length self.now.rows }
     {
@@ -113,14 +113,14 @@ impl<T: Copy, A: Allocator> Pool<T, A> {
         &self.cells[start..start + extent.length as usize]
     }
 
-    /// Returns how many cells are free: the limit less the cells of all rows.
+    /// Returns the number of free cells: the limit less the cells of all rows.
     pub fn room(&self) -> usize
         ensures { result + cells_in self.now.rows ≡ self.now.cell_limit }
     {
         self.cell_limit - self.used
     }
 
-    /// Removes a row: all its cells. Its number stays, with a row without cells. Nothing is moved.
+    /// Removes all cells of a row. Its number stays, with a row without cells. Nothing is moved.
     pub fn remove_row(&mut self, number: u16)
         requires number { number < length self.old.rows }
         ensures { self.new ≡ record self.old { rows = slice_set self.old.rows number [] } }
@@ -202,7 +202,7 @@ impl<T: Copy, A: Allocator> Pool<T, A> {
     }
 }
 
-/// The law `MovesArePaid`: what rows move that are put in the place of others is in proportion to their own cells.
+/// The law `MovesArePaid`: the moves of replaced rows are in proportion to their own cells.
 pub fn moves_are_paid<T>()
     ensures { MovesArePaid T }
 {}

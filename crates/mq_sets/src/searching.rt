@@ -10,16 +10,15 @@ use crate::items::Keyed;
 use mq_count::{Key, Meter};
 use std::cmp::Ordering;
 
-/// The place of `key` in an ascending slice, or as an `Err` the place where it would go. Takes at
-/// most one comparison for each binary digit of the slice's length.
+/// Returns the place of `key` in an ascending slice, or as an `Err` the place where it would go.
 pub fn find<K: Key, T: Keyed<K>>(items: &[T], key: K, m: &mut Meter) -> Result<usize, usize>
     requires ascending { IsAscending T.key_number items.now }
 
-    // It is Ok where some item has the key, and the place is that item's.
+    // It is Ok exactly if some item has the key, and the place is that item's.
     ensures member { set_of T.key_number items.now (K.number key) ≡ is_ok result }
     ensures found_in { IfOk result (λ i. i < length items.now) }
     ensures found { IfOk result (HoldsAt (λ x. T.key_number x ≡ K.number key) items.now) }
-    // Else it is the place that keeps the slice ascending.
+    // Otherwise it is the place that keeps the slice ascending.
     ensures absent { IfErr result (IsPlaceFor T.key_number items.now (K.number key)) }
 
     ensures spent { Spends (min 1 (length items.now)) (bitlen (length items.now)) m.old m.new }
@@ -37,7 +36,7 @@ pub fn find<K: Key, T: Keyed<K>>(items: &[T], key: K, m: &mut Meter) -> Result<u
     Err(low)
 }
 
-/// A number is below 2^k exactly where it has at most k binary digits.
+/// A lemma: a number is below 2^k exactly if it has at most k binary digits.
 pub fn binary_digits_bound_a_number()
     ensures { BitlenIsLeast }
 {}

@@ -6,7 +6,7 @@ ghost use Rattle.mq_sets.specs.Slots.{AreSlots, IsCell, item_in, items_in};
 
 use std::alloc::Allocator;
 
-/// Writes an item into a free cell, or into a new one after the last if none is free, and returns which cell.
+/// Writes an item into a free cell, or into a new one after the last if none is free. Returns the cell.
 pub(crate) fn fill_cell<T: Copy, A: Allocator>(
     cells: &mut Vec<T, A>,
     free: &mut Vec<u16, A>,
@@ -16,7 +16,7 @@ pub(crate) fn fill_cell<T: Copy, A: Allocator>(
     requires numbered { length free.old.items ≡ 0 → length cells.old.items < 2 ^ 16 }
     requires space { length free.old.items ≡ 0 → length cells.old.items < vec_capacity cells.old }
     ensures item { item_in cells.new.items result ≡ item ∷ [] }
-    // Whatever cells are in use: theirs is one more, and their items stay.
+    // For any cells in use: there is one more, and their items stay.
     ensures used { (order : List ℕ) → AreSlots cells.old.items order free.old.items →
         AreSlots cells.new.items (result ∷ order) free.new.items }
     ensures kept { (order : List ℕ) → AreSlots cells.old.items order free.old.items →

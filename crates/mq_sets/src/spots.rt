@@ -1,7 +1,7 @@
-//! Where an item goes in pages.
+//! The place of an item in pages.
 
-/// Where a new key goes in a set of numbered keys: a page, and a place in it. `NumberedKeys::find` tells it, and it is true
-/// until the set changes.
+/// The place of a new key in a set of numbered keys: a page, and a place in it. `NumberedKeys::find` returns it, and it
+/// is valid until the set changes.
 #[derive(Clone, Copy)]
 pub struct Spot {
     pub(crate) page: usize,

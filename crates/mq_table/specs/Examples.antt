@@ -1,4 +1,4 @@
--- Words of the worked examples: the timing of the standards' defaults, and a timer. Moments are milliseconds.
+-- Values of the worked examples: the timing of the standards' defaults, and a timer. Moments are milliseconds.
 use Rattle.std.specs.Prelude.{ℕ}
 use Rattle.mq_table.specs.declared.timing.Timing.{Timing}
 use Rattle.mq_table.specs.Group.{SourceTimer, Running}
@@ -12,6 +12,6 @@ default_timing = record {
   last_member_interval = 1000;
 }
 
--- running, with no sending to go
+-- a running timer with no sending to go
 abbrev pub until : ℕ → SourceTimer
 until deadline = Running deadline 0

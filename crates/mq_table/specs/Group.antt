@@ -1,22 +1,21 @@
--- The state of one group, as the router keeps it (RFC 3376 section 6.2, RFC 3810 section 7.2).
+-- The state of one group in a router (RFC 3376 section 6.2, RFC 3810 section 7.2).
 use Rattle.std.specs.Prelude.{◌≡◌, ℕ, Bool, true, false, not, ◌&&◌, ◌==◌, ◌⊎◌, nat_lt, Option, None, Some, IsTrue}
 use Rattle.std.specs.Ordering.{nat_cmp}
 use Rattle.std.specs.FinMap as map
 use Rattle.std.specs.FinMap.{FinMap}
 use Rattle.mq_table.specs.Sets.{Set}
--- The timer of a source: stopped, so at zero, which the tables write as a source of Y; or running
--- until a deadline, which they write as a source of X. A running one has a number of
--- group-and-source-specific queries that are still to go for it (RFC 3376 sections 6.2.3 and 6.6.3.2,
--- RFC 3810 sections 7.2.3 and 7.6.3.2). The filter mode; in EXCLUDE with the deadline of the group timer,
--- which RFC 3810 calls the filter timer (RFC 3376 sections 6.2.1 and 6.2.2, RFC 3810 sections 7.2.1 and
--- 7.2.2).
+-- The timer of a source, and the filter mode. A timer is stopped, so at zero, which the tables write as a source of Y.
+-- Or it runs until a deadline, which they write as a source of X. A running timer has a number of
+-- group-and-source-specific queries that are still to go (RFC 3376 sections 6.2.3 and 6.6.3.2, RFC 3810 sections 7.2.3
+-- and 7.6.3.2). EXCLUDE has the deadline of the group timer, which RFC 3810 calls the filter timer (RFC 3376 sections
+-- 6.2.1 and 6.2.2, RFC 3810 sections 7.2.1 and 7.2.2).
 pub use Rattle.mq_table.specs.declared.timers.SourceTimer.{SourceTimer}
 pub use Rattle.mq_table.specs.declared.timers.SourceTimer.TheVariants.{Stopped, Running}
 pub use Rattle.mq_table.specs.declared.timers.FilterMode.{FilterMode}
 pub use Rattle.mq_table.specs.declared.timers.FilterMode.TheVariants.{Include, Exclude}
 
--- A group: its mode, the timers of its sources, and until when a host of version 1 or 2 is taken to
--- be there (RFC 3376 section 7.3.2; MLD has version 1 alone, RFC 3810 section 8.3.2).
+-- A group: its mode, the timers of its sources, and the moments until which older hosts are assumed to be there. They
+-- are hosts of version 1 or 2 (RFC 3376 section 7.3.2). MLD has version 1 alone (RFC 3810 section 8.3.2).
 pub record GroupState : Type 0 where
   pub mode : FilterMode
   pub sources : FinMap nat_cmp SourceTimer
@@ -27,7 +26,7 @@ abbrev pub is_include : FilterMode → Bool
 is_include Include = true
 is_include (Exclude d) = false
 
--- until when the group timer runs, in EXCLUDE
+-- the deadline of the group timer, in EXCLUDE
 abbrev pub group_deadline : FilterMode → Option ℕ
 group_deadline Include = None
 group_deadline (Exclude d) = Some d
@@ -42,18 +41,18 @@ is_stopped None = false
 is_stopped (Some Stopped) = true
 is_stopped (Some (Running d n)) = false
 
--- until when a timer runs, if it does
+-- the deadline of a timer, if it runs
 abbrev pub deadline_of : Option SourceTimer → Option ℕ
 deadline_of None = None
 deadline_of (Some Stopped) = None
 deadline_of (Some (Running d n)) = Some d
 
--- whether there is a deadline that lies after a moment: whether a timer runs on then
+-- there is a deadline after this moment, so a timer runs on then
 abbrev pub is_ahead : ℕ → Option ℕ → Bool
 is_ahead moment None = false
 is_ahead moment (Some deadline) = nat_lt moment deadline
 
--- how many sendings are still to go for a source
+-- the number of sendings that are still to go for a source
 abbrev pub sendings_of : Option SourceTimer → ℕ
 sendings_of None = 0
 sendings_of (Some Stopped) = 0
@@ -71,8 +70,8 @@ running g s = is_running (timer_at g s)
 abbrev pub stopped : GroupState → Set
 stopped g s = is_stopped (timer_at g s)
 
--- What the group asks of source s: INCLUDE(A) wants the sources of A, and EXCLUDE(X,Y) wants all
--- but those of Y (RFC 3376 section 6.3, RFC 3810 section 7.3).
+-- The group wants source s. INCLUDE(A) wants the sources of A, and EXCLUDE(X,Y) all but those of Y (RFC 3376 section
+-- 6.3, RFC 3810 section 7.3).
 abbrev pub wants : FilterMode → Option SourceTimer → Bool
 wants Include timer = is_running timer
 wants (Exclude d) timer = not (is_stopped timer)

@@ -1,4 +1,4 @@
--- What becomes of each source of a list, where nothing is added to it.
+-- The sources of a list after a change that adds none.
 use Rattle.std.specs.Prelude.{ℕ, ◌==◌, Bool, false, not, if◌then◌else◌, nat_lt, List, length, Option, Some}
 use Rattle.mq_count.specs.Timed.{moments_by}
 use Rattle.mq_table.specs.declared.sources.Source.{Source}
@@ -10,29 +10,29 @@ use Rattle.mq_table.specs.declared.sendings.Recount.{Recount}
 use Rattle.mq_table.specs.declared.sendings.Recount.TheVariants.{OneFewer, NoneLeft}
 use Rattle.mq_table.specs.MergedRecord.{source_with}
 
--- whether a timer runs out at a moment
+-- a timer expires by `now`
 abbrev pub timer_runs_out : (now : ℕ) → SourceTimer → Bool
 timer_runs_out now Stopped = false
 timer_runs_out now (Running d n) = not (nat_lt now d)
 
--- a source that the end of timers leaves
+-- the source after the expiry of timers, if it stays
 abbrev pub source_left : {K : Type 0} → FilterMode → ℕ → Source K → Option (Source K)
 source_left mode now x = source_with x.address (source_expired mode now x.timer)
 
--- whether the timer of a source runs out at a moment
+-- the timer of a source expires by `now`
 abbrev pub runs_out : {K : Type 0} → (now : ℕ) → Source K → Bool
 runs_out now x = timer_runs_out now x.timer
 
--- how many of some sources have a timer that runs
+-- the number of sources with a running timer
 abbrev pub running_among : {K : Type 0} → List (Source K) → ℕ
 running_among sources = length (moments_by (λ x. deadline_of (Some x.timer)) sources)
 
--- the source of a number, lowered; any other stays
+-- the source, lowered if it has number n
 abbrev pub source_lowered_at : {K : Type 0} → (K → ℕ) → (limit n : ℕ) → Source K → Option (Source K)
 source_lowered_at number limit n x =
     Some (record { address = x.address; timer = if number x.address == n then source_lowered limit x.timer else x.timer })
 
--- a timer whose sendings are counted anew
+-- a timer with its sendings counted anew
 abbrev pub timer_recounted : Recount → SourceTimer → SourceTimer
 timer_recounted OneFewer timer = source_counted timer
 timer_recounted NoneLeft timer = source_cleared timer

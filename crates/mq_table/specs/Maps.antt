@@ -1,5 +1,5 @@
--- Finite maps that are given key by key. What the new map answers at each key is the lemma
--- `get-by_rule` of proofs/Maps.antt, and for `kept` it is `get-kept`.
+-- Finite maps that are given key by key. The lemma `get-by_rule` of proofs/Maps.antt has the value of the new map at
+-- each key, and `get-kept` that of `kept`.
 use Rattle.std.specs.Prelude.{ℕ, List, [], ◌∷◌, ◌++◌, Option, None, Some}
 use Rattle.std.specs.Option.{option_and_then}
 use Rattle.std.specs.Ordering.{nat_cmp}
@@ -8,7 +8,7 @@ use Rattle.std.specs.FinSet as set
 use Rattle.std.specs.FinMap.{FinMap}
 use Rattle.std.specs.FinSet.{FinSet}
 
--- an entry more, where there is a value
+-- one more entry, if there is a value
 abbrev pub with_entry : {X : Type 0} → ℕ → Option X → List (ℕ × X) → List (ℕ × X)
 with_entry k None es = es
 with_entry k (Some x) es = (k, x) ∷ es
@@ -18,10 +18,10 @@ abbrev pub entries_by : {X : Type 0} → (ℕ → Option X) → List ℕ → Lis
 entries_by rule [] = []
 entries_by rule (k ∷ ks) = with_entry k (rule k) (entries_by rule ks)
 
--- the map that has, at each key of the old map and each key named, what the rule says of that key
+-- the map with the rule's value at each key of the old map and at each named key
 unfoldable pub by_rule : {X : Type 0} → FinMap nat_cmp X → FinSet nat_cmp → (ℕ → Option X) → FinMap nat_cmp X
 by_rule old named rule = map.from_entries (entries_by rule (map.keys old ++ set.items named))
 
--- the map with each value replaced, or left out, as f says of it
+-- the map with each value replaced, or left out, by f
 unfoldable pub kept : {X : Type 0} → (ℕ → X → Option X) → FinMap nat_cmp X → FinMap nat_cmp X
 kept f old = by_rule old set.empty (λ k. option_and_then (f k) (map.get old k))

@@ -1,5 +1,5 @@
--- What a record makes of each pair of a merge: of the group's source, if it holds it, and the record's
--- source, if it names it.
+-- The effect of a record on each pair of a merge: the group's source, if it holds it, and the record's source, if it
+-- names it.
 use Rattle.std.specs.Prelude.{◌≡◌, ℕ, length, Bool, true, false, ◌&&◌, ◌||◌, not, if◌then◌else◌, is_some, List, Option, None, Some}
 use Rattle.std.specs.Bool.{beq}
 use Rattle.std.specs.List.{All, list_any}
@@ -18,7 +18,7 @@ abbrev pub source_with : {K : Type 0} → K → Option SourceTimer → Option (S
 source_with address None = None
 source_with address (Some timer) = Some (record { address = address; timer = timer })
 
--- the source as the record leaves it
+-- the source after the record
 abbrev pub source_made : {K : Type 0} → Rule → Option (Source K) × Option K → Option (Source K)
 source_made rule (Some x, named) =
     source_with x.address (timer_after rule.interval_end rule.mode rule.kind (Some x.timer) (is_some named))
@@ -33,22 +33,22 @@ source_asked rule (None, Some y) =
     if is_asked_after rule.interval_end rule.mode rule.kind None true then Some y else None
 source_asked rule (None, None) = None
 
--- whether the filter of the mode from before names a source with one of two timers, and not with the other
+-- the filter of the mode before names a source with one of these timers, and not with the other
 abbrev pub turns : FilterMode → (before after : Option SourceTimer) → Bool
 turns mode before after = not (beq (names mode before) (names mode after))
 
--- whether the record turns the source of a pair
+-- the record turns the source of a pair
 abbrev pub source_turned : {K : Type 0} → Rule → Option (Source K) × Option K → Bool
 source_turned rule (Some x, named) =
     turns rule.mode (Some x.timer) (timer_after rule.interval_end rule.mode rule.kind (Some x.timer) (is_some named))
 source_turned rule (None, Some y) = turns rule.mode None (timer_after rule.interval_end rule.mode rule.kind None true)
 source_turned rule (None, None) = false
 
--- whether a source is stopped
+-- a source is stopped
 abbrev pub item_is_stopped : {K : Type 0} → Source K → Bool
 item_is_stopped x = is_stopped (Some x.timer)
 
--- whether a record of this kind takes away no source that it doesn't name
+-- a record of this kind removes no source that it doesn't name
 abbrev pub takes_none_away : Kind → Bool
 takes_none_away IsIn = true
 takes_none_away IsEx = false
@@ -57,18 +57,18 @@ takes_none_away ToEx = false
 takes_none_away Allow = true
 takes_none_away Block = true
 
--- whether it leaves these sources of a group alone where it doesn't name them: it takes none away and asks for none, and
--- in INCLUDE none is stopped
+-- The record leaves these sources of a group alone if it doesn't name them. It removes none and asks for none, and in
+-- INCLUDE none is stopped.
 abbrev pub keeps_unnamed : {K : Type 0} → Kind → FilterMode → List (Source K) → Bool
 keeps_unnamed kind mode row = takes_none_away kind && (not (is_include mode) || not (list_any item_is_stopped row))
 
--- Where a record names one source and leaves the others of its group alone, that one is looked for by halves: at most one
--- comparison for each binary digit of how many the group has.
+-- A record that names one source and leaves the others of its group alone finds it by binary search. It takes at most
+-- one comparison for each binary digit of the group's number of sources.
 unfoldable pub LooksByHalves : {K : Type 0} → Kind → FilterMode → List (Source K) → (named before after : ℕ) → Type 0
 LooksByHalves kind mode row named before after =
     named ≡ 1 → keeps_unnamed kind mode row ≡ true → Spends 0 (bitlen (length row)) before after
 
--- a record leaves each of these sources as it is where it doesn't name it, and asks for none of them and turns none then
+-- a source of these that the record doesn't name stays as it is, isn't asked for and isn't turned
 pub record LeavesAlone {K : Type 0} (rule : Rule) (xs : List (Source K)) : Type 0 where
   pub made : All (λ x. source_made rule (Some x, None) ≡ Some x) xs
   pub asked : All (λ x. source_asked rule (Some x, None) ≡ None) xs

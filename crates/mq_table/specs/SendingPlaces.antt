@@ -1,4 +1,4 @@
--- Where among the sources of a group those stand that have sendings to go.
+-- The places of the sources of a group that have sendings to go.
 use Rattle.std.specs.Prelude.{◌≡◌, ℕ, ◌≤◌, Bool, false, nat_lt, List, length, take, drop, Some}
 use Rattle.std.specs.List.{list_any}
 use Rattle.std.specs.FinMap as map
@@ -6,17 +6,18 @@ use Rattle.mq_table.specs.declared.sources.Source.{Source}
 use Rattle.mq_table.specs.Group.{GroupState, sendings_of}
 use Rattle.mq_table.specs.Sendings.{has_sendings}
 
--- whether a source of a list has a sending to go
+-- a source of a list has a sending to go
 abbrev pub item_has_sendings : {K : Type 0} → Source K → Bool
 item_has_sendings x = nat_lt 0 (sendings_of (Some x.timer))
 
--- Two places in a list, the first not behind the second, before which and from which on no item passes a test.
+-- Two places in a list, the first not after the second. No item before the first passes the test, and none from the
+-- second on.
 pub record PassesBetween {X : Type 0} (test : X → Bool) (first end : ℕ) (xs : List X) : Type 0 where
   pub ordered : first ≤ end
   pub within : end ≤ length xs
   pub none_before : list_any test (take first xs) ≡ false
   pub none_behind : list_any test (drop end xs) ≡ false
 
--- two places among the sources of a group, which ascend: outside of them none has a sending to go
+-- two places among the ascending sources of a group; outside of them none has a sending to go
 abbrev pub SendsBetween : (first end : ℕ) → GroupState → Type 0
 SendsBetween first end g = PassesBetween (has_sendings g) first end (map.keys g.sources)

@@ -1,5 +1,5 @@
--- Sendings of group-and-source-specific queries, which stand with the timers of the sources that they ask for:
--- what starts them, counts one of them, and drops them (RFC 3376 section 6.6.3.2, RFC 3810 section 7.6.3.2).
+-- Sendings of group-and-source-specific queries, kept with the timers of the sources that they ask for. They are
+-- started, counted and dropped (RFC 3376 section 6.6.3.2, RFC 3810 section 7.6.3.2).
 use Rattle.std.specs.Prelude.{ℕ, ◌-◌, Bool, if◌then◌else◌, nat_lt, Some}
 use Rattle.std.specs.List.{list_any}
 use Rattle.std.specs.FinMap as map
@@ -10,7 +10,7 @@ use Rattle.mq_table.specs.Group.{GroupState, SourceTimer, Stopped, Running, is_a
 use Rattle.mq_table.specs.Timing.{last_member_count}
 use Rattle.mq_table.specs.Lowering.{lowered_to}
 
--- whether some source that the group holds passes a test
+-- some source that the group holds passes a test
 abbrev pub some_source : Set → GroupState → Bool
 some_source test g = list_any test (map.keys g.sources)
 
@@ -21,13 +21,13 @@ has_sendings g s = nat_lt 0 (sendings_of (timer_at g s))
 abbrev pub above : Timing → ℕ → GroupState → Set
 above timing now g s = is_ahead (lowered_to timing now) (deadline_of (timer_at g s))
 
--- a timer above the last member query time is lowered to it, and so many sendings are to go
+-- the timer, lowered to the limit with `count` sendings to go if it is above the limit
 abbrev pub source_asked : (limit count : ℕ) → SourceTimer → SourceTimer
 source_asked limit count Stopped = Stopped
 source_asked limit count (Running d n) = if nat_lt limit d then Running limit count else Running d n
 
--- the sources asked for whose timers are above the last member query time are lowered, and the last member
--- query count of sendings are to go for each
+-- The group after sendings have started for the sources asked for. Their timers above the last member query time are
+-- lowered to it, and the last member query count of sendings are to go for each.
 abbrev pub sendings_started : Timing → ℕ → Set → GroupState → GroupState
 sendings_started timing now asked g =
     let limit = lowered_to timing now in
@@ -36,7 +36,7 @@ sendings_started timing now asked g =
       sources = kept (λ s timer. Some (if asked s then source_asked limit count timer else timer)) g.sources;
     }
 
--- one sending fewer
+-- a timer with one sending fewer
 abbrev pub source_counted : SourceTimer → SourceTimer
 source_counted Stopped = Stopped
 source_counted (Running d n) = Running d (n - 1)
@@ -44,7 +44,7 @@ source_counted (Running d n) = Running d (n - 1)
 abbrev pub sendings_counted : GroupState → GroupState
 sendings_counted g = record g { sources = kept (λ s timer. Some (source_counted timer)) g.sources }
 
--- none
+-- a timer without sendings
 abbrev pub source_cleared : SourceTimer → SourceTimer
 source_cleared Stopped = Stopped
 source_cleared (Running d n) = Running d 0

@@ -1,5 +1,4 @@
--- A group as it is stored: a list of sources with their timers, ascending, for some of which there is
--- room without more memory.
+-- A stored group: an ascending list of sources with their timers, and room for some of them without more memory.
 use Rattle.std.specs.Prelude.{ℕ, List, map as list_map, Option, refl}
 use Rattle.std.specs.Coded.{Coded, code_by, coded×, coded_ℕ, coded_option}
 use Rattle.std.specs.Ordering.{nat_cmp}
@@ -11,12 +10,12 @@ use Rattle.mq_table.specs.declared.heads.Head.{Head}
 use Rattle.mq_table.specs.declared.sources.Source.{Source}
 use Rattle.mq_table.specs.Group.{GroupState, FilterMode, SourceTimer}
 
--- what a contract sees of a stored group: its state, and for how many sources it has room
+-- a stored group, as a contract sees it: its state, and the number of sources for which it has room
 pub record StoredGroup : Type 0 where
   pub state : GroupState
   pub room : ℕ
 
--- by the code of its parts proofs tell a stored group from others
+-- the code of its parts, by which proofs distinguish stored groups
 abbrev pub stored_code : Coded FilterMode → Coded SourceTimer → Coded StoredGroup
 stored_code mode timer =
     let timers = map.code coded_ℕ timer in
@@ -27,7 +26,7 @@ stored_code mode timer =
     (λ p. record { state = record { mode = p.0.0.0; sources = p.0.0.1; v1 = p.0.1.0; v2 = p.0.1.1 }; room = p.1 })
     (λ _. refl)
 
--- the number of a source is that of its address
+-- the number of a source: that of its address
 abbrev pub number_in : {K : Type 0} → (K → ℕ) → Source K → ℕ
 number_in number x = number x.address
 
@@ -43,6 +42,6 @@ state_of head timers = record { mode = head.mode; sources = timers; v1 = head.v1
 abbrev pub named_in : {K : Type 0} → (K → ℕ) → List K → NamedSources
 named_in number addresses = set.from_list (list_map number addresses)
 
--- for so many sources a group has timers
+-- the number of sources for which a group has timers
 abbrev pub size_of : GroupState → ℕ
 size_of g = map.len g.sources

@@ -1,6 +1,6 @@
--- What a record makes of its group: the tables of RFC 3376 sections 6.4.1 and 6.4.2, and of
--- RFC 3810 sections 7.4.1 and 7.4.2. They are read of a group whose ended timers have been worked off, so
--- that the sources with a running timer are those whose timer is above zero.
+-- The tables for a record and its group: RFC 3376 sections 6.4.1 and 6.4.2, RFC 3810 sections 7.4.1 and 7.4.2. They are
+-- for a group whose expired timers have been handled. So the sources with a running timer are those whose timer is
+-- above zero.
 use Rattle.std.specs.Prelude.{◌≡◌, ℕ, ◌+◌, Bool, true, false, if◌then◌else◌, Option, None, Some}
 use Rattle.std.specs.Option.{unwrap_or}
 use Rattle.std.specs.Ordering.{nat_cmp}
@@ -14,16 +14,15 @@ use Rattle.mq_table.specs.Maps.{by_rule}
 use Rattle.mq_table.specs.Group.{GroupState, FilterMode, Include, Exclude, SourceTimer, Stopped, Running, running, stopped, timer_at, group_deadline, deadline_of, sendings_of}
 use Rattle.mq_table.specs.Timing.{membership_interval}
 
--- the sources that a record names (RFC 3376 sections 4.2.9 and 4.2.15, RFC 3810 sections 5.2.9 and 5.2.12);
--- how often it names one doesn't matter
+-- The sources that a record names; it doesn't matter how often it names one. RFC 3376 sections 4.2.9 and 4.2.15, RFC
+-- 3810 sections 5.2.9 and 5.2.12.
 abbrev pub NamedSources : Type 0
 NamedSources = FinSet nat_cmp
 
--- One row of the tables: the new state, INCLUDE(x) or EXCLUDE(x,y), and the actions. The timers of
--- the sources of `restart` are set to the group membership interval, those of `copy` to the group timer
--- from before the record. A querier sends Q(G,query), for those of `query` whose timers are above the last
--- member query time, and Q(G) where `query_group` says so. The actions "(B-A)=0" and "delete" are in the new
--- X and Y, "group timer=GMI" is in the mode.
+-- One row of the tables: the new state, INCLUDE(x) or EXCLUDE(x,y), and the actions. The timers of the sources of
+-- `restart` are set to the group membership interval, those of `copy` to the group timer before the record. A querier
+-- sends Q(G,query), for those of `query` whose timers are above the last member query time, and Q(G) if `query_group`
+-- is true. The actions "(B-A)=0" and "delete" are in the new X and Y, and "group timer=GMI" is in the mode.
 pub record TableRow : Type 0 where
   pub mode : FilterMode
   pub x : Set
@@ -42,8 +41,8 @@ abbrev pub exclude : ℕ → Set → Set → TableRow
 exclude d X Y =
     record { mode = Exclude d; x = X; y = Y; restart = ∅; copy = ∅; query = ∅; query_group = false }
 
--- The twelve rows. `gmi` is the moment to which a timer runs that is set to the group membership
--- interval, and `d` the deadline of the group timer.
+-- The twelve rows. `gmi` is the deadline of a timer that is set to the group membership interval, and `d` that of the
+-- group timer.
 abbrev pub table_row : ℕ → FilterMode → Kind → Set → Set → Set → TableRow
 -- Current-state records (RFC 3376 section 6.4.1, RFC 3810 section 7.4.1).
 -- INCLUDE(A), IS_IN(B): INCLUDE(A+B), (B)=GMI
@@ -76,10 +75,9 @@ table_row gmi (Exclude d) ToEx X Y A =
 table_row gmi (Exclude d) ToIn X Y A =
     record (exclude d (X ∪ A) (Y ∖ A)) { restart = A; query = X ∖ A; query_group = true }
 
--- One rule makes a row into timers, source by source. `before` is the timer before the record. A
--- source that no action of the row names keeps its deadline; one that was running keeps its
--- sendings to go, and every other has none. (No row copies the group timer of INCLUDE,
--- which has none, or keeps the deadline of a source that has none.)
+-- The timer of source s after a row of the tables. `before` is its timer before the record. A source that no action of
+-- the row names keeps its deadline. A source that was running keeps its sendings to go, and every other has none. (No
+-- row copies the group timer of INCLUDE, which has none, or keeps the deadline of a source that has none.)
 abbrev pub timer_by : TableRow → ℕ → FilterMode → ℕ → Option SourceTimer → Option SourceTimer
 timer_by row gmi mode s before =
     let group = unwrap_or (group_deadline mode) 0 in
@@ -87,7 +85,7 @@ timer_by row gmi mode s before =
     let deadline = if row.restart s then gmi else (if row.copy s then group else kept) in
     if row.x s then Some (Running deadline (sendings_of before)) else (if row.y s then Some Stopped else None)
 
--- The new group and the queries that go with it. Host-present timers stay.
+-- The new group and its queries. Host-present timers stay.
 pub record GroupChange : Type 0 where
   pub group : GroupState
   pub query : Set
@@ -107,6 +105,6 @@ change_of timing now g kind named =
       query_group = l.query_group;
     }
 
--- by the tables, this is what the record changes
+-- the change is that of the tables for this record
 abbrev pub Table : Timing → ℕ → GroupState → Kind → NamedSources → GroupChange → Type 0
 Table timing now g kind named change = change ≡ change_of timing now g kind named

@@ -1,5 +1,5 @@
--- The variables of RFC 3376 section 8 and RFC 3810 section 9, and what is computed from them, all
--- in milliseconds. The query interval is kept in whole seconds, as messages carry it.
+-- The variables of RFC 3376 section 8 and RFC 3810 section 9, and the values computed from them. All are in
+-- milliseconds. The query interval is kept in whole seconds, as messages carry it.
 use Rattle.std.specs.Prelude.{ℕ, ◌+◌, ◌*◌, ◌/◌}
 use Rattle.mq_table.specs.declared.timing.Timing.{Timing}
 
@@ -11,25 +11,25 @@ query_interval t = t.query_seconds * 1000
 abbrev pub membership_interval : Timing → ℕ
 membership_interval t = t.robustness * query_interval t + t.response_interval
 
--- how long a host of an older version is taken to be there (RFC 3376 section 8.13, RFC 3810 section 9.13)
+-- the time for which a host of an older version is assumed to be there (RFC 3376 section 8.13, RFC 3810 section 9.13)
 abbrev pub older_host_present : Timing → ℕ
 older_host_present t = t.robustness * query_interval t + t.response_interval
 
--- how long another querier is taken to be there; the half of an odd response interval is rounded
--- down (RFC 3376 section 8.5, RFC 3810 section 9.5)
+-- The time for which another querier is assumed to be there (RFC 3376 section 8.5, RFC 3810 section 9.5). Half of an
+-- odd response interval is rounded down.
 abbrev pub other_querier_present : Timing → ℕ
 other_querier_present t = t.robustness * query_interval t + t.response_interval / 2
 
--- how far apart the queries at startup are, and how many there are (RFC 3376 sections 8.6 and 8.7,
--- RFC 3810 sections 9.6 and 9.7)
+-- The interval of the queries at startup, and their number. RFC 3376 sections 8.6 and 8.7, RFC 3810 sections 9.6 and
+-- 9.7.
 abbrev pub startup_interval : Timing → ℕ
 startup_interval t = query_interval t / 4
 
 abbrev pub startup_count : Timing → ℕ
 startup_count t = t.robustness
 
--- LMQC and LMQT, for MLD the last listener query count and time (RFC 3376 sections 8.9 and 8.10,
--- RFC 3810 sections 9.9 and 9.10)
+-- LMQC and LMQT, for MLD the last listener query count and time. RFC 3376 sections 8.9 and 8.10, RFC 3810 sections 9.9
+-- and 9.10.
 abbrev pub last_member_count : Timing → ℕ
 last_member_count t = t.robustness
 

@@ -1,8 +1,8 @@
 -- The variables of a router that may be configured (RFC 3376 section 8, RFC 3810 section 9).
 use Rattle.std.specs.Prelude.{ℕ, ◌≤◌}
 
--- The Robustness Variable; the Query Interval in whole seconds, as messages carry it; the Query
--- Response Interval and the Last Member (for MLD: Last Listener) Query Interval in milliseconds.
+-- The Robustness Variable and three intervals. The Query Interval is in whole seconds, as messages carry it. The Query
+-- Response Interval and the Last Member (for MLD: Last Listener) Query Interval are in milliseconds.
 pub record Variables : Type 0 where
   pub robustness : ℕ
   pub query_seconds : ℕ
@@ -14,7 +14,7 @@ pub record IsWithin (low high n : ℕ) : Type 0 where
   pub at_least : low ≤ n
   pub at_most : n ≤ high
 
--- The ranges: what QRV, QQIC and the maximum response code of a query can say, and none of them 0.
+-- The ranges: what QRV, QQIC and the maximum response code of a query can carry, without 0.
 pub record AreInRange (v : Variables) : Type 0 where
   pub robustness : IsWithin 1 7 v.robustness
   pub query_seconds : IsWithin 1 31744 v.query_seconds

@@ -1,4 +1,4 @@
-//! The end of timers.
+//! Expiry of timers.
 
 ghost use Rattle.std.specs.Prelude.{◌≡◌, ◌+◌, ◌≤◌, ◌++◌, length, take, drop, vec_capacity};
 ghost use Rattle.std.specs.List.{filter_map, list_any};
@@ -15,7 +15,7 @@ use crate::timers::{FilterMode, SourceTimer, runs_on};
 use mq_count::{Key, Meter, Moment};
 use std::alloc::Allocator;
 
-/// A deadline that is still ahead. At most one comparison.
+/// Returns a deadline if it is still ahead.
 fn still_ahead(deadline: &Option<Moment>, now: Moment, m: &mut Meter) -> Option<Moment>
     ensures ahead { result ≡ option_and_then (ahead now) deadline.now }
     ensures spent { Spends 0 1 m.old m.new }
@@ -27,7 +27,7 @@ fn still_ahead(deadline: &Option<Moment>, now: Moment, m: &mut Meter) -> Option<
     }
 }
 
-/// The mode once the group timer has ended, if it has. At most one comparison.
+/// Returns the mode at `now`, after the end of the group timer if it has ended.
 fn mode_left(mode: &FilterMode, now: Moment, m: &mut Meter) -> FilterMode
     ensures mode { result ≡ mode_expired now mode.now }
     ensures spent { Spends 0 1 m.old m.new }
@@ -39,7 +39,7 @@ fn mode_left(mode: &FilterMode, now: Moment, m: &mut Meter) -> FilterMode
     }
 }
 
-/// What a source's timer is once it has ended, in a group of this mode; None where the source is removed.
+/// Returns a source's timer after its end, in a group of this mode, or None if the source is removed.
 fn timer_at_zero(mode: &FilterMode) -> Option<SourceTimer>
     ensures { result ≡ at_zero mode.now }
 {
@@ -49,7 +49,7 @@ fn timer_at_zero(mode: &FilterMode) -> Option<SourceTimer>
     }
 }
 
-/// Moves so many sources at a place towards the front.
+/// Moves `run` sources at `place` towards the front, to `left`.
 fn move_run<K: Key, A: Allocator>(
     sources: &mut Vec<Source<K>, A>,
     place: usize,
@@ -68,9 +68,8 @@ fn move_run<K: Key, A: Allocator>(
     }
 }
 
-/// Leaves of a list the sources that the end of their timers leaves in a group of this mode, in one
-/// pass over the list, run by run of those whose timers run on. Answers whether a timer ran out. One comparison for each
-/// source with a deadline.
+/// Keeps the sources of a list that stay after the expiry of timers, in a group of this mode. Returns whether a timer
+/// expired. It takes one pass over the list, run by run of the sources whose timers run on.
 fn leave_sources<K: Key, A: Allocator>(
     sources: &mut Vec<Source<K>, A>,
     mode: &FilterMode,
@@ -105,7 +104,7 @@ fn leave_sources<K: Key, A: Allocator>(
 }
 
 impl<K: Key, A: Allocator> Group<K, A> {
-    /// INCLUDE without sources isn't held, and its host-present timers go with it.
+    /// Makes INCLUDE without sources vacant: it isn't held, and its host-present timers go with it.
     fn let_go_if_vacant(&mut self)
         ensures state { self.new.state ≡ held_or_vacant self.old.state }
         ensures room { self.new.room ≡ self.old.room }
@@ -116,11 +115,10 @@ impl<K: Key, A: Allocator> Group<K, A> {
         }
     }
 
-    /// Ends the timers that have run out at this moment: sources first, then the group (RFC 3376
-    /// sections 6.2.2, 6.3 and 6.5, RFC 3810 sections 7.2.2, 7.2.3 and 7.5). In INCLUDE a source
-    /// at zero is removed, in EXCLUDE it stays, stopped. The end of the group timer makes the group
-    /// INCLUDE of the sources that still run; without any the group is vacant. Answers whether another filter is forwarded
-    /// then than before.
+    /// Ends the timers that have expired at `now`: sources first, then the group. RFC 3376 sections 6.2.2, 6.3 and 6.5;
+    /// RFC 3810 sections 7.2.2, 7.2.3 and 7.5. In INCLUDE a source at zero is removed; in EXCLUDE it stays, stopped.
+    /// The end of the group timer makes the group INCLUDE of the sources that still run. Without any the group is
+    /// vacant. Returns whether the filter changed.
     pub fn expire(&mut self, now: Moment, m: &mut Meter) -> bool
         ensures changes_filter { result ≡ changes_filter self.old.state self.new.state }
         ensures state { self.new.state ≡ expired now self.old.state }

@@ -1,4 +1,4 @@
-//! The state of one group, stored.
+//! The stored state of one group.
 
 ghost use Rattle.std.specs.Prelude.{◌≡◌, ◌≤◌, min, length, IfOk, is_ok};
 ghost use Rattle.mq_arena.specs.Vectors.{Takes, bytes_for, item_bytes};
@@ -18,8 +18,8 @@ use mq_sets::Memory;
 use std::alloc::{Allocator, Global};
 use std::marker::Model;
 
-/// The state of one multicast group. A contract sees its state, as the definitions have it, and for
-/// how many sources it has room without more memory.
+/// The state of one multicast group. A contract sees its state, as the definitions have it, and the number of sources
+/// for which it has room without more memory.
 #[derive(Drop)]
 pub struct Group<K: Key, A: Allocator = Global> {
     pub(crate) mode: FilterMode,
@@ -45,7 +45,7 @@ impl<K: Key, A: Allocator> Model for Group<K, A> {
 }
 
 impl<K: Key, A: Allocator + Copy> Group<K, A> {
-    /// The vacant group with room for so many sources, or `Memory` where that memory was refused.
+    /// Returns the vacant group with room for `sources` sources. Fails with `Memory` if memory is refused.
     pub fn with_room(alloc: A, sources: usize) -> Result<Group<K, A>, Memory>
         ensures { IfOk result (λ g. g ≡ record { state = vacant; room = sources }) }
     {
@@ -54,8 +54,8 @@ impl<K: Key, A: Allocator + Copy> Group<K, A> {
 }
 
 impl<K: Key, A: Allocator> Group<K, A> {
-    /// The state of every group that isn't held, INCLUDE without sources, with no room. It takes no
-    /// memory until it grows, and then from `alloc`.
+    /// Returns INCLUDE without sources, the state of every group that isn't held. It has no room, and allocates only
+    /// when it grows, from `alloc`.
     pub fn vacant(alloc: A) -> Group<K, A>
         ensures { result ≡ record { state = vacant; room = 0 } }
     {
@@ -67,7 +67,8 @@ impl<K: Key, A: Allocator> Group<K, A> {
         }
     }
 
-    /// The vacant group with room for so many sources, of memory that vectors are made of; or `Memory`, where that was refused.
+    /// Returns the vacant group with room for `sources` sources, allocated from `memory`. Fails with `Memory` if memory
+    /// is refused.
     pub fn with_room_in<M: VectorSource<A>>(
         memory: &mut M,
         sources: usize,
@@ -83,7 +84,7 @@ impl<K: Key, A: Allocator> Group<K, A> {
         })
     }
 
-    /// Becomes the group of a head and its row of sources, for which it has room.
+    /// Replaces the group by a head and its row of sources, for which it has room.
     pub fn load(&mut self, head: Head, row: &[Source<K>])
         requires ascending { IsAscending (number_in K.number) row.now }
         requires room { length row.now ≤ self.old.room }
@@ -97,7 +98,7 @@ impl<K: Key, A: Allocator> Group<K, A> {
         self.sources.extend_from_slice(row).unwrap();
     }
 
-    /// All of the group but its sources.
+    /// Returns the group without its sources.
     pub fn head(&self) -> Head
         ensures { self.now.state ≡ state_of result self.now.state.sources }
     {
@@ -108,7 +109,7 @@ impl<K: Key, A: Allocator> Group<K, A> {
         }
     }
 
-    /// Whether it is INCLUDE without sources, and so not held.
+    /// Returns whether the group is INCLUDE without sources, and so not held.
     pub fn is_vacant(&self) -> bool
         ensures { result ≡ is_vacant self.now.state }
     {
@@ -118,15 +119,15 @@ impl<K: Key, A: Allocator> Group<K, A> {
         }
     }
 
-    /// The filter mode, in EXCLUDE with the deadline of the group timer.
+    /// Returns the filter mode, in EXCLUDE with the deadline of the group timer.
     pub fn mode(&self) -> FilterMode
         ensures { result ≡ self.now.state.mode }
     {
         self.mode
     }
 
-    /// The group's sources, ascending, each with its timer: a deadline and how many sendings are
-    /// still to go, or stopped. They are the row that `load` takes.
+    /// Returns the group's sources in ascending order, each with its timer. A timer has a deadline and a number of
+    /// sendings still to go, or is stopped. They are the row that `load` takes.
     pub fn sources(&self) -> &[Source<K>]
         ensures timers { timers_in K.number result.now ≡ self.now.state.sources }
         ensures ascending { IsAscending (number_in K.number) result.now }
@@ -135,21 +136,21 @@ impl<K: Key, A: Allocator> Group<K, A> {
         self.sources.as_slice()
     }
 
-    /// Up to when a host of version 1 is taken to be there.
+    /// Returns the moment until which a host of version 1 is assumed to be there.
     pub fn v1(&self) -> Option<Moment>
         ensures { result ≡ self.now.state.v1 }
     {
         self.v1
     }
 
-    /// Up to when a host of version 2 is taken to be there. MLD has none.
+    /// Returns the moment until which a host of version 2 is assumed to be there. MLD has none.
     pub fn v2(&self) -> Option<Moment>
         ensures { result ≡ self.now.state.v2 }
     {
         self.v2
     }
 
-    /// The timer of a source, or None where the group doesn't have it.
+    /// Returns the timer of a source, or None if the group doesn't have it.
     pub fn timer_of(&self, source: K, m: &mut Meter) -> Option<SourceTimer>
         ensures timer { result ≡ timer_at self.now.state (K.number source) }
         ensures spent { let size = size_of self.now.state in
@@ -158,8 +159,8 @@ impl<K: Key, A: Allocator> Group<K, A> {
         timer_among(self.sources.as_slice(), source, m)
     }
 
-    /// Whether what this source sends to the group is forwarded, as of the last moment that the
-    /// group was told (RFC 3376 section 6.3, RFC 3810 section 7.3).
+    /// Returns whether the group forwards what this source sends. It is true of the last moment that was given to the
+    /// group (RFC 3376 section 6.3, RFC 3810 section 7.3).
     pub fn forwards(&self, source: K, m: &mut Meter) -> bool
         ensures answer { result ≡ forwards_in self.now.state (K.number source) }
         ensures spent { let size = size_of self.now.state in

@@ -3,8 +3,7 @@
 use crate::timers::FilterMode;
 use mq_count::Moment;
 
-/// A group without its sources: its mode, and up to when a host of version 1 or 2 is taken to be
-/// there.
+/// A group without its sources: its mode, and the moments until which hosts of version 1 or 2 are assumed to be there.
 #[derive(Clone, Copy)]
 pub struct Head {
     pub mode: FilterMode,

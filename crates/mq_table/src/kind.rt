@@ -1,12 +1,11 @@
 //! The kinds of records (RFC 3376 section 4.2.12, RFC 3810 section 5.2.12).
 
-/// The type of a group record: what a host says of its filter for one group (RFC 3376 section
-/// 4.2.12, RFC 3810 section 5.2.12).
+/// The type of a group record: the host's filter for one group (RFC 3376 section 4.2.12, RFC 3810 section 5.2.12).
 #[derive(Clone, Copy, Debug, PartialEq, Eq)]
 pub enum Kind {
-    /// MODE_IS_INCLUDE: the host's current state is to want these sources alone.
+    /// MODE_IS_INCLUDE: the host currently wants these sources alone.
     IsIn,
-    /// MODE_IS_EXCLUDE: the host's current state is to want all sources but these.
+    /// MODE_IS_EXCLUDE: the host currently wants all sources but these.
     IsEx,
     /// CHANGE_TO_INCLUDE_MODE: from now on the host wants these sources alone.
     ToIn,

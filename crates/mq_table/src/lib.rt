@@ -1,5 +1,5 @@
-//! The state of one multicast group, as a router keeps it: what a record, an older host's message,
-//! the end of a timer and a query do to it (RFC 3376 sections 6 and 7, RFC 3810 sections 7 and 8).
+//! The state of one multicast group in a router. Records, messages of older hosts, expired timers and queries change it
+//! (RFC 3376 sections 6 and 7, RFC 3810 sections 7 and 8).
 #![tactic(auto)]
 
 pub mod changes;

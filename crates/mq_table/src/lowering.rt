@@ -1,4 +1,4 @@
-//! Lowering timers to the last member query time.
+//! Lowering of timers to the last member query time.
 
 ghost use Rattle.std.specs.Prelude.{◌≡◌, ℕ, ◌+◌, ◌^◌, ◌≤◌, ◌==◌, min};
 ghost use Rattle.mq_count.specs.Spending.{Spends};
@@ -14,7 +14,7 @@ use mq_count::{Key, Meter, Moment};
 use mq_sets::find;
 use std::alloc::Allocator;
 
-/// A source's timer, which runs no longer than up to `limit` then. At most one comparison.
+/// Returns a source's timer, lowered to `limit` if it runs longer.
 fn lower(timer: &SourceTimer, limit: Moment, m: &mut Meter) -> SourceTimer
     ensures lowered { result ≡ source_lowered limit timer.now }
     ensures spent { Spends 0 1 m.old m.new }
@@ -28,8 +28,8 @@ fn lower(timer: &SourceTimer, limit: Moment, m: &mut Meter) -> SourceTimer
 }
 
 impl<K: Key, A: Allocator> Group<K, A> {
-    /// Lowers the group timer, which only EXCLUDE has, to the last member query time (RFC 3376
-    /// sections 6.6.1 and 6.6.3.1, RFC 3810 sections 7.6.1 and 7.6.3.1).
+    /// Lowers the group timer to the last member query time; only EXCLUDE has one. RFC 3376 sections 6.6.1 and 6.6.3.1,
+    /// RFC 3810 sections 7.6.1 and 7.6.3.1.
     pub fn lower_group(&mut self, now: Moment, timing: &Timing, m: &mut Meter)
         requires in_range { now ≤ 2 ^ 53 }
         ensures state { self.new.state ≡ group_lowered timing.now now self.old.state }
@@ -44,9 +44,9 @@ impl<K: Key, A: Allocator> Group<K, A> {
         };
     }
 
-    /// Lowers the timer of one source of a query to the last member query time, if the group has
-    /// the source and its timer runs (RFC 3376 sections 6.6.1 and 6.6.3.2, RFC 3810 sections 7.6.1
-    /// and 7.6.3.2). A query's sources are lowered one by one, in any order, however often.
+    /// Lowers the timer of one source of a query to the last member query time, if it runs. If the group doesn't have
+    /// the source, nothing changes. A query's sources are lowered one by one, in any order, however often. RFC 3376
+    /// sections 6.6.1 and 6.6.3.2, RFC 3810 sections 7.6.1 and 7.6.3.2.
     pub fn lower_source(&mut self, source: K, now: Moment, timing: &Timing, m: &mut Meter)
         requires in_range { now ≤ 2 ^ 53 }
         ensures state { self.new.state ≡ sources_lowered timing.now now (λ s. s == K.number source) self.old.state }

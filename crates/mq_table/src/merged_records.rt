@@ -1,4 +1,4 @@
-//! A record merged with its group: the one pass over both that every form of a record makes.
+//! A record merged with its group: one pass over both, for every form of record.
 
 ghost use Rattle.std.specs.Prelude.{◌≡◌, ◌+◌, ◌≤◌, ◌<◌, ◌++◌, [], min, length, vec_capacity, IsOk, OnOk, OnErr, IfOk, IsSome};
 ghost use Rattle.std.specs.List.{filter_map, list_any};
@@ -16,14 +16,14 @@ use mq_count::{Key, Meter};
 use mq_sets::{Merged, merge};
 use std::alloc::{AllocError, Allocator};
 
-/// A source with a timer, if there is one.
+/// Returns a source with a timer, if there is one.
 fn source_with<K: Key>(address: K, timer: Option<SourceTimer>) -> Option<Source<K>>
     ensures { result ≡ source_with address timer }
 {
     timer.map(|timer| Source { address, timer })
 }
 
-/// The source of a pair as the record leaves it.
+/// Returns the source of a pair after the record.
 pub(crate) fn source_made<K: Key>(rule: &Rule, item: &Merged<'_, Source<K>, K>) -> Option<Source<K>>
     ensures { result ≡ source_made rule.now (pair_of item.now) }
 {
@@ -34,7 +34,7 @@ pub(crate) fn source_made<K: Key>(rule: &Rule, item: &Merged<'_, Source<K>, K>) 
     }
 }
 
-/// The source of a pair, if the record's query asks for it.
+/// Returns the source of a pair if the record's query asks for it.
 pub(crate) fn source_asked<K: Key>(rule: &Rule, item: &Merged<'_, Source<K>, K>) -> Option<K>
     ensures { result ≡ source_asked rule.now (pair_of item.now) }
 {
@@ -46,8 +46,8 @@ pub(crate) fn source_asked<K: Key>(rule: &Rule, item: &Merged<'_, Source<K>, K>)
     if is_asked { Some(address) } else { None }
 }
 
-/// Whether the record turns the source of a pair: whether the filter of a mode that stays names it before the record or after
-/// it, and not both times.
+/// Returns whether the record turns the source of a pair. It does if the filter of a mode that stays names the source
+/// before the record or after it, and not both times.
 pub(crate) fn source_turned<K: Key>(rule: &Rule, item: &Merged<'_, Source<K>, K>) -> bool
     ensures { result ≡ source_turned rule.now (pair_of item.now) }
 {
@@ -58,7 +58,7 @@ pub(crate) fn source_turned<K: Key>(rule: &Rule, item: &Merged<'_, Source<K>, K>
     }
 }
 
-/// Pushes an item, if there is one. A list with room for one more takes no memory.
+/// Pushes an item, if there is one. A list with room for one more does not allocate.
 pub(crate) fn push_if_some<T: Copy, A: Allocator>(
     list: &mut Vec<T, A>,
     item: Option<T>,
@@ -75,9 +75,8 @@ pub(crate) fn push_if_some<T: Copy, A: Allocator>(
     Ok(())
 }
 
-/// Pushes what the record leaves of each source of the group and of the record, and the sources for
-/// which it sends a query. Each list is ascending then, and has no more than both sides have. Answers whether it turns a
-/// source.
+/// Pushes the sources of the group and of the record that the record leaves, and those that its query asks for.
+/// Afterwards each list is ascending, and has at most as many as both sides. Returns whether the record turns a source.
 pub(crate) fn push_changes<'a, K: Key, A: Allocator, B: Allocator>(
     rule: &Rule,
     held: &'a [Source<K>],
@@ -97,7 +96,7 @@ pub(crate) fn push_changes<'a, K: Key, A: Allocator, B: Allocator>(
     ensures compares { OnOk result (Spends (min (length held.now) (length named.now)) (length held.now + length named.now) m.old m.new) }
     ensures compares_at_most { Spends 0 (length held.now + length named.now) m.old m.new }
 
-    // It wants memory only where the record leaves a source, and with room for both sides none.
+    // It allocates only if the record leaves a source, and never with room for both sides.
     ensures memory { OnErr result (0 < length (filter_map (source_made rule.now) (merged_lists (number_in K.number) K.number held.now named.now))) }
     ensures room { length held.now + length named.now ≤ vec_capacity sources.old → length held.now + length named.now ≤ vec_capacity asked.old → IsOk result }
     ensures sources_room { vec_capacity sources.old ≤ vec_capacity sources.new }

@@ -1,5 +1,5 @@
-//! A record merged with its group where it leaves the sources alone that it doesn't name: these are copied run by run, up to
-//! each source that it names.
+//! A record merged with its group, if it leaves the sources alone that it doesn't name. These are copied run by run, up
+//! to each source that it names.
 
 ghost use Rattle.std.specs.Prelude.{◌≡◌, ◌+◌, ◌≤◌, ◌<◌, ◌++◌, [], ◌∷◌, min, length, take, vec_capacity, IfOk, IfErr, MatchResult, true};
 ghost use Rattle.std.specs.List.{HoldsAt, filter_map, list_any};
@@ -21,8 +21,8 @@ use mq_sets::{Merged, find};
 use std::alloc::Allocator;
 use std::cmp::Ordering;
 
-/// The place of a name among ascending sources, or as an `Err` the place where it would go, by a walk from the front: one
-/// comparison for each source before the place, and one for the source at it.
+/// Returns the place of a name among ascending sources, or as an `Err` the place where it would go. It walks from the
+/// front.
 fn find_ahead<K: Key>(sources: &[Source<K>], name: K, m: &mut Meter) -> Result<usize, usize>
     requires ascending { IsAscending (number_in K.number) sources.now }
     ensures found_in { IfOk result (λ i. i < length sources.now) }
@@ -40,7 +40,7 @@ fn find_ahead<K: Key>(sources: &[Source<K>], name: K, m: &mut Meter) -> Result<u
     Err(sources.len())
 }
 
-/// The first so many sources of a list.
+/// Returns the first `count` sources of a list.
 fn front_of<K: Key>(row: &[Source<K>], count: usize) -> &[Source<K>]
     requires { count ≤ length row.now }
     ensures { result.now ≡ take count row.now }
@@ -48,8 +48,8 @@ fn front_of<K: Key>(row: &[Source<K>], count: usize) -> &[Source<K>]
     &row[..count]
 }
 
-/// Whether some source of a list is stopped. It looks at all of them, since that takes fewer instructions for each than to end
-/// at the first, and mostly there is none.
+/// Returns whether some source of a list is stopped. It looks at all of them, since mostly there is none, and ending at
+/// the first takes more instructions for each.
 fn any_is_stopped<K: Key>(row: &[Source<K>]) -> bool
     ensures { result ≡ list_any item_is_stopped row.now }
 {
@@ -60,7 +60,8 @@ fn any_is_stopped<K: Key>(row: &[Source<K>]) -> bool
     some
 }
 
-/// Whether a record leaves each of some sources as it is where it doesn't name it, and asks for none of these and turns none.
+/// Returns whether a record leaves some sources alone if it doesn't name them. Then it changes none of them, asks for
+/// none and turns none.
 fn leaves_alone<K: Key>(rule: &Rule, held: &[Source<K>]) -> bool
     ensures told { result ≡ keeps_unnamed rule.now.kind rule.now.mode held.now }
     ensures alone { result ≡ true → LeavesAlone rule.now held.now }
@@ -86,8 +87,8 @@ fn push_run<K: Key, A: Allocator>(list: &mut Vec<Source<K>, A>, run: &[Source<K>
     }
 }
 
-/// Pushes what the record leaves of a source that it names, and the source where it asks for it. There is room for both.
-/// Answers whether it turns it.
+/// Pushes a named source as the record leaves it, and into `asked` if the record asks for it. There is room for both.
+/// Returns whether the record turns the source.
 fn push_named<K: Key, A: Allocator, B: Allocator>(
     rule: &Rule,
     item: &Merged<'_, Source<K>, K>,
@@ -107,8 +108,7 @@ fn push_named<K: Key, A: Allocator, B: Allocator>(
     source_turned(rule, item)
 }
 
-/// Pushes what `push_changes` pushes, and answers what it answers, for a record that leaves the sources alone that it doesn't
-/// name.
+/// Acts like `push_changes`, for a record that leaves the sources alone that it doesn't name.
 fn push_runs<K: Key, A: Allocator, B: Allocator>(
     rule: &Rule,
     held: &[Source<K>],
@@ -151,8 +151,8 @@ fn push_runs<K: Key, A: Allocator, B: Allocator>(
     turned
 }
 
-/// Pushes what `push_changes` pushes, and answers what it answers, for a record of one source that leaves the others alone.
-/// Its place is looked for by halves.
+/// Acts like `push_changes`, for a record of one source that leaves the others alone. It finds the source by
+/// binary search.
 fn push_around<K: Key, A: Allocator, B: Allocator>(
     rule: &Rule,
     held: &[Source<K>],
@@ -190,8 +190,8 @@ fn push_around<K: Key, A: Allocator, B: Allocator>(
     }
 }
 
-/// Pushes what `push_changes` pushes, and answers what it answers, to lists that have room for both sides. Where the record names one source and leaves
-/// the others alone, at most one comparison for each binary digit of how many the group has.
+/// Acts like `push_changes`, with lists that have room for both sides. If the record names one source and leaves
+/// the others alone, it finds the source by binary search.
 pub(crate) fn push_within<K: Key, A: Allocator, B: Allocator>(
     rule: &Rule,
     held: &[Source<K>],

@@ -17,18 +17,18 @@ use crate::timing::Timing;
 use mq_count::{Key, Meter, Moment, OlderVersion};
 use std::alloc::Allocator;
 
-/// Which older versions have hosts in a group, as far as the router knows (RFC 3376 section 7.3.2,
-/// RFC 3810 section 8.3.2). MLD has version 1 alone.
+/// The older versions that have hosts in a group, as far as the router knows. MLD has version 1 alone. RFC 3376 section
+/// 7.3.2, RFC 3810 section 8.3.2.
 #[derive(Clone, Copy, Debug, PartialEq, Eq)]
 pub struct Hosts {
     pub v1: bool,
     pub v2: bool,
 }
 
-/// What a record comes to while older hosts are in its group: its kind, and whether it counts
-/// without its sources; None where it is ignored. IGMP ignores a Leave, and TO_IN as which it acts,
-/// while a host of version 1 is there (`v1_mutes_leave`); MLD doesn't. `muted` says that the group
-/// is in a range in which records of this kind and messages of older versions don't count.
+/// Returns the kind that a record has while older hosts are in its group, and whether it counts without its sources.
+/// Returns None if the record is ignored. IGMP ignores a Leave, and TO_IN as which it acts, while a host of version 1
+/// is there (`v1_mutes_leave`); MLD doesn't. `muted` means that records of this kind and messages of older versions
+/// don't count in the group's range.
 pub fn translate(
     kind: Kind,
     hosts: Hosts,
@@ -50,8 +50,8 @@ pub fn translate(
 }
 
 impl Head {
-    /// The older versions that have hosts in the group, whatever its sources are (RFC 3376 section 7.3.2, RFC 3810 section
-    /// 8.3.2). At most two comparisons.
+    /// Returns the older versions that have hosts in the group, whatever its sources are. RFC 3376 section 7.3.2, RFC
+    /// 3810 section 8.3.2.
     pub fn compat(&self, now: Moment, m: &mut Meter) -> Hosts
         ensures hosts { (timers : FinMap nat_cmp SourceTimer) → result ≡ hosts_of (state_of self.now timers) now }
         ensures spent { Spends 0 2 m.old m.new }
@@ -64,8 +64,8 @@ impl Head {
 }
 
 impl<K: Key, A: Allocator> Group<K, A> {
-    /// Sets the host-present timer of a version whose Report was heard to the older host present
-    /// interval. The Report acts as IS_EX of no source besides.
+    /// Sets the host-present timer of a version whose Report was received to the older host present interval. The
+    /// Report also acts as IS_EX of no source.
     pub fn older(&mut self, version: OlderVersion, now: Moment, timing: &Timing)
         requires in_range { now ≤ 2 ^ 53 }
         ensures state { self.new.state ≡ older_host version timing.now now self.old.state }

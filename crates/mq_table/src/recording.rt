@@ -23,10 +23,10 @@ use mq_sets::{Memory, SourceSet};
 use std::alloc::Allocator;
 
 impl<K: Key, A: Allocator> Group<K, A> {
-    /// Becomes what a record leaves of a group, whose head and row of sources are read where they are stored. It takes no
-    /// memory: the group and `asked` have room for the sources of the row and of the record together. The sources for which
-    /// the record sends a query are written into `asked`, ascending, and the group has each of them. Answers whether the
-    /// record sends a query to the group, and whether it changes what is forwarded.
+    /// Loads a group as a record changes it, with a head and row of sources that are read where they are stored. It
+    /// does not allocate: the group and `asked` have room for the sources of the row and of the record together. It
+    /// writes the sources for which the record sends a query into `asked`, ascending, and the group has each of them.
+    /// Returns whether the record sends a query to the group, and whether it changes the filter.
     pub fn load_changed<B: Allocator, C: Allocator>(
         &mut self,
         head: &Head,
@@ -59,8 +59,8 @@ impl<K: Key, A: Allocator> Group<K, A> {
         ensures room { self.old.room ≤ self.new.room }
         ensures asked_room { vec_capacity asked.old ≤ vec_capacity asked.new }
 
-        // At least one comparison for each source of the shorter side, at most one for each of both; where one source is
-        // named and the others stay as they are, at most one for each binary digit of how many the group has.
+        // At least one comparison for each source of the shorter side, at most one for each of both. If one source is
+        // named and the others stay as they are, at most one for each binary digit of the group's number of sources.
         ensures spent { Spends (min (length row.now) (length named.now.members)) (length row.now + length named.now.members) m.old m.new }
         ensures by_halves { LooksByHalves kind head.now.mode row.now (length named.now.members) m.old m.new }
     {
@@ -81,8 +81,8 @@ impl<K: Key, A: Allocator> Group<K, A> {
         }
     }
 
-    /// Applies a record. The group stays as it is; the change takes memory from `alloc`. `Memory`
-    /// comes only where a growth was refused, and then the new group would have a source.
+    /// Returns the change of the group by a record, allocated from `alloc`. The group stays as it is. Fails with
+    /// `Memory` only if a growth is refused; then the new group would have a source.
     pub fn apply<B: Allocator, C: Allocator + Copy>(
         &self,
         alloc: C,

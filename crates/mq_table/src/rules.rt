@@ -1,4 +1,4 @@
-//! What a record makes of its group, source by source.
+//! The effect of a record on its group, source by source.
 
 ghost use Rattle.std.specs.Prelude.{◌≡◌, true, false};
 ghost use Rattle.mq_table.specs.Group.{Include, Exclude, sendings_of};
@@ -9,7 +9,7 @@ use crate::kind::Kind;
 use crate::timers::{FilterMode, SourceTimer};
 use mq_count::Moment;
 
-/// How many sendings are still to go for a source with this timer.
+/// Returns the number of sendings that are still to go for a source with this timer.
 pub(crate) fn sendings_of(timer: Option<SourceTimer>) -> u32
     ensures { result ≡ sendings_of timer }
 {
@@ -19,8 +19,8 @@ pub(crate) fn sendings_of(timer: Option<SourceTimer>) -> u32
     }
 }
 
-/// A record's kind, and what it needs to know of its group: the mode from before, and the moment to
-/// which a timer runs that is set to the group membership interval.
+/// A record's kind, and what it needs of its group: the mode before, and the end of the group membership interval. A
+/// timer that is set to this interval runs until that moment.
 #[derive(Clone, Copy)]
 pub(crate) struct Rule {
     pub(crate) kind: Kind,
@@ -29,7 +29,7 @@ pub(crate) struct Rule {
 }
 
 impl Rule {
-    /// The timer of a source of INCLUDE, or of none, that the record names.
+    /// Returns the timer of a source that the record names, in INCLUDE. The group may not have the source.
     fn named_in_include(&self, before: Option<SourceTimer>) -> Option<SourceTimer>
         ensures { result ≡ timer_after self.now.interval_end Include self.now.kind before true }
     {
@@ -49,7 +49,7 @@ impl Rule {
         }
     }
 
-    /// The timer of a source that the record names, in EXCLUDE with the deadline of its group.
+    /// Returns the timer of a source that the record names, in EXCLUDE with the deadline of its group.
     fn named_in_exclude(&self, group: Moment, before: Option<SourceTimer>) -> Option<SourceTimer>
         ensures { result ≡ timer_after self.now.interval_end (Exclude group) self.now.kind before true }
     {
@@ -63,7 +63,7 @@ impl Rule {
         }
     }
 
-    /// The timer of a source that the record names.
+    /// Returns the timer of a source that the record names.
     fn timer_if_named(&self, before: Option<SourceTimer>) -> Option<SourceTimer>
         ensures { result ≡ timer_after self.now.interval_end self.now.mode self.now.kind before true }
     {
@@ -74,7 +74,7 @@ impl Rule {
         }
     }
 
-    /// The timer of a source that the record doesn't name.
+    /// Returns the timer of a source that the record doesn't name.
     fn timer_if_unnamed(&self, before: Option<SourceTimer>) -> Option<SourceTimer>
         ensures { result ≡ timer_after self.now.interval_end self.now.mode self.now.kind before false }
     {
@@ -86,7 +86,7 @@ impl Rule {
         }
     }
 
-    /// The timer of a source after the record, or None where the new group doesn't have it.
+    /// Returns the timer of a source after the record, or None if the new group doesn't have it.
     pub(crate) fn timer_after(
         &self,
         before: Option<SourceTimer>,
@@ -101,7 +101,7 @@ impl Rule {
         }
     }
 
-    /// Whether the record's query for sources asks for a source.
+    /// Returns whether the record's query for sources asks for a source.
     pub(crate) fn asks_for(&self, before: Option<SourceTimer>, is_named: bool) -> bool
         ensures { result ≡ is_asked_after self.now.interval_end self.now.mode self.now.kind before is_named }
     {
@@ -115,8 +115,7 @@ impl Rule {
         }
     }
 
-    /// Whether the filter names a source before the record and not after it, or after it and not before, where the mode
-    /// stays.
+    /// Returns whether the filter names a source before the record and not after it, or the reverse, if the mode stays.
     pub(crate) fn turns(&self, before: Option<SourceTimer>, is_named: bool) -> bool
         ensures { result ≡ turns self.now.mode before (timer_after self.now.interval_end self.now.mode self.now.kind before is_named) }
     {
@@ -124,7 +123,7 @@ impl Rule {
         self.mode.names(&before) != self.mode.names(&after)
     }
 
-    /// The mode after the record.
+    /// Returns the mode after the record.
     pub(crate) fn mode_after(&self) -> FilterMode
         ensures { result ≡ mode_after self.now.interval_end self.now.mode self.now.kind }
     {
@@ -134,14 +133,14 @@ impl Rule {
         }
     }
 
-    /// Whether one of the modes before and after the record is INCLUDE and the other EXCLUDE.
+    /// Returns whether one of the modes before and after the record is INCLUDE and the other EXCLUDE.
     pub(crate) fn changes_mode(&self) -> bool
         ensures { result ≡ changes_mode self.now.interval_end self.now.mode self.now.kind }
     {
         self.mode.is_unlike(&self.mode_after())
     }
 
-    /// Whether the record sends a query to the group.
+    /// Returns whether the record sends a query to the group.
     pub(crate) fn asks_group(&self) -> bool
         ensures { result ≡ asks_group_after self.now.interval_end self.now.mode self.now.kind }
     {

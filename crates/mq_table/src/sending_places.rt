@@ -1,4 +1,4 @@
-//! Where among the sources of a group those stand that have sendings to go.
+//! The places of the sources of a group that have sendings to go.
 
 ghost use Rattle.std.specs.Prelude.{◌≡◌, ◌≤◌, ◌<◌, true, false, length, take, drop};
 ghost use Rattle.std.specs.List.{list_any};
@@ -14,11 +14,11 @@ pub struct SendingPlaces {
     pub end: usize,
 }
 
-/// How many sources are looked at together, without a branch for each.
+/// The number of sources that are looked at together, without a branch for each.
 const BLOCK: usize = 16;
 
-/// Whether some source of a list has a sending to go. It looks at all of them, since that takes fewer instructions for each than
-/// to end at the first.
+/// Returns whether some source of a list has a sending to go. It looks at all of them, since ending at the first takes
+/// more instructions for each.
 fn any_in_block<K: Key>(row: &[Source<K>]) -> bool
     ensures { result ≡ list_any item_has_sendings row.now }
 {
@@ -30,7 +30,7 @@ fn any_in_block<K: Key>(row: &[Source<K>]) -> bool
     some
 }
 
-/// How many sources, from the front on, have no sending to go.
+/// Returns the number of sources at the front that have no sending to go.
 fn without_in_front<K: Key>(row: &[Source<K>]) -> usize
     ensures within { result ≤ length row.now }
     ensures none { list_any item_has_sendings (take result row.now) ≡ false }
@@ -46,7 +46,7 @@ fn without_in_front<K: Key>(row: &[Source<K>]) -> usize
     place
 }
 
-/// Behind which place, which isn't before `first`, no source has a sending to go.
+/// Returns the place, not before `first`, from which on no source has a sending to go.
 fn end_of_sendings<K: Key>(row: &[Source<K>], first: usize) -> usize
     requires { first ≤ length row.now }
     ensures ordered { first ≤ result }
@@ -63,14 +63,14 @@ fn end_of_sendings<K: Key>(row: &[Source<K>], first: usize) -> usize
     end
 }
 
-/// Whether some source of a list has a sending to go.
+/// Returns whether some source of a list has a sending to go.
 pub fn any_has_sendings<K: Key>(row: &[Source<K>]) -> bool
     ensures { result ≡ list_any item_has_sendings row.now }
 {
     without_in_front(row) < row.len()
 }
 
-/// The places from the first source of a list that has a sending to go up to the last. No comparison.
+/// Returns the places from the first source of a list that has a sending to go up to the last. No comparison.
 pub fn places_of_sendings<K: Key>(row: &[Source<K>]) -> SendingPlaces
     ensures { PassesBetween item_has_sendings result.first result.end row.now }
 {

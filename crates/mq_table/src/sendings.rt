@@ -1,4 +1,4 @@
-//! Sendings of group-and-source-specific queries, which stand with the timers of the sources.
+//! Sendings of group-and-source-specific queries, kept with the timers of the sources.
 
 ghost use Rattle.std.specs.Prelude.{◌≡◌, ℕ, ◌+◌, ◌-◌, [], ◌∷◌, ◌*◌, ◌^◌, ◌<◌, ◌≤◌, true, false, Some, IsSome, length, map, min, vec_capacity, drop};
 ghost use Rattle.std.specs.List.{list_any};
@@ -23,7 +23,7 @@ use mq_sets::find;
 use std::alloc::Allocator;
 use std::cmp::Ordering;
 
-/// Whether the next of the addresses asked for is this one. One comparison, where there is a next.
+/// Returns whether the next of the addresses asked for is this one.
 fn is_next<K: Key>(asked: &[K], next: usize, address: K, m: &mut Meter) -> bool
     ensures answer { result ≡ is_first K.number (drop next asked.now) (K.number address) }
     ensures within { result ≡ true → next < length asked.now }
@@ -36,9 +36,9 @@ fn is_next<K: Key>(asked: &[K], next: usize, address: K, m: &mut Meter) -> bool
     }
 }
 
-/// Asks for the sources of a list: those whose timers are above the limit are lowered to it, and so
-/// many sendings are to go for each. Answers whether there is one. One pass over both lists, which
-/// ascend, as far as the last that is asked for; at most two comparisons for each source held.
+/// Asks for the sources of a list. Timers above the limit are lowered to it, and `count` sendings are to go for each.
+/// Returns whether there is one. It takes one pass over both lists, which ascend, up to the last source that is asked
+/// for.
 fn ask_each<K: Key, A: Allocator>(
     sources: &mut Vec<Source<K>, A>,
     asked: &[K],
@@ -78,7 +78,7 @@ fn ask_each<K: Key, A: Allocator>(
     some
 }
 
-/// Does what `ask_each` does where one source is asked for, which is looked for by halves.
+/// Acts like `ask_each` for one source, which it finds by binary search.
 fn ask_one<K: Key, A: Allocator>(
     sources: &mut Vec<Source<K>, A>,
     asked: &K,
@@ -107,7 +107,7 @@ fn ask_one<K: Key, A: Allocator>(
     }
 }
 
-/// Does what `ask_each` does, and looks for the source by halves where one is asked for.
+/// Acts like `ask_each`. It finds the source by binary search if one is asked for.
 fn ask_among<K: Key, A: Allocator>(
     sources: &mut Vec<Source<K>, A>,
     asked: &[K],
@@ -133,14 +133,14 @@ fn ask_among<K: Key, A: Allocator>(
     }
 }
 
-/// What becomes of the sendings of each source.
+/// The change of the sendings of each source.
 #[derive(Clone, Copy)]
 enum Recount {
     OneFewer,
     NoneLeft,
 }
 
-/// A source's timer with its sendings counted anew.
+/// Returns a source's timer with its sendings counted anew.
 fn recounted(timer: SourceTimer, recount: Recount) -> SourceTimer
     ensures { result ≡ timer_recounted recount timer }
 {
@@ -153,8 +153,8 @@ fn recounted(timer: SourceTimer, recount: Recount) -> SourceTimer
     }
 }
 
-/// Counts the sendings of each source of a list anew. Outside of the places no source has any. Answers whether one has
-/// a sending left.
+/// Counts the sendings of each source of a list anew. Outside of the places no source has any. Returns whether a source
+/// has a sending left.
 fn recount_each<K: Key, A: Allocator>(
     sources: &mut Vec<Source<K>, A>,
     places: SendingPlaces,
@@ -181,10 +181,9 @@ fn recount_each<K: Key, A: Allocator>(
 }
 
 impl<K: Key, A: Allocator> Group<K, A> {
-    /// Starts the group-and-source-specific query for sources that the group holds (RFC 3376 section
-    /// 6.6.3.2, RFC 3810 section 7.6.3.2): those whose timers are above the last member query time
-    /// are lowered to it, and the last member query count of sendings are to go for each. Answers
-    /// whether there is one.
+    /// Starts the group-and-source-specific query for sources that the group holds. Their timers above the last member
+    /// query time are lowered to it, and the last member query count of sendings are to go for each. Returns whether
+    /// there is one. RFC 3376 section 6.6.3.2, RFC 3810 section 7.6.3.2.
     pub fn start_sendings(
         &mut self,
         asked: &[K],
@@ -211,7 +210,7 @@ impl<K: Key, A: Allocator> Group<K, A> {
         )
     }
 
-    /// All places of the group's sources.
+    /// Returns all places of the group's sources.
     fn all_places(&self) -> SendingPlaces
         ensures { SendsBetween result.first result.end self.now.state }
     {
@@ -221,8 +220,8 @@ impl<K: Key, A: Allocator> Group<K, A> {
         }
     }
 
-    /// Leaves each source one sending fewer, where it has one; outside of the places none has one. Answers whether a source has
-    /// one left. No comparison.
+    /// Leaves each source one sending fewer, if it has one. Outside of the places none has one. Returns whether a
+    /// source has one left. No comparison.
     pub fn count_sendings_between(&mut self, places: SendingPlaces) -> bool
         requires { SendsBetween places.first places.end self.old.state }
         ensures state { self.new.state ≡ sendings_counted self.old.state }

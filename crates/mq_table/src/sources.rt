@@ -37,7 +37,7 @@ impl<K: Key> Timed for Source<K> {
     }
 }
 
-/// The sources of a list behind the first so many.
+/// Returns the sources of a list after the first `count`.
 pub(crate) fn rest_of<K: Key>(row: &[Source<K>], count: usize) -> &[Source<K>]
     requires { count ≤ length row.now }
     ensures { result.now ≡ drop count row.now }
@@ -45,8 +45,7 @@ pub(crate) fn rest_of<K: Key>(row: &[Source<K>], count: usize) -> &[Source<K>]
     &row[count..]
 }
 
-/// The timer of a source among ascending sources, or None where it isn't there. At most one comparison for each binary
-/// digit of how many there are, and at least one where there is one.
+/// Returns the timer of a source among ascending sources, or None if it isn't there.
 pub fn timer_among<K: Key>(sources: &[Source<K>], source: K, m: &mut Meter) -> Option<SourceTimer>
     requires ascending { IsAscending (number_in K.number) sources.now }
     ensures timer { result ≡ map.get (timers_in K.number sources.now) (K.number source) }

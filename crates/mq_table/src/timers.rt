@@ -9,30 +9,29 @@ ghost use Rattle.mq_table.specs.Sendings.{source_counted};
 
 use mq_count::{Meter, Moment};
 
-/// The filter mode of a group; in EXCLUDE with the moment up to which the group timer runs, which
-/// RFC 3810 calls the filter timer (RFC 3376 section 6.2.1, RFC 3810 section 7.2.1).
+/// The filter mode of a group; EXCLUDE has the deadline of the group timer. RFC 3810 calls it the filter timer (RFC
+/// 3376 section 6.2.1, RFC 3810 section 7.2.1).
 #[derive(Clone, Copy)]
 pub enum FilterMode {
-    /// The sources of the group alone are forwarded.
+    /// The mode that forwards the sources of the group alone.
     Include,
-    /// All is forwarded but the sources whose timer is stopped. The deadline of the group timer.
+    /// The mode that forwards all but the sources whose timer is stopped, with the deadline of the group timer.
     Exclude(Moment),
 }
 
-/// The timer of a source: stopped, so at zero, which the tables write as a source of Y; or running
-/// up to a deadline, which they write as a source of X (RFC 3376 section 6.2.3, RFC 3810 section
-/// 7.2.3).
+/// The timer of a source: stopped, so at zero, or running until a deadline. The tables write the first as a source of Y
+/// and the second as a source of X (RFC 3376 section 6.2.3, RFC 3810 section 7.2.3).
 #[derive(Clone, Copy)]
 pub enum SourceTimer {
-    /// At zero.
+    /// A timer at zero.
     Stopped,
-    /// The deadline, and how many group-and-source-specific queries are still to go for the source
-    /// (RFC 3376 section 6.6.3.2, RFC 3810 section 7.6.3.2).
+    /// The deadline, and the number of group-and-source-specific queries that are still to go for the source. RFC 3376
+    /// section 6.6.3.2, RFC 3810 section 7.6.3.2.
     Running(Moment, u32),
 }
 
 impl FilterMode {
-    /// Up to when the group timer runs, which only EXCLUDE has.
+    /// Returns the deadline of the group timer, which only EXCLUDE has.
     pub fn deadline(&self) -> Option<Moment>
         ensures { result ≡ group_deadline self.now }
     {
@@ -42,22 +41,22 @@ impl FilterMode {
         }
     }
 
-    /// Whether only what some sources send is forwarded, and not all but what some send.
+    /// Returns whether only what some sources send is forwarded, and not all but what some send.
     pub fn is_include(&self) -> bool
         ensures { result ≡ is_include self.now }
     {
         matches!(self, FilterMode::Include)
     }
 
-    /// Whether one of two modes is INCLUDE and the other EXCLUDE.
+    /// Returns whether one of two modes is INCLUDE and the other EXCLUDE.
     pub(crate) fn is_unlike(&self, other: &FilterMode) -> bool
         ensures { result ≡ not (beq (is_include self.now) (is_include other.now)) }
     {
         self.is_include() != other.is_include()
     }
 
-    /// Whether the filter of a group of this mode names a source that has this timer, or none: in INCLUDE those are named
-    /// that run, in EXCLUDE those that are stopped (RFC 3376 section 6.3, RFC 3810 section 7.3).
+    /// Returns whether the filter of a group in this mode names a source with this timer, or with none. INCLUDE names
+    /// sources that run, EXCLUDE those that are stopped (RFC 3376 section 6.3, RFC 3810 section 7.3).
     pub fn names(&self, timer: &Option<SourceTimer>) -> bool
         ensures { result ≡ names self.now timer.now }
     {
@@ -67,8 +66,8 @@ impl FilterMode {
         }
     }
 
-    /// Whether a group of this mode wants a source that has this timer, or none (RFC 3376 section 6.3, RFC 3810 section
-    /// 7.3).
+    /// Returns whether a group in this mode wants a source with this timer, or with none. RFC 3376 section 6.3, RFC
+    /// 3810 section 7.3.
     pub fn wants(&self, timer: Option<SourceTimer>) -> bool
         ensures { result ≡ wants self.now timer }
     {
@@ -80,7 +79,7 @@ impl FilterMode {
 }
 
 impl SourceTimer {
-    /// Up to when it runs, if it does.
+    /// Returns the deadline, if the timer runs.
     pub fn deadline(&self) -> Option<Moment>
         ensures { result ≡ deadline_of (Some self.now) }
     {
@@ -90,7 +89,7 @@ impl SourceTimer {
         }
     }
 
-    /// Whether a sending is still to go for the source.
+    /// Returns whether a sending is still to go for the source.
     pub fn has_sendings(&self) -> bool
         ensures { result ≡ nat_lt 0 (sendings_of (Some self.now)) }
     {
@@ -100,7 +99,7 @@ impl SourceTimer {
         }
     }
 
-    /// With one sending fewer, where it has one.
+    /// Returns the timer with one sending fewer, if it has one.
     pub fn counted(self) -> SourceTimer
         ensures { result ≡ source_counted self }
     {
@@ -113,8 +112,7 @@ impl SourceTimer {
     }
 }
 
-/// Whether a timer runs on after a moment: whether it has a deadline, and that is later. At most one
-/// comparison.
+/// Returns whether a timer runs on after a moment: it has a deadline, which is later.
 pub fn runs_on(deadline: Option<Moment>, moment: Moment, m: &mut Meter) -> bool
     ensures answer { result ≡ is_ahead moment deadline }
     ensures spent { Spends 0 1 m.old m.new }

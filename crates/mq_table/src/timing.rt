@@ -1,4 +1,4 @@
-//! The variables that a router's timers are computed from.
+//! The variables from which a router's timers are computed.
 
 ghost use Rattle.std.specs.Prelude.{◌≡◌};
 ghost use Rattle.std.specs.Option.{SomeIff};
@@ -8,9 +8,9 @@ ghost use Rattle.mq_table.specs.Timing.{query_interval, membership_interval, old
 use mq_count::Span;
 use std::marker::Model;
 
-/// The Robustness Variable, the Query Interval, the Query Response Interval and the Last Member
-/// (for MLD: Last Listener) Query Interval, each in its range, and what is computed from them (RFC
-/// 3376 section 8, RFC 3810 section 9). A contract sees it as its four variables.
+/// The variables, each in its range, and what is computed from them (RFC 3376 section 8, RFC 3810 section 9). They are
+/// the Robustness Variable, the Query Interval, the Query Response Interval and the Last Member (for MLD: Last
+/// Listener) Query Interval. A contract sees these four.
 #[derive(Clone, Copy, Debug, PartialEq, Eq)]
 pub struct Timing {
     robustness: u32,
@@ -37,9 +37,9 @@ impl Model for Timing {
 }
 
 impl Timing {
-    /// The timing of these variables, or None where one is out of its range: the robustness
-    /// variable from 1 to 7, the query interval from 1 to 31744 seconds, both other intervals from
-    /// 1 to 8387584 milliseconds.
+    /// Returns the timing of these variables, or None if one is out of its range. The ranges are 1 to 7 for the
+    /// robustness variable, 1 to 31744 seconds for the query interval, and 1 to 8387584 milliseconds for both other
+    /// intervals.
     pub fn new(
         robustness: u32,
         query_seconds: u32,
@@ -65,8 +65,8 @@ impl Timing {
         }
     }
 
-    /// This timing with another robustness variable and another query interval, as a query of
-    /// another router announces them, or None where one is out of its range.
+    /// Returns this timing with another robustness variable and query interval, or None if one is out of its range. A
+    /// query of another router announces these two.
     pub fn adopting(self, robustness: u32, query_seconds: u32) -> Option<Timing>
         ensures { let v : Variables = record self { robustness = robustness; query_seconds = query_seconds } in
             SomeIff result (AreInRange v) v }
@@ -79,88 +79,88 @@ impl Timing {
         )
     }
 
-    /// Each variable is in its range. It does nothing: its contract is the fact.
+    /// A lemma: each variable is in its range. It has no effect at run time.
     pub fn is_in_range(self)
         ensures { AreInRange self }
     {
         let _held = self.robustness;
     }
 
-    /// The Robustness Variable, as a query's QRV carries it.
+    /// Returns the Robustness Variable, as a query's QRV carries it.
     pub fn robustness(self) -> u32
         ensures { result ≡ self.robustness }
     {
         self.robustness
     }
 
-    /// The Query Interval in seconds, as a query's QQIC carries it.
+    /// Returns the Query Interval in seconds, as a query's QQIC carries it.
     pub fn query_seconds(self) -> u32
         ensures { result ≡ self.query_seconds }
     {
         self.query_seconds
     }
 
-    /// The Query Interval.
+    /// Returns the Query Interval.
     pub fn query_interval(self) -> Span
         ensures { result ≡ query_interval self }
     {
         Span::from_ms(self.query_seconds * 1000)
     }
 
-    /// The Group Membership Interval, for MLD the Multicast Address Listening Interval (RFC 3376
-    /// section 8.4, RFC 3810 section 9.4).
+    /// Returns the Group Membership Interval, for MLD the Multicast Address Listening Interval. RFC 3376 section 8.4,
+    /// RFC 3810 section 9.4.
     pub fn membership_interval(self) -> Span
         ensures { result ≡ membership_interval self }
     {
         Span::from_ms(self.robustness * (self.query_seconds * 1000) + self.response_interval)
     }
 
-    /// How long a host of an older version is taken to be there (RFC 3376 section 8.13, RFC 3810
-    /// section 9.13).
+    /// Returns the time for which a host of an older version is assumed to be there. RFC 3376 section 8.13, RFC 3810
+    /// section 9.13.
     pub fn older_host_present(self) -> Span
         ensures { result ≡ older_host_present self }
     {
         Span::from_ms(self.robustness * (self.query_seconds * 1000) + self.response_interval)
     }
 
-    /// How long another querier is taken to be there (RFC 3376 section 8.5, RFC 3810 section 9.5).
+    /// Returns the time for which another querier is assumed to be there (RFC 3376 section 8.5, RFC 3810 section 9.5).
     pub fn other_querier_present(self) -> Span
         ensures { result ≡ other_querier_present self }
     {
         Span::from_ms(self.robustness * (self.query_seconds * 1000) + self.response_interval / 2)
     }
 
-    /// How far apart the queries at startup are (RFC 3376 section 8.6, RFC 3810 section 9.6).
+    /// Returns the interval of the queries at startup (RFC 3376 section 8.6, RFC 3810 section 9.6).
     pub fn startup_interval(self) -> Span
         ensures { result ≡ startup_interval self }
     {
         Span::from_ms(self.query_seconds * 1000 / 4)
     }
 
-    /// How many queries there are at startup (RFC 3376 section 8.7, RFC 3810 section 9.7).
+    /// Returns the number of queries at startup (RFC 3376 section 8.7, RFC 3810 section 9.7).
     pub fn startup_count(self) -> u32
         ensures { result ≡ startup_count self }
     {
         self.robustness
     }
 
-    /// The Last Member (Last Listener) Query Interval, between two sendings of a specific query
-    /// (RFC 3376 section 8.8, RFC 3810 section 9.8).
+    /// Returns the Last Member (Last Listener) Query Interval, between two sendings of a specific query. RFC 3376
+    /// section 8.8, RFC 3810 section 9.8.
     pub fn last_member_interval(self) -> Span
         ensures { result ≡ self.last_member_interval }
     {
         Span::from_ms(self.last_member_interval)
     }
 
-    /// How often a specific query is sent (RFC 3376 section 8.9, RFC 3810 section 9.9).
+    /// Returns the number of sendings of a specific query (RFC 3376 section 8.9, RFC 3810 section 9.9).
     pub fn last_member_count(self) -> u32
         ensures { result ≡ last_member_count self }
     {
         self.robustness
     }
 
-    /// The Last Member (Last Listener) Query Time, to which specific queries lower (RFC 3376
-    /// section 8.10, RFC 3810 section 9.10).
+    /// Returns the Last Member (Last Listener) Query Time, to which specific queries lower timers. RFC 3376 section
+    /// 8.10, RFC 3810 section 9.10.
     pub fn last_member_time(self) -> Span
         ensures { result ≡ last_member_time self }
     {

@@ -1,15 +1,15 @@
-//! Vectors in memory that is lent to an arena: what they hold, what is refused, and how much suffices.
+//! Vectors in memory of an arena: their content, refusals, and the sufficient memory.
 
 use crate::facts::expect_that;
 use mq_arena::{Arena, Unused, block_size};
 use std::alloc::{AllocError, Allocator, Global};
 
-/// An arena over so many bytes, which are a multiple of 16.
+/// Returns an arena over this many bytes, which are a multiple of 16.
 pub(crate) fn arena_of(alloc: Global, bytes: usize) -> Result<Arena, AllocError> {
     Ok(Arena::new(Vec::from_elem(alloc, u128::MAX, bytes / 16)?.leak()))
 }
 
-/// Puts as many numbers as are asked for to others, counted from the first.
+/// Puts `count` numbers into a list, counted from the first.
 fn put_counted<A: Allocator>(
     all: &mut Vec<u32, A>,
     first: u32,
@@ -21,7 +21,7 @@ fn put_counted<A: Allocator>(
     Ok(())
 }
 
-/// As many numbers as are asked for, counted from the first.
+/// Returns `count` numbers, counted from the first.
 fn numbers<'a>(
     arena: &'a Arena,
     first: u32,
@@ -32,7 +32,7 @@ fn numbers<'a>(
     Ok(all)
 }
 
-/// Whether these are as many numbers, counted from the first.
+/// Returns whether these are `count` numbers, counted from the first.
 fn are_counted(numbers: &[u32], first: u32, count: u32) -> bool {
     let mut next = first;
     for number in numbers {
@@ -127,7 +127,7 @@ fn a_vector_holds_its_arena(rt: HostRuntime) {
     expect_that(&rt, words.as_slice() == [9, 9].as_slice(), "two words");
 }
 
-/// An arena that lies in its memory, of so many units.
+/// Returns an arena that lies in its memory of this many units.
 fn arena_in(alloc: Global, units: usize) -> Result<&'static Arena, AllocError> {
     Arena::in_its_memory(Vec::from_elem(alloc, 0, units)?.leak())
 }
@@ -147,7 +147,7 @@ fn an_arena_takes_the_first_unit_of_its_memory(rt: HostRuntime) {
     );
 }
 
-/// Memory that no block was taken from, of so many units.
+/// Returns memory of this many units, from which no block was taken.
 fn unused_units(alloc: Global, units: usize) -> Result<Unused, AllocError> {
     Ok(Unused::of(Vec::from_elem(alloc, u128::MAX, units)?.leak()))
 }

@@ -1,5 +1,5 @@
-//! Captures that are read in pieces, to their end or to a fault. Captures cut at each length, other headers and
-//! moments are rows of `tools/refuse.cases`.
+//! Captures that are read in pieces, to their end or to a fault. Rows of `tools/refuse.cases` have captures truncated
+//! at each length, other headers and moments.
 
 use crate::facts::expect_none_wrong_at;
 use mq_count::{Faulty, Watched};
@@ -20,7 +20,7 @@ fn new_buffer(rt: &impl Abort, alloc: Global) -> Vec<u8> {
     vec![in alloc; 0; GREATEST_PACKET].expect(rt, "memory for a buffer")
 }
 
-/// What a call for the next packet answers.
+/// The result of a call for the next packet.
 type Answer = Result<Option<Packet>, PcapFault>;
 
 const PACKET: Answer = Ok(Some(Packet {
@@ -30,7 +30,7 @@ const PACKET: Answer = Ok(Some(Packet {
 
 const NEVER: u64 = u64::MAX;
 
-/// A name of an answer.
+/// The name of a result.
 #[derive(Clone, Copy)]
 enum Name {
     Packet,
@@ -52,8 +52,8 @@ fn answer_of(name: Name) -> Answer {
     }
 }
 
-/// How a capture is read: so many of its bytes, in pieces, with one call of its reader failing. What comes first,
-/// and what then comes again and again.
+/// A reading of a capture: its bytes, their number, the size of the pieces, and the call of its reader that fails. Then
+/// come the first result, and the result that is returned again and again.
 type Row = (&'static [u8], usize, usize, u64, Name, Name);
 
 static ROWS: [Row; 7] = [
@@ -66,7 +66,7 @@ static ROWS: [Row; 7] = [
     (TOO_LONG, 40, 100, NEVER, Name::TooLong, Name::TooLong),
 ];
 
-/// Whether the next answer is the one of this name, in a buffer that is long enough.
+/// Returns whether the next result has this name, in a buffer that is long enough.
 fn is_next<R: Read>(
     pcap: &mut PcapReader,
     reader: &mut Watched<R>,
@@ -76,7 +76,7 @@ fn is_next<R: Read>(
     GREATEST_PACKET <= buffer.len() && pcap.next(reader, buffer) == answer_of(name)
 }
 
-/// What is wrong with a capture that is read.
+/// Returns what is wrong with a capture that is read.
 fn wrong_capture(row: &Row, buffer: &mut [u8]) -> Option<&'static str> {
     let (capture, length, piece, fails_at, first, then) = *row;
     let Some(bytes) = capture.get(..length) else {
@@ -110,8 +110,8 @@ fn reads_to_the_end_or_a_fault(rt: HostRuntime) {
     }
 }
 
-/// What is wrong where one byte is read a call, and this call fails with all behind it: of the file's header, of the
-/// packet's, of its bytes, or the one behind the last.
+/// Returns what is wrong if one byte is read a call, and this call and all later ones fail. The call is for the file's
+/// header, for the packet's, for its bytes, or after the last.
 fn wrong_failing(call: u64, buffer: &mut [u8]) -> Option<&'static str> {
     if call <= 24 {
         let mut reader = Watched::new(Faulty::new(CAPTURE, 1, call));

@@ -1,4 +1,4 @@
-//! A group after a refused growth, and one that is loaded from its head and its sources.
+//! A group after a refused growth, and a group that is loaded from its head and its sources.
 
 ghost use Rattle.std.specs.Prelude.{◌≤◌};
 
@@ -8,7 +8,7 @@ use mq_sets::SourceSet;
 use mq_table::{Group, Kind, Source, Timing};
 use std::alloc::Global;
 
-/// The group after a record, for which memory may be refused once. Or what failed.
+/// Returns the group after a record, for which memory may be refused once, or what failed.
 fn grown(
     alloc: Global,
     group: &Group<Addr4>,
@@ -34,7 +34,7 @@ fn grown(
 #[test]
 fn a_refused_growth_leaves_the_group_as_it_was(rt: HostRuntime) {
     let mut set = SourceSet::empty(rt.alloc());
-    // Each is inserted twice, so it is a member also where the first time is refused.
+    // Each is inserted twice, so it is a member even if the first time is refused.
     for letter in b"aabbccdd" {
         let _ = set.insert(
             Addr4::from_octets([10, 0, 0, *letter]),
@@ -75,7 +75,7 @@ fn wrong_copy(copy: &mut Group<Addr4>, group: &Group<Addr4>) -> Option<&'static 
     wrong_row(copy.sources(), group.sources())
 }
 
-/// Returns what is wrong with a row of sources: one that has not these addresses with these deadlines.
+/// Returns what is wrong with a row of sources: it has other addresses or deadlines than these.
 fn wrong_row(row: &[Source<Addr4>], want: &[Source<Addr4>]) -> Option<&'static str> {
     if row.len() != want.len() {
         return Some("the count of sources");

@@ -1,9 +1,10 @@
-//! The tests of the libraries, through their public calls alone, of what no vector, no run, no row of a link, no worked
-//! example and no clause shows: what stays where memory is refused, what streams do that fail or hand out little, texts,
-//! and what a caller can prove. They stand in a crate above the libraries, since a crate that has tests is proved twice.
+//! The tests of the libraries, through their public calls alone. They are for what no vector, no run, no row of a link,
+//! no worked example and no clause shows. These are the state after refused memory, streams that fail or return few
+//! bytes, texts, and proofs of a caller. The tests have a crate of their own above the libraries, since a crate with
+//! tests is proved twice.
 //!
-//! A test is proved in a time that grows faster than its length. So its rows are constants, and each fact is a
-//! call, which has no branch in the test.
+//! The time to prove a test grows faster than its length. So its rows are constants, and each fact is a call, which has
+//! no branch in the test.
 #![tactic(auto)]
 
 #[cfg(test)]
@@ -16,6 +17,8 @@ mod codes;
 mod facts;
 #[cfg(test)]
 mod groups;
+#[cfg(test)]
+mod links;
 #[cfg(test)]
 mod merges;
 #[cfg(test)]

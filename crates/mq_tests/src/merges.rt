@@ -1,4 +1,4 @@
-//! What a caller can prove of a merge, and what a merge of two sets hands out.
+//! A caller's proof about a merge, and the results of a merge of two sets.
 
 ghost use Rattle.std.specs.Prelude.{◌≡◌, ◌+◌, IfOk, OnOk, length, min};
 ghost use Rattle.mq_count.specs.Spending.{Spends};
@@ -10,8 +10,8 @@ use mq_count::{Addr4, Key, Meter};
 use mq_sets::{Merged, SourceSet, merge};
 use std::alloc::{AllocError, Global};
 
-/// A loop over a merge, as a caller writes it: its contract follows from those of `merge` and
-/// `next` alone.
+/// Returns the pairs of a merge by a loop, as a caller writes it. Its contract follows from those of `merge` and `next`
+/// alone.
 fn pairs_of<K: Key>(
     alloc: Global,
     left: &[K],
@@ -57,7 +57,7 @@ fn octet_of(key: Option<Addr4>) -> u8 {
     }
 }
 
-/// Returns what is wrong with a pair: one that does not end with these octets.
+/// Returns what is wrong with a pair: it ends with other octets than these.
 fn wrong_pair(pair: (Option<Addr4>, Option<Addr4>), want: (u8, u8)) -> Option<&'static str> {
     if octet_of(pair.0) != want.0 {
         return Some("the left side");

@@ -1,4 +1,4 @@
-//! Storage that reserves its memory as it is made, where one request for memory is refused.
+//! Storage that reserves its memory when it is made, if one request for memory is refused.
 
 use crate::facts::{expect_none_wrong, expect_that};
 use mq_arena::OfAllocator;

@@ -1,4 +1,4 @@
-//! Sets after a refused growth and at their limit, the comparisons of a search, and the texts of what refuses a member.
+//! Sets after a refused growth and at their limit, the comparisons of a search, and the texts of rejected members.
 
 use crate::facts::{expect_none_wrong_at, expect_that};
 use mq_count::{Addr4, Meter};
@@ -13,7 +13,8 @@ fn address(number: u16) -> Addr4 {
 
 static TEN: [u16; 10] = [40, 10, 30, 20, 50, 60, 15, 35, 25, 5];
 
-/// What is wrong behind an insert of a number that is no member yet, or behind a second try where memory was refused.
+/// Returns what is wrong after an insert of a number that is no member yet. If memory was refused, it is after a second
+/// try.
 fn wrong_insert(set: &mut SourceSet<Addr4>, number: u16) -> Option<&'static str> {
     let mut m = Meter::new();
     let len = set.len();
@@ -118,7 +119,7 @@ fn a_search_among_366_takes_one_to_nine_comparisons(rt: HostRuntime) {
     }
 }
 
-/// Ends the test unless this text is what is said.
+/// Ends the test unless the text is this one.
 fn expect_said(rt: &impl Abort, said: Result<String, AllocError>, want: &str) {
     let text = said.expect(rt, "memory for a text");
     expect_that(rt, text.as_str() == want, want);

@@ -1,4 +1,4 @@
-//! Storage in memory that is lent to an arena: sets, addresses by number, and the groups that a link holds.
+//! Storage in memory of an arena: sets, addresses by number, and the groups that a link holds.
 
 ghost use Rattle.std.specs.Prelude.{◌≡◌};
 
@@ -14,7 +14,7 @@ fn address(number: u8) -> Addr4 {
     Addr4::from_octets([10, 0, 0, number])
 }
 
-/// A set grows to four members and to eight, in 16 bytes and in 32.
+/// Requires that a set grows to four members and to eight, in 16 bytes and in 32.
 #[test]
 fn a_set_grows_until_lent_memory_is_refused(rt: HostRuntime) {
     let arena = arena_of(rt.alloc(), 48).expect(&rt, "memory to lend");
@@ -49,7 +49,7 @@ fn numbered(keys: &mut NumberedKeys<Addr4, &Arena>, key: Addr4) -> Option<u16>
     }
 }
 
-/// Takes an address out that is there.
+/// Removes an address that is there.
 fn taken_out(keys: &mut NumberedKeys<Addr4, &Arena>, key: Addr4) -> Option<u16>
     ensures { keys.new.room ≡ keys.old.room }
 {
@@ -59,7 +59,7 @@ fn taken_out(keys: &mut NumberedKeys<Addr4, &Arena>, key: Addr4) -> Option<u16>
     Some(number)
 }
 
-/// What is wrong with a set of two addresses of which one is taken out again, in lent memory.
+/// Returns what is wrong with a set of two addresses, one of them removed again, in memory of an arena.
 fn wrong_keys(arena: &Arena) -> Option<&'static str> {
     let Ok(mut keys) = NumberedKeys::with_room(&mut OfAllocator(arena), 2) else {
         return Some("memory for two addresses");
@@ -92,7 +92,7 @@ fn addresses_are_numbered_in_lent_memory(rt: HostRuntime) {
     expect_none_wrong(&rt, wrong_keys(&arena), "two addresses");
 }
 
-/// What is wrong with storage that was made in lent memory for three groups, and holds none yet.
+/// Returns what is wrong with storage that was made in memory of an arena for three groups, and holds none yet.
 fn wrong_storage(held: &HeldGroups<Addr4, &Arena>) -> Option<&'static str> {
     if held.len() != 0 || held.free_sources() != 8 {
         return Some("the room");

@@ -1,4 +1,4 @@
-//! Streams that are watched.
+//! Watched streams.
 
 ghost use Rattle.std.specs.Prelude.{◌≤◌, IfOk};
 
@@ -7,7 +7,7 @@ use mq_count::Watched;
 use std::io;
 use std::io::{ErrorKind, Read, Write};
 
-/// Takes and hands out one byte a call, counts its flushes, and fails from the third call on.
+/// A stream that takes and returns one byte a call, counts its flushes, and fails from the third call on.
 #[derive(Drop)]
 struct Fake {
     calls: u8,
@@ -51,7 +51,7 @@ fn new_fake() -> Fake {
     }
 }
 
-/// Whether a read succeeds or fails as is wanted, and so many bytes were then taken.
+/// Returns whether a read succeeds or fails as expected, with this many bytes taken afterwards.
 fn is_read(watched: &mut Watched<Fake>, taken: u64, fails: bool) -> bool {
     let mut buf = [0; 4];
     let has_failed = watched.read(&mut buf).is_err();
@@ -66,7 +66,7 @@ fn reads_are_counted(rt: HostRuntime) {
     expect_that(&rt, is_read(&mut watched, 2, true), "a read that fails");
 }
 
-/// Whether a text is written to where no byte fits, and whether that has then failed.
+/// Returns whether a write of a text to memory without room has failed, or None if it returns an error.
 fn has_failed(text: &str) -> Option<bool> {
     let mut nowhere: &mut [u8] = &mut [];
     let mut watched = Watched::new(&mut nowhere);
@@ -80,7 +80,7 @@ fn a_write_that_takes_nothing_has_failed(rt: HostRuntime) {
     expect_that(&rt, has_failed("a") == Some(true), "a byte is not taken");
 }
 
-/// What is wrong, unless a flush and a write succeed, and the next flush fails.
+/// Returns what is wrong, unless a flush and a write succeed, and the next flush fails.
 fn wrong_flushes(watched: &mut Watched<&mut Fake>) -> Option<&'static str> {
     if watched.flush().is_err() {
         return Some("the first flush");

@@ -1,5 +1,5 @@
-//! What a record makes of a group in each row of the tables, and which queries go with it (RFC 3376 section 6.4, RFC 3810
-//! section 7.4).
+//! The effect of a record on a group in each row of the tables, and its queries. RFC 3376 section 6.4, RFC 3810 section
+//! 7.4.
 
 ghost use Rattle.std.specs.Prelude.{◌≤◌};
 
@@ -13,10 +13,10 @@ use std::alloc::Global;
 /// A record of sources: a letter for each.
 type Record = (Kind, &'static [u8]);
 
-/// A row: what the group heard before, a second apart from 0 on; the record, at 3000 ms; then the group: its mode, with the
-/// deadline of EXCLUDE, and two letters for each source, itself and its deadline. A deadline is the digit of the second whose
-/// membership interval ends then, and `-` where the timer is stopped. Then the sources that are asked for, and whether the
-/// group is.
+/// A row: the records before, the record, the group after it, and the queries. The records before come a second apart
+/// from 0 on, and the record at 3000 ms. The group has its mode, with the deadline of EXCLUDE, and two letters for each
+/// source: itself and its deadline. A deadline is the digit of the second whose membership interval ends then, and `-`
+/// if the timer is stopped. The queries are the sources that are asked for, and whether the group is.
 type Row = (
     &'static [Record],
     Record,
@@ -79,7 +79,7 @@ static ROWS: [Row; 12] = [
     ),
 ];
 
-/// The group after a record at this second.
+/// Returns the group after a record at this second.
 fn recorded(
     alloc: Global,
     group: &Group<Addr4>,
@@ -106,7 +106,7 @@ fn source_of(letter: u8) -> Addr4 {
     Addr4::from_octets([10, 0, 0, letter])
 }
 
-/// The end of the membership interval that began at the second of a digit.
+/// Returns the end of the membership interval that began at the second of a digit.
 fn deadline_of(digit: u8) -> Option<Moment> {
     if digit.is_ascii_digit() {
         Moment::from_ms(260000 + 1000 * u64::from(digit - b'0'))
@@ -115,7 +115,7 @@ fn deadline_of(digit: u8) -> Option<Moment> {
     }
 }
 
-/// What of a change isn't as a row says.
+/// Returns what of a change differs from its row.
 fn wrong_change(change: &Change<Addr4>, row: &Row) -> Option<&'static str> {
     let (_, _, mode, sources, asked, asks_group) = *row;
     let wanted = mode.first().and_then(|digit| deadline_of(*digit));
@@ -146,7 +146,7 @@ fn wrong_change(change: &Change<Addr4>, row: &Row) -> Option<&'static str> {
     None
 }
 
-/// What is wrong with what the record of a row makes of its group.
+/// Returns what is wrong with the change of a group by the record of a row.
 fn wrong_row(alloc: Global, row: &Row) -> Option<&'static str> {
     let mut group = Group::vacant(alloc);
     for (second, record) in row.0.iter().enumerate() {

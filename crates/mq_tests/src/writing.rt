@@ -1,4 +1,4 @@
-//! Queries as they are written, and bytes that are too few.
+//! Queries as they are written, and too few bytes.
 
 ghost use Rattle.std.specs.Prelude.{◌≡◌, ◌≤◌, length};
 ghost use Rattle.mq_wire.specs.Canon.{IsCurrent, source_count};
@@ -9,7 +9,7 @@ use mq_wire::{
     Qrv, QuerierFields, Query, QueryVersion, Small, Sources, WireKey, write_igmp, write_mld,
 };
 
-/// A query with a robustness variable of 2 and an interval of 125 seconds.
+/// Returns a query with a robustness variable of 2 and an interval of 125 seconds.
 fn query<'a, K: WireKey>(group: K, response: u32, suppress: bool, sources: &'a [K]) -> Query<'a, K>
     ensures version { IsCurrent result.version }
     ensures counted { source_count result.version ≡ length sources.entry.now }
@@ -26,7 +26,7 @@ fn query<'a, K: WireKey>(group: K, response: u32, suppress: bool, sources: &'a [
     }
 }
 
-/// A query, with how many of the two sources, and what is written of it into 20 bytes.
+/// A query, its number of the two sources, and its text in 20 bytes.
 type Row = (
     &'static str,
     [u8; 4],
@@ -67,7 +67,7 @@ static ROWS: [Row; 3] = [
     ),
 ];
 
-/// What is wrong with what is written of a query.
+/// Returns what is wrong with the text of a query.
 fn wrong_igmp(row: &Row) -> Option<&'static str> {
     let (_, group, response, suppress, count, length, want) = *row;
     let sources = [

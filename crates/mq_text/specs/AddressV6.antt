@@ -1,4 +1,4 @@
--- The text of an IPv6 address.
+-- IPv6 addresses as text.
 use Rattle.std.specs.Prelude.{◌≡◌, ℕ, ◌+◌, ◌*◌, ◌<◌, ◌≤◌, nat_le, nat_lt, ◌==◌, false, List, [], ◌∷◌, ◌++◌, take, drop, map, if◌then◌else◌, codes}
 use Rattle.std.specs.Fmt.{digit_glyph}
 use Rattle.std.specs.Int.Digits.{digits_of}
@@ -25,12 +25,12 @@ with_colons [] = []
 with_colons (group ∷ []) = hexadecimal group
 with_colons (group ∷ next ∷ groups) = hexadecimal group ++ codes ":" ++ with_colons (next ∷ groups)
 
--- how many zero groups stand at the front
+-- the number of zero groups at the front
 abbrev pub zeros_ahead : List ℕ → ℕ
 zeros_ahead [] = 0
 zeros_ahead (group ∷ groups) = if group == 0 then zeros_ahead groups + 1 else 0
 
--- the longest run of zero groups, the first of those that are as long
+-- the longest run of zero groups, the first if several are equally long
 abbrev pub longest_zeros : List ℕ → ZeroGroups
 longest_zeros [] = record { place = 0; count = 0 }
 longest_zeros (group ∷ groups) =
@@ -39,14 +39,14 @@ longest_zeros (group ∷ groups) =
     then record { place = later.place + 1; count = later.count }
     else record { place = 0; count = zeros_ahead (group ∷ groups) }
 
--- A run is the longest of zero groups, and the first of those that are as long: at no place more zero groups
--- stand one after the other, and at no place before it as many.
+-- The run is the longest of zero groups, the first if several are equally long. No place has more consecutive zero
+-- groups, and no earlier place has as many.
 pub record IsFirstLongest (groups : List ℕ) (run : ZeroGroups) : Type 0 where
   pub zeros : zeros_ahead (drop run.place groups) ≡ run.count
   pub longest : (place : ℕ) → zeros_ahead (drop place groups) ≤ run.count
   pub first : (place : ℕ) → place < run.place → zeros_ahead (drop place groups) < run.count
 
--- groups with `::` in place of that run, where it has at least two
+-- groups with `::` in place of the run, if it has at least two
 unfoldable pub shortened : List ℕ → ZeroGroups → List ℕ
 shortened groups run =
     if nat_le 2 run.count
@@ -57,6 +57,6 @@ shortened groups run =
 abbrev pub v6_text : ℕ → List ℕ
 v6_text address = shortened (groups_of address) (longest_zeros (groups_of address))
 
--- the run that is replaced is the first of the longest
+-- the replaced run is the first of the longest
 abbrev pub FirstLongestZeros : Type 0
 FirstLongestZeros = (groups : List ℕ) → IsFirstLongest groups (longest_zeros groups)

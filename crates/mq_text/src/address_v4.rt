@@ -1,4 +1,4 @@
-//! The text of an IPv4 address.
+//! IPv4 addresses as text.
 
 ghost use Rattle.std.specs.Prelude.{◌≡◌, ◌≤◌, ◌+◌, ◌++◌};
 ghost use Rattle.std.specs.Fmt.{decimal};
@@ -8,7 +8,7 @@ ghost use Rattle.mq_text.specs.AddressV4.{v4_text};
 use crate::text::{Text, put, put_few_digits};
 use mq_count::Addr4;
 
-/// Puts an IPv4 address at the end, as four decimal numbers with dots between them.
+/// Appends an IPv4 address: four decimal numbers with dots between them.
 #[inline(never)]
 pub fn put_v4(text: &mut Text, address: Addr4)
     requires { array_vec_len text.old + 15 ≤ 4096 }
@@ -25,7 +25,7 @@ pub fn put_v4(text: &mut Text, address: Addr4)
     put_octet(text, d);
 }
 
-/// Puts an octet at the end, in decimal.
+/// Appends an octet in decimal.
 #[inline(always)]
 fn put_octet(text: &mut Text, octet: u8)
     requires { array_vec_len text.old + 3 ≤ 4096 }

@@ -1,4 +1,4 @@
-//! The text of an IPv6 address.
+//! IPv6 addresses as text.
 
 ghost use Rattle.std.specs.Prelude.{◌≡◌, ℕ, ◌≤◌, ◌<◌, ◌+◌, ◌*◌, ◌++◌, false, drop, length};
 ghost use Rattle.std.specs.Fmt.{digit_glyph};
@@ -12,15 +12,15 @@ use mq_count::Addr6;
 /// The digits of hexadecimal numbers.
 const GLYPHS: [u8; 16] = *b"0123456789abcdef";
 
-/// Consecutive groups of an address: the place of the first, and how many they are.
+/// Consecutive groups of an address: the place of the first, and their number.
 #[derive(Clone, Copy)]
 struct ZeroGroups {
     place: usize,
     count: usize,
 }
 
-/// Puts an IPv6 address at the end, as groups of 16 bits in lower-case hexadecimal with colons between them; the
-/// longest run of two or more zero groups, the first of those that are as long, is `::`.
+/// Appends an IPv6 address in canonical form. These are groups of 16 bits in lower-case hexadecimal with colons between
+/// them. `::` replaces the longest run of two or more zero groups, the first if several are equally long.
 #[tactic(auto, unfolding(crate::specs::AddressV6::shortened))]
 pub fn put_v6(text: &mut Text, address: Addr6)
     requires { array_vec_len text.old + 40 ≤ 4096 }
@@ -38,7 +38,7 @@ pub fn put_v6(text: &mut Text, address: Addr6)
     put_groups(text, &groups[run.place + run.count..]);
 }
 
-/// The eight groups of an address.
+/// Returns the eight groups of an address.
 fn groups(address: Addr6) -> [u16; 8]
     ensures { result ≡ groups_of address }
 {
@@ -55,15 +55,15 @@ fn groups(address: Addr6) -> [u16; 8]
     ]
 }
 
-/// The group of two octets.
+/// Returns the group of two octets.
 fn group(high: u8, low: u8) -> u16
     ensures { result ≡ high * 256 + low }
 {
     u16::from(high) * 256 + u16::from(low)
 }
 
-/// The longest run of zero groups, the first of those that are as long. Mostly that is the first run of all, since
-/// fewer groups than it has are left behind it.
+/// Returns the longest run of zero groups, the first if several are equally long. Usually this is the first run,
+/// because fewer groups follow it than it has.
 fn longest_zeros(groups: &[u16; 8]) -> ZeroGroups
     ensures run { result ≡ words.longest_zeros groups.now }
     ensures within { result.place + result.count ≤ 8 }
@@ -76,7 +76,7 @@ fn longest_zeros(groups: &[u16; 8]) -> ZeroGroups
     longest_of_several(groups)
 }
 
-/// Where the first zero group stands, or the end.
+/// Returns the place of the first zero group, or the length.
 fn first_zero(groups: &[u16; 8]) -> usize
     ensures others { (place : ℕ) → place < result → words.zeros_ahead (drop place groups.now) ≡ 0 }
     ensures within { result ≤ 8 }
@@ -88,7 +88,7 @@ fn first_zero(groups: &[u16; 8]) -> usize
     place
 }
 
-/// How many zero groups stand at the front.
+/// Returns the number of zero groups at the front.
 fn zeros_ahead(groups: &[u16]) -> usize
     ensures zeros { result ≡ words.zeros_ahead groups.now }
     ensures within { result ≤ length groups.now }
@@ -100,7 +100,7 @@ fn zeros_ahead(groups: &[u16]) -> usize
     count
 }
 
-/// The longest run of zero groups, the first of those that are as long, by a look at each group from the last on.
+/// Returns the same run as `longest_zeros`. It looks at each group, from the last to the first.
 fn longest_of_several(groups: &[u16; 8]) -> ZeroGroups
     ensures run { result ≡ words.longest_zeros groups.now }
     ensures within { result.place + result.count ≤ 8 }
@@ -121,7 +121,7 @@ fn longest_of_several(groups: &[u16; 8]) -> ZeroGroups
     run
 }
 
-/// Puts groups at the end, with colons between them.
+/// Appends groups with colons between them.
 fn put_groups(text: &mut Text, groups: &[u16])
     requires { array_vec_len text.old + 5 * length groups.now ≤ 4096 }
     ensures text { text.new.items ≡ text.old.items ++ with_colons groups.now }
@@ -137,7 +137,7 @@ fn put_groups(text: &mut Text, groups: &[u16])
     }
 }
 
-/// Puts a number at the end, in lower-case hexadecimal.
+/// Appends a number in lower-case hexadecimal.
 fn put_hexadecimal(text: &mut Text, number: u16)
     requires { array_vec_len text.old + 4 ≤ 4096 }
     ensures text { text.new.items ≡ text.old.items ++ hexadecimal number }
@@ -166,7 +166,7 @@ fn put_hexadecimal(text: &mut Text, number: u16)
     }
 }
 
-/// The digit of a number below 16.
+/// Returns the digit of a number below 16.
 fn digit(number: u16) -> u8
     requires { number < 16 }
     ensures { result ≡ digit_glyph false number }

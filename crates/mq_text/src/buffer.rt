@@ -8,11 +8,11 @@ use crate::output::Output;
 use crate::printing::LineFault;
 use crate::text::Text;
 
-/// The most bytes that are put into a buffer between two calls of `make_room`. The longest piece is the
-/// beginning of a record's line up to the first source of its message, with no more than 250.
+/// The most bytes that a buffer receives between two calls of `make_room`. The longest piece is a record's line up to
+/// the first source of its message, with at most 250 bytes.
 const PIECE: usize = 256;
 
-/// Writes what the buffer holds, where it hasn't room for a piece.
+/// Writes the buffer if it has no room for a piece.
 pub fn make_room<O: Output>(buffer: &mut Text, writer: &mut O) -> Result<(), LineFault>
     ensures text { Puts
         (O.held writer.old) (O.held writer.new)
@@ -27,7 +27,7 @@ pub fn make_room<O: Output>(buffer: &mut Text, writer: &mut O) -> Result<(), Lin
     Ok(())
 }
 
-/// Writes what the buffer holds.
+/// Writes the buffer.
 pub fn flush<O: Output>(buffer: &mut Text, writer: &mut O) -> Result<(), LineFault>
     ensures text { Puts
         (O.held writer.old) (O.held writer.new)

@@ -1,21 +1,20 @@
-//! What holds of the texts of addresses. The functions do nothing: each contract is a law.
+//! Laws of the texts of addresses. The functions have no effect at run time.
 
 ghost use Rattle.mq_text.specs.AddressV6.{FirstLongestZeros};
 ghost use Rattle.mq_text.specs.Laws.{OneAddress, WrittenIsSpelled};
 
-/// The run of groups that `::` stands for is the longest of zero groups, and the first of those that are as
-/// long.
+/// The law `FirstLongestZeros`: `::` replaces the longest run of zero groups, the first if several are equally long.
 pub fn the_first_longest_run_is_replaced()
     ensures { FirstLongestZeros }
 {}
 
-/// The text that is written of an address spells that address. So it is read as that address, since no text
-/// spells two.
+/// The law `WrittenIsSpelled`: the written text of an address is a text of that address. So it parses to that address,
+/// because no text has two.
 pub fn written_is_spelled()
     ensures { WrittenIsSpelled }
 {}
 
-/// No text spells two addresses of a family.
+/// The law `OneAddress`: no text is that of two addresses of a family.
 pub fn one_address()
     ensures { OneAddress }
 {}

@@ -1,4 +1,4 @@
-//! Addresses as texts, of both families, and texts on their way to a writer.
+//! Addresses of both families as text, and texts on their way to a writer.
 //!
 //! ```text
 //! let mut text = Text::new();
@@ -6,11 +6,11 @@
 //! put_v6(&mut text, address);                               // and behind it b"ff0e::1234"
 //! ```
 //!
-//! - To write at the end of a `Text`, without memory: `put_v4`, `put_v6`, `put_decimal` and `put`.
-//! - To read: `read_v4` and `read_v6`.
-//! - To print on an `Output`, as a watched writer is one: `print`, and `LineFault`, which says that a write failed; `make_room`
-//!   and `flush`, for text that is put together first.
-//! - Laws, functions that do nothing: `laws`.
+//! - To append to a `Text`, without allocation: `put_v4`, `put_v6`, `put_decimal` and `put`.
+//! - To parse: `read_v4` and `read_v6`.
+//! - To print on an `Output`, for example a watched writer: `print`, and `LineFault` for a failed write; `make_room` and `flush`,
+//!   for text that goes through a buffer.
+//! - Laws, functions without effect: `laws`.
 #![tactic(auto)]
 
 mod address_v4;

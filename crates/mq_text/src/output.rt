@@ -1,4 +1,4 @@
-//! What lines are written to.
+//! Outputs for lines.
 
 ghost use Rattle.std.specs.Prelude.{◌≡◌, ◌||◌, is_err};
 ghost use Rattle.mq_text.specs.Printing.{Prints};
@@ -7,20 +7,20 @@ use crate::printing::{LineFault, print};
 use mq_count::Watched;
 use std::io::Write;
 
-/// What takes a text whole, or a beginning of it and then no more: a watched writer, or memory that is lent.
+/// A receiver of texts that takes a text whole, or a prefix and then nothing: a watched writer, or the caller's memory.
 pub trait Output {
     ghost use Rattle.std.specs.Prelude.{ℕ, Bool, List, Option};
 
-    /// The bytes that it holds, where they are known.
+    /// The bytes that it holds, if they are known.
     ghost held: { Self → Option (List ℕ) };
 
-    /// Whether a text was not taken whole.
+    /// The failure flag: some text was not taken whole.
     ghost failed: { Self → Bool };
 
-    /// The memory that it was lent and writes into, by the loan's ghost name; 0 where it was lent none.
+    /// The loan of the memory that it writes into, by the loan's ghost name; 0 without such memory.
     ghost loan: { Self → ℕ };
 
-    /// Writes all of a text, or a beginning of it where a fault comes.
+    /// Writes a text, or a prefix of it before a fault.
     fn print(&mut self, text: &[u8]) -> Result<(), LineFault>
         ensures text { Prints (held self.old) (held self.new) text.now result }
         ensures failed { failed self.new ≡ failed self.old || is_err result }

@@ -8,16 +8,16 @@ use mq_count::Watched;
 use std::io::Write;
 use thiserror::Error;
 
-/// Why a text was not written whole.
+/// The reason why a text was not written whole.
 #[derive(Clone, Copy, Debug, PartialEq, Eq, Error)]
 pub enum LineFault {
-    /// A write failed, or took none of the bytes that it was given.
+    /// A failed write, or a write of some bytes that wrote none.
     #[error("write failed")]
     Write,
 }
 
-/// Writes all of a text, in as many writes as it takes. A fault comes only from a write that failed
-/// or took nothing, and no write follows it. It takes no memory.
+/// Writes a text, in as many writes as it needs. Fails only if a write fails or writes nothing, and makes no write
+/// afterwards. It allocates nothing.
 pub fn print<W: Write>(text: &[u8], writer: &mut Watched<W>) -> Result<(), LineFault>
     ensures text { Prints
         (W.contents (inner_of writer.old)) (W.contents (inner_of writer.new))

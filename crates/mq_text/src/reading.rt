@@ -1,4 +1,4 @@
-//! Addresses that are read from their texts.
+//! Addresses parsed from text.
 
 ghost use Rattle.mq_text.specs.Reading.{ReadsAs, SpellsV4, SpellsV6};
 ghost use Rattle.mq_text.specs.Reading as spec;
@@ -7,8 +7,7 @@ ghost use Rattle.std.specs.Prelude.{◌≡◌};
 use mq_count::{Addr4, Addr6};
 use std::net::{Ipv4Addr, Ipv6Addr};
 
-/// The IPv4 address that a text spells: four decimal numbers up to 255 without leading zeros, with dots between
-/// them.
+/// Parses an IPv4 address: four decimal numbers up to 255 without leading zeros, with dots between them.
 pub fn read_v4(text: &str) -> Option<Addr4>
     ensures { ReadsAs SpellsV4 text.now result }
 {
@@ -18,8 +17,8 @@ pub fn read_v4(text: &str) -> Option<Addr4>
     }
 }
 
-/// The IPv6 address that a text spells: eight groups of one to four hexadecimal digits of either case, with colons
-/// between them, or at most seven with one `::`, which stands for the missing ones. It has no other form, so no
+/// Parses an IPv6 address: groups of one to four hexadecimal digits with colons between them. There are eight groups,
+/// or at most seven and one `::` for the missing ones. Digits may have either case. No other form is accepted, so no
 /// decimal numbers with dots.
 pub fn read_v6(text: &str) -> Option<Addr6>
     ensures { ReadsAs SpellsV6 text.now result }
@@ -33,7 +32,7 @@ pub fn read_v6(text: &str) -> Option<Addr6>
     }
 }
 
-/// Whether a text has a dot.
+/// Returns whether a text has a dot.
 fn has_dot(text: &[u8]) -> bool
     ensures { result ≡ spec.has_dot text.now }
 {

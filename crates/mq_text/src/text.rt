@@ -1,4 +1,4 @@
-//! Text in the making, and what is put at its end.
+//! A text buffer, and appending to it.
 
 ghost use Rattle.std.specs.Prelude.{◌≡◌, ◌≤◌, ◌<◌, ◌+◌, ◌/◌, ◌%◌, ◌∷◌, ◌++◌, [], length};
 ghost use Rattle.std.specs.Fmt.{decimal};
@@ -7,15 +7,15 @@ ghost use Rattle.mq_text.specs.Digits.{four_digits_of};
 
 use std::marker::Model;
 
-/// How many bytes a text has room for.
+/// The bytes of a text at most.
 const ROOM: usize = 4096;
 
-/// The two digits of each number below 100, one number after another.
+/// The two digits of each number below 100, in order.
 const PAIRS: [u8; 200] =
     *b"00010203040506070809101112131415161718192021222324252627282930313233343536373839404142434445464748495051525354555657585960616263646566676869707172737475767778798081828384858687888990919293949596979899";
 
-/// Text that is put together, without memory: its bytes lie in the value itself. A contract sees it as an
-/// `ArrayVec` of its bytes. To empty it costs nothing.
+/// A text whose bytes lie in the value itself, without allocation. A contract sees it as an `ArrayVec` of its bytes.
+/// Emptying it costs nothing.
 #[derive(Drop)]
 pub struct Text {
     bytes: [u8; ROOM],
@@ -34,7 +34,7 @@ impl Model for Text {
 }
 
 impl Text {
-    /// An empty text.
+    /// Returns an empty text.
     pub fn new() -> Text
         ensures { result.items ≡ [] }
     {
@@ -44,14 +44,14 @@ impl Text {
         }
     }
 
-    /// How many more bytes have room.
+    /// Returns how many more bytes fit.
     pub fn remaining_capacity(&self) -> usize
         ensures { result + array_vec_len self.now ≡ 4096 }
     {
         ROOM - self.length
     }
 
-    /// The bytes.
+    /// Returns the bytes.
     pub fn as_slice(&self) -> &[u8]
         ensures { result.now ≡ self.now.items }
     {
@@ -66,7 +66,7 @@ impl Text {
     }
 }
 
-/// Puts a text at the end.
+/// Appends a text.
 pub fn put(text: &mut Text, more: &[u8])
     requires { array_vec_len text.old + length more.now ≤ 4096 }
     ensures text { text.new.items ≡ text.old.items ++ more.now }
@@ -77,7 +77,7 @@ pub fn put(text: &mut Text, more: &[u8])
     text.length = end;
 }
 
-/// Puts a number at the end, in decimal.
+/// Appends a number in decimal.
 #[inline(never)]
 pub fn put_decimal(text: &mut Text, number: u64)
     requires { array_vec_len text.old + 20 ≤ 4096 }
@@ -91,7 +91,7 @@ pub fn put_decimal(text: &mut Text, number: u64)
     put_digits(text, number);
 }
 
-/// Puts the digits of a number at the end, the last four behind the others.
+/// Appends the digits of a number, the last four after the others.
 #[inline(never)]
 fn put_digits(text: &mut Text, number: u64)
     requires { array_vec_len text.old + length (decimal number) ≤ 4096 }
@@ -106,7 +106,7 @@ fn put_digits(text: &mut Text, number: u64)
     put(text, &four_digits((number % 10_000) as u32));
 }
 
-/// Puts the digits of a number below 100000000 at the end.
+/// Appends the digits of a number below 100000000.
 #[inline(always)]
 fn put_some_digits(text: &mut Text, number: u32)
     requires some { number < 100000000 }
@@ -122,7 +122,7 @@ fn put_some_digits(text: &mut Text, number: u32)
     put(text, &four_digits(number % 10_000));
 }
 
-/// Puts the digits of a number below 10000 at the end.
+/// Appends the digits of a number below 10000.
 #[inline(always)]
 pub(crate) fn put_few_digits(text: &mut Text, number: u32)
     requires few { number < 10000 }
@@ -141,7 +141,7 @@ pub(crate) fn put_few_digits(text: &mut Text, number: u32)
     }
 }
 
-/// The digits of a number below 10000, with zeros before them where they are fewer than four.
+/// Returns the digits of a number below 10000, with leading zeros up to four.
 fn four_digits(number: u32) -> [u8; 4]
     requires { number < 10000 }
     ensures { result ≡ four_digits_of number }
@@ -151,7 +151,7 @@ fn four_digits(number: u32) -> [u8; 4]
     [a, b, c, d]
 }
 
-/// The digits of a number below 100, with a zero before them where it has one alone.
+/// Returns the digits of a number below 100, with a leading zero if it has one digit.
 fn pair(number: u32) -> [u8; 2]
     requires { number < 100 }
     ensures { result ≡ (48 + number / 10) ∷ (48 + number % 10) ∷ [] }
@@ -160,7 +160,7 @@ fn pair(number: u32) -> [u8; 2]
     [PAIRS[place], PAIRS[place + 1]]
 }
 
-/// The digit of a number below 10.
+/// Returns the digit of a number below 10.
 fn digit(number: u32) -> u8
     requires { number < 10 }
     ensures { result ≡ 48 + number }

@@ -1,9 +1,8 @@
 -- A word of 64 bits has the one's complement sum of its four words of 16 bits.
-use Rattle.std.proofs.Common.{◌≡◌, ◌≤◌, ℕ, ◌+◌, ◌-◌, ◌*◌, ◌%◌, ◌<◌, inl, inr, List, ◌∷◌, length, drop, ap, ◌∙◌, arith}
+use Rattle.std.proofs.Common.{◌≡◌, ℕ, ◌+◌, ◌-◌, ◌*◌, ◌%◌, ◌<◌, inl, inr, ap, ◌∙◌, arith}
 use Rattle.std.proofs.Math.Nat.{mul-add-mod_self_right}
 use Rattle.std.proofs.lemmas.Bool.Decides.{nat_tests, eqb_tells}
-use Rattle.byteorder.specs.Endian.{big_number}
-use Rattle.mq_wire.specs.Checksum.{sum_of_words, ones_complement}
+use Rattle.mq_wire.specs.Checksum.{ones_complement}
 
 -- multiples of 65535 make no difference to a sum that isn't zero
 more_carries : (n k : ℕ) → (n ≡ 0 → k ≡ 0) → ones_complement (n + 65535 * k) ≡ ones_complement n
@@ -24,10 +23,3 @@ of_four w x y z s =
     let k = w * 4295032833 + x * 65537 + y in
     let whole : s + (w * 281474976710656 + x * 4294967296 + y * 65536 + z) ≡ s + (w + x + y + z) + 65535 * k = omega arith in
     ap ones_complement whole ∙ more_carries (s + (w + x + y + z)) k (λ none. omega (arith, none))
-
-pub wide_word : (s : ℕ) (bytes : List ℕ) → 8 ≤ length bytes → ones_complement (s + big_number 8 bytes + sum_of_words (drop 8 bytes)) ≡ ones_complement (s + sum_of_words bytes)
-wide_word s (a ∷ b ∷ c ∷ d ∷ e ∷ f ∷ g ∷ h ∷ bytes) long =
-    let left : s + big_number 8 (a ∷ b ∷ c ∷ d ∷ e ∷ f ∷ g ∷ h ∷ bytes) + sum_of_words bytes ≡ s + sum_of_words bytes + ((a * 256 + b) * 281474976710656 + (c * 256 + d) * 4294967296 + (e * 256 + f) * 65536 + (g * 256 + h)) = omega arith in
-    let right : s + sum_of_words bytes + ((a * 256 + b) + (c * 256 + d) + (e * 256 + f) + (g * 256 + h)) ≡ s + sum_of_words (a ∷ b ∷ c ∷ d ∷ e ∷ f ∷ g ∷ h ∷ bytes) = omega arith in
-    ap ones_complement left ∙ of_four (a * 256 + b) (c * 256 + d) (e * 256 + f) (g * 256 + h) (s + sum_of_words bytes) ∙ ap ones_complement right
-wide_word s _ long = absurd (omega arith)

@@ -1,4 +1,4 @@
--- Messages and records with their addresses as numbers, whatever type the addresses have.
+-- Messages and records with their addresses as numbers, for every type of address.
 use Rattle.std.specs.Prelude.{ℕ}
 use Rattle.mq_wire.specs.declared.message.Message.{Message}
 use Rattle.mq_wire.specs.declared.message.Message.TheVariants.{Query as AQuery, OldReport, Leave, Report}

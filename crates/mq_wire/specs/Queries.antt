@@ -1,4 +1,5 @@
--- What a query says (RFC 3376 section 4.1, RFC 2236 sections 2.1 to 2.4; RFC 3810 section 5.1, RFC 2710 section 3).
+-- The contents of queries. RFC 3376 section 4.1, RFC 2236 sections 2.1 to 2.4; RFC 3810 section 5.1, RFC 2710 section
+-- 3.
 use Rattle.std.specs.Prelude.{◌≡◌, ℕ, ◌+◌, ◌*◌, ◌/◌, ◌%◌, ◌==◌, Bool, if◌then◌else◌, List, [], ◌∷◌, ◌++◌, length, slice_index, drop, replicate, None, Some, Result, Ok, Err}
 use Rattle.std.specs.Option.{option_map}
 use Rattle.mq_count.specs.declared.versions.OlderVersion.{OlderVersion}
@@ -17,22 +18,22 @@ abbrev pub older_spans : Family → List ℕ
 older_spans Igmp = 1 ∷ 1 ∷ 2 ∷ 4 ∷ []
 older_spans Mld = 1 ∷ 1 ∷ 2 ∷ 2 ∷ 2 ∷ 16 ∷ []
 
--- the widths of the sources, which begin 4 bytes behind the group
+-- the widths of the sources, which begin 4 bytes after the group
 abbrev pub source_spans : (place width : ℕ) → List ℕ → List ℕ
 source_spans place width bytes = replicate (number_at (place + 2) 2 bytes) width
 
--- a query of IGMPv3 or MLDv2: the same, and then the flags, the interval code, the number of sources, and these
+-- a query of IGMPv3 or MLDv2: the same, then the flags, the interval code, the number of sources, and the sources
 abbrev pub query_spans : Family → List ℕ → List ℕ
 query_spans family bytes = older_spans family ++ 1 ∷ 1 ∷ 2 ∷ source_spans (group_end family) (address_width family) bytes
 
--- the S flag and the QRV: of the byte the fifth bit from the highest, and the three lowest
+-- the S flag and the QRV: the fifth bit from the highest of the byte, and the three lowest
 abbrev pub suppress_of : ℕ → Bool
 suppress_of flags = flags / 8 % 2 == 1
 
 abbrev pub robustness_of : ℕ → ℕ
 robustness_of flags = flags % 8
 
--- what a query of IGMPv3 or MLDv2 says behind the group, which ends at a place
+-- the fields of a query of IGMPv3 or MLDv2 after its group, which ends at a place
 abbrev pub querier_fields : {K : Type 0} → (place width : ℕ) → List ℕ → QuerierFields K
 querier_fields place width bytes =
     record {
@@ -42,15 +43,15 @@ querier_fields place width bytes =
       sources = addresses width (number_at (place + 2) 2 bytes) (drop (place + 4) bytes);
     }
 
--- what these fields are read as: all of them, or the place of the first source that isn't whole
+-- the parsed fields: all of them, or the place of the first truncated source
 abbrev pub FieldsAt : {K : Type 0} → (place width : ℕ) → List ℕ → Result (QuerierFields K) WireFault → Type 0
 FieldsAt place width bytes (Ok fields) =
     (first_cut (length bytes) (place + 4) (source_spans place width bytes) ≡ None) × (fields ≡ querier_fields place width bytes)
 FieldsAt place width bytes (Err fault) =
     option_map (λ at. Truncated at) (first_cut (length bytes) (place + 4) (source_spans place width bytes)) ≡ Some fault
 
--- The response in milliseconds and the version of a query that has the length of an older one. In IGMP the code
--- is in tenths of a second, and is 0 in version 1 (RFC 3376 section 7.1); in MLD the delay is in milliseconds.
+-- The response in milliseconds and the version of a query with the length of an older one. In IGMP the code is in
+-- tenths of a second, and is 0 in version 1 (RFC 3376 section 7.1). In MLD the delay is in milliseconds.
 abbrev pub older_response : Family → List ℕ → ℕ
 older_response Igmp bytes = slice_index bytes 1 * 100
 older_response Mld bytes = number_at 4 2 bytes
@@ -64,7 +65,7 @@ abbrev pub current_response : Family → List ℕ → ℕ
 current_response Igmp bytes = value8 (slice_index bytes 1) * 100
 current_response Mld bytes = value16 (number_at 4 2 bytes)
 
--- what a query says, by its length
+-- the query, by its length
 abbrev pub older_query : Family → List ℕ → Query ℕ
 older_query family bytes =
     record {

@@ -1,4 +1,4 @@
--- What is read of a query that was written.
+-- Parsing of a written query.
 use Rattle.std.specs.Prelude.{◌≡◌, ℕ, ◌*◌, ◌/◌, ◌^◌, ◌<◌, ◌≤◌, length, All}
 use Rattle.mq_wire.specs.declared.message.Message.TheVariants.{Query as QueryMessage}
 use Rattle.mq_wire.specs.declared.query.Query.{Query}
@@ -19,12 +19,12 @@ pub record IsWritable (family : Family) (query : Query ℕ) : Type 0 where
   pub counted : length fields.sources ≤ 65535
   pub sources : All (λ (source : ℕ). source < 256 ^ address_width family) fields.sources
 
--- a response in milliseconds, lowered to one that a code has: in IGMP codes are in tenths of a second
+-- a response in milliseconds, lowered to a response that a code has: in IGMP codes are in tenths of a second
 abbrev pub response_lowered : Family → ℕ → ℕ
 response_lowered Igmp response = value8 (code8_of (response / 100)) * 100
 response_lowered Mld response = value16 (code16_of response)
 
--- an interval in seconds likewise
+-- an interval in seconds, lowered to an interval that a code has
 abbrev pub interval_lowered : ℕ → ℕ
 interval_lowered interval = value8 (code8_of interval)
 
@@ -37,14 +37,14 @@ lowered family query fields =
       version = Current (record fields { interval = interval_lowered fields.interval });
     }
 
--- what was written spells the query with its response and its interval lowered
+-- written bytes encode the query with its response and its interval lowered
 abbrev pub ReadsBack : Type 0
 ReadsBack =
     (family : Family) (source : ℕ) (query : Query ℕ) (w : IsWritable family query)
     → Spells family (covered_before family source query.group (length (canon family source query)))
     (canon family source query) (QueryMessage (lowered family query w.fields))
 
--- the response that a code has, in milliseconds
+-- the response of a code, in milliseconds
 abbrev pub response_of_code : Family → ℕ → ℕ
 response_of_code Igmp code = value8 code * 100
 response_of_code Mld code = value16 code
@@ -53,14 +53,14 @@ abbrev pub greatest_code : Family → ℕ
 greatest_code Igmp = 255
 greatest_code Mld = 65535
 
--- a response and an interval that a code has stay as they are
+-- a response and an interval that a code has do not change
 abbrev pub ValuesOfCodesStay : Type 0
 ValuesOfCodesStay =
     ((family : Family) (code : ℕ) → code ≤ greatest_code family
     → response_lowered family (response_of_code family code) ≡ response_of_code family code)
     × ((code : ℕ) → code ≤ 255 → interval_lowered (value8 code) ≡ value8 code)
 
--- of the two checksums that are right where the sum of the other words is divisible by 65535, the lesser is written
+-- if two checksums are right, because the sum of the other words is divisible by 65535, the lesser is written
 abbrev pub ChecksumIsBelow : Type 0
 ChecksumIsBelow =
     (family : Family) (source : ℕ) (query : Query ℕ)

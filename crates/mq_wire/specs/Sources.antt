@@ -1,4 +1,4 @@
--- The addresses that a list of sources stands for, whether in the bytes of a message or lent.
+-- The addresses of a list of sources, in the bytes of a message or borrowed.
 use Rattle.std.specs.Prelude.{ℕ, ◌*◌, ◌≤◌, List, length, map}
 use Rattle.mq_wire.specs.declared.sources.Held.{Held}
 use Rattle.mq_wire.specs.declared.sources.Held.TheVariants.{InPlace, Lent}

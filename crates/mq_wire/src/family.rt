@@ -1,4 +1,4 @@
-//! What the messages of IGMP and of MLD differ in.
+//! The differences between messages of IGMP and MLD.
 
 ghost use Rattle.std.specs.Prelude.{◌≡◌, ◌≤◌, ℕ, length};
 ghost use Rattle.mq_wire.specs.Family.{Family, address_width, group_place};
@@ -18,34 +18,33 @@ pub(crate) trait FamilyKey: WireKey {
 
     ghost GROUP: { ℕ };
 
-    /// Where the group of a query or of a message of an older version begins.
+    /// The place of the group in a query or a message of an older version.
     const GROUP: usize;
 
     ghost GROUP_END: { ℕ };
 
-    /// Where it ends, and with it a query of an older version.
+    /// The end of the group, and of a query of an older version.
     const GROUP_END: usize;
 
-    /// What the type of a message says, where it is listed.
+    /// Returns the message type of a code, if it is listed.
     fn type_of(code: u8) -> Option<MessageType>
         ensures { result ≡ type_named FAMILY code };
 
-    /// Where the fields of a message of an older version end, or the place of the first that isn't
-    /// whole.
+    /// Returns the end of the fields of an older message, or the place of the first truncated field.
     fn older_end(bytes: &[u8]) -> Result<usize, WireFault>
         ensures { EndsAt (length bytes.now) 0 (older_spans FAMILY) result };
 
-    /// The version of a query that ends with its group.
+    /// Returns the version of a query that ends with its group.
     fn older_version(bytes: &[u8]) -> OlderVersion
         requires { family.group_end FAMILY ≤ length bytes.now }
         ensures { result ≡ spec.older_version FAMILY bytes.now };
 
-    /// The response of such a query in milliseconds.
+    /// Returns the response of a query that ends with its group, in milliseconds.
     fn older_response(bytes: &[u8]) -> u32
         requires { family.group_end FAMILY ≤ length bytes.now }
         ensures { result ≡ spec.older_response FAMILY bytes.now };
 
-    /// The response of a query of IGMPv3 or MLDv2 in milliseconds.
+    /// Returns the response of a query of IGMPv3 or MLDv2, in milliseconds.
     fn current_response(bytes: &[u8]) -> u32
         requires { family.group_end FAMILY ≤ length bytes.now }
         ensures { result ≡ spec.current_response FAMILY bytes.now };

@@ -8,7 +8,7 @@ use crate::message::WireFault;
 use crate::wire_key::WireKey;
 use byteorder::{BigEndian, ByteOrder};
 
-/// The number of the two bytes at a place.
+/// Returns the number in the two bytes at a place.
 pub(crate) fn number_at(bytes: &[u8], place: usize) -> u16
     requires { place + 2 ≤ length bytes.now }
     ensures { result ≡ spec.number_at place 2 bytes.now }
@@ -16,8 +16,7 @@ pub(crate) fn number_at(bytes: &[u8], place: usize) -> u16
     BigEndian::read_u16(&bytes[place..])
 }
 
-/// Where fields of these widths end, the first of which begins at `place`, or the place of the first
-/// that isn't whole.
+/// Returns the end of fields of these widths from `place` on, or the place of the first truncated field.
 pub(crate) fn fields_end(bytes: &[u8], place: usize, widths: &[usize]) -> Result<usize, WireFault>
     requires { place ≤ length bytes.now }
     ensures { EndsAt (length bytes.now) place widths.now result }
@@ -32,8 +31,7 @@ pub(crate) fn fields_end(bytes: &[u8], place: usize, widths: &[usize]) -> Result
     Ok(end)
 }
 
-/// Where so many addresses end, the first of which begins at `place`, or the place of the first that
-/// isn't whole.
+/// Returns the end of `count` addresses from `place` on, or the place of the first truncated address.
 pub(crate) fn addresses_end<K: WireKey>(
     bytes: &[u8],
     place: usize,

@@ -31,11 +31,11 @@ const LEAVE: u8 = 0x17;
 /// The type of a version 3 Report (RFC 3376 section 4).
 const V3_REPORT: u8 = 0x22;
 
-/// How many milliseconds a unit of the response code has (RFC 3376 section 4.1.1).
+/// The milliseconds of a unit of the response code (RFC 3376 section 4.1.1).
 const TENTH: u32 = 100;
 
-/// The message that the bytes of an IGMP datagram spell, without the IP header, or the first fault.
-/// Bytes after the last field are ignored, but are under the checksum.
+/// Parses an IGMP datagram without its IP header. Returns the message or the first fault. Bytes after the last field
+/// are ignored, but the checksum covers them.
 pub fn read_igmp(bytes: &[u8]) -> Result<Message<'_, Addr4>, WireFault>
     ensures message { (message : MessageOf ℕ) → (result ≡ Ok message) ↔ Spells Igmp [] bytes.entry.now message }
     ensures fault { (fault : Fault) → (result ≡ Err fault) ↔ (fault_of Igmp [] bytes.entry.now ≡ Some fault) }
@@ -43,9 +43,9 @@ pub fn read_igmp(bytes: &[u8]) -> Result<Message<'_, Addr4>, WireFault>
     read(&[], bytes)
 }
 
-/// Writes a query of IGMPv3 at the front of `out`, leaves the bytes behind it, and answers how many bytes
-/// it has: its response is lowered to a whole tenth of a second that a code has, and its interval to a value
-/// of a code, in seconds. The query is of version 3 with at most 65535 sources.
+/// Writes a query of IGMPv3 at the front of `out` and returns its length. The response is lowered to a whole tenth of a
+/// second that a code has, and the interval to a value of a code in seconds. The rest of `out` does not change. The
+/// query has version 3 and at most 65535 sources.
 pub fn write_igmp(query: &Query<'_, Addr4>, out: &mut [u8]) -> Result<usize, Small>
     requires version { IsCurrent query.now.version }
     requires counted { source_count query.now.version ≤ 65535 }
@@ -84,7 +84,7 @@ impl FamilyKey for Addr4 {
         fields_end(bytes, 0, &[1, 1, 2, 4])
     }
 
-    /// Version 1 has a code of 0 (RFC 3376 section 7.1).
+    /// Returns the version: version 1 has a code of 0 (RFC 3376 section 7.1).
     fn older_version(bytes: &[u8]) -> OlderVersion {
         if bytes[1] == 0 {
             OlderVersion::V1

@@ -1,5 +1,4 @@
-//! The messages of IGMP (RFC 3376) and of MLD (RFC 3810) as they stand in a datagram, without the IP
-//! header.
+//! The messages of IGMP (RFC 3376) and MLD (RFC 3810), without the IP header.
 //!
 //! ```text
 //! match read_igmp(bytes) {
@@ -14,14 +13,14 @@
 //! }
 //! ```
 //!
-//! - To read: `read_igmp`, and `read_mld` with the packet's addresses. They answer a `Message` or a
-//!   `WireFault`, and take no memory; `Sources` and `Records` stay in the bytes.
-//! - To write a query of IGMPv3 or MLDv2: `write_igmp` and `write_mld`, at the front of bytes that are lent; where
-//!   these are too few, `Small` says how many it has, and they stay as they were.
+//! - To parse: `read_igmp`, and `read_mld` with the packet's addresses. They return a `Message` or a `WireFault`, and allocate
+//!   nothing; `Sources` and `Records` stay in the bytes.
+//! - To write a query of IGMPv3 or MLDv2: `write_igmp` and `write_mld`, at the front of the caller's bytes. If these are too few,
+//!   `Small` has the needed length, and the bytes do not change.
 //! - Codes of times: `resp8`, `code8`, `resp16` and `code16`.
 //! - Checksums: `checksum_ok` and `checksum_of`.
 //! - Addresses: `WireKey`.
-//! - Laws, functions that do nothing: `laws`.
+//! - Laws, functions without effect: `laws`.
 #![tactic(auto)]
 
 pub mod checksum;

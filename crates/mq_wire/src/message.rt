@@ -1,27 +1,25 @@
-//! The messages, and the faults of bytes that spell none.
+//! Messages, and the faults of bytes that encode none.
 
 use crate::query::Query;
 use crate::records::Records;
 use crate::wire_key::WireKey;
 use mq_count::OlderVersion;
 
-/// A message of a router or a host. It borrows its sources from the bytes that it was read from.
+/// A message of a router or a host. It borrows its sources from the parsed bytes.
 #[derive(Drop)]
 pub enum Message<'a, K: WireKey> {
-    /// A router asks what is wanted (RFC 3376 section 4.1, RFC 3810 section 5.1).
+    /// A query of a router (RFC 3376 section 4.1, RFC 3810 section 5.1).
     Query(Query<'a, K>),
-    /// A Report of an older version for a group: a host wants it, from every source (RFC 2236 section
-    /// 2.1, RFC 3376 section 7.3.2).
+    /// A Report of an older version: a host wants the group from every source. RFC 2236 section 2.1, RFC 3376 section
+    /// 7.3.2.
     OldReport(OlderVersion, K),
-    /// A Leave for a group (RFC 2236 section 3), or a Done (RFC 2710 section 3.1): a host of an older
-    /// version wants it no longer.
+    /// A Leave (RFC 2236 section 3) or a Done (RFC 2710 section 3.1): an older host no longer wants the group.
     Leave(K),
-    /// A Report of IGMPv3 or MLDv2: what a host wants of each group that a record names (RFC 3376
-    /// section 4.2, RFC 3810 section 5.2).
+    /// A Report of IGMPv3 or MLDv2, with a record for each group (RFC 3376 section 4.2, RFC 3810 section 5.2).
     Report(Records<'a, K>),
 }
 
-/// What the type of a message says that it is.
+/// The meaning of a message's type.
 #[derive(Clone, Copy, Drop)]
 pub(crate) enum MessageType {
     Query,
@@ -30,19 +28,19 @@ pub(crate) enum MessageType {
     Report,
 }
 
-/// Why bytes spell no message: the first of these that holds, in this order, but that a field after
-/// the checksum is only looked for once the type and the length of a query are known.
+/// The reason why bytes encode no message: the first that holds, in this order. Exception: a field after the checksum
+/// is checked only once the type and the length of a query are known.
 #[derive(Clone, Copy, Debug, PartialEq, Eq)]
 pub enum WireFault {
-    /// The field that begins at `at`, counted in bytes from 0, isn't whole.
+    /// A truncated field.
     Truncated {
-        /// Where the field begins.
+        /// The place where the field begins, in bytes from 0.
         at: usize,
     },
-    /// The checksum is wrong.
+    /// A wrong checksum.
     Checksum,
-    /// The type is unknown.
+    /// An unknown type.
     UnknownType,
-    /// A query has a length that no version has.
+    /// A query of a length that no version has.
     QueryLength,
 }

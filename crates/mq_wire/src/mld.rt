@@ -30,18 +30,18 @@ const DONE: u8 = 132;
 /// The type of a version 2 Report (RFC 3810 section 5.2).
 const V2_REPORT: u8 = 143;
 
-/// Where the response of a query stands.
+/// The place of the response in a query.
 const RESPONSE: usize = 4;
 
-/// The next header of ICMPv6, of which the messages of MLD are some (RFC 3810 section 5).
+/// The next header of ICMPv6, which includes the messages of MLD (RFC 3810 section 5).
 const ICMP_V6: u8 = 58;
 
 /// All nodes of a link, ff02::1.
 const ALL_NODES: [u8; 16] = [0xff, 2, 0, 0, 0, 0, 0, 0, 0, 0, 0, 0, 0, 0, 0, 1];
 
-/// The message that the bytes of an MLD datagram spell, without the IPv6 header, or the first fault.
-/// The checksum covers a pseudo-header with the datagram's source and destination. Bytes after the
-/// last field are ignored, but are under the checksum.
+/// Parses an MLD datagram without its IPv6 header. Returns the message or the first fault. The checksum covers a
+/// pseudo-header with the datagram's source and destination. Bytes after the last field are ignored, but the checksum
+/// covers them.
 pub fn read_mld(
     source: Addr6,
     destination: Addr6,
@@ -55,7 +55,7 @@ pub fn read_mld(
     read(&pseudo_header(source, destination, bytes.len()), bytes)
 }
 
-/// What the checksum covers before the message (RFC 3810 section 5.2.2).
+/// Returns the pseudo-header that the checksum covers (RFC 3810 section 5.2.2).
 fn pseudo_header(source: Addr6, destination: Addr6, length: usize) -> [u8; 40]
     ensures { result ≡ spec.pseudo_header source destination length }
 {
@@ -68,10 +68,10 @@ fn pseudo_header(source: Addr6, destination: Addr6, length: usize) -> [u8; 40]
     header
 }
 
-/// Writes a query of MLDv2 at the front of `out`, as the router at `source` sends it, leaves the bytes behind it, and
-/// answers how many bytes it has: its response is lowered to a value of a code, in milliseconds, and its interval
-/// to one in seconds. The checksum covers a pseudo-header with that source and with the group as the destination, or
-/// with ff02::1 where the group is zero. The query is of version 2 with at most 65535 sources.
+/// Writes a query of MLDv2 from the router at `source` at the front of `out`, and returns its length. The response is
+/// lowered to a value of a code in milliseconds, and the interval to one in seconds. The checksum covers a
+/// pseudo-header with that source and with the group as destination, or ff02::1 if the group is zero. The rest of `out`
+/// does not change. The query has version 2 and at most 65535 sources.
 pub fn write_mld(source: Addr6, query: &Query<'_, Addr6>, out: &mut [u8]) -> Result<usize, Small>
     requires version { IsCurrent query.now.version }
     requires counted { source_count query.now.version ≤ 65535 }
@@ -86,7 +86,7 @@ pub fn write_mld(source: Addr6, query: &Query<'_, Addr6>, out: &mut [u8]) -> Res
     write_query(&first, query.group, fields, &pseudo, out)
 }
 
-/// What stands before the group of a query.
+/// Returns the bytes before the group of a query.
 fn first_bytes(response: u32) -> [u8; 8]
     ensures { result ≡ canon.first_bytes Mld response }
 {
@@ -94,7 +94,7 @@ fn first_bytes(response: u32) -> [u8; 8]
     [QUERY, 0, 0, 0, high, low, 0, 0]
 }
 
-/// Where a query for the group is sent (RFC 3810 section 5.1.15).
+/// Returns the destination of a query for the group (RFC 3810 section 5.1.15).
 fn destination(group: Addr6) -> Addr6
     ensures { result ≡ mld_destination group }
 {

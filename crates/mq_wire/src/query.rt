@@ -14,15 +14,15 @@ use std::marker::Model;
 /// A query: general, for a group, or for sources of a group (RFC 3376 section 4.1.11).
 #[derive(Drop)]
 pub struct Query<'a, K: WireKey> {
-    /// The group that is asked for; zero in a general query.
+    /// The queried group; zero in a general query.
     pub group: K,
     /// The maximum response time in milliseconds; 0 in IGMPv1, which has none.
     pub response: u32,
-    /// What the version of the query adds.
+    /// The fields of the query's version.
     pub version: QueryVersion<'a, K>,
 }
 
-/// The version of a query, with what only queries of that version have.
+/// The version of a query, with the fields that only this version has.
 #[derive(Drop)]
 pub enum QueryVersion<'a, K: WireKey> {
     /// IGMPv1, IGMPv2 or MLDv1.
@@ -31,20 +31,20 @@ pub enum QueryVersion<'a, K: WireKey> {
     Current(QuerierFields<'a, K>),
 }
 
-/// What a query of IGMPv3 or MLDv2 says besides (RFC 3376 section 4.1, RFC 3810 section 5.1).
+/// The fields that only queries of IGMPv3 or MLDv2 have (RFC 3376 section 4.1, RFC 3810 section 5.1).
 #[derive(Drop)]
 pub struct QuerierFields<'a, K: WireKey> {
     /// The S flag: routers that hear the query lower no timers.
     pub suppress: bool,
-    /// The querier's robustness variable; 0 where it is above 7.
+    /// The querier's robustness variable; 0 if it is above 7.
     pub robustness: Qrv,
     /// The querier's query interval in seconds.
     pub interval: u32,
-    /// The sources that are asked for; none in a general or a group-specific query.
+    /// The queried sources; none in a general or a group-specific query.
     pub sources: Sources<'a, K>,
 }
 
-/// A robustness variable as a query has it, from 0 to 7. A contract sees the number.
+/// A robustness variable in a query, from 0 to 7. A contract sees the number.
 #[derive(Clone, Copy)]
 pub struct Qrv {
     number: u8,
@@ -63,7 +63,7 @@ impl Model for Qrv {
 }
 
 impl Qrv {
-    /// The number where it is at most 7, and else 0, as RFC 3376 section 4.1.6 says.
+    /// Returns the number if it is at most 7, otherwise 0 (RFC 3376 section 4.1.6).
     pub const fn new(number: u8) -> Qrv
         ensures { result ≡ (if nat_lt 7 number then 0 else number) }
     {
@@ -72,7 +72,7 @@ impl Qrv {
         }
     }
 
-    /// The number.
+    /// Returns the number.
     pub const fn get(self) -> u8
         ensures number { result ≡ self }
         ensures small { result ≤ 7 }
@@ -81,10 +81,10 @@ impl Qrv {
     }
 }
 
-/// How many bytes the flags, the interval code and the number of sources take.
+/// The bytes of the flags, the interval code and the number of sources.
 pub(crate) const FLAGS_TO_COUNT: usize = 4;
 
-/// What a query of IGMPv3 or MLDv2 says behind the group, which ends at `place`.
+/// Returns the fields of a query of IGMPv3 or MLDv2 after its group, which ends at `place`.
 pub(crate) fn fields_at<K: WireKey>(
     bytes: &[u8],
     place: usize,

@@ -1,4 +1,4 @@
-//! The reading of messages of either family.
+//! Parsing of messages of either family.
 
 ghost use Rattle.std.specs.Prelude.{◌≡◌, ◌%◌, length};
 ghost use Rattle.mq_wire.specs.Spelling.{ReadsAs, ReadsWithin, ReadsQuery, ReadsGroup, ReadsReport, LengthSays};
@@ -10,11 +10,11 @@ use crate::message::{Message, MessageType, WireFault};
 use crate::query::{FLAGS_TO_COUNT, Query, QueryVersion, fields_at};
 use crate::records::Records;
 
-/// Where the number of the records of a Report stands.
+/// The place of the number of records in a Report.
 const RECORD_COUNT: usize = 6;
 
-/// The message that the bytes spell, or the first fault, by the tests in their order. The checksum
-/// covers `pseudo` before the bytes.
+/// Parses a message by tests in order. Returns the message or the first fault. The checksum covers `pseudo` before the
+/// bytes.
 pub(crate) fn read<'a, K: FamilyKey>(
     pseudo: &[u8],
     bytes: &'a [u8],
@@ -32,7 +32,7 @@ pub(crate) fn read<'a, K: FamilyKey>(
     }
 }
 
-/// The message of bytes of a listed type, whose checksum is right.
+/// Parses bytes of a listed type with a right checksum.
 fn read_within<K: FamilyKey>(kind: MessageType, bytes: &[u8]) -> Result<Message<'_, K>, WireFault>
     ensures { ReadsWithin K.number K.FAMILY kind bytes.entry.now result }
 {
@@ -44,7 +44,7 @@ fn read_within<K: FamilyKey>(kind: MessageType, bytes: &[u8]) -> Result<Message<
     }
 }
 
-/// The group of a Report of an older version, or of a Leave or Done.
+/// Returns the group of an older Report, a Leave or a Done.
 fn group<K: FamilyKey>(bytes: &[u8]) -> Result<K, WireFault>
     ensures { ReadsGroup K.number K.FAMILY bytes.now result }
 {
@@ -52,7 +52,7 @@ fn group<K: FamilyKey>(bytes: &[u8]) -> Result<K, WireFault>
     Ok(K::read(&bytes[K::GROUP..]))
 }
 
-/// A query of any version.
+/// Parses a query of any version.
 fn query<K: FamilyKey>(bytes: &[u8]) -> Result<Query<'_, K>, WireFault>
     ensures { ReadsQuery K.number K.FAMILY bytes.entry.now result }
 {
@@ -73,7 +73,7 @@ fn query<K: FamilyKey>(bytes: &[u8]) -> Result<Query<'_, K>, WireFault>
     })
 }
 
-/// Whether a query of so many bytes is one of an older version; an error where no version has its length.
+/// Returns whether a query of this length has an older version. Fails if no version has the length.
 fn is_older<K: FamilyKey>(length: usize) -> Result<bool, WireFault>
     ensures { LengthSays K.FAMILY length result }
 {
@@ -86,7 +86,7 @@ fn is_older<K: FamilyKey>(length: usize) -> Result<bool, WireFault>
     Ok(false)
 }
 
-/// The records of a Report of IGMPv3 or MLDv2.
+/// Returns the records of a Report of IGMPv3 or MLDv2.
 fn report<K: FamilyKey>(bytes: &[u8]) -> Result<Records<'_, K>, WireFault>
     ensures { ReadsReport K.FAMILY bytes.entry.now result }
 {

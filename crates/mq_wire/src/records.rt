@@ -13,26 +13,25 @@ use crate::sources::Sources;
 use crate::wire_key::WireKey;
 use std::marker::{Model, PhantomData};
 
-/// A record: what a host wants of a group (RFC 3376 section 4.2.4, RFC 3810 section 5.2.4). Its
-/// auxiliary data is read over.
+/// A record: the wishes of a host for a group (RFC 3376 section 4.2.4, RFC 3810 section 5.2.4). Its auxiliary data is
+/// skipped.
 #[derive(Drop)]
 pub struct RecordView<'a, K: WireKey> {
-    /// The type's byte; 1 to 6 are those of RFC 3376 section 4.2.12 and RFC 3810 section 5.2.12.
+    /// The byte of the type; 1 to 6 are those of RFC 3376 section 4.2.12 and RFC 3810 section 5.2.12.
     pub kind: u8,
-    /// The group that it is about.
+    /// The record's group.
     pub group: K,
     /// Its sources, in the order of the message.
     pub sources: Sources<'a, K>,
 }
 
-/// The records of a Report, read in place, in the order of the message. A contract sees the list of
-/// those that are still to come. It is iterated without memory, and a copy for another walk costs
-/// nothing (`iter`).
+/// The records of a Report, parsed in place, in the order of the message. A contract sees the list of the remaining
+/// records. Iteration allocates nothing, and a copy for another walk costs nothing (`iter`).
 #[derive(Drop)]
 pub struct Records<'a, K: WireKey> {
-    /// How many are left.
+    /// The number of remaining records.
     left: u16,
-    /// Where the next one begins.
+    /// The place of the next record.
     place: usize,
     /// The whole message.
     bytes: &'a [u8],
@@ -53,16 +52,14 @@ impl<'a, K: WireKey> Model for Records<'a, K> {
         first_cut (length r.bytes.now) r.place (spans_of_records K.WIDTH r.left r.place r.bytes.now) ≡ None };
 }
 
-/// Where the group of a record begins, behind its type, the length of its auxiliary data and the number
-/// of its sources.
+/// The place of the group in a record, after its type, the length of its auxiliary data and the number of sources.
 const GROUP: usize = 4;
 
-/// How many bytes a unit of the length of auxiliary data has (RFC 3376 section 4.2.6).
+/// The bytes of a unit of the length of auxiliary data (RFC 3376 section 4.2.6).
 const WORD: usize = 4;
 
 impl<'a, K: WireKey> Records<'a, K> {
-    /// So many records, of which the first begins at `place`, or the place of the first field that
-    /// isn't whole.
+    /// Returns `count` records from `place` on, or the place of the first truncated field.
     pub(crate) fn read_at(
         count: u16,
         place: usize,
@@ -83,7 +80,7 @@ impl<'a, K: WireKey> Records<'a, K> {
         })
     }
 
-    /// How many are left.
+    /// Returns the number of remaining records.
     #[tactic(auto, using(crate::proofs::RecordLists::length_records))]
     pub fn len(&self) -> usize
         ensures { result ≡ length self.now }
@@ -91,14 +88,14 @@ impl<'a, K: WireKey> Records<'a, K> {
         usize::from(self.left)
     }
 
-    /// Whether none is left.
+    /// Returns whether no record is left.
     pub fn is_empty(&self) -> bool
         ensures { result ≡ nat_eq (length self.now) 0 }
     {
         self.len() == 0
     }
 
-    /// The same records, for a walk of their own.
+    /// Returns the same records for another walk.
     pub fn iter(&self) -> Records<'a, K>
         ensures { result ≡ self.now }
     {
@@ -129,7 +126,7 @@ impl<'a, K: WireKey> Iterator for Records<'a, K> {
     }
 }
 
-/// Where the record at `place` ends, or the place of its first field that isn't whole.
+/// Returns the end of the record at `place`, or the place of its first truncated field.
 fn record_end<K: WireKey>(bytes: &[u8], place: usize) -> Result<usize, WireFault>
     requires { place ≤ length bytes.now }
     ensures { EndsAt (length bytes.now) place (record_spans K.WIDTH place bytes.now) result }
@@ -139,7 +136,7 @@ fn record_end<K: WireKey>(bytes: &[u8], place: usize) -> Result<usize, WireFault
     fields_end(bytes, auxiliary, &[WORD * usize::from(bytes[place + 1])])
 }
 
-/// The record at `place`, and where it ends. All of it is there.
+/// Returns the record at `place`, which is whole, and its end.
 fn record_at<K: WireKey>(bytes: &[u8], place: usize) -> (RecordView<'_, K>, usize)
     requires { first_cut (length bytes.now) place (record_spans K.WIDTH place bytes.now) ≡ None }
     ensures record { numbered_record K.number result.0 ≡ spec.record_at K.WIDTH place bytes.entry.now }

@@ -7,18 +7,17 @@ ghost use Rattle.mq_wire.specs.Fields.{addresses};
 use crate::wire_key::WireKey;
 use std::marker::Model;
 
-/// Addresses in their order: bytes of a message, read in place, or a slice that is lent. A contract
-/// sees the list of their numbers, whichever it is. It is iterated without memory, and a copy for
-/// another walk costs nothing (`iter`).
+/// A list of addresses in order: bytes of a message, parsed in place, or a borrowed slice. A contract sees the list of
+/// their numbers. Iteration allocates nothing, and a copy for another walk costs nothing (`iter`).
 #[derive(Drop)]
 pub struct Sources<'a, K: WireKey> {
     held: Held<'a, K>,
 }
 
-/// Where the addresses stand.
+/// The place of the addresses.
 #[derive(Clone, Copy, Drop)]
 enum Held<'a, K: WireKey> {
-    /// So many of them, one after another in the bytes, which may have more.
+    /// Consecutive addresses in the bytes, which may have more: their number, and the bytes.
     InPlace(u16, &'a [u8]),
     Lent(&'a [K]),
 }
@@ -36,7 +35,7 @@ impl<'a, K: WireKey> Model for Sources<'a, K> {
 }
 
 impl<'a, K: WireKey> Sources<'a, K> {
-    /// So many addresses, one after another in the bytes.
+    /// Returns `count` consecutive addresses in the bytes.
     pub(crate) fn in_place(count: u16, bytes: &'a [u8]) -> Sources<'a, K>
         requires { count * K.WIDTH ≤ length bytes.now }
         ensures { result ≡ addresses K.WIDTH count bytes.entry.now }
@@ -46,7 +45,7 @@ impl<'a, K: WireKey> Sources<'a, K> {
         }
     }
 
-    /// A lent list.
+    /// Returns a borrowed list.
     pub fn lent(sources: &'a [K]) -> Sources<'a, K>
         ensures { result ≡ map K.number sources.entry.now }
     {
@@ -55,7 +54,7 @@ impl<'a, K: WireKey> Sources<'a, K> {
         }
     }
 
-    /// How many are left.
+    /// Returns the number of remaining addresses.
     #[tactic(auto, using(crate::proofs::Addresses::length_addresses))]
     pub fn len(&self) -> usize
         ensures { result ≡ length self.now }
@@ -66,14 +65,14 @@ impl<'a, K: WireKey> Sources<'a, K> {
         }
     }
 
-    /// Whether none is left.
+    /// Returns whether no address is left.
     pub fn is_empty(&self) -> bool
         ensures { result ≡ nat_eq (length self.now) 0 }
     {
         self.len() == 0
     }
 
-    /// The same list, for a walk of its own.
+    /// Returns the same list for another walk.
     pub fn iter(&self) -> Sources<'a, K>
         ensures { result ≡ self.now }
     {

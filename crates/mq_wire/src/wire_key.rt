@@ -1,4 +1,4 @@
-//! What the formats know of an address.
+//! Addresses in messages.
 
 ghost use Rattle.std.specs.Prelude.{◌≡◌, ◌<◌, ◌≤◌, ◌++◌, ℕ, length, drop};
 ghost use Rattle.std.proofs.Common.{lit<, lit≤};
@@ -6,25 +6,25 @@ ghost use Rattle.byteorder.specs.Endian.{big_number, big_bytes};
 
 use mq_count::{Addr4, Addr6, Key};
 
-/// An address as it stands in a message, most significant byte first.
+/// An address in a message, most significant byte first.
 pub trait WireKey: Key {
     ghost WIDTH: { ℕ };
 
-    /// How many bytes an address has.
+    /// The bytes of an address.
     const WIDTH: usize;
 
     ghost PER_QUERY: { ℕ };
 
-    /// How many sources a query holds where packets have at most 1500 bytes (RFC 3376 section 4.1.8,
-    /// RFC 3810 section 5.1.10).
+    /// The sources of a query at most, in packets of at most 1500 bytes. RFC 3376 section 4.1.8, RFC 3810 section
+    /// 5.1.10.
     const PER_QUERY: usize;
 
-    /// The address in the first bytes.
+    /// Returns the address in the first bytes.
     fn read(bytes: &[u8]) -> Self
         requires { WIDTH ≤ length bytes.now }
         ensures { Self.number result ≡ big_number WIDTH bytes.now };
 
-    /// Writes the address into the first bytes and leaves the others.
+    /// Writes the address into the first bytes. The others do not change.
     fn write(self, out: &mut [u8])
         requires { WIDTH ≤ length out.old }
         ensures { out.new ≡ big_bytes WIDTH (Self.number self) ++ drop WIDTH out.old };
@@ -34,7 +34,7 @@ pub trait WireKey: Key {
 
     ghost few_bytes: { WIDTH ≤ 16 };
 
-    // A query holds a source at least, and no more than 366.
+    // A query has room for at least one source, and for at most 366.
     ghost some_sources: { 0 < PER_QUERY };
 
     ghost few_sources: { PER_QUERY ≤ 366 };

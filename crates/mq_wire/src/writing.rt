@@ -1,4 +1,4 @@
-//! The writing of queries of IGMPv3 and MLDv2, each in its one spelling (RFC 3376 section 4.1, RFC 3810 section 5.1).
+//! Writing of queries of IGMPv3 and MLDv2 in canonical form (RFC 3376 section 4.1, RFC 3810 section 5.1).
 
 ghost use Rattle.std.specs.Prelude.{◌≡◌, ◌≤◌, ◌+◌, ◌*◌, ◌%◌, ◌++◌, length, drop};
 ghost use Rattle.std.specs.List.{flat_map};
@@ -12,17 +12,17 @@ use crate::sources::Sources;
 use crate::wire_key::WireKey;
 use byteorder::{BigEndian, ByteOrder};
 
-/// Where the checksum stands in a message.
+/// The place of the checksum in a message.
 const CHECKSUM: usize = 2;
 
-/// The bytes that were lent are too few for a query.
+/// The error of too few bytes for a query.
 #[derive(Clone, Copy, Debug, PartialEq, Eq)]
 pub struct Small {
-    /// How many bytes the query has.
+    /// The length of the query.
     pub needed: usize,
 }
 
-/// Writes a query behind these first bytes, with the checksum that it has behind `pseudo`.
+/// Writes a query after these first bytes, with the checksum that also covers `pseudo`.
 pub(crate) fn write_query<K: WireKey>(
     head: &[u8],
     group: K,
@@ -46,7 +46,7 @@ pub(crate) fn write_query<K: WireKey>(
     Ok(needed)
 }
 
-/// How many bytes a query has with these first bytes.
+/// Returns the length of a query with these first bytes.
 pub(crate) fn query_length<K: WireKey>(head: &[u8], fields: &QuerierFields<'_, K>) -> usize
     requires short { length head.now ≤ 8 }
     requires counted { length fields.now.sources ≤ 65535 }
@@ -55,7 +55,7 @@ pub(crate) fn query_length<K: WireKey>(head: &[u8], fields: &QuerierFields<'_, K
     head.len() + K::WIDTH + FLAGS_TO_COUNT + fields.sources.len() * K::WIDTH
 }
 
-/// Writes a query with a checksum of 0 behind these first bytes.
+/// Writes a query with a checksum of 0 after these first bytes.
 fn write_without_checksum<K: WireKey>(
     head: &[u8],
     group: K,
@@ -70,7 +70,7 @@ fn write_without_checksum<K: WireKey>(
     write_fields(fields, &mut out[group_end..]);
 }
 
-/// Writes the group behind these first bytes, and answers how many bytes that is.
+/// Writes the group after these first bytes, and returns the length of both.
 fn write_group<K: WireKey>(head: &[u8], group: K, out: &mut [u8]) -> usize
     requires { length head.now + K.WIDTH ≤ length out.old }
     ensures end { result ≡ length head.now + K.WIDTH }
@@ -93,7 +93,7 @@ fn write_sources<K: WireKey>(sources: Sources<'_, K>, out: &mut [u8])
     }
 }
 
-/// The S flag and the robustness variable in their byte.
+/// Returns the byte of the S flag and the robustness variable.
 fn flags<K: WireKey>(fields: &QuerierFields<'_, K>) -> u8
     ensures { result ≡ flags_byte fields.now.suppress fields.now.robustness }
 {
@@ -105,7 +105,7 @@ fn flags<K: WireKey>(fields: &QuerierFields<'_, K>) -> u8
     }
 }
 
-/// Writes what stands behind the group at the front.
+/// Writes the rest of a query after its group, at the front.
 fn write_fields<K: WireKey>(fields: &QuerierFields<'_, K>, out: &mut [u8])
     requires room { 4 + length fields.now.sources * K.WIDTH ≤ length out.old }
     requires counted { length fields.now.sources ≤ 65535 }
@@ -117,7 +117,7 @@ fn write_fields<K: WireKey>(fields: &QuerierFields<'_, K>, out: &mut [u8])
     write_sources(fields.sources.iter(), &mut out[FLAGS_TO_COUNT..]);
 }
 
-/// Writes the checksum that the message has behind these bytes into its field.
+/// Writes the checksum that also covers `pseudo` into the message's field.
 fn write_checksum(pseudo: &[u8], message: &mut [u8])
     requires header { 4 ≤ length message.old }
     requires even { length pseudo.now % 2 ≡ 0 }

@@ -15,7 +15,7 @@ use Rattle.mq_link.specs.Configuration.{Configuration}
 use Rattle.mq_text.specs.Printing.{OutputState}
 use Rattle.mq_wire.specs.Family.{Family}
 use Rattle.mquerier.specs.declared.failure.Failure.{Failure}
-use Rattle.mquerier.specs.declared.failure.Failure.TheVariants.{NoAddresses, NotAnAddress, NotHex, UntilTooLarge, Configuration as Unconfigured, Capture, Gap, Waiting, Conversion, ConversionRead, NotOpened, Memory, Write}
+use Rattle.mquerier.specs.declared.failure.Failure.TheVariants.{NoAddresses, NotAnAddress, NotHex, UntilTooLarge, Configuration as Unconfigured, Capture, Gap, Waiting, Conversion, ConversionRead, Memory, Write}
 use Rattle.mquerier.specs.Changes.{Input, Output}
 use Rattle.mquerier.specs.CheckRuns.{IsBrokenCheck, IsCheckedAt}
 use Rattle.mquerier.specs.Replays.{SpellsAddress, asked_configuration, family_of, is_too_large}
@@ -58,7 +58,6 @@ checked_for protocol querier address settings terms input output (Err (Gap numbe
 checked_for protocol querier address settings terms input output (Err (Waiting number)) spelled works = (λ e. (address, spelled, works.0 e), λ e. (address, spelled, works.1 e))
 checked_for protocol querier address settings terms input output (Err (Conversion number f)) spelled works = (λ e. (address, spelled, works.0 e), λ e. (address, spelled, works.1 e))
 checked_for protocol querier address settings terms input output (Err ConversionRead) spelled works = (λ e. (address, spelled, works.0 e), λ e. (address, spelled, works.1 e))
-checked_for protocol querier address settings terms input output (Err NotOpened) spelled works = (λ e. (address, spelled, works.0 e), λ e. (address, spelled, works.1 e))
 checked_for protocol querier address settings terms input output (Err Memory) spelled works = (λ e. (address, spelled, works.0 e), λ e. (address, spelled, works.1 e))
 checked_for protocol querier address settings terms input output (Err Write) spelled works = (λ e. (address, spelled, works.0 e), λ e. (address, spelled, works.1 e))
 
@@ -66,11 +65,12 @@ pub check_performed : (protocol : Protocol) (querier : Bor (List ℕ)) (settings
     → PerformsCheck protocol querier.now settings within until cite in_words input output errors status → Performs (Check protocol querier settings within cite until file) in_words input output errors status
 check_performed protocol querier settings within cite until file in_words input output errors status performs =
     record {
-      at_most_three = performs.at_most_three;
+      at_most_four = performs.at_most_four;
       done = performs.done;
       faulty = λ one. inr (performs.faulty one);
       refused = performs.refused;
       found = performs.found;
+      unjudged = performs.unjudged;
       unread = λ none. absurd none;
     }
 
@@ -86,7 +86,6 @@ status_is (Gap number) = inl refl
 status_is (Waiting number) = inl refl
 status_is (Conversion number f) = inl refl
 status_is ConversionRead = inl refl
-status_is NotOpened = inl refl
 status_is Memory = inl refl
 status_is Write = inl refl
 
@@ -102,7 +101,6 @@ unwritten_of (Gap number) two = two
 unwritten_of (Waiting number) two = two
 unwritten_of (Conversion number f) two = two
 unwritten_of ConversionRead two = two
-unwritten_of NotOpened two = two
 unwritten_of Memory two = tt
 unwritten_of Write two = two
 
@@ -116,9 +114,10 @@ pub check_failed : (protocol : Protocol) (querier : List ℕ) (settings : Settin
     → PerformsCheck protocol querier settings within until cite in_words input output errors status
 check_failed protocol querier settings within until cite in_words tolerance input output errors failure status same works unread unwritten is told =
     record {
-      at_most_three = ⊎_elim (λ (one : status_of failure ≡ 1). omega (arith, is, one)) (λ (two : status_of failure ≡ 2). omega (arith, is, two)) (status_is failure);
+      at_most_four = ⊎_elim (λ (one : status_of failure ≡ 1). omega (arith, is, one)) (λ (two : status_of failure ≡ 2). omega (arith, is, two)) (status_is failure);
       done = λ zero. absurd (⊎_elim (λ (one : status_of failure ≡ 1). omega (arith, is, one, zero)) (λ (two : status_of failure ≡ 2). omega (arith, is, two, zero)) (status_is failure));
       faulty = λ one. (failure, subst (λ (k : ℕ). IsBrokenCheck protocol querier settings (record { within = k; until = until; cite = cite }) input output failure) same (works.1 (sym is ∙ one)), told);
       refused = λ two. (unread (unwritten_of failure (sym is ∙ two)), unwritten (unwritten_of failure (sym is ∙ two)), failure, works.0 (sym is ∙ two), told);
       found = λ three. absurd (⊎_elim (λ (one : status_of failure ≡ 1). omega (arith, is, one, three)) (λ (two : status_of failure ≡ 2). omega (arith, is, two, three)) (status_is failure));
+      unjudged = λ four. absurd (⊎_elim (λ (one : status_of failure ≡ 1). omega (arith, is, one, four)) (λ (two : status_of failure ≡ 2). omega (arith, is, two, four)) (status_is failure));
     }

@@ -1,5 +1,6 @@
 pub mod Checkings
 pub mod Conversions
+pub mod Lines
 pub mod Replayed
 pub mod Telling
 pub mod Worked

@@ -15,7 +15,7 @@ use Rattle.mq_replay.specs.declared.replay_fault.ReplayFault.TheVariants as answ
 use Rattle.mq_replay.specs.Replaying.{Replays, ReadCapture, IsWritten, text_of, packets_text}
 use Rattle.mq_wire.specs.Family.{Family}
 use Rattle.mquerier.specs.declared.failure.Failure.{Failure}
-use Rattle.mquerier.specs.declared.failure.Failure.TheVariants.{NoAddresses, NotAnAddress, NotHex, UntilTooLarge, Configuration as Unconfigured, Capture, Gap, Waiting, Conversion, ConversionRead, NotOpened, Memory, Write}
+use Rattle.mquerier.specs.declared.failure.Failure.TheVariants.{NoAddresses, NotAnAddress, NotHex, UntilTooLarge, Configuration as Unconfigured, Capture, Gap, Waiting, Conversion, ConversionRead, Memory, Write}
 use Rattle.mquerier.specs.Changes.{Input, Output}
 use Rattle.mquerier.specs.Replays.{IsReplayedAt, SpellsAddress, asked_configuration, family_of, is_too_large}
 use Rattle.mquerier.specs.Working.{IsConfigured, WorksAt, WorksOnReplay}
@@ -76,6 +76,5 @@ replayed_for protocol own address settings asked input output (Err (Gap number))
 replayed_for protocol own address settings asked input output (Err (Waiting number)) spelled works = (λ e. (address, spelled, works.0 e), λ e. (address, spelled, works.1 e))
 replayed_for protocol own address settings asked input output (Err (Conversion number f)) spelled works = (λ e. (address, spelled, works.0 e), λ e. (address, spelled, works.1 e))
 replayed_for protocol own address settings asked input output (Err ConversionRead) spelled works = (λ e. (address, spelled, works.0 e), λ e. (address, spelled, works.1 e))
-replayed_for protocol own address settings asked input output (Err NotOpened) spelled works = (λ e. (address, spelled, works.0 e), λ e. (address, spelled, works.1 e))
 replayed_for protocol own address settings asked input output (Err Memory) spelled works = (λ e. (address, spelled, works.0 e), λ e. (address, spelled, works.1 e))
 replayed_for protocol own address settings asked input output (Err Write) spelled works = (λ e. (address, spelled, works.0 e), λ e. (address, spelled, works.1 e))

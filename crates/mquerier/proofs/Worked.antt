@@ -12,7 +12,7 @@ use Rattle.mq_text.specs.Reading.{SpellsV6}
 use Rattle.mq_lines.specs.Line.{PrintsLine}
 use Rattle.mq_wire.specs.Family.{Family}
 use Rattle.mquerier.specs.declared.failure.Failure.{Failure}
-use Rattle.mquerier.specs.declared.failure.Failure.TheVariants.{NoAddresses, NotAnAddress, NotHex, UntilTooLarge, Configuration, Capture, Gap, Waiting, Conversion, ConversionRead, NotOpened, Memory, Write}
+use Rattle.mquerier.specs.declared.failure.Failure.TheVariants.{NoAddresses, NotAnAddress, NotHex, UntilTooLarge, Configuration, Capture, Gap, Waiting, Conversion, ConversionRead, Memory, Write}
 use Rattle.mquerier.specs.Changes.{Input, Output}
 use Rattle.mquerier.specs.HexLine.{IsHexLine}
 use Rattle.mquerier.specs.Working.{IsUndecoded, Works, WorksOnMessage}
@@ -36,7 +36,6 @@ undecoded from to hex front back output (Gap number) source destination first se
 undecoded from to hex front back output (Waiting number) source destination first second spelled spelled' same why = absurd why
 undecoded from to hex front back output (Conversion number f) source destination first second spelled spelled' same why = absurd why
 undecoded from to hex front back output ConversionRead source destination first second spelled spelled' same why = absurd why
-undecoded from to hex front back output NotOpened source destination first second spelled spelled' same why = absurd why
 undecoded from to hex front back output (Capture f) source destination first second spelled spelled' same why = absurd why
 undecoded from to hex front back output Memory source destination first second spelled spelled' same why = (λ e. absurd (omega (arith, e)), λ e. same)
 undecoded from to hex front back output Write source destination first second spelled spelled' same why = absurd why

@@ -1,7 +1,10 @@
 -- The failures of the program: their statuses, and what standard error is told.
-use Rattle.std.specs.Prelude.{ℕ, zero, suc, ◌-◌, Bool, true, false, List, [], ◌∷◌, ◌++◌, codes}
+use Rattle.std.specs.Prelude.{ℕ, zero, suc, ◌-◌, ◌==◌, Bool, true, false, if◌then◌else◌, List, [], ◌∷◌, ◌++◌, codes, take}
 use Rattle.std.specs.List.{flat_map}
 use Rattle.std.specs.Fmt.{decimal}
+use Rattle.mq_check.specs.declared.unjudged.Unjudged.{Unjudged}
+use Rattle.mq_check.specs.declared.unjudged.Unjudged.TheVariants.{NotUnderstood, NoMessage, NoQuery}
+use Rattle.mq_convert.specs.declared.counts.ConvertCounts.{ConvertCounts}
 use Rattle.mq_convert.specs.declared.fault.BlockFault.{BlockFault}
 use Rattle.mq_convert.specs.declared.fault.BlockFault.TheVariants as block
 use Rattle.mq_convert.specs.declared.unread.LinkCount.{LinkCount}
@@ -13,7 +16,7 @@ use Rattle.mq_link.specs.declared.configuration.LimitName.TheVariants as limit
 use Rattle.mq_pcap.specs.declared.fault.PcapFault.{PcapFault}
 use Rattle.mq_pcap.specs.declared.fault.PcapFault.TheVariants as fault
 use Rattle.mquerier.specs.declared.failure.Failure.{Failure}
-use Rattle.mquerier.specs.declared.failure.Failure.TheVariants.{NoAddresses, NotAnAddress, NotHex, UntilTooLarge, Configuration, Capture, Gap, Waiting, Conversion, ConversionRead, NotOpened, Memory, Write}
+use Rattle.mquerier.specs.declared.failure.Failure.TheVariants.{NoAddresses, NotAnAddress, NotHex, UntilTooLarge, Configuration, Capture, Gap, Waiting, Conversion, ConversionRead, Memory, Write}
 
 -- 2 for a fault of the command line or of a configuration, 1 for one of the input, the output or memory
 abbrev pub status_of : Failure → ℕ
@@ -27,7 +30,6 @@ status_of (Gap number) = 1
 status_of (Waiting number) = 1
 status_of (Conversion number f) = 1
 status_of ConversionRead = 1
-status_of NotOpened = 1
 status_of Memory = 1
 status_of Write = 1
 
@@ -81,6 +83,26 @@ unread_line unread =
     codes "mquerier: " ++ decimal unread.count ++ codes " packets of link types that aren't read"
     ++ flat_map link_text unread.links.items ++ others_text (others unread.count unread.links.items) ++ codes "\n"
 
+-- the lines that standard error is told of a conversion: how many packets came again, and how many have a link type that
+-- isn't read, each if there are some
+abbrev pub repeated_line : (repeated : ℕ) → List ℕ
+repeated_line zero = []
+repeated_line (suc n) = codes "mquerier: " ++ decimal (suc n) ++ codes " packets that came again are left out\n"
+
+abbrev pub unread_part : Unread → List ℕ
+unread_part unread = if unread.count == 0 then [] else unread_line unread
+
+abbrev pub counts_lines : ConvertCounts → List ℕ
+counts_lines counts = repeated_line counts.repeated ++ unread_part counts.unread
+
+-- what standard error is told of a check that had nothing to judge
+abbrev pub unjudged_line : Unjudged → List ℕ
+unjudged_line NotUnderstood =
+    codes "mquerier: nothing judged: every second packet or more is cut or isn't read\n"
+unjudged_line NoMessage = codes "mquerier: nothing judged: there is no message of this family\n"
+unjudged_line NoQuery =
+    codes "mquerier: nothing judged: no query from this address was seen, and none is missing\n"
+
 abbrev pub failure_text : Failure → List ℕ
 failure_text NoAddresses = codes "--from and --to are needed for mld"
 failure_text NotAnAddress = codes "not an address"
@@ -92,7 +114,6 @@ failure_text (Gap number) = codes "gap before record " ++ decimal number
 failure_text (Waiting number) = codes "too many wait at record " ++ decimal number
 failure_text (Conversion number f) = conversion_text f ++ decimal number
 failure_text ConversionRead = codes "conversion fault 1"
-failure_text NotOpened = codes "the file can't be opened"
 failure_text Memory = codes "out of memory"
 failure_text Write = codes "write failed"
 
@@ -159,6 +180,10 @@ wanted_words false failure = []
 -- what standard error is told of a failure: one line, and in words a second one
 abbrev pub failure_line : (in_words : Bool) → Failure → List ℕ
 failure_line in_words failure = codes "mquerier: " ++ failure_text failure ++ wanted_words in_words failure ++ codes "\n"
+
+-- what standard error is told where a file can't be opened: its name and the system's reason, or their beginnings
+abbrev pub unopened_line : (name reason : List ℕ) → List ℕ
+unopened_line name reason = codes "mquerier: the file can't be opened: " ++ take 3000 name ++ codes ": " ++ take 300 reason ++ codes "\n"
 
 -- the line of the program's version
 abbrev pub version_line : (version : List ℕ) → List ℕ

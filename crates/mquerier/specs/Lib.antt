@@ -1,6 +1,7 @@
 pub mod Breaking
 pub mod Changes
 pub mod CheckRuns
+pub mod Choosing
 pub mod Failures
 pub mod HexLine
 pub mod Replays

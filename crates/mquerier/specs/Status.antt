@@ -1,5 +1,5 @@
 -- What the program does of what is asked for, and its status.
-use Rattle.std.specs.Prelude.{◌≡◌, ◌≤◌, ◌⊎◌, ℕ, Bool, true, false, List, [], ◌++◌, codes, Option, None, Some, Result, Ok, Err, IsErr}
+use Rattle.std.specs.Prelude.{◌≡◌, ◌≤◌, ◌+◌, ◌⊎◌, ℕ, Bool, true, false, List, [], ◌++◌, codes, Option, None, Some, Result, Ok, Err, IsErr}
 use Rattle.std.specs.Option.{option_copied}
 use Rattle.clap.specs.Values.{kind_of}
 use Rattle.clap.specs.declared.error.Error.{Error}
@@ -7,13 +7,16 @@ use Rattle.clap.specs.declared.error.kind.ErrorKind.{ErrorKind}
 use Rattle.clap.specs.declared.error.kind.ErrorKind.TheVariants.{DisplayVersion, OutOfMemory}
 use Rattle.hex.specs.Hex.{decode_of}
 use Rattle.mq_check.specs.declared.totals.Totals.{Totals}
+use Rattle.mq_check.specs.declared.unjudged.Unjudged.{Unjudged}
+use Rattle.mq_check.specs.Basis.{unjudged_by}
 use Rattle.mq_command.specs.declared.Protocol.{Protocol}
 use Rattle.mq_command.specs.declared.Protocol.TheVariants.{Igmp, Mld}
 use Rattle.mq_command.specs.declared.Request.{Request}
 use Rattle.mq_command.specs.declared.Request.TheVariants.{Message, Convert, Show, Replay, Check}
 use Rattle.mq_command.specs.declared.replay.Settings.{Settings}
+use Rattle.mq_convert.specs.declared.choice.Choice.{Choice}
+use Rattle.mq_convert.specs.declared.counts.ConvertCounts.{ConvertCounts}
 use Rattle.mq_convert.specs.declared.fault.ConvertFault.{ConvertFault}
-use Rattle.mq_convert.specs.declared.unread.Unread.{Unread}
 use Rattle.mq_convert.specs.Converting.{Converts}
 use Rattle.mq_text.specs.Reading.{SpellsV6}
 use Rattle.mq_replay.specs.declared.asked.Asked.{Asked}
@@ -25,8 +28,9 @@ use Rattle.mquerier.specs.declared.failure.Failure.{Failure}
 use Rattle.mquerier.specs.declared.failure.Failure.TheVariants.{NoAddresses, NotAnAddress, NotHex, Memory, Write}
 use Rattle.mquerier.specs.Breaking.{IsBrokenOff, IsConversionBroken}
 use Rattle.mquerier.specs.Changes.{Input, Output, Writes, BreaksOff}
+use Rattle.mquerier.specs.Choosing.{choice_of}
 use Rattle.mquerier.specs.CheckRuns.{IsBrokenCheck, WritesVerdict, asked_terms}
-use Rattle.mquerier.specs.Failures.{failure_line, unread_line, version_line}
+use Rattle.mquerier.specs.Failures.{counts_lines, failure_line, unjudged_line, version_line}
 use Rattle.mquerier.specs.HexLine.{IsHexLine}
 use Rattle.mquerier.specs.Replays.{SpellsAddress, IsRefusedAt, IsDoneAt, IsBrokenAt, family_of}
 
@@ -68,7 +72,7 @@ IsRefusedReplay protocol own settings until failure =
 abbrev pub IsRefused : Request → Failure → Type 0
 IsRefused (Message protocol hex from to) failure =
     IsRefusedMessage protocol (option_copied from) (option_copied to) hex.now failure
-IsRefused (Convert interface vlan file) failure = ⊥
+IsRefused (Convert interface vlan once file) failure = ⊥
 IsRefused (Show file) failure = ⊥
 IsRefused (Replay protocol own settings until changes file) failure = IsRefusedReplay protocol own.now settings until failure
 IsRefused (Check protocol querier settings within cite until file) failure =
@@ -98,9 +102,8 @@ abbrev pub WritesListing : Input → Output → Result ℕ ReplayFault → Type 
 WritesListing input output answer = Shows input.old input.new output.old.held output.new.held answer
 
 -- a capture was converted, with this answer; these packets were chosen
-abbrev pub WritesConversion : (interface vlan : Option ℕ) → Input → Output → Result Unread ConvertFault → Type 0
-WritesConversion interface vlan input output answer =
-    Converts (record { interface = interface; vlan = vlan }) input.old input.new output.old.held output.new.held answer
+abbrev pub WritesConversion : Choice → Input → Output → Result ConvertCounts ConvertFault → Type 0
+WritesConversion choice input output answer = Converts choice input.old input.new output.old.held output.new.held answer
 
 -- a capture was replayed to its end
 abbrev pub WritesReport : Protocol → (own : List ℕ) → Settings → Asked → Input → Output → (flag : Bool) → Type 0
@@ -113,9 +116,9 @@ WritesReport protocol own settings asked input output flag =
 abbrev pub IsDone : Request → Input → Output → (flag : Bool) → Type 0
 IsDone (Message protocol hex from to) input output flag =
     WritesMessage protocol (option_copied from) (option_copied to) hex.now output flag
-IsDone (Convert interface vlan file) input output flag =
-    (flag ≡ true) × (output.new.failed ≡ output.old.failed) × (unread : Unread)
-    × WritesConversion interface vlan input output (Ok unread)
+IsDone (Convert interface vlan once file) input output flag =
+    (flag ≡ true) × (output.new.failed ≡ output.old.failed) × (counts : ConvertCounts)
+    × WritesConversion (choice_of interface vlan once) input output (Ok counts)
 IsDone (Show file) input output flag =
     (flag ≡ true) × (output.new.failed ≡ output.old.failed) × (count : ℕ) × WritesListing input output (Ok count)
 IsDone (Replay protocol own settings until changes file) input output flag =
@@ -142,8 +145,8 @@ IsBrokenReplay protocol own settings asked input output failure =
 abbrev pub IsBroken : Request → Input → Output → Failure → Type 0
 IsBroken (Message protocol hex from to) input output failure =
     IsBrokenMessage protocol (option_copied from) (option_copied to) hex.now output failure
-IsBroken (Convert interface vlan file) input output failure =
-    IsConversionBroken (WritesConversion interface vlan input output) input output failure
+IsBroken (Convert interface vlan once file) input output failure =
+    IsConversionBroken (WritesConversion (choice_of interface vlan once) input output) input output failure
 IsBroken (Show file) input output failure = IsBrokenOff (WritesListing input output) input output failure
 IsBroken (Replay protocol own settings until changes file) input output failure =
     IsBrokenReplay protocol own.now settings (record { until = until; changes = changes }) input output failure
@@ -159,7 +162,7 @@ IsFaulty request in_words input output errors =
 -- a request for a message, which doesn't read the input
 abbrev pub IsOfMessage : Request → Type 0
 IsOfMessage (Message protocol hex from to) = Unit {0}
-IsOfMessage (Convert interface vlan file) = ⊥
+IsOfMessage (Convert interface vlan once file) = ⊥
 IsOfMessage (Show file) = ⊥
 IsOfMessage (Replay protocol own settings until changes file) = ⊥
 IsOfMessage (Check protocol querier settings within cite until file) = ⊥
@@ -167,7 +170,7 @@ IsOfMessage (Check protocol querier settings within cite until file) = ⊥
 -- a request for a conversion
 abbrev pub IsConversion : Request → Type 0
 IsConversion (Message protocol hex from to) = ⊥
-IsConversion (Convert interface vlan file) = Unit {0}
+IsConversion (Convert interface vlan once file) = Unit {0}
 IsConversion (Show file) = ⊥
 IsConversion (Replay protocol own settings until changes file) = ⊥
 IsConversion (Check protocol querier settings within cite until file) = ⊥
@@ -175,7 +178,7 @@ IsConversion (Check protocol querier settings within cite until file) = ⊥
 -- a request for a check
 abbrev pub IsCheck : Request → Type 0
 IsCheck (Message protocol hex from to) = ⊥
-IsCheck (Convert interface vlan file) = ⊥
+IsCheck (Convert interface vlan once file) = ⊥
 IsCheck (Show file) = ⊥
 IsCheck (Replay protocol own settings until changes file) = ⊥
 IsCheck (Check protocol querier settings within cite until file) = Unit {0}
@@ -185,64 +188,90 @@ abbrev pub HasChecked : Protocol → (querier : List ℕ) → Settings → (with
 HasChecked protocol querier settings within until cite input output errors totals =
     WritesVerdict protocol querier settings (asked_terms within until cite) input output totals × (errors.new ≡ errors.old)
 
--- standard error was told of packets whose link type isn't read, if some were written
-abbrev pub TellsUnread : (errors : Output) → Unread → Type 0
-TellsUnread errors unread =
-    (unread.count ≡ 0 → errors.new ≡ errors.old) × (1 ≤ unread.count → IsTold errors (unread_line unread))
+-- standard error was told of packets that came again, if some were left out, and of those whose link type isn't read, if some
+-- were written
+abbrev pub TellsCounts : (errors : Output) → ConvertCounts → Type 0
+TellsCounts errors counts =
+    (counts.repeated + counts.unread.count ≡ 0 → errors.new ≡ errors.old)
+    × (1 ≤ counts.repeated + counts.unread.count → IsTold errors (counts_lines counts))
 
--- What is asked for was done, and standard error told nothing but, of a conversion, of packets whose link type isn't
--- read.
+-- A check had something to judge: more than half of the packets were understood, there was a message of the family, and a query
+-- of the querier was seen or one is missing.
+abbrev pub IsJudged : Totals → Type 0
+IsJudged totals = unjudged_by totals ≡ None
+
+-- What is asked for was done, and standard error told nothing but, of a conversion, of packets that came again and of those
+-- whose link type isn't read.
 abbrev pub IsDoneTelling : Request → Input → (output errors : Output) → Type 0
 IsDoneTelling (Message protocol hex from to) input output errors =
     IsDone (Message protocol hex from to) input output true × (errors.new ≡ errors.old)
-IsDoneTelling (Convert interface vlan file) input output errors =
-    (output.new.failed ≡ output.old.failed) × (unread : Unread)
-    × WritesConversion interface vlan input output (Ok unread) × TellsUnread errors unread
+IsDoneTelling (Convert interface vlan once file) input output errors =
+    (output.new.failed ≡ output.old.failed) × (counts : ConvertCounts)
+    × WritesConversion (choice_of interface vlan once) input output (Ok counts) × TellsCounts errors counts
 IsDoneTelling (Show file) input output errors = IsDone (Show file) input output true × (errors.new ≡ errors.old)
 IsDoneTelling (Replay protocol own settings until changes file) input output errors =
     IsDone (Replay protocol own settings until changes file) input output true × (errors.new ≡ errors.old)
 IsDoneTelling (Check protocol querier settings within cite until file) input output errors =
-    (totals : Totals) × (totals.findings ≡ 0) × HasChecked protocol querier.now settings within until cite input output errors totals
+    (totals : Totals) × (totals.findings ≡ 0) × IsJudged totals × HasChecked protocol querier.now settings within until cite input output errors totals
+
+-- A check was made to its end and had nothing to judge, which standard error was told, and why.
+abbrev pub HasJudgedNothing : Protocol → (querier : List ℕ) → Settings → (within until : Option ℕ) → (cite : Bool) → Input → (output errors : Output) → Type 0
+HasJudgedNothing protocol querier settings within until cite input output errors =
+    (totals : Totals) × (why : Unjudged) × (unjudged_by totals ≡ Some why)
+    × WritesVerdict protocol querier settings (asked_terms within until cite) input output totals
+    × IsTold errors (unjudged_line why)
 
 -- A check found something.
 abbrev pub IsFinding : Request → Input → (output errors : Output) → Type 0
 IsFinding (Message protocol hex from to) input output errors = ⊥
-IsFinding (Convert interface vlan file) input output errors = ⊥
+IsFinding (Convert interface vlan once file) input output errors = ⊥
 IsFinding (Show file) input output errors = ⊥
 IsFinding (Replay protocol own settings until changes file) input output errors = ⊥
 IsFinding (Check protocol querier settings within cite until file) input output errors =
-    (totals : Totals) × (1 ≤ totals.findings) × HasChecked protocol querier.now settings within until cite input output errors totals
+    (totals : Totals) × (1 ≤ totals.findings) × IsJudged totals
+    × HasChecked protocol querier.now settings within until cite input output errors totals
+
+-- A check had nothing to judge.
+abbrev pub IsUnjudged : Request → Input → (output errors : Output) → Type 0
+IsUnjudged (Message protocol hex from to) input output errors = ⊥
+IsUnjudged (Convert interface vlan once file) input output errors = ⊥
+IsUnjudged (Show file) input output errors = ⊥
+IsUnjudged (Replay protocol own settings until changes file) input output errors = ⊥
+IsUnjudged (Check protocol querier settings within cite until file) input output errors =
+    HasJudgedNothing protocol querier.now settings within until cite input output errors
 
 -- What is asked for was done, or not, and this is the status.
 pub record Performs (request : Request) (in_words : Bool) (input : Input) (output errors : Output) (status : ℕ) : Type 0 where
-  pub at_most_three : status ≤ 3
+  pub at_most_four : status ≤ 4
   pub done : status ≡ 0 → IsDoneTelling request input output errors
   pub faulty : status ≡ 1 → IsFaulty request in_words input output errors
   -- only a faulty request is refused, and that is told
   pub refused : status ≡ 2 → (input.new ≡ input.old) × (output.new ≡ output.old)
       × (failure : Failure) × IsRefused request failure × Told in_words errors failure
   pub found : status ≡ 3 → IsFinding request input output errors
+  pub unjudged : status ≡ 4 → IsUnjudged request input output errors
   pub unread : IsOfMessage request → input.new ≡ input.old
 
 -- A conversion was done, or broke off, which was told.
-pub record PerformsConversion (interface vlan : Option ℕ) (in_words : Bool) (input : Input) (output errors : Output) (status : ℕ) : Type 0 where
+pub record PerformsConversion (choice : Choice) (in_words : Bool) (input : Input) (output errors : Output) (status : ℕ) : Type 0 where
   pub at_most_one : status ≤ 1
-  pub done : status ≡ 0 → (output.new.failed ≡ output.old.failed) × (unread : Unread)
-      × WritesConversion interface vlan input output (Ok unread) × TellsUnread errors unread
+  pub done : status ≡ 0 → (output.new.failed ≡ output.old.failed) × (counts : ConvertCounts)
+      × WritesConversion choice input output (Ok counts) × TellsCounts errors counts
   pub faulty : status ≡ 1 → (failure : Failure)
-      × IsConversionBroken (WritesConversion interface vlan input output) input output failure × Told in_words errors failure
+      × IsConversionBroken (WritesConversion choice input output) input output failure × Told in_words errors failure
 
--- A check was made to its end, and found something or nothing; or it was refused, or broke off, which was told.
+-- A check was made to its end, and found something or nothing, or had nothing to judge; or it was refused, or broke off, which was told.
 pub record PerformsCheck (protocol : Protocol) (querier : List ℕ) (settings : Settings) (within until : Option ℕ) (cite in_words : Bool) (input : Input) (output errors : Output) (status : ℕ) : Type 0 where
-  pub at_most_three : status ≤ 3
-  pub done : status ≡ 0 → (totals : Totals) × (totals.findings ≡ 0)
+  pub at_most_four : status ≤ 4
+  pub done : status ≡ 0 → (totals : Totals) × (totals.findings ≡ 0) × IsJudged totals
       × HasChecked protocol querier settings within until cite input output errors totals
   pub faulty : status ≡ 1 → (failure : Failure)
       × IsBrokenCheck protocol querier settings (asked_terms within until cite) input output failure × Told in_words errors failure
   pub refused : status ≡ 2 → (input.new ≡ input.old) × (output.new ≡ output.old)
       × (failure : Failure) × IsRefusedReplay protocol querier settings until failure × Told in_words errors failure
-  pub found : status ≡ 3 → (totals : Totals) × (1 ≤ totals.findings)
+  pub found : status ≡ 3 → (totals : Totals) × (1 ≤ totals.findings) × IsJudged totals
       × HasChecked protocol querier settings within until cite input output errors totals
+  pub unjudged : status ≡ 4 → HasJudgedNothing protocol querier settings within until cite input output errors
 
 -- standard error was told some text, which is a line at least
 abbrev pub TellsLines : (errors : Output) → Type 0

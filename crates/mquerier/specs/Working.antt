@@ -6,7 +6,8 @@ use Rattle.mq_check.specs.declared.totals.Totals.{Totals}
 use Rattle.mq_command.specs.declared.Protocol.{Protocol}
 use Rattle.mq_command.specs.declared.Request.{Request}
 use Rattle.mq_command.specs.declared.replay.Settings.{Settings}
-use Rattle.mq_convert.specs.declared.unread.Unread.{Unread}
+use Rattle.mq_convert.specs.declared.choice.Choice.{Choice}
+use Rattle.mq_convert.specs.declared.counts.ConvertCounts.{ConvertCounts}
 use Rattle.mq_link.specs.Configuration.{Configuration, IsFaultless}
 use Rattle.mq_replay.specs.declared.asked.Asked.{Asked}
 use Rattle.mq_wire.specs.Family.{Family}
@@ -45,11 +46,11 @@ WorksOnListing input output (Err failure) =
     (status_of failure ≡ 2 → ⊥) × (status_of failure ≡ 1 → IsBrokenOff (WritesListing input output) input output failure)
 
 -- the same of a conversion, which no request is refused for
-abbrev pub WorksOnConversion : (interface vlan : Option ℕ) → Input → Output → Result Unread Failure → Type 0
-WorksOnConversion interface vlan input output (Ok unread) =
-    (output.new.failed ≡ output.old.failed) × WritesConversion interface vlan input output (Ok unread)
-WorksOnConversion interface vlan input output (Err failure) =
-    IsConversionBroken (WritesConversion interface vlan input output) input output failure
+abbrev pub WorksOnConversion : Choice → Input → Output → Result ConvertCounts Failure → Type 0
+WorksOnConversion choice input output (Ok counts) =
+    (output.new.failed ≡ output.old.failed) × WritesConversion choice input output (Ok counts)
+WorksOnConversion choice input output (Err failure) =
+    IsConversionBroken (WritesConversion choice input output) input output failure
 
 -- the same of a replay
 abbrev pub WorksOnReplay : Protocol → (own : List ℕ) → Settings → Asked → Input → Output → Result Bool Failure → Type 0

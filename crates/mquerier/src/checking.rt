@@ -12,18 +12,20 @@ use mq_command::{Protocol, Settings};
 use mq_count::Watched;
 use mq_lines::LineKey;
 use mq_link::{Igmp, Mld};
+use mq_pcap::Supply;
 use mq_text::{read_v4, read_v6};
 use std::alloc::Global;
 use std::io::{Read, Write};
 
 /// Checks the querier with this address and these settings in the capture that the input is. Nothing is read or written
 /// before it is known that the querier can be so, and there is memory.
-pub(crate) fn check_capture<R: Read, W: Write>(
+pub(crate) fn check_capture<S: Supply, R: Read, W: Write>(
     alloc: Global,
     protocol: Protocol,
     querier: &str,
     settings: &Settings,
     terms: CheckTerms,
+    supply: &S,
     input: &mut Watched<R>,
     output: &mut Watched<W>,
 ) -> Result<Totals, Failure>
@@ -37,23 +39,26 @@ pub(crate) fn check_capture<R: Read, W: Write>(
     match protocol {
         Protocol::Igmp => match read_v4(querier) {
             Some(address) => {
-                check_at::<Igmp, R, W>(alloc, address, settings, terms, input, output)
+                check_at::<Igmp, S, R, W>(alloc, address, settings, terms, supply, input, output)
             }
             None => Err(Failure::NotAnAddress),
         },
         Protocol::Mld => match read_v6(querier) {
-            Some(address) => check_at::<Mld, R, W>(alloc, address, settings, terms, input, output),
+            Some(address) => check_at::<Mld, S, R, W>(
+                alloc, address, settings, terms, supply, input, output,
+            ),
             None => Err(Failure::NotAnAddress),
         },
     }
 }
 
 /// Checks the querier of the family `F` with the address `querier`.
-fn check_at<F: CheckedFamily, R: Read, W: Write>(
+fn check_at<F: CheckedFamily, S: Supply, R: Read, W: Write>(
     alloc: Global,
     querier: F::Address,
     settings: &Settings,
     terms: CheckTerms,
+    supply: &S,
     input: &mut Watched<R>,
     output: &mut Watched<W>,
 ) -> Result<Totals, Failure>
@@ -68,7 +73,7 @@ where
 {
     let _end = moment_asked(terms.until)?;
     let config = configured::<F>(querier, settings)?;
-    match check(alloc, config, terms, input, output) {
+    match check(alloc, config, terms, supply, input, output) {
         Ok(totals) => {
             flush(output)?;
             Ok(totals)

@@ -6,28 +6,30 @@ ghost use Rattle.mquerier.specs.Working.{IsRefusal, WorksOnConversion};
 
 use crate::failure::Failure;
 use crate::work::flush;
-use mq_convert::{Choice, ConvertFault, Unread, convert};
+use mq_convert::{Choice, ConvertCounts, ConvertFault, convert};
 use mq_count::Watched;
+use mq_pcap::Supply;
 use std::alloc::Global;
 use std::io::{Read, Write};
 
 /// Writes the capture that the input is as a classic one.
-pub(crate) fn convert_capture<R: Read, W: Write>(
+pub(crate) fn convert_capture<S: Supply, R: Read, W: Write>(
     alloc: Global,
     choice: Choice,
+    supply: &S,
     input: &mut Watched<R>,
     output: &mut Watched<W>,
-) -> Result<Unread, Failure>
-    ensures works { WorksOnConversion choice.interface choice.vlan
+) -> Result<ConvertCounts, Failure>
+    ensures works { WorksOnConversion choice
         (input_by R.remaining input.old input.new)
         (output_by W.contents output.old output.new)
         result }
     ensures accepted { IsRefusal result → ⊥ }
 {
-    match convert(alloc, choice, input, output) {
-        Ok(unread) => {
+    match convert(alloc, choice, supply, input, output) {
+        Ok(counts) => {
             flush(output)?;
-            Ok(unread)
+            Ok(counts)
         }
         Err(ConvertFault::Read) => {
             flush(output)?;

@@ -19,6 +19,8 @@ pub const REFUSED: u8 = 2;
 
 pub const FOUND: u8 = 3;
 
+pub const UNJUDGED: u8 = 4;
+
 /// Why the program did not do what it was asked for.
 #[derive(Clone, Copy, Debug, PartialEq, Eq)]
 pub enum Failure {
@@ -60,8 +62,6 @@ pub enum Failure {
     },
     /// A read of a capture that is converted failed.
     ConversionRead,
-    /// The file that is named can't be opened.
-    NotOpened,
     /// A growth was refused.
     Memory,
     /// A write to the output failed, or took nothing.
@@ -242,7 +242,6 @@ pub fn status_of_failure(failure: Failure) -> u8
         | Failure::Waiting { .. }
         | Failure::Conversion { .. }
         | Failure::ConversionRead
-        | Failure::NotOpened
         | Failure::Memory
         | Failure::Write => FAULTY,
     }
@@ -264,7 +263,6 @@ fn put_failure(line: &mut Text, failure: Failure)
         Failure::Waiting { number } => put_record(line, b"too many wait at record ", number),
         Failure::Conversion { number, fault } => put_conversion(line, number, fault),
         Failure::ConversionRead => put(line, b"conversion fault 1"),
-        Failure::NotOpened => put(line, b"the file can't be opened"),
         Failure::Memory => put(line, b"out of memory"),
         Failure::Write => put(line, b"write failed"),
     }

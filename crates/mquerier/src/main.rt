@@ -11,20 +11,29 @@
 
 mod checking;
 mod converting;
+mod counts;
 mod failure;
+mod foreign;
 mod program;
 mod replaying;
+mod source;
+mod unopened;
 mod unread;
 mod work;
 
 use clap::Error;
+use failure::FAULTY;
+use foreign::tell_kind;
 use mq_command::{Request, request_of};
 use mq_count::Watched;
-pub use program::{perform, refuse_file, run};
+pub use program::{perform, run};
+pub use source::{Beginning, Source};
+use std::alloc::Global;
 use std::fs::File;
-use std::io::{BufReader, ErrorKind, IsTerminal, Write};
+use std::io::{BufReader, ErrorKind, IsTerminal, Read, Write};
 use std::process::ExitCode;
 use std::{env, io};
+pub use unopened::refuse_file;
 
 /// How many bytes are read at once.
 const INPUT: usize = 65_536;
@@ -56,14 +65,38 @@ fn run_on_host(rt: &HostRuntime) -> io::Result<u8> {
     let mut errors = Watched::new(rt.stderr());
     let asked = request_of(alloc, &words);
     let Some(name) = named_file(&asked) else {
-        let mut input = Watched::new(BufReader::with_capacity(alloc, INPUT, rt.stdin())?);
-        return Ok(run(alloc, asked, in_words, &mut input, &mut output, &mut errors));
+        let reader = BufReader::with_capacity(alloc, INPUT, Beginning::new(rt.stdin()))?;
+        return Ok(run_on(alloc, asked, in_words, reader, &mut output, &mut errors));
     };
-    let Ok(file) = File::open(rt, name) else {
-        return Ok(refuse_file(in_words, &mut errors));
-    };
-    let mut input = Watched::new(BufReader::with_capacity(alloc, INPUT, file)?);
-    Ok(run(alloc, asked, in_words, &mut input, &mut output, &mut errors))
+    match File::open(rt, name) {
+        Ok(file) => {
+            let reader = BufReader::with_capacity(alloc, INPUT, Beginning::new(file))?;
+            Ok(run_on(alloc, asked, in_words, reader, &mut output, &mut errors))
+        }
+        Err(error) => {
+            let reason = format!(in alloc; "{error}")?;
+            Ok(refuse_file(name, &reason, &mut errors))
+        }
+    }
+}
+
+/// Runs on this input. A person also reads how a file of another kind is read.
+fn run_on<R: Read + Drop, W: Write, E: Write>(
+    alloc: Global,
+    asked: Result<Request<'_>, Error>,
+    in_words: bool,
+    reader: BufReader<Beginning<R>>,
+    output: &mut Watched<W>,
+    errors: &mut Watched<E>,
+) -> u8 {
+    let converts = matches!(&asked, Ok(Request::Convert { .. }));
+    let source = Source::new(reader);
+    let mut input = Watched::new(&source);
+    let status = run(alloc, asked, in_words, &source, &mut input, output, errors);
+    if in_words && status == FAULTY {
+        tell_kind(source.first(), converts, errors);
+    }
+    status
 }
 
 /// The file that is asked for in place of standard input.

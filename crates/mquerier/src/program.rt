@@ -4,30 +4,33 @@ ghost use Rattle.std.specs.Prelude.{◌≡◌, ◌≤◌, ◌||◌, ◌++◌, Ma
 ghost use Rattle.mq_count.specs.Streams.{inner_of, has_failed};
 ghost use Rattle.mq_text.specs.Printing.{Prints};
 ghost use Rattle.mquerier.specs.Changes.{BreaksOff, Writes, input_by, output_by};
-ghost use Rattle.mquerier.specs.Failures.{status_of, version_line};
-ghost use Rattle.mquerier.specs.Status.{IsCheck, IsConversion, IsOfMessage, IsWordless, PrintsVersion, TellsLines, TellsUnread, Told, Performs, PerformsCheck, PerformsConversion, Runs};
+ghost use Rattle.mquerier.specs.Choosing.{choice_of as asked_choice};
+ghost use Rattle.mquerier.specs.Failures.{status_of, unjudged_line, version_line};
+ghost use Rattle.mquerier.specs.Status.{IsCheck, IsConversion, IsOfMessage, IsTold, IsWordless, PrintsVersion, TellsLines, TellsCounts, Told, Performs, PerformsCheck, PerformsConversion, Runs};
 
 use crate::checking::check_capture;
 use crate::converting::convert_capture;
-use crate::failure::{DONE, FAULTY, FOUND, Failure, REFUSED, line_of, status_of_failure};
-use crate::unread::unread_line_of;
+use crate::counts::counts_lines_of;
+use crate::failure::{DONE, FAULTY, FOUND, Failure, REFUSED, UNJUDGED, line_of, status_of_failure};
 use crate::work::{flush, work};
 use clap::Error;
 use clap::error::ErrorKind;
-use mq_check::CheckTerms;
-use mq_command::{Protocol, Request, Settings, VERSION};
-use mq_convert::{Choice, Unread};
+use mq_check::{CheckTerms, Unjudged};
+use mq_command::{Interface, Protocol, Request, Settings, VERSION};
+use mq_convert::{Choice, ConvertCounts, Which, name_of};
 use mq_count::Watched;
+use mq_pcap::Supply;
 use mq_text::{LineFault, Text, print, put};
 use std::alloc::Global;
 use std::io::{Read, Write};
 
 /// Performs the request that `request_of` read of the words. Where it read none, the input stays as it was: the text of `clap` goes
 /// to `errors`, as one line or several, with status 2; a question for the version has its line on the output.
-pub fn run<R: Read, W: Write, E: Write>(
+pub fn run<S: Supply, R: Read, W: Write, E: Write>(
     alloc: Global,
     asked: Result<Request<'_>, Error>,
     in_words: bool,
+    supply: &S,
     input: &mut Watched<R>,
     output: &mut Watched<W>,
     errors: &mut Watched<E>,
@@ -43,7 +46,7 @@ pub fn run<R: Read, W: Write, E: Write>(
     ensures told { result ≡ 2 → TellsLines (output_by E.contents errors.old errors.new) }
 {
     match asked {
-        Ok(request) => perform(alloc, &request, in_words, input, output, errors),
+        Ok(request) => perform(alloc, &request, in_words, supply, input, output, errors),
         Err(error) => match error.kind() {
             ErrorKind::OutOfMemory => told(Failure::Memory, in_words, errors),
             ErrorKind::DisplayVersion => print_version(in_words, output, errors),
@@ -117,13 +120,14 @@ fn print_line<W: Write>(text: &str, writer: &mut Watched<W>) -> Result<(), LineF
 }
 
 /// Does what is asked for, and answers the status: 0 where it is done; 1 where the input is faulty, the
-/// output fails or memory runs out; 2 where the request is faulty; 3 where a check finds something. Only a message doesn't
-/// read the input. A write to `errors` that fails changes no status. `in_words` says whether a person reads `errors`: then
+/// output fails or memory runs out; 2 where the request is faulty; 3 where a check finds something, 4 where it had nothing to
+/// judge. Only a message doesn't read the input. A write to `errors` that fails changes no status. `in_words` says whether a person reads `errors`: then
 /// a second line says what the number of a failure means.
-pub fn perform<R: Read, W: Write, E: Write>(
+pub fn perform<S: Supply, R: Read, W: Write, E: Write>(
     alloc: Global,
     request: &Request<'_>,
     in_words: bool,
+    supply: &S,
     input: &mut Watched<R>,
     output: &mut Watched<W>,
     errors: &mut Watched<E>,
@@ -142,13 +146,11 @@ pub fn perform<R: Read, W: Write, E: Write>(
         Request::Convert {
             interface,
             vlan,
+            once,
             ..
         } => {
-            let choice = Choice {
-                interface: *interface,
-                vlan: *vlan,
-            };
-            perform_conversion(alloc, choice, in_words, input, output, errors)
+            let choice = choice_of(*interface, *vlan, *once);
+            perform_conversion(alloc, choice, in_words, supply, input, output, errors)
         }
         Request::Check {
             protocol,
@@ -159,18 +161,19 @@ pub fn perform<R: Read, W: Write, E: Write>(
             until,
             ..
         } => perform_check(
-            alloc, *protocol, querier, settings, *within, *until, *cite, in_words, input, output,
-            errors,
+            alloc, *protocol, querier, settings, *within, *until, *cite, in_words, supply, input,
+            output, errors,
         ),
-        _ => perform_work(alloc, request, in_words, input, output, errors),
+        _ => perform_work(alloc, request, in_words, supply, input, output, errors),
     }
 }
 
 /// The same of what is neither a conversion nor a check.
-fn perform_work<R: Read, W: Write, E: Write>(
+fn perform_work<S: Supply, R: Read, W: Write, E: Write>(
     alloc: Global,
     request: &Request<'_>,
     in_words: bool,
+    supply: &S,
     input: &mut Watched<R>,
     output: &mut Watched<W>,
     errors: &mut Watched<E>,
@@ -186,31 +189,48 @@ fn perform_work<R: Read, W: Write, E: Write>(
     ensures unasked { result ≡ 2 → input.new ≡ input.old }
     ensures unread { IsOfMessage request.now → input.new ≡ input.old }
 {
-    match work(alloc, request, input, output) {
+    match work(alloc, request, supply, input, output) {
         Ok(true) => DONE,
         Ok(false) => FAULTY,
         Err(failure) => told(failure, in_words, errors),
     }
 }
 
+/// Returns the packets that a conversion is asked for.
+fn choice_of(interface: Option<Interface<'_>>, vlan: Option<u64>, once: bool) -> Choice
+    ensures { result ≡ asked_choice interface.entry vlan once }
+{
+    let interface = match interface {
+        None => None,
+        Some(Interface::Number(number)) => Some(Which::Number(number)),
+        Some(Interface::Name(text)) => Some(Which::Name(name_of(text.as_bytes()))),
+    };
+    Choice {
+        interface,
+        vlan,
+        once,
+    }
+}
+
 /// The same of a conversion.
-fn perform_conversion<R: Read, W: Write, E: Write>(
+fn perform_conversion<S: Supply, R: Read, W: Write, E: Write>(
     alloc: Global,
     choice: Choice,
     in_words: bool,
+    supply: &S,
     input: &mut Watched<R>,
     output: &mut Watched<W>,
     errors: &mut Watched<E>,
 ) -> u8
-    ensures { PerformsConversion choice.interface choice.vlan in_words
+    ensures { PerformsConversion choice in_words
         (input_by R.remaining input.old input.new)
         (output_by W.contents output.old output.new)
         (output_by E.contents errors.old errors.new)
         result }
 {
-    match convert_capture(alloc, choice, input, output) {
-        Ok(unread) => {
-            tell_unread(&unread, errors);
+    match convert_capture(alloc, choice, supply, input, output) {
+        Ok(counts) => {
+            tell_counts(&counts, errors);
             DONE
         }
         Err(failure) => told(failure, in_words, errors),
@@ -221,7 +241,7 @@ fn perform_conversion<R: Read, W: Write, E: Write>(
 const WITHIN: u32 = 100;
 
 /// The same of a check.
-fn perform_check<R: Read, W: Write, E: Write>(
+fn perform_check<S: Supply, R: Read, W: Write, E: Write>(
     alloc: Global,
     protocol: Protocol,
     querier: &str,
@@ -230,6 +250,7 @@ fn perform_check<R: Read, W: Write, E: Write>(
     until: Option<u64>,
     cite: bool,
     in_words: bool,
+    supply: &S,
     input: &mut Watched<R>,
     output: &mut Watched<W>,
     errors: &mut Watched<E>,
@@ -247,28 +268,50 @@ fn perform_check<R: Read, W: Write, E: Write>(
         until,
         cite,
     };
-    match check_capture(alloc, protocol, querier, settings, terms, input, output) {
-        Ok(totals) if totals.findings == 0 => DONE,
-        Ok(_) => FOUND,
+    match check_capture(
+        alloc, protocol, querier, settings, terms, supply, input, output,
+    ) {
+        Ok(totals) => match totals.unjudged() {
+            Some(why) => {
+                tell_unjudged(why, errors);
+                UNJUDGED
+            }
+            None if totals.findings > 0 => FOUND,
+            None => DONE,
+        },
         Err(failure) => told(failure, in_words, errors),
     }
 }
 
-/// Says on standard error that there were packets whose link type isn't read, if there were.
-fn tell_unread<E: Write>(unread: &Unread, errors: &mut Watched<E>)
-    ensures { TellsUnread (output_by E.contents errors.old errors.new) unread.now }
+/// Reports on standard error how many packets came again, and how many have a link type that isn't read.
+fn tell_counts<E: Write>(counts: &ConvertCounts, errors: &mut Watched<E>)
+    ensures { TellsCounts (output_by E.contents errors.old errors.new) counts.now }
 {
-    if unread.count > 0 {
-        let _ = print(unread_line_of(unread).as_slice(), errors);
+    if counts.repeated > 0 || counts.unread.count > 0 {
+        let _ = print(counts_lines_of(counts).as_slice(), errors);
     }
 }
 
-/// Says on standard error that the file that is named can't be opened, and answers the status.
-pub fn refuse_file<E: Write>(in_words: bool, errors: &mut Watched<E>) -> u8
-    ensures status { result ≡ 1 }
-    ensures line { Told in_words (output_by E.contents errors.old errors.new) Failure.NotOpened }
+/// Reports on standard error that a check had nothing to judge, and why.
+fn tell_unjudged<E: Write>(why: Unjudged, errors: &mut Watched<E>)
+    ensures { IsTold (output_by E.contents errors.old errors.new) (unjudged_line why) }
 {
-    told(Failure::NotOpened, in_words, errors)
+    let _ = print(unjudged_line_of(why), errors);
+}
+
+/// Returns the line that says why a check had nothing to judge.
+fn unjudged_line_of(why: Unjudged) -> &'static [u8]
+    ensures { result.now ≡ unjudged_line why }
+{
+    match why {
+        Unjudged::NotUnderstood => {
+            b"mquerier: nothing judged: every second packet or more is cut or isn't read\n"
+        }
+        Unjudged::NoMessage => b"mquerier: nothing judged: there is no message of this family\n",
+        Unjudged::NoQuery => {
+            b"mquerier: nothing judged: no query from this address was seen, and none is missing\n"
+        }
+    }
 }
 
 /// Says on standard error what failed, and answers the status.

@@ -11,6 +11,7 @@ use mq_command::{Protocol, Settings};
 use mq_count::{Moment, Watched};
 use mq_lines::LineKey;
 use mq_link::{Config, Igmp, Limits, Mld};
+use mq_pcap::Supply;
 use mq_replay::{Asked, CapturedFamily, ReplayFault, replay};
 use mq_text::{read_v4, read_v6};
 use std::alloc::Global;
@@ -18,13 +19,14 @@ use std::io::{Read, Write};
 
 /// Replays the capture that the input is to a querier with this address and these settings. Nothing is read or
 /// written before it is known that the querier can be so, and has its memory.
-pub(crate) fn replay_capture<R: Read, W: Write>(
+pub(crate) fn replay_capture<S: Supply, R: Read, W: Write>(
     alloc: Global,
     protocol: Protocol,
     own: &str,
     settings: &Settings,
     until: Option<u64>,
     changes: bool,
+    supply: &S,
     input: &mut Watched<R>,
     output: &mut Watched<W>,
 ) -> Result<bool, Failure>
@@ -37,14 +39,14 @@ pub(crate) fn replay_capture<R: Read, W: Write>(
 {
     match protocol {
         Protocol::Igmp => match read_v4(own) {
-            Some(address) => replay_at::<Igmp, R, W>(
-                alloc, address, settings, until, changes, input, output,
+            Some(address) => replay_at::<Igmp, S, R, W>(
+                alloc, address, settings, until, changes, supply, input, output,
             ),
             None => Err(Failure::NotAnAddress),
         },
         Protocol::Mld => match read_v6(own) {
-            Some(address) => replay_at::<Mld, R, W>(
-                alloc, address, settings, until, changes, input, output,
+            Some(address) => replay_at::<Mld, S, R, W>(
+                alloc, address, settings, until, changes, supply, input, output,
             ),
             None => Err(Failure::NotAnAddress),
         },
@@ -52,12 +54,13 @@ pub(crate) fn replay_capture<R: Read, W: Write>(
 }
 
 /// Replays the capture to a querier of the family `F` with the address `own`.
-fn replay_at<F: CapturedFamily, R: Read, W: Write>(
+fn replay_at<F: CapturedFamily, S: Supply, R: Read, W: Write>(
     alloc: Global,
     own: F::Address,
     settings: &Settings,
     until: Option<u64>,
     changes: bool,
+    supply: &S,
     input: &mut Watched<R>,
     output: &mut Watched<W>,
 ) -> Result<bool, Failure>
@@ -76,7 +79,7 @@ where
         until: end,
         changes,
     };
-    match replay(alloc, config, asked, input, output) {
+    match replay(alloc, config, asked, supply, input, output) {
         Ok(_counts) => {
             flush(output)?;
             Ok(true)

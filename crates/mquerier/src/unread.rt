@@ -8,24 +8,23 @@ ghost use Rattle.mquerier.specs.Failures.{link_text, others as left_over, others
 use mq_convert::{LinkCount, Unread};
 use mq_text::{Text, put, put_decimal};
 
-/// The lines that standard error is told.
-pub fn unread_line_of(unread: &Unread) -> Text
-    ensures { result.items ≡ unread_line unread.now }
+/// Puts the lines of packets whose link type isn't read.
+pub(crate) fn put_unread(line: &mut Text, unread: &Unread)
+    requires { array_vec_len line.old ≤ 100 }
+    ensures { line.new.items ≡ line.old.items ++ unread_line unread.now }
 {
     let rows = unread.links.as_slice();
-    let mut line = Text::new();
-    put(&mut line, b"mquerier: ");
-    put_decimal(&mut line, unread.count);
-    put(&mut line, b" packets of link types that aren't read");
-    put_links(&mut line, rows);
-    put_others(&mut line, others(unread.count, rows));
-    put(&mut line, b"\n");
-    line
+    put(line, b"mquerier: ");
+    put_decimal(line, unread.count);
+    put(line, b" packets of link types that aren't read");
+    put_links(line, rows);
+    put_others(line, others(unread.count, rows));
+    put(line, b"\n");
 }
 
 /// Puts a line for each link type.
 fn put_links(line: &mut Text, rows: &[LinkCount])
-    requires start { array_vec_len line.old ≤ 100 }
+    requires start { array_vec_len line.old ≤ 200 }
     requires few { length rows.now ≤ 16 }
     ensures text { line.new.items ≡ line.old.items ++ flat_map link_text rows.now }
     ensures room { array_vec_len line.new ≤ 2000 }

@@ -16,6 +16,7 @@ use hex::FromHexError;
 use mq_command::{Protocol, Request};
 use mq_count::Watched;
 use mq_lines::{igmp_line, mld_line};
+use mq_pcap::Supply;
 use mq_replay::{ReplayFault, show};
 use mq_text::{read_v4, read_v6};
 use std::alloc::Global;
@@ -23,9 +24,10 @@ use std::io::{Read, Write};
 
 /// Does what is asked for, which is neither a conversion nor a check. Of a message it answers whether the line is that of a
 /// message, or of a fault.
-pub fn work<R: Read, W: Write>(
+pub fn work<S: Supply, R: Read, W: Write>(
     alloc: Global,
     request: &Request<'_>,
+    supply: &S,
     input: &mut Watched<R>,
     output: &mut Watched<W>,
 ) -> Result<bool, Failure>
@@ -49,7 +51,7 @@ pub fn work<R: Read, W: Write>(
         // The caller makes conversions itself, since they tell standard error of what they can't read, and checks, which have
         // a status of their own.
         Request::Convert { .. } | Request::Check { .. } => unreachable!(),
-        Request::Show { .. } => listing(alloc, input, output),
+        Request::Show { .. } => listing(alloc, supply, input, output),
         Request::Replay {
             protocol,
             own,
@@ -58,7 +60,7 @@ pub fn work<R: Read, W: Write>(
             changes,
             ..
         } => replay_capture(
-            alloc, *protocol, own, settings, *until, *changes, input, output,
+            alloc, *protocol, own, settings, *until, *changes, supply, input, output,
         ),
     }
 }
@@ -163,8 +165,9 @@ fn decoded(alloc: Global, hex: &str) -> Result<Vec<u8>, Failure>
 }
 
 /// Prints the listing of the capture that the input is.
-fn listing<R: Read, W: Write>(
+fn listing<S: Supply, R: Read, W: Write>(
     alloc: Global,
+    supply: &S,
     input: &mut Watched<R>,
     output: &mut Watched<W>,
 ) -> Result<bool, Failure>
@@ -175,7 +178,7 @@ fn listing<R: Read, W: Write>(
     ensures accepted { IsRefusal result → ⊥ }
     ensures unwritten { IsUnwritten result → output.new ≡ output.old }
 {
-    match show(alloc, input, output) {
+    match show(alloc, supply, input, output) {
         Ok(_) => {
             flush(output)?;
             Ok(true)

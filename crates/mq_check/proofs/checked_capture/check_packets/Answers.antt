@@ -1,10 +1,11 @@
-use Rattle.std.proofs.Common.{◌≡◌, ℕ, ◌+◌, [], length, Option, Result, Ok, refl, ap, sym, ◌∙◌, arith}
+use Rattle.std.proofs.Common.{◌≡◌, ℕ, ◌+◌, [], length, Option, Result, Ok, Err, refl, ap, sym, ◌∙◌, arith}
 use Rattle.std.proofs.lemmas.Result.{err_from_is_err_and}
 use Rattle.std.proofs.Math.Bool.{or-false}
 use Rattle.mq_pcap.specs.declared.fault.PcapFault.{PcapFault}
 use Rattle.mq_pcap.specs.declared.form.Form.{Form}
 use Rattle.mq_pcap.specs.declared.reader_state.Packet.{Packet}
 use Rattle.mq_pcap.specs.Reading.{number_of, progress_after, records_in}
+use Rattle.mq_text.specs.declared.printing.LineFault.{LineFault}
 use Rattle.mq_link.specs.Configuration.{Configuration}
 use Rattle.mq_replay.specs.declared.stamps.Stamps.{Stamps}
 use Rattle.mq_replay.specs.Report.{is_gap}
@@ -18,6 +19,7 @@ use Rattle.mq_check.proofs.CheckedSoFar.{none_checked}
 use Rattle.mq_check.proofs.EndedChecks.{rest_as}
 use Rattle.mq_check.proofs.PutVerdicts.{comes_as, ended_broken, ended_by_full, ended_by_gap, ended_faulty, ended_well, lines_broken, lines_passed, next_so_far}
 use Rattle.mq_check.proofs.Tellings.{none_told, then_told}
+use Rattle.mq_check.proofs.WrittenEarly.{then_nothing}
 use Rattle.mq_check.proofs.checked_capture.check_packets.Goals as goal
 
 pub loop-read-init : goal.loop-read-init
@@ -46,6 +48,8 @@ loop-read-preserved g c =
     let kind = c.link-kind.ensures ∙ ap (λ (f : Form). f.link) (c.next.ensures.form ∙ now.form) in
     let comes = comes_as _ _ _ _ _ _ _ _ _ _ _ _ _ _ _ _ _ _ _ now.config kind is_moment c.in_ok-check_packet.ensures in
     let told = then_told _ _ _ _ _ _ _ _ _ _ _ now.found.2 comes.tells in
+    let written = c.in_ok-write_before_wait.ensures in
+    let told = then_nothing (Unit {0}) LineFault _ _ _ _ _ _ _ _ _ (Ok c.in_ok-write_before_wait.field-0) told written.text written.cite written.count written.failed in
     let state = c.is_full.ensures ∙ ap (λ (s : CheckingValue). s.waiting.is_full) c.checking.ensures in
     let free = sym state ∙ c.if-is_full.false in
     record {
@@ -109,6 +113,22 @@ returns-then-is_full-clause-puts g c =
     let family = g.met.F.CapturedFamily.same_family ∙ sym c.is_faultless.ensures.family ∙ ap (λ (k : Configuration). k.family) c.config.ensures in
     let filled = ap (λ (r : Checked). r.checking.waiting.is_full) (sym comes.checked) ∙ sym state ∙ c.if-is_full.true in
     ended_by_full _ _ _ _ _ _ _ _ _ _ _ _ _ _ c.in-Some.read _ _ gap filled now.found.1 (lines_passed c.args.link.now.config c.args.terms g.F.Address.LineKey.family _ _ _ _ _ family c.requires.cite told) now.read read
+
+pub returns-in_err-write_before_wait-clause-puts : goal.returns-in_err-write_before_wait-clause-puts
+returns-in_err-write_before_wait-clause-puts g c =
+    let p = err_from_is_err_and c.from_residual-in_err-write_before_wait.result c.from_residual-in_err-write_before_wait.ensures.1 in
+    let now = c.loop-read.invariant in
+    let answered = ap Ok c.in-Some.is in
+    let read = read_as _ _ _ _ _ _ _ _ _ now.form now.next answered (c.in_ok-read.ensures.reads now.reading) in
+    let is_moment = c.of-stamp.ensures ∙ c.moment_of_next-ms.ensures.moment in
+    let gap = sym (λ i. is_gap ((c.moment-before.ensures.same ∙ now.last) i) ((c.moment-now.ensures.same ∙ is_moment) i)) ∙ sym c.is_gap.ensures ∙ c.if-is_gap.false in
+    let kind = c.link-kind.ensures ∙ ap (λ (f : Form). f.link) (c.next.ensures.form ∙ now.form) in
+    let comes = comes_as _ _ _ _ _ _ _ _ _ _ _ _ _ _ _ _ _ _ _ now.config kind is_moment c.in_ok-check_packet.ensures in
+    let told = then_told _ _ _ _ _ _ _ _ _ _ _ now.found.2 comes.tells in
+    let written = c.in_err-write_before_wait.ensures in
+    let told = then_nothing (Unit {0}) LineFault _ _ _ _ c.write_before_wait.new.self _ _ _ _ (Err c.in_err-write_before_wait.field-0.0) told written.text written.cite written.count written.failed in
+    let family = g.met.F.CapturedFamily.same_family ∙ sym c.is_faultless.ensures.family ∙ ap (λ (k : Configuration). k.family) c.config.ensures in
+    rw (p.1, p.2) (ended_broken _ _ _ _ _ _ _ _ _ _ _ _ _ _ c.in-Some.read _ _ gap now.found.1 (lines_broken c.args.link.now.config c.args.terms g.F.Address.LineKey.family _ _ _ _ _ _ family c.requires.cite told) read)
 
 pub returns-clause-puts : goal.returns-clause-puts
 returns-clause-puts g c =

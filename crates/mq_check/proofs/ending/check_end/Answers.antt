@@ -25,22 +25,25 @@ pub returns-then-is_full-clause-rest : goal.returns-then-is_full-clause-rest
 returns-then-is_full-clause-rest g c =
     let family = g.met.F.CapturedFamily.same_family ∙ sym c.is_faultless.ensures.family ∙ ap (λ (k : Configuration). k.family) c.config.ensures in
     let ticked = ap (λ (r : Checked). r.checking) c.in_ok-tick_through.ensures.checked in
+    let rests = ap (λ (r : Checked). r.basis) c.in_ok-tick_through.ensures.checked in
     let state = c.is_full.ensures ∙ ap (λ (s : CheckingValue). s.waiting.is_full) c.checking.ensures in
-    full_at_end c.args.link.now.config c.args.within c.moment-now.result c.args.end c.args.number (checked_in c.args.link.now c.args.queries.now) c.tick_through.new.queries.checking c.settle.new.self.checking g.F.Address.LineKey.family c.args.told.now c.tick_through.new.told c.settle.new.told (output_of g.W.Write.contents c.args.writer.now) (output_of g.W.Write.contents c.tick_through.new.writer) (output_of g.W.Write.contents c.settle.new.writer) family c.moment-now.ensures.same ticked c.in_ok-settle.ensures.settled (sym state ∙ c.if-is_full.true) c.in_ok-tick_through.ensures.tells c.in_ok-settle.ensures.tells
+    full_at_end c.args.link.now.config c.args.within c.moment-now.result c.args.end c.args.number (checked_in c.args.link.now c.args.queries.now) c.tick_through.new.queries.checking c.settle.new.self.checking c.settle.new.self.basis g.F.Address.LineKey.family c.args.told.now c.tick_through.new.told c.settle.new.told (output_of g.W.Write.contents c.args.writer.now) (output_of g.W.Write.contents c.tick_through.new.writer) (output_of g.W.Write.contents c.settle.new.writer) family c.moment-now.ensures.same ticked c.in_ok-settle.ensures.settled (c.in_ok-settle.ensures.basis ∙ rests) (sym state ∙ c.if-is_full.true) c.in_ok-tick_through.ensures.tells c.in_ok-settle.ensures.tells
 
 pub returns-in_err-totals-clause-rest : goal.returns-in_err-totals-clause-rest
 returns-in_err-totals-clause-rest g c =
     let p = err_from_is_err_and c.from_residual-in_err-totals.result c.from_residual-in_err-totals.ensures.1 in
     let family = g.met.F.CapturedFamily.same_family ∙ sym c.is_faultless.ensures.family ∙ ap (λ (k : Configuration). k.family) c.config.ensures in
     let ticked = ap (λ (r : Checked). r.checking) c.in_ok-tick_through.ensures.checked in
+    let rests = ap (λ (r : Checked). r.basis) c.in_ok-tick_through.ensures.checked in
     let state = c.is_full.ensures ∙ ap (λ (s : CheckingValue). s.waiting.is_full) c.checking.ensures in
     let timing = c.timing-configured.ensures ∙ ap (λ (k : Configuration). k.timing) c.config-2.ensures in
-    rw (p.1, p.2) (unput_at_end c.args.link.now.config c.args.within c.moment-now.result c.args.end c.args.number (checked_in c.args.link.now c.args.queries.now) c.tick_through.new.queries.checking c.settle.new.self.checking c.timing-configured.result g.F.Address.LineKey.family c.args.told.now c.tick_through.new.told c.settle.new.told (output_of g.W.Write.contents c.args.writer.now) (output_of g.W.Write.contents c.tick_through.new.writer) (output_of g.W.Write.contents c.settle.new.writer) (output_of g.W.Write.contents c.tell_end.new.writer) family c.moment-now.ensures.same timing ticked c.in_ok-settle.ensures.settled (sym state ∙ c.if-is_full.false) c.in_ok-tick_through.ensures.tells c.in_ok-settle.ensures.tells c.in_err-totals.ensures.text)
+    rw (p.1, p.2) (unput_at_end c.args.link.now.config c.args.within c.moment-now.result c.args.end c.args.number (checked_in c.args.link.now c.args.queries.now) c.tick_through.new.queries.checking c.settle.new.self.checking c.settle.new.self.basis c.timing-configured.result g.F.Address.LineKey.family c.args.told.now c.tick_through.new.told c.settle.new.told (output_of g.W.Write.contents c.args.writer.now) (output_of g.W.Write.contents c.tick_through.new.writer) (output_of g.W.Write.contents c.settle.new.writer) (output_of g.W.Write.contents c.tell_end.new.writer) family c.moment-now.ensures.same timing ticked c.in_ok-settle.ensures.settled (c.in_ok-settle.ensures.basis ∙ rests) (sym state ∙ c.if-is_full.false) c.in_ok-tick_through.ensures.tells c.in_ok-settle.ensures.tells c.in_err-totals.ensures.text)
 
 pub returns-clause-rest : goal.returns-clause-rest
 returns-clause-rest g c =
     let family = g.met.F.CapturedFamily.same_family ∙ sym c.is_faultless.ensures.family ∙ ap (λ (k : Configuration). k.family) c.config.ensures in
     let ticked = ap (λ (r : Checked). r.checking) c.in_ok-tick_through.ensures.checked in
+    let rests = ap (λ (r : Checked). r.basis) c.in_ok-tick_through.ensures.checked in
     let state = c.is_full.ensures ∙ ap (λ (s : CheckingValue). s.waiting.is_full) c.checking.ensures in
     let timing = c.timing-configured.ensures ∙ ap (λ (k : Configuration). k.timing) c.config-2.ensures in
-    put_at_end c.args.link.now.config c.args.within c.moment-now.result c.args.end c.args.number (checked_in c.args.link.now c.args.queries.now) c.tick_through.new.queries.checking c.settle.new.self.checking c.timing-configured.result g.F.Address.LineKey.family c.args.told.now c.tick_through.new.told c.settle.new.told c.tell_end.new.told (output_of g.W.Write.contents c.args.writer.now) (output_of g.W.Write.contents c.tick_through.new.writer) (output_of g.W.Write.contents c.settle.new.writer) (output_of g.W.Write.contents c.tell_end.new.writer) c.in_ok-totals.totals family c.moment-now.ensures.same timing ticked c.in_ok-settle.ensures.settled (sym state ∙ c.if-is_full.false) c.in_ok-tick_through.ensures.tells c.in_ok-settle.ensures.tells c.in_ok-totals.ensures.totals c.in_ok-totals.ensures.text
+    put_at_end c.args.link.now.config c.args.within c.moment-now.result c.args.end c.args.number (checked_in c.args.link.now c.args.queries.now) c.tick_through.new.queries.checking c.settle.new.self.checking c.settle.new.self.basis c.timing-configured.result g.F.Address.LineKey.family c.args.told.now c.tick_through.new.told c.settle.new.told c.tell_end.new.told (output_of g.W.Write.contents c.args.writer.now) (output_of g.W.Write.contents c.tick_through.new.writer) (output_of g.W.Write.contents c.settle.new.writer) (output_of g.W.Write.contents c.tell_end.new.writer) c.in_ok-totals.totals family c.moment-now.ensures.same timing ticked c.in_ok-settle.ensures.settled (c.in_ok-settle.ensures.basis ∙ rests) (sym state ∙ c.if-is_full.false) c.in_ok-tick_through.ensures.tells c.in_ok-settle.ensures.tells c.in_ok-totals.ensures.totals c.in_ok-totals.ensures.text

@@ -6,7 +6,7 @@ use Rattle.mq_check.proofs.finding_lines.put_totals.Goals as goal
 
 pub returns : goal.returns
 returns c =
-    let it = c.args.totals in
+    let it = c.args.totals.now in
     rw (c.put.ensures.text, c.put_count-3.ensures.text, c.put_count-2.ensures.text, c.put_count.ensures.text)
     (four_parts c.args.text.now.items (count_text (codes "checked general ") it.general)
     (count_text (codes " specific ") it.specific) (count_text (codes ": ") it.findings) (codes " findings\n"))

@@ -23,7 +23,7 @@ returns-in_default g c =
       same_config = c.receive.ensures.config;
       same_own = c.receive.ensures.own ∙ c.in_ok-settle.ensures.own;
       checked = received_comes c.args.link.now.config c.config-2.result.now c.args.link_type c.args.within c.args.stamp c.moment-now.result c.args.frame.now _ c.args.link.now c.receive.new.link c.args.queries.now c.settle.new.self c.receive.new.queries
-          c.in_default.ensures c.config-2.ensures c.moment-now.ensures.same c.in_ok-settle.ensures.settled c.receive.ensures.receives;
+          c.in_default.ensures c.config-2.ensures c.moment-now.ensures.same c.in_ok-settle.ensures.settled c.in_ok-settle.ensures.basis c.receive.ensures.receives;
       tells = tells_as _ _ _ _ _ _ _ _ (ap (λ (m : ℕ). told c.args.within m c.args.queries.now.checking) c.moment-now.ensures.same) c.in_ok-settle.ensures.tells;
     }
 
@@ -34,6 +34,6 @@ returns g c =
       same_config = refl;
       same_own = ap (λ (w : WantingValue). w.own) c.see.ensures ∙ c.in_ok-settle.ensures.own;
       checked = seen_comes c.args.link.now.config c.config-2.result.now c.config-3.result.now c.args.link_type c.args.within c.args.stamp c.moment-now.result _ c.args.frame.now _ _ g.F.Family.FAMILY c.timing-in_force.result c.args.link.now c.args.queries.now c.settle.new.self c.see.new.self
-          c.in-Some.ensures c.config-2.ensures c.moment-now.ensures.same c.in_ok-settle.ensures.settled (ap (λ (w : WantingValue). w.checking) c.see.ensures) c.config-3.ensures c.timing-in_force.ensures c.destination-to.ensures family;
+          c.in-Some.ensures c.config-2.ensures c.moment-now.ensures.same c.in_ok-settle.ensures.settled (ap (λ (w : WantingValue). w.basis) c.see.ensures ∙ c.in_ok-settle.ensures.basis) (ap (λ (w : WantingValue). w.checking) c.see.ensures) c.config-3.ensures c.timing-in_force.ensures c.destination-to.ensures family;
       tells = tells_as _ _ _ _ _ _ _ _ (ap (λ (m : ℕ). told c.args.within m c.args.queries.now.checking) c.moment-now.ensures.same) c.in_ok-settle.ensures.tells;
     }

@@ -1,6 +1,7 @@
 use Rattle.std.proofs.Common.{Bool, not, ap, sym, ◌∙◌}
 use Rattle.mq_sched.specs.Election.{is_querier}
 use Rattle.mq_link.specs.Configuration.{Configuration}
+use Rattle.mq_check.specs.Basis as basis
 use Rattle.mq_check.specs.Checking.{role_after_tick}
 use Rattle.mq_check.specs.Wanting.{WantingValue}
 use Rattle.mq_check.proofs.Steppings.{ticked_is}
@@ -15,6 +16,7 @@ returns-then-was_querier-clause-ticks g c =
     let ticks = c.tick.ensures.ticks in
     ticked_is g.F.Family.FAMILY c.args.within c.args.now c.args.link.now c.tick.new.self c.args.queries.now c.begin.new.self c.tick.new.outlet c.tick.new.outlet _ _ is_family c.requires.own begins ticks.ticks ticks.handed
     (ap (λ (b : Bool). role_after_tick c.args.within c.args.now b (is_querier c.tick.new.self.state.election.role) c.tick.new.outlet.checking) (sym was))
+    (ap (λ (b : Bool). basis.role_after_tick c.args.now b (is_querier c.tick.new.self.state.election.role) c.tick.new.outlet.basis) (sym was))
 
 pub returns-then-was_querier-clause-own : goal.returns-then-was_querier-clause-own
 returns-then-was_querier-clause-own g c = own_kept g.F.Family.FAMILY c.begin.new.self c.tick.new.outlet _ _ c.tick.ensures.ticks.handed ∙ ap (λ (w : WantingValue). w.own) c.begin.ensures
@@ -28,6 +30,7 @@ returns-then-not-is_querier-clause-ticks g c =
     let ticks = c.tick.ensures.ticks in
     ticked_is g.F.Family.FAMILY c.args.within c.args.now c.args.link.now c.tick.new.self c.args.queries.now c.begin.new.self c.tick.new.outlet c.tick.new.outlet _ _ is_family c.requires.own begins ticks.ticks ticks.handed
     (λ i. role_after_tick c.args.within c.args.now (sym was i) (sym is i) c.tick.new.outlet.checking)
+    (λ i. basis.role_after_tick c.args.now (sym was i) (sym is i) c.tick.new.outlet.basis)
 
 pub returns-then-not-is_querier-clause-own : goal.returns-then-not-is_querier-clause-own
 returns-then-not-is_querier-clause-own g c = own_kept g.F.Family.FAMILY c.begin.new.self c.tick.new.outlet _ _ c.tick.ensures.ticks.handed ∙ ap (λ (w : WantingValue). w.own) c.begin.ensures
@@ -41,6 +44,7 @@ returns-clause-ticks g c =
     let ticks = c.tick.ensures.ticks in
     ticked_is g.F.Family.FAMILY c.args.within c.args.now c.args.link.now c.tick.new.self c.args.queries.now c.begin.new.self c.tick.new.outlet c.return_role.new.self _ _ is_family c.requires.own begins ticks.ticks ticks.handed
     (ap (λ (w : WantingValue). w.checking) c.return_role.ensures ∙ (λ i. role_after_tick c.args.within c.args.now (sym was i) (sym is i) c.tick.new.outlet.checking))
+    (ap (λ (w : WantingValue). w.basis) c.return_role.ensures ∙ (λ i. basis.role_after_tick c.args.now (sym was i) (sym is i) c.tick.new.outlet.basis))
 
 pub returns-clause-own : goal.returns-clause-own
 returns-clause-own g c = ap (λ (w : WantingValue). w.own) c.return_role.ensures ∙ own_kept g.F.Family.FAMILY c.begin.new.self c.tick.new.outlet _ _ c.tick.ensures.ticks.handed ∙ ap (λ (w : WantingValue). w.own) c.begin.ensures

@@ -32,7 +32,7 @@ loop-limit-preserved g c =
       ticked = (
         _,
         once_more c.args.link.now.config c.args.within (c.args.moment + 1) _ _ (checked_in c.loop-limit.link c.loop-limit.queries) (checked_in c.tick.new.link c.tick.new.queries) at_next
-            (tick_next c.args.link.now.config c.args.within c.loop-limit.next c.loop-limit.link c.tick.new.link c.loop-limit.queries c.settle.new.self c.tick.new.queries now.config now.next c.in_ok-settle.ensures.settled c.tick.ensures.ticks) later now.ticked.1,
+            (tick_next c.args.link.now.config c.args.within c.loop-limit.next c.loop-limit.link c.tick.new.link c.loop-limit.queries c.settle.new.self c.tick.new.queries now.config now.next c.in_ok-settle.ensures.settled c.in_ok-settle.ensures.basis c.tick.ensures.ticks) later now.ticked.1,
         then_told _ _ _ _ _ _ _ _ _ _ _ now.ticked.2 (tells_as _ _ _ _ _ _ _ _ (ap (λ (m : ℕ). told c.args.within m c.loop-limit.queries.checking) now.next) c.in_ok-settle.ensures.tells),
       );
       next = c.next_deadline-next-in-loop-limit.ensures;

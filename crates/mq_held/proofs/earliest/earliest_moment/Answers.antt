@@ -1,6 +1,17 @@
 use Rattle.std.proofs.Common.{◌∙◌, sym, ap}
 use Rattle.std.specs.Prelude.{is_some}
-use Rattle.mq_held.proofs.HeldMoments.{earliest-group, held-moment}
+use Rattle.std.proofs.Common.{◌++◌, ◌∷◌, [], arith, length}
+use Rattle.std.specs.List.{flat_map}
+use Rattle.std.specs.Option.{option_to_list}
+use Rattle.std.specs.Prelude.{Some}
+use Rattle.std.specs.FinMap as map
+use Rattle.mq_count.proofs.Spent.{Spends-join_within}
+use Rattle.mq_table.specs.Group.{deadline_of, group_deadline}
+use Rattle.mq_sched.specs.Sending.{group_due}
+use Rattle.mq_held.specs.Moments.{those_of}
+use Rattle.mq_held.specs.Stored.{timer_moments}
+use Rattle.mq_held.proofs.HeldMoments.{deadlines-row, earliest-group, held-moment}
+use Rattle.mq_held.proofs.MomentCounts.{compared-both}
 use Rattle.mq_held.proofs.earliest.earliest_moment.Goals as goal
 
 pub unwrap-requires : goal.unwrap-requires
@@ -14,3 +25,14 @@ returns-clause-earliest g c =
     let head = rw (c.mode.ensures, c.v1.ensures, c.v2.ensures) at c.earliest_of_head-first.ensures.earliest in
     let all = earliest-group g.K.Key.number c.args.group.now.state c.args.schedule c.sources.result.now c.earliest_of_head-first.result c.sources.ensures.ascending c.sources.ensures.timers head in
     sym (c.earliest_with_row-earliest.ensures.earliest ∙ all) ∙ c.unwrap.ensures
+
+pub returns-clause-compared : goal.returns-clause-compared
+returns-clause-compared g c =
+    let head = rw (c.mode.ensures, c.v1.ensures, c.v2.ensures) at c.earliest_of_head-first.ensures.compared in
+    let earliest = rw (c.mode.ensures, c.v1.ensures, c.v2.ensures) at c.earliest_of_head-first.ensures.earliest in
+    let row = rw earliest at c.earliest_with_row-earliest.ensures.compared in
+    let s = c.args.group.now.state in
+    let few = those_of (group_deadline s.mode ∷ s.v1 ∷ s.v2 ∷ group_due c.args.schedule.group_query ∷ c.args.schedule.sources_due ∷ []) in
+    let deadlines = ap (λ timers. length (few ++ flat_map (λ timer. option_to_list (deadline_of (Some timer))) (map.values timers))) (sym c.sources.ensures.timers) ∙ ap (λ ms. length (few ++ ms)) (deadlines-row g.K.Key.number c.sources.result.now c.sources.ensures.ascending) in
+    let both = compared-both few (flat_map timer_moments c.sources.result.now) in
+    Spends-join_within _ _ head row (omega (arith, both, deadlines)) (omega (arith, both, deadlines))

@@ -1,5 +1,7 @@
-use Rattle.std.proofs.Common.{◌≡◌, ◌||◌, ◌+◌, ◌<◌, ◌∙◌, [], Option, Some, length, set, get_or, take, drop, refl, ap, sym, arith}
+use Rattle.std.proofs.Common.{ℕ, ◌≡◌, ◌||◌, ◌+◌, ◌<◌, ◌∙◌, cond, [], Option, Some, length, set, get_or, take, drop, refl, ap, sym, arith}
 use Rattle.std.specs.List.{list_any}
+use Rattle.std.proofs.lemmas.Bool.{cond-false, cond-true}
+use Rattle.std.proofs.lemmas.List.Sums.{sum_by_more}
 use Rattle.std.proofs.lemmas.List.{get_or-set_same, length-set, set-get_or, set-set}
 use Rattle.mq_count.proofs.Spent.{Spends-join_within, Spends-none, Spends-within}
 use Rattle.mq_sets.specs.Pools.{PoolState}
@@ -9,6 +11,7 @@ use Rattle.mq_table.specs.SendingPlaces.{item_has_sendings}
 use Rattle.mq_table.proofs.Asking.{all_asked, some_asked}
 use Rattle.mq_table.proofs.MadeLists.{passed_some, rest_after_some}
 use Rattle.mq_table.proofs.Places.{any_with_set, any_without, uncounted_all, uncounted_made, uncounted_stays}
+use Rattle.mq_held.proofs.CountedRows.{count-before, count-none_of_any, same-behind}
 use Rattle.mq_held.proofs.queries_in_place.count_in_row.Goals as goal
 use Rattle.mq_held.proofs.queries_in_place.count_in_row.Goals.{then-has_sendings, else-has_sendings}
 
@@ -25,7 +28,7 @@ loop-place-init g c =
       made = sym (uncounted_made front c.requires.between.none_before);
       rest = refl;
       left = sym c.requires.between.none_before;
-      moved = Spends-within _ _ (Spends-none c.args.moves.now) (omega arith) (omega arith);
+      moved = rw (count-none_of_any item_has_sendings front c.requires.between.none_before) (Spends-none c.args.moves.now);
     }
 
 pub loop-place-preserved : goal.loop-place-preserved
@@ -46,6 +49,7 @@ loop-place-preserved g c =
     let y : Source g.row.K.Denot = item_counted held in
     let made = passed_some rule row xs place place held (omega arith) within so_far.len so_far.made so_far.rest here y refl in
     let rest = rest_after_some rule row xs place place held (omega arith) within so_far.len so_far.made so_far.rest here y in
+    let in_row : held ≡ get_or row place held = here ∙ same-behind xs row place held so_far.rest in
     elim c.if-has_sendings.branch [
       | then-has_sendings w ↦
           let own : get_or (set rows.rows n (set xs place y)) n [] ≡ set xs place y = get_or-set_same rows.rows n (set xs place y) [] there in
@@ -57,7 +61,7 @@ loop-place-preserved g c =
             made = made;
             rest = rest;
             left = ap (λ b. b || item_has_sendings y) so_far.left ∙ sym (any_with_set item_has_sendings xs place y within_xs);
-            moved = Spends-join_within _ _ so_far.moved w.set.ensures.moves (omega arith) (omega arith);
+            moved = let more = sum_by_more (λ (x : Source g.row.K.Denot). cond {A = ℕ} (item_has_sendings x) 1 0) row place held within in let own : cond {A = ℕ} (item_has_sendings (get_or row place held)) 1 0 ≡ 1 = ap (λ (x : Source g.row.K.Denot). cond {A = ℕ} (item_has_sendings x) 1 0) (sym in_row) ∙ cond-true (item_has_sendings held) 1 0 (sym c.has_sendings.ensures ∙ w.if-has_sendings.true) in Spends-join_within _ _ so_far.moved w.set.ensures.moves (omega (arith, more, own)) (omega (arith, more, own));
           })
       | else-has_sendings w ↦
           let none = sym c.has_sendings.ensures ∙ w.if-has_sendings.false in
@@ -68,7 +72,7 @@ loop-place-preserved g c =
             made = ap (take (place + 1)) (sym same) ∙ made;
             rest = ap (drop (place + 1)) (sym same) ∙ rest;
             left = so_far.left ∙ sym (any_without item_has_sendings xs place held within_xs here none);
-            moved = Spends-within _ _ so_far.moved (omega arith) (omega arith);
+            moved = let more = sum_by_more (λ (x : Source g.row.K.Denot). cond {A = ℕ} (item_has_sendings x) 1 0) row place held within in let own : cond {A = ℕ} (item_has_sendings (get_or row place held)) 1 0 ≡ 0 = ap (λ (x : Source g.row.K.Denot). cond {A = ℕ} (item_has_sendings x) 1 0) (sym in_row) ∙ cond-false (item_has_sendings held) 1 0 none in Spends-within _ _ so_far.moved (omega (arith, more, own)) (omega (arith, more, own));
           })
     ]
 
@@ -93,3 +97,11 @@ returns-clause-left g c =
     let none = rw (← over) at c.requires.between.none_behind in
     let all = all_asked item_counted row xs c.loop-place.place so_far.made so_far.rest (uncounted_all (drop c.loop-place.place row) none) in
     so_far.left ∙ some_asked item_has_sendings xs c.loop-place.place (ap (list_any item_has_sendings) so_far.rest ∙ none) ∙ ap (list_any item_has_sendings) all
+
+pub returns-clause-moved : goal.returns-clause-moved
+returns-clause-moved g c =
+    let so_far = c.loop-place.invariant in
+    let row = get_or c.args.rows.now.rows c.args.number [] in
+    let over : c.loop-place.place ≡ c.args.places.end = omega (arith, c.requires.between.ordered) in
+    let none = rw (← over) at c.requires.between.none_behind in
+    rw (count-before item_has_sendings row c.loop-place.place none) so_far.moved

@@ -1,5 +1,5 @@
 use Rattle.std.proofs.Common.{◌≡◌, [], Some, length, take, drop, get_or, set}
-use Rattle.std.specs.List.{filter_map, list_any}
+use Rattle.std.specs.List.{count_by, filter_map, list_any}
 use Rattle.mq_count.specs.Spending.{Spends}
 use Rattle.mq_table.specs.MadeSources.{item_counted}
 use Rattle.mq_table.specs.SendingPlaces.{item_has_sendings}
@@ -13,5 +13,5 @@ invariant-loop-place g l = record {
   made : take l.place (get_or l.rows.rows l.fn.number []) ≡ filter_map (λ x. Some (item_counted x)) (take l.place (get_or l.initial.rows.rows l.fn.number []));
   rest : drop l.place (get_or l.rows.rows l.fn.number []) ≡ drop l.place (get_or l.initial.rows.rows l.fn.number []);
   left : l.left ≡ list_any item_has_sendings (take l.place (get_or l.rows.rows l.fn.number []));
-  moved : Spends 0 l.place l.initial.moves l.moves;
+  moved : Spends (count_by item_has_sendings (take l.place (get_or l.initial.rows.rows l.fn.number []))) (count_by item_has_sendings (take l.place (get_or l.initial.rows.rows l.fn.number []))) l.initial.moves l.moves;
 }

@@ -1,7 +1,15 @@
 use Rattle.std.proofs.Common.{◌∙◌, refl, sym, ap}
 use Rattle.std.specs.Prelude.{is_some}
 use Rattle.mq_held.specs.Stored.{group_of}
-use Rattle.mq_held.proofs.HeldMoments.{earliest-group, held-moment}
+use Rattle.std.proofs.Common.{◌++◌, ◌∷◌, [], arith, length}
+use Rattle.std.specs.List.{flat_map}
+use Rattle.mq_count.proofs.Spent.{Spends-join_within}
+use Rattle.mq_table.specs.Group.{group_deadline}
+use Rattle.mq_sched.specs.Sending.{group_due}
+use Rattle.mq_held.specs.Moments.{those_of}
+use Rattle.mq_held.specs.Stored.{timer_moments}
+use Rattle.mq_held.proofs.HeldMoments.{deadlines-row, earliest-group, held-moment}
+use Rattle.mq_held.proofs.MomentCounts.{compared-both}
 use Rattle.mq_held.proofs.timers_in_place.earliest_stored.Goals as goal
 
 pub unwrap-requires : goal.unwrap-requires
@@ -15,3 +23,12 @@ returns-clause-earliest g c =
     let e = group_of g.K.Key.number c.args.item.now c.args.row.now in
     let all = earliest-group g.K.Key.number e.group e.schedule c.args.row.now c.earliest_of_head-first.result c.requires.ascending refl c.earliest_of_head-first.ensures.earliest in
     sym (c.earliest_with_row-earliest.ensures.earliest ∙ all) ∙ c.unwrap.ensures
+
+pub returns-clause-compared : goal.returns-clause-compared
+returns-clause-compared g c =
+    let e = group_of g.K.Key.number c.args.item.now c.args.row.now in
+    let row = rw c.earliest_of_head-first.ensures.earliest at c.earliest_with_row-earliest.ensures.compared in
+    let few = those_of (group_deadline e.group.mode ∷ e.group.v1 ∷ e.group.v2 ∷ group_due e.schedule.group_query ∷ e.schedule.sources_due ∷ []) in
+    let deadlines = ap (λ ms. length (few ++ ms)) (deadlines-row g.K.Key.number c.args.row.now c.requires.ascending) in
+    let both = compared-both few (flat_map timer_moments c.args.row.now) in
+    Spends-join_within _ _ c.earliest_of_head-first.ensures.compared row (omega (arith, both, deadlines)) (omega (arith, both, deadlines))

@@ -1,11 +1,13 @@
-use Rattle.std.proofs.Common.{ℕ, ◌+◌, Option, Result, Ok, ap, ◌∙◌, arith, refl}
+use Rattle.std.proofs.Common.{ℕ, ◌+◌, Option, Result, Ok, Err, ap, ◌∙◌, arith, refl}
 use Rattle.std.proofs.lemmas.Result.{err_from_is_err_and}
 use Rattle.mq_pcap.specs.declared.fault.PcapFault.{PcapFault}
 use Rattle.mq_pcap.specs.declared.form.Form.{Form}
 use Rattle.mq_pcap.specs.declared.reader_state.Packet.{Packet}
 use Rattle.std.proofs.Math.Bool.{or-false}
 use Rattle.mq_pcap.specs.Reading.{number_of, progress_after, records_in}
+use Rattle.mq_text.specs.declared.printing.LineFault.{LineFault}
 use Rattle.mq_replay.proofs.ReadSoFar.{none_put, read_as, ended_well, ended_faulty, next_put_as, next_broken_as, none_left}
+use Rattle.mq_replay.proofs.WrittenEarly.{both_unfailed, packet_then_nothing}
 use Rattle.mq_replay.proofs.listing.put_packets.Goals as goal
 
 pub loop-read-init : goal.loop-read-init
@@ -31,14 +33,15 @@ loop-read-preserved g c =
     let read = read_as _ _ _ _ _ _ _ _ _ now.form now.next answered (c.in_ok-read.ensures.reads now.reading) in
     let form = c.next.ensures.form ∙ now.form in
     record {
-      put = next_put_as _ _ _ _ _ _ _ _ _ _ _ _ _ _ c.in-Some.read _ _ _ _ c.moment_of_next-moment.ensures.after c.moment_of_next-moment.ensures.moment (c.link.ensures ∙ ap (λ (f : Form). f.link) form) now.put.0 now.put.1 read c.in_ok-put_packet.ensures.line;
+      put = next_put_as _ _ _ _ _ _ _ _ _ _ _ _ _ _ c.in-Some.read _ _ _ _ c.moment_of_next-moment.ensures.after c.moment_of_next-moment.ensures.moment (c.link.ensures ∙ ap (λ (f : Form). f.link) form) now.put.0 now.put.1 read
+          (packet_then_nothing (Unit {0}) LineFault _ _ _ _ _ _ _ _ _ _ (Ok c.in_ok-write_before_wait.field-0) c.in_ok-put_packet.ensures.line c.in_ok-write_before_wait.ensures.text);
       form = form;
       next = c.in_ok-read.ensures.number ∙ ap (λ (a : Result (Option Packet) PcapFault). number_of c.loop-read.capture + records_in a) answered ∙ ap (λ (n : ℕ). n + 1) now.next;
       reading = c.in_ok-read.ensures.progress ∙ ap progress_after answered;
       few = read.answers.0;
       room = let room = now.room in omega (arith, c.next.auto.buffer);
       read = read.failed ∙ or-false _ ∙ now.read;
-      written = c.in_ok-put_packet.ensures.failed ∙ or-false _ ∙ now.written;
+      written = both_unfailed _ _ _ c.in_ok-put_packet.ensures.failed c.in_ok-write_before_wait.ensures.failed ∙ now.written;
     }
 
 pub returns-in_err-read-clause-puts : goal.returns-in_err-read-clause-puts
@@ -56,6 +59,16 @@ returns-in_err-put_packet-clause-puts g c =
     let read = read_as _ _ _ _ _ _ _ _ _ now.form now.next answered (c.in_ok-read.ensures.reads now.reading) in
     let form = c.next.ensures.form ∙ now.form in
     rw (p.1, p.2) (next_broken_as _ _ _ _ _ _ _ _ _ _ _ _ _ _ c.in-Some.read _ _ _ c.moment_of_next-moment.ensures.moment (c.link.ensures ∙ ap (λ (f : Form). f.link) form) now.put.0 now.put.1 read c.in_err-put_packet.ensures.line)
+
+pub returns-in_err-write_before_wait-clause-puts : goal.returns-in_err-write_before_wait-clause-puts
+returns-in_err-write_before_wait-clause-puts g c =
+    let p = err_from_is_err_and c.from_residual-in_err-write_before_wait.result c.from_residual-in_err-write_before_wait.ensures.1 in
+    let now = c.loop-read.invariant in
+    let answered = ap Ok c.in-Some.is in
+    let read = read_as _ _ _ _ _ _ _ _ _ now.form now.next answered (c.in_ok-read.ensures.reads now.reading) in
+    let form = c.next.ensures.form ∙ now.form in
+    rw (p.1, p.2) (next_broken_as _ _ _ _ _ _ _ _ _ _ _ _ _ _ c.in-Some.read _ _ _ c.moment_of_next-moment.ensures.moment (c.link.ensures ∙ ap (λ (f : Form). f.link) form) now.put.0 now.put.1 read
+    (packet_then_nothing (Unit {0}) LineFault _ _ _ _ _ _ _ _ _ _ (Err c.in_err-write_before_wait.field-0.0) c.in_ok-put_packet.ensures.line c.in_err-write_before_wait.ensures.text))
 
 pub returns-clause-puts : goal.returns-clause-puts
 returns-clause-puts g c =

@@ -1,15 +1,17 @@
-use Rattle.std.proofs.Common.{ℕ, ◌+◌, ◌≤◌, ◌^◌, subst, Option, Result, Ok, ap, sym, ◌∙◌, arith, refl}
+use Rattle.std.proofs.Common.{ℕ, ◌+◌, ◌≤◌, ◌^◌, subst, Option, Result, Ok, Err, ap, sym, ◌∙◌, arith, refl}
 use Rattle.std.proofs.lemmas.Result.{err_from_is_err_and}
 use Rattle.std.proofs.Math.Bool.{or-false}
 use Rattle.mq_pcap.specs.declared.fault.PcapFault.{PcapFault}
 use Rattle.mq_pcap.specs.declared.form.Form.{Form}
 use Rattle.mq_pcap.specs.declared.reader_state.Packet.{Packet}
 use Rattle.mq_pcap.specs.Reading.{number_of, progress_after, records_in}
+use Rattle.mq_text.specs.declared.printing.LineFault.{LineFault}
 use Rattle.mq_text.proofs.Passing.{nothing_passed}
 use Rattle.mq_replay.specs.declared.stamps.Stamps.{Stamps}
 use Rattle.mq_replay.proofs.ReadSoFar.{read_as, none_left}
 use Rattle.mq_replay.proofs.ReplayedSoFar.{none_replayed}
 use Rattle.mq_replay.proofs.Replays.{ended_faulty, ended_by_gap_as, ended_broken_as, ended_well_as, next_put_as}
+use Rattle.mq_replay.proofs.WrittenEarly.{both_unfailed, replayed_then_nothing}
 use Rattle.mq_replay.proofs.replaying.put_packets.Goals as goal
 
 pub loop-read-init : goal.loop-read-init
@@ -37,7 +39,8 @@ loop-read-preserved g c =
     let is_moment = c.in-Some-from_ms.ensures.1 in
     record {
       put = next_put_as _ _ _ _ _ _ _ _ _ _ _ _ _ _ _ c.in-Some.read _ _ _ _ _ _ _ _ _ _ c.moment_of_next.ensures.after c.moment_of_next.ensures.moment is_moment now.last
-          (c.link.ensures ∙ ap (λ (f : Form). f.link) form) c.unwrap_frame-inner.ensures (sym c.is_gap.ensures ∙ c.if-is_gap.false) now.config now.put.2 now.put.1 now.put.3 read c.in_ok-replay_packet.ensures.puts;
+          (c.link.ensures ∙ ap (λ (f : Form). f.link) form) c.unwrap_frame-inner.ensures (sym c.is_gap.ensures ∙ c.if-is_gap.false) now.config now.put.2 now.put.1 now.put.3 read
+          (replayed_then_nothing (Unit {0}) LineFault _ _ _ _ _ _ _ _ _ _ (Ok c.in_ok-write_before_wait.field-0) c.in_ok-replay_packet.ensures.puts c.in_ok-write_before_wait.ensures.text);
       config = c.in_ok-replay_packet.ensures.puts.same_config ∙ now.config;
       form = form;
       next = c.in_ok-read.ensures.number ∙ ap (λ (a : Result (Option Packet) PcapFault). number_of c.loop-read.capture + records_in a) answered ∙ ap (λ (n : ℕ). n + 1) now.next;
@@ -47,7 +50,7 @@ loop-read-preserved g c =
       few = read.answers.0;
       room = let room = now.room in omega (arith, c.next.auto.buffer);
       read = read.failed ∙ or-false _ ∙ now.read;
-      written = c.in_ok-replay_packet.ensures.failed ∙ or-false _ ∙ now.written;
+      written = both_unfailed _ _ _ c.in_ok-replay_packet.ensures.failed c.in_ok-write_before_wait.ensures.failed ∙ now.written;
     }
 
 pub returns-in_err-read-clause-puts : goal.returns-in_err-read-clause-puts
@@ -75,6 +78,18 @@ returns-in_err-replay_packet-clause-puts g c =
     let is_moment = c.in-Some-from_ms.ensures.1 in
     rw (p.1, p.2) (ended_broken_as _ _ _ _ _ _ _ _ _ _ _ _ _ _ _ _ c.in-Some.read _ _ _ _ _ _ _ _ (is_moment ∙ c.moment_of_next.ensures.moment) now.last
     (c.link.ensures ∙ ap (λ (f : Form). f.link) form) c.unwrap_frame-inner.ensures (sym c.is_gap.ensures ∙ c.if-is_gap.false) now.config now.put.2 now.put.1 now.put.3 read c.in_err-replay_packet.ensures.puts)
+
+pub returns-in_err-write_before_wait-clause-puts : goal.returns-in_err-write_before_wait-clause-puts
+returns-in_err-write_before_wait-clause-puts g c =
+    let p = err_from_is_err_and c.from_residual-in_err-write_before_wait.result c.from_residual-in_err-write_before_wait.ensures.1 in
+    let now = c.loop-read.invariant in
+    let answered = ap Ok c.in-Some.is in
+    let read = read_as _ _ _ _ _ _ _ _ _ now.form now.next answered (c.in_ok-read.ensures.reads now.reading) in
+    let form = c.next.ensures.form ∙ now.form in
+    let is_moment = c.in-Some-from_ms.ensures.1 in
+    rw (p.1, p.2) (ended_broken_as _ _ _ _ _ _ _ _ _ _ _ _ _ _ _ _ c.in-Some.read _ _ _ _ _ _ _ _ (is_moment ∙ c.moment_of_next.ensures.moment) now.last
+    (c.link.ensures ∙ ap (λ (f : Form). f.link) form) c.unwrap_frame-inner.ensures (sym c.is_gap.ensures ∙ c.if-is_gap.false) now.config now.put.2 now.put.1 now.put.3 read
+    (replayed_then_nothing (Unit {0}) LineFault _ _ _ _ _ _ _ _ _ _ (Err c.in_err-write_before_wait.field-0.0) c.in_ok-replay_packet.ensures.puts c.in_err-write_before_wait.ensures.text))
 
 pub returns-clause-puts : goal.returns-clause-puts
 returns-clause-puts g c =

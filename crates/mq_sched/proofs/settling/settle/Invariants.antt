@@ -1,7 +1,7 @@
-use Rattle.std.proofs.Common.{ℕ, ◌-◌, ◌/◌, ◌<◌, ◌≤◌, ◌≡◌, length, get_or}
+use Rattle.std.proofs.Common.{ℕ, ◌+◌, ◌-◌, ◌/◌, ◌<◌, ◌≤◌, ◌≡◌, Bool, false, List, length, get_or}
 use Rattle.mq_count.specs.Spending.{Spends}
 use Rattle.mq_sets.specs.Search.{bitlen}
-use Rattle.mq_sched.specs.DeadlineTree.{IsTreeBut, KeepsOther}
+use Rattle.mq_sched.specs.DeadlineTree.{IsTreeBut, KeepsOther, written_above}
 use Rattle.mq_sched.proofs.settling.settle.Given as goal
 
 abbrev pub invariant-loop-node : goal.invariant-loop-node
@@ -13,7 +13,9 @@ invariant-loop-node l =
       leaves : (leaf : ℕ) → length l.initial.lefts ≤ leaf → get_or l.nodes leaf 0 ≡ get_or l.initial.nodes leaf 0;
       lower : l.node ≤ l.from;
       spent : Spends (bitlen (l.from / 2) - bitlen (l.node / 2)) (bitlen (l.from / 2) - bitlen (l.node / 2)) l.initial.m l.m;
-      moves : Spends 0 (bitlen (l.from / 2) - bitlen (l.node / 2)) l.initial.moves l.moves;
+      below : (node : ℕ) → node < l.node → get_or l.lefts node false ≡ get_or l.initial.lefts node false;
+      moves : (written : ℕ) × Spends written written l.initial.moves l.moves × ((after : List Bool) → ((node : ℕ) → l.node ≤ node → get_or after node false ≡ get_or l.lefts node false)
+          → written_above l.initial.lefts after l.from l.from ≡ written + written_above l.initial.lefts after l.node l.node);
     }
 
 abbrev pub decreases-loop-node : goal.decreases-loop-node

@@ -1,4 +1,7 @@
+use Rattle.std.proofs.Common.{subst}
+use Rattle.mq_convert.specs.declared.choice.Choice.{Choice}
 use Rattle.mquerier.specs.Changes.{input_by, output_by}
+use Rattle.mquerier.specs.Status.{PerformsConversion}
 use Rattle.mquerier.proofs.Checkings.{check_performed}
 use Rattle.mquerier.proofs.Conversions.{conversion_performed}
 use Rattle.mquerier.proofs.program.perform.Goals as goal
@@ -8,7 +11,8 @@ returns-in-Convert-clause-performs g c =
     let input = input_by g.R.Read.remaining c.args.input.now c.perform_conversion.new.input in
     let output = output_by g.W.Write.contents c.args.output.now c.perform_conversion.new.output in
     let errors = output_by g.E.Write.contents c.args.errors.now c.perform_conversion.new.errors in
-    rw c.in-Convert.is (conversion_performed _ _ _ _ input output errors c.perform_conversion.result c.perform_conversion.ensures)
+    let performs = subst (λ (choice : Choice). PerformsConversion choice c.args.in_words input output errors c.perform_conversion.result) c.choice_of-choice.ensures c.perform_conversion.ensures in
+    rw c.in-Convert.is (conversion_performed _ _ _ _ _ input output errors c.perform_conversion.result performs)
 
 pub returns-in-Check-clause-performs : goal.returns-in-Check-clause-performs
 returns-in-Check-clause-performs g c =

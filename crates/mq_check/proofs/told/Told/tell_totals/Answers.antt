@@ -8,4 +8,4 @@ use Rattle.mq_check.proofs.told.Told.tell_totals.Goals as goal
 pub returns-in_err-make_room-clause-text : goal.returns-in_err-make_room-clause-text
 returns-in_err-make_room-clause-text g c =
     let p = err_from_is_err_and c.from_residual.result c.from_residual.ensures.1 in
-    rw (p.1, ← c.self.view_is) (broken_within _ _ _ [] (totals_line c.args.totals) c.in_err-make_room.ensures.text)
+    rw (p.1, ← c.self.view_is) (broken_within _ _ _ [] (totals_line c.args.totals.now) c.in_err-make_room.ensures.text)

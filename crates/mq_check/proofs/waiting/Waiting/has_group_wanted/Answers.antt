@@ -1,29 +1,25 @@
-use Rattle.std.proofs.Common.{◌≡◌, ◌<◌, length, refl, ap, sym, ◌∙◌, arith}
+use Rattle.std.proofs.Common.{◌<◌, ℕ, List, length, ap, sym, subst, ◌∙◌, arith}
+use Rattle.std.proofs.lemmas.List.{get_or_read}
+use borrow.Author.Tests.{ltb-true}
+use Rattle.mq_check.specs.declared.entry.Entry.{Entry}
 use Rattle.mq_check.specs.Numbered.{numbered_entry}
+use Rattle.mq_check.specs.Slots.{AreBounded}
 use Rattle.mq_check.specs.Waiting.{WaitingValue}
-use Rattle.mq_check.proofs.Waits.{made_at, made_long, one_any, any_at, any_of_none}
+use Rattle.mq_check.proofs.MarkedEntries.{none_wanted, one_wanted}
+use Rattle.mq_check.proofs.Waits.{made_at, made_long}
 use Rattle.mq_check.proofs.waiting.Waiting.has_group_wanted.Goals as goal
 
-pub loop-place-init : goal.loop-place-init
-loop-place-init g c = refl
-
-pub loop-place-preserved : goal.loop-place-preserved
-loop-place-preserved g c =
-    let f = numbered_entry g.F.Address.Key.number in
+pub returns-then-is_before : goal.returns-then-is_before
+returns-then-is_before g c =
     let made = ap (λ (w : WaitingValue). w.entries) c.self.view_is in
-    let within : c.loop-place.place < length c.args.self.now.entries = omega (arith, made_long f _ _ made, c.self.inside.entries.ok.0) in
-    one_any _ _ c.loop-place.place _ within (made_at f _ _ _ _ made c.index.ensures) (sym c.is_group_wanted.ensures ∙ c.if-is_group_wanted.false) c.loop-place.invariant
+    let within : c.slot_of-slot.result < length c.self.inside.latest.items = omega (arith, c.slot_of-slot.ensures.within, c.self.invariant.3) in
+    sym (none_wanted _ _ _ _ c.self.inside.latest.items c.slot_of-slot.result c.index.result.now
+    (subst (λ (es : List (Entry ℕ)). AreBounded g.F.Address.WireKey.WIDTH es c.self.inside.latest.items) made c.self.invariant.2) c.slot_of-slot.ensures.slot
+    (get_or_read c.self.inside.latest.items c.slot_of-slot.result c.index.result.now within c.index.ensures 0) (ltb-true _ _ (sym c.is_before.ensures ∙ c.if-is_before.true)))
 
 pub returns-then-is_group_wanted : goal.returns-then-is_group_wanted
 returns-then-is_group_wanted g c =
     let f = numbered_entry g.F.Address.Key.number in
     let made = ap (λ (w : WaitingValue). w.entries) c.self.view_is in
-    let within : c.loop-place.place < length c.args.self.now.entries = omega (arith, made_long f _ _ made, c.self.inside.entries.ok.0) in
-    sym (any_at _ _ c.loop-place.place _ within (made_at f _ _ _ _ made c.index.ensures) (sym c.is_group_wanted.ensures ∙ c.if-is_group_wanted.true) c.loop-place.invariant)
-
-pub returns : goal.returns
-returns g c =
-    let f = numbered_entry g.F.Address.Key.number in
-    let made = ap (λ (w : WaitingValue). w.entries) c.self.view_is in
-    let all : c.loop-place.place ≡ length c.args.self.now.entries = omega (arith, made_long f _ _ made, c.self.inside.entries.ok.0) in
-    sym (any_of_none _ _ c.loop-place.place all c.loop-place.invariant)
+    let within : c.place-last.result < length c.args.self.now.entries = omega (arith, made_long f _ _ made, c.self.inside.entries.ok.0) in
+    sym (one_wanted _ _ c.place-last.result _ within (made_at f _ _ _ _ made c.index-then-last-len.ensures) (sym c.is_group_wanted.ensures ∙ c.if-is_group_wanted.true))

@@ -1,8 +1,9 @@
-use Rattle.std.proofs.Common.{◌≡◌, ℕ, ◌+◌, ◌<◌, length, ap, sym, ◌∙◌, arith}
-use Rattle.std.specs.Prelude.{nat_lt}
+use Rattle.std.proofs.Common.{◌≡◌, ℕ, ◌+◌, ◌<◌, length, refl, ap, sym, ◌∙◌, arith}
+use Rattle.std.specs.Prelude.{nat_lt, map as list_map}
 use Rattle.std.proofs.lemmas.Bool.Decides.{nat_tests}
 use Rattle.mq_check.specs.Numbered.{numbered_entry}
 use Rattle.mq_check.specs.Waiting.{WaitingValue}
+use Rattle.mq_check.proofs.MarkedEntries.{made_behind, marked_popped, bounded_popped}
 use Rattle.mq_check.proofs.Waits.{made_at, made_long, from_place, none_of_full, none_of_none, none_of_first, none_made, popped}
 use Rattle.mq_check.proofs.waiting.Waiting.pop_over.Goals as goal
 
@@ -29,3 +30,16 @@ returns-clause-some g c =
     let f = numbered_entry g.F.Address.Key.number in
     popped f _ _ _ _ _ _ c.index.result.now _ c.if-self.false c.self.view_is c.index.ensures
     (ap (λ (m : ℕ). nat_lt (m + c.args.within) c.args.now) (sym c.moment.ensures) ∙ sym c.is_over.ensures ∙ c.if-not-is_over.false) c.pop_front.ensures.items
+
+pub invariant_of-self : goal.invariant_of-self
+invariant_of-self g c =
+    let f = numbered_entry g.F.Address.Key.number in
+    let are = c.self.invariant in
+    let some : 0 < length c.self.inside.entries.items = grind (arith, nat_tests, c.self.inside.entries.ok.0) in
+    let some_too : 0 < length (list_map f c.self.inside.entries.items) = omega (arith, some, made_long f c.self.inside.entries.items _ refl) in
+    let rest = made_behind f c.self.inside.entries.items c.pop_front.new.self.items c.pop_front.ensures.rest in (
+      omega (arith, c.pop_front.ensures.capacity, are.0),
+      marked_popped _ _ _ _ _ are.1 rest some_too c.pop.ensures.slots c.pop.ensures.others,
+      bounded_popped _ _ _ _ are.2 rest,
+      are.3,
+    )

@@ -1,4 +1,5 @@
-use Rattle.std.specs.List.{list_any}
+use Rattle.std.specs.List.{count_by, list_any}
+use Rattle.std.proofs.lemmas.List.Sums.{count_by-le-length}
 use Rattle.std.specs.Prelude.{map as list_map}
 use Rattle.std.proofs.Common.{◌≡◌, cond, ℕ, ◌+◌, ◌-◌, ◌<◌, ◌≤◌, Bool, true, false, [], ◌∷◌, length, get_or, set, List, None, Some, is_some, sym, ap, ◌∙◌, subst, arith}
 use Rattle.std.proofs.lemmas.Bool.{true≢false}
@@ -29,7 +30,9 @@ use Rattle.mq_held.specs.Groups.{group_at, one_if}
 use Rattle.mq_held.specs.Moments.{moments_of}
 use Rattle.mq_held.specs.Held.{HasNumber, HeldState}
 use Rattle.mq_held.specs.Stored.{IsStored, earliest_of, group_by, group_of, groups_by, no_head}
+use Rattle.std.proofs.Common.{ltb, min}
 use Rattle.mq_held.proofs.AskedInPlace.{IsStored-asked, formed_after, group_after, head_counted, len_counted, row_asked, row_asked_is, row_counted, row_counted_is, rows_counted, same_where_below, sends_after, some_where_above, stays_unasked, test, unasked_groups, unasked_sends, up_asked, up_counted, within_asked}
+use Rattle.mq_held.proofs.CountedRows.{asked-has, count-made, one-at_most}
 use Rattle.mq_held.proofs.Inside.{address-of, ahead_is, contained, group-of, has as has-there, numbered, running-held, same-address, size-of, state-set, within-rows}
 use Rattle.mq_held.proofs.OrderedItems.{number_of}
 use Rattle.mq_held.proofs.RestartedTimers.{moment-held, not_vacant, timer-held}
@@ -516,13 +519,13 @@ returns-clause-spent g c address has =
     Spends-join_within _ _ told c.change.ensures.spent (omega (arith, size)) (omega (arith, size_asked, size_then, digits, others))
 
 -- the source that is asked for and the group's moment are moved
-two_least : (b : Bool) → cond b 2 0 ≤ 2
-two_least true = omega arith
-two_least false = omega arith
+at_most : (b : Bool) (n : ℕ) → cond b n 0 ≤ n
+at_most true n = omega arith
+at_most false n = omega arith
 
-none_least : (b : Bool) → b ≡ false → cond b 2 0 ≤ 0
-none_least true is = absurd (true≢false is)
-none_least false is = omega arith
+none_least : (b : Bool) (n : ℕ) → b ≡ false → cond b n 0 ≤ 0
+none_least true n is = absurd (true≢false is)
+none_least false n is = omega arith
 
 pub returns-in_default-clause-moved : goal.returns-in_default-clause-moved
 returns-in_default-clause-moved g c address has =
@@ -530,7 +533,7 @@ returns-in_default-clause-moved g c address has =
     let row = get_or c.self.inside.sources.rows c.args.number [] in
     let absent = rw c.row-row.ensures.cells at c.in_default.ensures.member in
     let timer = ap (λ (e : ScheduledGroup). timer_at e.group (number c.args.source)) (group-of number c.self.invariant.0 c.self.view_is has) ∙ get-absent number row (number c.args.source) absent in
-    let none = none_least _ (ap (λ t. is_ahead (lowered_to c.args.timing.now c.args.now) (deadline_of t)) timer) in
+    let none = none_least _ (2 + min 1 (last_member_count c.args.timing.now)) (ap (λ t. is_ahead (lowered_to c.args.timing.now c.args.now) (deadline_of t)) timer) in
     record { at_least = omega (arith, none); at_most = omega arith }
 
 pub returns-then-not-runs_on-clause-moved : goal.returns-then-not-runs_on-clause-moved
@@ -540,7 +543,7 @@ returns-then-not-runs_on-clause-moved g c address has =
     let x = c.index-row-place.result in
     let timer = ap (λ (e : ScheduledGroup). timer_at e.group (number c.args.source)) (group-of number c.self.invariant.0 c.self.view_is has)
     ∙ timer-held number c.self.invariant.0 c.args.number (held_so g b) (rows_so g b) c.in-Ok.place x (within_so g b) (here_so g b) (number c.args.source) (is_so g b) in
-    let none = none_least _ (ap (λ t. is_ahead (lowered_to c.args.timing.now c.args.now) (deadline_of t)) timer ∙ sym (below_so g c)) in
+    let none = none_least _ (2 + min 1 (last_member_count c.args.timing.now)) (ap (λ t. is_ahead (lowered_to c.args.timing.now c.args.now) (deadline_of t)) timer ∙ sym (below_so g c)) in
     record { at_least = omega (arith, none); at_most = omega arith }
 
 pub returns-clause-moved : goal.returns-clause-moved
@@ -558,4 +561,8 @@ returns-clause-moved g c address has =
     let others = ap (λ k. bitlen (k - 1)) (running-held number known was) in
     let counted = Spends-join c.ask_in_row.ensures.moved c.count_in_row-left.ensures.moved in
     let asks = above c.args.timing.now c.args.now (group_at c.args.self.now.groups address).group (number c.args.source) in
-    Spends-join_within _ _ counted c.change.ensures.moves (omega (arith, two_least asks)) (omega (arith, size, others))
+    let timing = c.args.timing.now in
+    let made = count-made (test number timing c.args.now c.args.source) item_has_sendings (source_if_asked number (lowered_to timing c.args.now) (last_member_count timing) (set_of number (c.args.source ∷ []))) (ltb 0 (last_member_count timing)) (asked-has number (lowered_to timing c.args.now) (last_member_count timing) (set_of number (c.args.source ∷ []))) row (some_so g asked) in
+    let sent = ap (count_by item_has_sendings) row_asked in
+    let few = count_by-le-length item_has_sendings (get_or c.ask_in_row.new.rows.rows n []) in
+    Spends-join_within _ _ counted c.change.ensures.moves (omega (arith, at_most asks (2 + min 1 (last_member_count timing)), made, sent, one-at_most (last_member_count timing))) (omega (arith, few, size, others))

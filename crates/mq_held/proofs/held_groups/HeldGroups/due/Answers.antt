@@ -2,10 +2,15 @@ use Rattle.std.proofs.Common.{◌≤◌, take, length, sym, ap, ◌∙◌, arith
 use Rattle.std.proofs.lemmas.List.{length-take-le}
 use Rattle.std.specs.Prelude.{filter}
 use Rattle.std.specs.FinMap as map
+use Rattle.std.proofs.Common.{not}
+use Rattle.mq_sets.proofs.PutInOrder.{in-order-within}
 use Rattle.mq_held.proofs.DueInOrder.{few-running, due-left, count-left, numbers-left, is_due_at, picked-count, picked-once, picked-ordered, few-spent, few-moved, many-spent, many-moved}
 use Rattle.mq_held.proofs.GroupsInOrder.{IsOrdered-stored, len-view, len-all, all-known}
 use Rattle.mq_held.proofs.Inside.{running-held}
 use Rattle.mq_held.proofs.KeysByNumber.{numbers_in}
+use Rattle.mq_count.proofs.Spent.{Spends-within}
+use Rattle.std.proofs.lemmas.List.Sums.{count_by-le-length}
+use Rattle.mq_held.specs.Held.{is_vacant_at}
 use Rattle.mq_held.proofs.held_groups.HeldGroups.due.Goals as goal
 
 pub due-count-requires : goal.due-count-requires
@@ -78,7 +83,7 @@ returns-then-count-lt-WALKED_FROM-clause-moved g c =
     let size = length-take-le c.due-count.result c.due-count.new.numbers (omega (arith, c.due-count.ensures.within, c.due-count.auto.numbers, c.requires.spare, running, few)) in
     let is = sym size ∙ picked-count g.K.Key.number c.self.invariant.0 c.self.view_is c.args.now picked c.due-count.ensures.due in
     let within : c.due-count.result ≤ map.len c.args.self.now.groups = omega (arith, c.due-count.ensures.within, running, few) in
-    few-moved c.due-count.result (map.len c.args.self.now.groups) is c.if-count-lt-WALKED_FROM.true within (rw size at c.put_in_order.ensures.moved)
+    few-moved c.due-count.result (map.len c.args.self.now.groups) is c.if-count-lt-WALKED_FROM.true within (rw size at (in-order-within _ _ c.put_in_order.ensures.moved))
 
 pub returns-else-count-lt-WALKED_FROM-clause-due : goal.returns-else-count-lt-WALKED_FROM-clause-due
 returns-else-count-lt-WALKED_FROM-clause-due g c =
@@ -111,7 +116,7 @@ returns-else-count-lt-WALKED_FROM-clause-spent g c =
     let is = sym size ∙ picked-count g.K.Key.number c.self.invariant.0 c.self.view_is c.args.now picked c.due-count.ensures.due in
     let within : c.due-count.result ≤ map.len c.args.self.now.groups = omega (arith, c.due-count.ensures.within, running, few) in
     let all = len-all known (c.all.ensures.numbers ∙ ap (λ s. numbers_in s.order.items) c.self.view_is) in
-    many-spent c.due-count.result (map.len c.self.inside.moments.moments) (map.len c.args.self.now.groups) (length c.all.new.numbers.items) is running c.if-count-lt-WALKED_FROM.false all c.due-count.ensures.spent c.leave_due.ensures.spent
+    many-spent c.due-count.result (map.len c.self.inside.moments.moments) (map.len c.args.self.now.groups) (length c.all.new.numbers.items) is running c.if-count-lt-WALKED_FROM.false all c.due-count.ensures.spent (Spends-within 0 _ c.leave_due.ensures.spent (omega arith) (count_by-le-length (λ n. not (is_vacant_at c.args.self.now n)) c.all.new.numbers.items))
 
 pub returns-else-count-lt-WALKED_FROM-clause-moved : goal.returns-else-count-lt-WALKED_FROM-clause-moved
 returns-else-count-lt-WALKED_FROM-clause-moved g c =

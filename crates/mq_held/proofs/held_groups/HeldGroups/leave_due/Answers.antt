@@ -1,10 +1,9 @@
-use Rattle.std.proofs.Common.{◌<◌, ◌∙◌, length, sym, arith}
+use Rattle.std.proofs.Common.{◌<◌, ◌∙◌, not, length, sym, arith}
 use Rattle.std.proofs.lemmas.List.Filters.{FiltersInPlace-more_set, FiltersInPlace-more_no}
-use Rattle.mq_count.proofs.Spent.{Spends-join_within}
-use Rattle.mq_held.specs.Held.{IsNumber}
+use Rattle.mq_held.specs.Held.{IsNumber, is_vacant_at}
 use Rattle.mq_held.proofs.Inside.{within-rows}
-use Rattle.mq_held.proofs.DueNumbers.{due-number}
-use Rattle.mq_held.proofs.LeftNumbers.{unread-is}
+use Rattle.mq_held.proofs.DueNumbers.{due-number, looked-more, running-number}
+use Rattle.mq_held.proofs.LeftNumbers.{unread, unread-is}
 use Rattle.mq_held.proofs.held_groups.HeldGroups.leave_due.Goals as goal
 use Rattle.mq_held.proofs.held_groups.HeldGroups.leave_due.Goals.{then-is_due, else-is_due}
 
@@ -23,7 +22,10 @@ loop-place-preserved g c =
     let is : IsNumber c.args.self.now n = unread-is (IsNumber c.args.self.now) n kept c.requires.there within c.index-number.ensures in
     let told = c.is_due.ensures.due ∙ due-number g.K.Key.number c.self.invariant.0 c.self.view_is c.args.now n is in
     let inside : c.loop-place.place < length c.loop-place.numbers.items = omega (arith, within, kept.long) in
+    let running = running-number g.K.Key.number c.self.invariant.0 c.self.view_is n is in
+    let looked = rw running at c.is_due.ensures.spent in
+    let spent = looked-more (λ k. not (is_vacant_at c.args.self.now k)) c.args.numbers.now.items c.loop-place.place n within (c.index-number.ensures ∙ unread kept n) c.loop-place.invariant.2 looked in
     elim c.if-is_due.branch [
-      | then-is_due w ↦ rw (w.numbers-is, w.due-is) (FiltersInPlace-more_set kept inside (sym told ∙ w.if-is_due.true) c.index-number.ensures, c.loop-place.invariant.1, Spends-join_within _ _ c.loop-place.invariant.2 c.is_due.ensures.spent (omega arith) (omega arith))
-      | else-is_due w ↦ rw (w.numbers-is, w.due-is) (FiltersInPlace-more_no kept inside (sym told ∙ w.if-is_due.false) c.index-number.ensures, c.loop-place.invariant.1, Spends-join_within _ _ c.loop-place.invariant.2 c.is_due.ensures.spent (omega arith) (omega arith))
+      | then-is_due w ↦ rw (w.numbers-is, w.due-is) (FiltersInPlace-more_set kept inside (sym told ∙ w.if-is_due.true) c.index-number.ensures, c.loop-place.invariant.1, spent)
+      | else-is_due w ↦ rw (w.numbers-is, w.due-is) (FiltersInPlace-more_no kept inside (sym told ∙ w.if-is_due.false) c.index-number.ensures, c.loop-place.invariant.1, spent)
     ]

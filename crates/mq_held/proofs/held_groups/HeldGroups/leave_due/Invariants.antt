@@ -1,8 +1,10 @@
-use Rattle.std.proofs.Common.{◌≤◌, vec_capacity}
+use Rattle.std.proofs.Common.{◌≤◌, not, take, vec_capacity}
+use Rattle.std.specs.List.{count_by}
 use Rattle.std.proofs.lemmas.List.Filters.{FiltersInPlace}
 use Rattle.mq_count.specs.Spending.{Spends}
 use Rattle.mq_sets.specs.NumberedKeys.{key_in}
 use Rattle.mq_held.specs.Groups.{group_at}
+use Rattle.mq_held.specs.Held.{is_vacant_at}
 use Rattle.mq_held.specs.Places.{has_due}
 use Rattle.mq_held.proofs.held_groups.HeldGroups.leave_due.Given as goal
 
@@ -10,4 +12,4 @@ abbrev pub invariant-loop-place : goal.invariant-loop-place
 invariant-loop-place g l =
     FiltersInPlace (λ n. has_due l.now (group_at l.self.groups (key_in l.self.order.items n))) l.fn.numbers.items l.numbers.items l.due l.place
     × (vec_capacity l.fn.numbers ≤ vec_capacity l.numbers)
-    × Spends 0 l.place l.fn.m l.m
+    × Spends (count_by (λ n. not (is_vacant_at l.self n)) (take l.place l.fn.numbers.items)) (count_by (λ n. not (is_vacant_at l.self n)) (take l.place l.fn.numbers.items)) l.fn.m l.m

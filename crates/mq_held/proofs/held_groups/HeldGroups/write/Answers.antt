@@ -8,6 +8,7 @@ use Rattle.mq_sched.specs.Schedule.{ScheduledGroup}
 use Rattle.mq_held.specs.declared.scheduled_head.ScheduledHead.{ScheduledHead}
 use Rattle.mq_held.specs.Groups.{group_at, one_if, sources_of}
 use Rattle.mq_held.specs.Held.{ahead_with, moved_by_row}
+use Rattle.mq_held.proofs.MomentCounts.{Spends-both}
 use Rattle.mq_held.proofs.Inside.{address-of, moment-there, numbered, running-held, size-of, source_room_is, sources-held, state-set, within-rows}
 use Rattle.mq_held.proofs.StoredEdits.{IsStored-written, group-of-parts, schedules-read, schedules_fit, schedules_part, within-other}
 use Rattle.mq_held.proofs.StoredMoments.{ahead-is, contains-insert, len-set, moment-room, moved-is, names-rows}
@@ -112,7 +113,7 @@ returns-clause-groups g c address has =
 pub returns-clause-spent : goal.returns-clause-spent
 returns-clause-spent g c =
     rw (running-held g.K.Key.number c.self.invariant.0 c.self.view_is)
-    (Spends-join_within _ _ c.earliest_moment-due.ensures.spent c.set_moment.ensures.spent (omega arith) (omega arith))
+    (Spends-join_within _ _ (Spends-both c.earliest_moment-due.ensures.compared c.earliest_moment-due.ensures.spent) c.set_moment.ensures.spent (omega arith) (omega arith))
 
 pub returns-clause-moved : goal.returns-clause-moved
 returns-clause-moved g c address has =

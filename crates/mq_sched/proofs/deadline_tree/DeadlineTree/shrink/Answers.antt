@@ -4,6 +4,7 @@ use Rattle.mq_count.proofs.Spent.{Spends-within, Spends-join_within}
 use Rattle.mq_sets.proofs.Bitlen.{bitlen-mono}
 use Rattle.mq_sched.specs.DeadlineTree.{TreeState}
 use Rattle.mq_sched.proofs.Shrinking.{shrunk, pair_below, went_to}
+use Rattle.mq_sched.proofs.WrittenAbove.{written-few}
 use Rattle.mq_sched.proofs.deadline_tree.DeadlineTree.shrink.Goals as goal
 use Rattle.mq_sched.proofs.deadline_tree.DeadlineTree.shrink.Goals.{then-leaf-last, else-leaf-last}
 
@@ -36,7 +37,11 @@ returns-clause-spent g c =
       | then-leaf-last w ↦ omega (arith, w.if-leaf-last.true, w.changed-is, c.len-last.ensures, c.self.inside.lefts.ok.0, count)
       | else-leaf-last w ↦ omega (arith, w.changed-is, c.len-last.ensures, c.self.inside.lefts.ok.0, count)
     ] in
-    Spends-within _ _ c.settle.ensures.spent (omega arith) (bitlen-mono _ _ half)
+    let last : c.args.self.now.count - 1 ≤ c.if-leaf-last.changed = elim c.if-leaf-last.branch [
+      | then-leaf-last w ↦ omega (arith, w.changed-is, c.requires.leaf)
+      | else-leaf-last w ↦ omega (arith, w.changed-is, c.len-last.ensures, c.self.inside.lefts.ok.0, count)
+    ] in
+    Spends-within _ _ c.settle.ensures.spent (omega (arith, last)) (bitlen-mono _ _ half)
 
 pub returns-clause-moves : goal.returns-clause-moves
 returns-clause-moves g c =
@@ -45,7 +50,8 @@ returns-clause-moves g c =
       | then-leaf-last w ↦ omega (arith, w.if-leaf-last.true, w.changed-is, c.len-last.ensures, c.self.inside.lefts.ok.0, count)
       | else-leaf-last w ↦ omega (arith, w.changed-is, c.len-last.ensures, c.self.inside.lefts.ok.0, count)
     ] in
-    Spends-join_within _ _ c.settle.ensures.moves c.count.ensures (omega arith) (omega (arith, bitlen-mono _ _ half))
+    let few = written-few c.deref_mut-2.result.now c.settle.new.lefts c.if-leaf-last.changed in
+    Spends-join_within _ _ c.settle.ensures.moves c.count.ensures (omega arith) (omega (arith, few, bitlen-mono _ _ half))
 
 pub returns-clause-leaves : goal.returns-clause-leaves
 returns-clause-leaves g c other from below =

@@ -1,0 +1,15 @@
+-- What a verdict rests on, in the terms of the code.
+use Rattle.std.proofs.Common.{◌≡◌, ℕ, refl}
+use Rattle.std.specs.Prelude.{Option, None, Some}
+use Rattle.mq_wire.specs.Family.{Family}
+use Rattle.mq_sched.specs.declared.roles.OtherQuerier.{OtherQuerier}
+use Rattle.mq_sched.specs.Election.{Role, Querier, Other}
+use Rattle.mq_sched.specs.StoredElection.{IsOtherOf}
+use Rattle.mq_check.specs.declared.basis.Basis.{Basis}
+use Rattle.mq_check.specs.Basis.{with_other_named, with_other_querier}
+
+-- the other router that the link names is the one of its role
+pub other_named : {K : Type 0} (family : Family) (number : K → ℕ) (role : Role) (other : Option (OtherQuerier K)) (b : Basis) → IsOtherOf number role other → with_other_named family number other b ≡ with_other_querier family role b
+other_named family number (Querier due startup) None b is = refl
+other_named family number (Other address deadline) None b is = absurd (cc is)
+other_named family number role (Some querier) b is = rw is refl

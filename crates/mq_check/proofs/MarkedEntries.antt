@@ -1,0 +1,297 @@
+-- What waits is found by its slots.
+use Rattle.std.proofs.Common.{◌≡◌, inl, inr, ℕ, zero, suc, ◌+◌, ◌-◌, ◌<◌, ◌≤◌, Bool, true, false, List, [], ◌∷◌, ◌++◌, length, drop, set, get_or, refl, ap, sym, subst, ◌∙◌, add-one, arith}
+use Rattle.std.specs.Prelude.{map as list_map, None, Some, ◌==◌, ◌&&◌, not}
+use Rattle.std.specs.List.{list_any}
+use Rattle.std.proofs.lemmas.Bool.{cases_Bool, cases_eq, cases_lt, eqb-true}
+use Rattle.std.proofs.lemmas.Bool.Decides.{nat_tests}
+use Rattle.std.proofs.lemmas.List.{get_or-set_same, get_or-set_other, length-set, length-drop, length_push, get_or_push, get_or_append_left, get_or_read, get_or_default, map-append, map-set}
+use Rattle.std.proofs.lemmas.Grind.{get_or_after_one}
+use Rattle.mq_check.specs.declared.asked.Asked.{Asked}
+use Rattle.mq_check.specs.declared.asked.Asked.TheVariants.{AllGroups, Group, Source}
+use Rattle.mq_check.specs.declared.entry.Entry.{Entry}
+use Rattle.mq_check.specs.declared.entry.Entry.TheVariants.{Wanted, Seen, Interval, Silence}
+use Rattle.mq_check.specs.declared.terms.Terms.{Terms}
+use Rattle.mq_check.specs.declared.waiting.Side.{Side}
+use Rattle.mq_check.specs.declared.waiting.Side.TheVariants.{OfWanted, OfSeen}
+use Rattle.mq_check.specs.Entries.{joined, is_group_wanted}
+use Rattle.mq_check.specs.Queries.{is_same}
+use Rattle.mq_check.specs.Slots.{slot_of, slot_in, wanted_slot, wanted_moment, entry_at, AreMarked, AreBounded}
+use Rattle.mq_check.specs.Trails.{TrailsValue, Reaches}
+use Rattle.mq_check.specs.Waiting.{is_free}
+use Rattle.mq_check.proofs.Waits.{IsPassed, none_passed, one_passed}
+
+-- what asks about the same is the same
+same_asked : (a b : Asked ℕ) → is_same a b ≡ true → a ≡ b
+same_asked AllGroups AllGroups same = refl
+same_asked AllGroups (Group g) same = cc
+same_asked AllGroups (Source g s) same = cc
+same_asked (Group g) AllGroups same = cc
+same_asked (Group g) (Group g') same = ap Group (grind (arith, nat_tests))
+same_asked (Group g) (Source g' s) same = cc
+same_asked (Source g s) AllGroups same = cc
+same_asked (Source g s) (Group g') same = cc
+same_asked (Source g s) (Source g' s') same =
+    let group : g ≡ g' = grind (arith, nat_tests) in
+    let source : s ≡ s' = grind (arith, nat_tests) in
+    λ i. Source (group i) (source i)
+
+both_first : (a b : Bool) → a && b ≡ true → a ≡ true
+both_first true b is = refl
+both_first false b is = is
+
+both_second : (a b : Bool) → a && not b ≡ true → b ≡ false
+both_second true true is = cc
+both_second true false is = refl
+both_second false b is = cc
+
+both_last : (a b : Bool) → a && b ≡ true → b ≡ true
+both_last true b is = is
+both_last false b is = cc
+
+-- an entry without a partner is in the slot of what it asks about
+pub free_slot : (width : ℕ) (side : Side) (asked : Asked ℕ) (entry : Entry ℕ) → is_free side asked entry ≡ true → slot_in width entry ≡ slot_of width side asked
+free_slot width OfWanted asked (Wanted moment asked' terms is_optional true) free = let found = both_second (is_same asked asked') true free in cc
+free_slot width OfWanted asked (Wanted moment asked' terms is_optional false) free = ap (slot_of width OfWanted) (sym (same_asked asked asked' (both_first _ _ free)))
+free_slot width OfWanted asked (Seen moment asked' terms partner is_querier) free = cc
+free_slot width OfWanted asked (Interval moment after wanted) free = cc
+free_slot width OfWanted asked (Silence moment after wanted) free = cc
+free_slot width OfSeen asked (Wanted moment asked' terms is_optional is_found) free = cc
+free_slot width OfSeen asked (Seen moment asked' terms (Some partner) is_querier) free = let found = both_second (is_same asked asked') true free in cc
+free_slot width OfSeen asked (Seen moment asked' terms None is_querier) free = ap (slot_of width OfSeen) (sym (same_asked asked asked' (both_first _ _ free)))
+free_slot width OfSeen asked (Interval moment after wanted) free = cc
+free_slot width OfSeen asked (Silence moment after wanted) free = cc
+
+and_false : (a : Bool) → a && false ≡ false
+and_false true = refl
+and_false false = refl
+
+-- one that has found its partner is free for nothing
+joined_free : (side : Side) (asked : Asked ℕ) (other : Terms ℕ) (entry : Entry ℕ) → is_free side asked (joined other entry) ≡ false
+joined_free OfWanted asked other (Wanted moment asked' terms is_optional is_found) = and_false (is_same asked asked')
+joined_free OfWanted asked other (Seen moment asked' terms partner is_querier) = refl
+joined_free OfWanted asked other (Interval moment after wanted) = refl
+joined_free OfWanted asked other (Silence moment after wanted) = refl
+joined_free OfSeen asked other (Wanted moment asked' terms is_optional is_found) = refl
+joined_free OfSeen asked other (Seen moment asked' terms partner is_querier) = and_false (is_same asked asked')
+joined_free OfSeen asked other (Interval moment after wanted) = refl
+joined_free OfSeen asked other (Silence moment after wanted) = refl
+
+pub marked_none : (width : ℕ) (t : TrailsValue) → t.slots ≡ [] → AreMarked width [] t
+marked_none width t none = record {
+  long = ap length none;
+  slot = λ place side asked within free. absurd (omega arith);
+  reached = λ place side asked within free. absurd (omega arith);
+}
+
+-- an entry was put behind the others
+pub marked_pushed : (width : ℕ) (entries : List (Entry ℕ)) (entry : Entry ℕ) (old new : TrailsValue) → AreMarked width entries old → new.slots ≡ old.slots ++ slot_in width entry ∷ []
+    → Reaches new (length old.slots) → ((k : ℕ) → k < length old.slots → Reaches old k → Reaches new k) → AreMarked width (entries ++ entry ∷ []) new
+marked_pushed width entries entry old new marked slots here others =
+    let put : List (Entry ℕ) = entries ++ entry ∷ [] in
+    let before : (place : ℕ) → place < length entries → entry_at put place ≡ entry_at entries place = λ place within. get_or_append_left entries (entry ∷ []) (Interval 0 0 0) place within in
+    let last : entry_at put (length entries) ≡ entry = get_or_push entries entry (Interval 0 0 0) (length entries) refl in
+    record {
+      long = ap length slots ∙ length_push old.slots (slot_in width entry) ∙ ap (λ (n : ℕ). n + 1) marked.long ∙ sym (length_push entries entry);
+      slot = λ place side asked within free. elim (cases_lt place (length entries)) [
+        | inl inside ↦
+            let inside_too : place < length old.slots = omega (arith, inside, marked.long) in
+            ap (λ (s : List ℕ). get_or s place 0) slots ∙ get_or_append_left old.slots (slot_in width entry ∷ []) 0 place inside_too
+            ∙ marked.slot place side asked inside (ap (is_free side asked) (sym (before place inside)) ∙ free)
+        | inr beyond ↦
+            let end : place ≡ length entries = omega (arith, length_push entries entry, within, beyond) in
+            let there : length old.slots ≡ place = omega (arith, end, marked.long) in
+            ap (λ (s : List ℕ). get_or s place 0) slots ∙ get_or_push old.slots (slot_in width entry) 0 place there
+            ∙ free_slot width side asked entry (ap (is_free side asked) (sym (ap (entry_at put) end ∙ last)) ∙ free)
+      ];
+      reached = λ place side asked within free. elim (cases_lt place (length entries)) [
+        | inl inside ↦
+            let inside_too : place < length old.slots = omega (arith, inside, marked.long) in
+            others place inside_too (marked.reached place side asked inside (ap (is_free side asked) (sym (before place inside)) ∙ free))
+        | inr beyond ↦
+            let there : length old.slots ≡ place = omega (arith, length_push entries entry, within, beyond, marked.long) in
+            subst (Reaches new) there here
+      ];
+    }
+
+-- an entry has found its partner
+pub marked_joined : (width : ℕ) (entries : List (Entry ℕ)) (at : ℕ) (other : Terms ℕ) (entry : Entry ℕ) (old new : TrailsValue) → AreMarked width entries old → at < length entries → new.slots ≡ old.slots
+    → ((k : ℕ) → k < length old.slots → (k ≡ at → ⊥) → Reaches old k → Reaches new k) → AreMarked width (set entries at (joined other entry)) new
+marked_joined width entries at other entry old new marked there slots others =
+    let long = length-set entries at (joined other entry) in
+    let not_at : (place : ℕ) (side : Side) (asked : Asked ℕ) → is_free side asked (entry_at (set entries at (joined other entry)) place) ≡ true → place ≡ at → ⊥ = λ place side asked free same.
+    let is : is_free side asked (joined other entry) ≡ true =
+    ap (is_free side asked) (sym (ap (entry_at (set entries at (joined other entry))) same ∙ get_or-set_same entries at (joined other entry) (Interval 0 0 0) there)) ∙ free in
+    let isnt = joined_free side asked other entry in
+    cc in
+    record {
+      long = ap length slots ∙ marked.long ∙ sym long;
+      slot = λ place side asked within free.
+          let inside : place < length entries = omega (arith, within, long) in
+          ap (λ (s : List ℕ). get_or s place 0) slots
+          ∙ marked.slot place side asked inside (ap (is_free side asked) (sym (get_or-set_other entries at place (joined other entry) (Interval 0 0 0) (not_at place side asked free))) ∙ free);
+      reached = λ place side asked within free.
+          let inside : place < length entries = omega (arith, within, long) in
+          others place (omega (arith, inside, marked.long)) (not_at place side asked free)
+          (marked.reached place side asked inside (ap (is_free side asked) (sym (get_or-set_other entries at place (joined other entry) (Interval 0 0 0) (not_at place side asked free))) ∙ free));
+    }
+
+-- the first entry is gone
+pub marked_popped : (width : ℕ) (entries rest : List (Entry ℕ)) (old new : TrailsValue) → AreMarked width entries old → rest ≡ drop 1 entries → 0 < length entries → new.slots ≡ drop 1 old.slots
+    → ((k : ℕ) → k + 1 < length old.slots → Reaches old (k + 1) → Reaches new k) → AreMarked width rest new
+marked_popped width entries rest old new marked popped some slots others =
+    let behind : (place : ℕ) → entry_at rest place ≡ entry_at entries (1 + place) = λ place. ap (λ (es : List (Entry ℕ)). entry_at es place) popped ∙ get_or_after_one entries place (Interval 0 0 0) in
+    let one_more : (place : ℕ) → place < length rest → 1 + place < length entries = λ place within. omega (arith, within, ap length popped, length-drop {A = Entry ℕ} 1 entries) in
+    record {
+      long = omega (arith, ap length slots, ap length popped, length-drop {A = ℕ} 1 old.slots, length-drop {A = Entry ℕ} 1 entries, marked.long);
+      slot = λ place side asked within free.
+          ap (λ (s : List ℕ). get_or s place 0) slots ∙ get_or_after_one old.slots place 0
+          ∙ marked.slot (1 + place) side asked (one_more place within) (ap (is_free side asked) (sym (behind place)) ∙ free);
+      reached = λ place side asked within free.
+          let later : 1 + place ≡ place + 1 = omega arith in
+          let inside : place + 1 < length old.slots = omega (arith, one_more place within, marked.long) in
+          others place inside (subst (Reaches old) later (marked.reached (1 + place) side asked (one_more place within) (ap (is_free side asked) (sym (behind place)) ∙ free)));
+    }
+
+-- none of the entries before a place is free for this
+pub record AreNoneBefore (side : Side) (asked : Asked ℕ) (entries : List (Entry ℕ)) (place : ℕ) : Type 0 where
+  pub none : (k : ℕ) → k < place → k < length entries → is_free side asked (entry_at entries k) ≡ false
+
+pub none_at_start : (width : ℕ) (side : Side) (asked : Asked ℕ) (entries : List (Entry ℕ)) (t : TrailsValue) (slot place : ℕ) → AreMarked width entries t → slot ≡ slot_of width side asked
+    → place ≡ get_or t.starts slot 0 - t.base → AreNoneBefore side asked entries place
+none_at_start width side asked entries t slot place marked is start = record {
+  none = λ k before within. elim (cases_Bool (is_free side asked (entry_at entries k))) [
+    | inl free ↦
+        let here : get_or t.slots k 0 ≡ slot = marked.slot k side asked within free ∙ sym is in
+        absurd (omega (arith, (marked.reached k side asked within free).starts, ap (λ (s : ℕ). get_or t.starts s 0) here, start, before))
+    | inr not_free ↦ not_free
+  ];
+}
+
+pub none_further : (width : ℕ) (side : Side) (asked : Asked ℕ) (entries : List (Entry ℕ)) (t : TrailsValue) (slot place next : ℕ) (entry : Entry ℕ) → AreMarked width entries t → slot ≡ slot_of width side asked
+    → place < length entries → entry ≡ get_or entries place entry → is_free side asked entry ≡ false
+    → ((k : ℕ) → place < k → k < next → k < length t.slots → get_or t.slots k 0 ≡ slot → ⊥) → AreNoneBefore side asked entries place → AreNoneBefore side asked entries next
+none_further width side asked entries t slot place next entry marked is there read not_free passed before = record {
+  none = λ k below within. elim (cases_lt k place) [
+    | inl earlier ↦ before.none k earlier within
+    | inr later ↦ elim (cases_eq k place) [
+      | inl same ↦ ap (λ (p : ℕ). is_free side asked (entry_at entries p)) same ∙ ap (is_free side asked) (sym (get_or_read entries place entry there read (Interval 0 0 0))) ∙ not_free
+      | inr other ↦ elim (cases_Bool (is_free side asked (entry_at entries k))) [
+        | inl free ↦ absurd (passed k (omega (arith, later, other)) below (omega (arith, within, marked.long)) (marked.slot k side asked within free ∙ sym is))
+        | inr not_free_too ↦ not_free_too
+      ]
+    ]
+  ];
+}
+
+pub passed_up_to : (side : Side) (asked : Asked ℕ) (entries : List (Entry ℕ)) (place : ℕ) → AreNoneBefore side asked entries place → place ≤ length entries → IsPassed side asked entries place
+passed_up_to side asked entries zero before within = none_passed side asked entries
+passed_up_to side asked entries (suc n) before within =
+    let there : n < length entries = omega (arith, within) in
+    let more : n < suc n = omega arith in
+    let earlier : AreNoneBefore side asked entries n = record { none = λ k below inside. before.none k (omega (arith, below)) inside } in
+    let step = one_passed side asked entries n (entry_at entries n) there (get_or_default entries n (Interval 0 0 0) (entry_at entries n) there) (before.none n more there)
+    (passed_up_to side asked entries n earlier (omega (arith, within))) in
+    subst (IsPassed side asked entries) (add-one n) step
+
+-- no query is wanted later than at the moment that is kept for its slot
+pub bounded_none : (width : ℕ) (latest : List ℕ) → AreBounded width [] latest
+bounded_none width latest = record { by = λ place within. absurd (omega arith) }
+
+pub bounded_pushed : (width : ℕ) (entries : List (Entry ℕ)) (entry : Entry ℕ) (latest : List ℕ) (later : ℕ) → AreBounded width entries latest → wanted_slot width entry < length latest
+    → get_or latest (wanted_slot width entry) 0 ≤ later → wanted_moment entry ≤ later → AreBounded width (entries ++ entry ∷ []) (set latest (wanted_slot width entry) later)
+bounded_pushed width entries entry latest later bounded known first second =
+    let slot = wanted_slot width entry in
+    let higher : (s : ℕ) → get_or latest s 0 ≤ get_or (set latest slot later) s 0 = λ s. elim (cases_eq s slot) [
+      | inl same ↦ subst (λ (n : ℕ). get_or latest n 0 ≤ get_or (set latest slot later) n 0) (sym same) (omega (arith, get_or-set_same latest slot later 0 known, first))
+      | inr other ↦ omega (arith, get_or-set_other latest slot s later 0 other)
+    ] in
+    let here : wanted_moment entry ≤ get_or (set latest slot later) slot 0 = omega (arith, get_or-set_same latest slot later 0 known, second) in
+    let put : List (Entry ℕ) = entries ++ entry ∷ [] in
+    record {
+      by = λ place within. elim (cases_lt place (length entries)) [
+        | inl inside ↦
+            let same : entry_at put place ≡ entry_at entries place = get_or_append_left entries (entry ∷ []) (Interval 0 0 0) place inside in
+            subst (λ (e : Entry ℕ). wanted_moment e ≤ get_or (set latest slot later) (wanted_slot width e) 0) (sym same)
+            (omega (arith, bounded.by place inside, higher (wanted_slot width (entry_at entries place))))
+        | inr beyond ↦
+            let there : length entries ≡ place = omega (arith, length_push entries entry, within, beyond) in
+            subst (λ (e : Entry ℕ). wanted_moment e ≤ get_or (set latest slot later) (wanted_slot width e) 0) (sym (get_or_push entries entry (Interval 0 0 0) place there)) here
+      ];
+    }
+
+-- the bound is the same for an entry that has found its partner
+joined_bounded : (width : ℕ) (latest : List ℕ) (other : Terms ℕ) (entry : Entry ℕ) → wanted_moment entry ≤ get_or latest (wanted_slot width entry) 0 → wanted_moment (joined other entry) ≤ get_or latest (wanted_slot width (joined other entry)) 0
+joined_bounded width latest other (Wanted moment asked terms is_optional is_found) bound = bound
+joined_bounded width latest other (Seen moment asked terms partner is_querier) bound = bound
+joined_bounded width latest other (Interval moment after wanted) bound = bound
+joined_bounded width latest other (Silence moment after wanted) bound = bound
+
+pub bounded_joined : (width : ℕ) (entries : List (Entry ℕ)) (at : ℕ) (other : Terms ℕ) (entry : Entry ℕ) (latest : List ℕ) → AreBounded width entries latest → at < length entries → entry ≡ get_or entries at entry
+    → AreBounded width (set entries at (joined other entry)) latest
+bounded_joined width entries at other entry latest bounded there read =
+    let P : Entry ℕ → Type 0 = λ e. wanted_moment e ≤ get_or latest (wanted_slot width e) 0 in
+    let same_entry : entry_at entries at ≡ entry = sym (get_or_read entries at entry there read (Interval 0 0 0)) in
+    record {
+      by = λ place within.
+          let inside : place < length entries = omega (arith, within, length-set entries at (joined other entry)) in
+          elim (cases_eq place at) [
+            | inl same ↦ subst P (sym (ap (entry_at (set entries at (joined other entry))) same ∙ get_or-set_same entries at (joined other entry) (Interval 0 0 0) there))
+                (joined_bounded width latest other entry (subst P same_entry (bounded.by at there)))
+            | inr different ↦ subst P (sym (get_or-set_other entries at place (joined other entry) (Interval 0 0 0) different)) (bounded.by place inside)
+          ];
+    }
+
+pub bounded_popped : (width : ℕ) (entries rest : List (Entry ℕ)) (latest : List ℕ) → AreBounded width entries latest → rest ≡ drop 1 entries → AreBounded width rest latest
+bounded_popped width entries rest latest bounded popped =
+    let P : Entry ℕ → Type 0 = λ e. wanted_moment e ≤ get_or latest (wanted_slot width e) 0 in
+    record {
+      by = λ place within.
+          let inside : 1 + place < length entries = omega (arith, within, ap length popped, length-drop {A = Entry ℕ} 1 entries) in
+          let same : entry_at rest place ≡ entry_at entries (1 + place) = ap (λ (es : List (Entry ℕ)). entry_at es place) popped ∙ get_or_after_one entries place (Interval 0 0 0) in
+          subst P (sym same) (bounded.by (1 + place) inside);
+    }
+
+-- where a query for a group is wanted later than all of its slot, none is
+later_than : (width moment group : ℕ) (latest : List ℕ) (entry : Entry ℕ) → get_or latest (slot_of width OfWanted (Group group)) 0 < moment → wanted_moment entry ≤ get_or latest (wanted_slot width entry) 0
+    → is_group_wanted moment group entry ≡ false
+later_than width moment group latest (Wanted moment' asked terms is_optional is_found) below bound = elim (cases_Bool (is_same (Group group) asked && (moment == moment'))) [
+  | inl is ↦
+      let same = same_asked (Group group) asked (both_first (is_same (Group group) asked) (moment == moment') is) in
+      let at : moment ≡ moment' = eqb-true moment moment' (both_last (is_same (Group group) asked) (moment == moment') is) in
+      absurd (omega (arith, ap (λ (a : Asked ℕ). get_or latest (slot_of width OfWanted a) 0) same, at, below, bound))
+  | inr isnt ↦ isnt
+]
+later_than width moment group latest (Seen moment' asked terms partner is_querier) below bound = refl
+later_than width moment group latest (Interval moment' after wanted) below bound = refl
+later_than width moment group latest (Silence moment' after wanted) below bound = refl
+
+none_of_all : (p : Entry ℕ → Bool) (entries : List (Entry ℕ)) → ((place : ℕ) → place < length entries → p (entry_at entries place) ≡ false) → list_any p entries ≡ false
+none_of_all p [] none = refl
+none_of_all p (entry ∷ entries) none =
+    let first : p entry ≡ false = none 0 (omega arith) in
+    let rest = none_of_all p entries (λ place within. none (suc place) (omega (arith, within))) in
+    rw first rest
+
+pub none_wanted : (width moment group : ℕ) (entries : List (Entry ℕ)) (latest : List ℕ) (slot at : ℕ) → AreBounded width entries latest → slot ≡ slot_of width OfWanted (Group group) → at ≡ get_or latest slot 0 → at < moment
+    → list_any (is_group_wanted moment group) entries ≡ false
+none_wanted width moment group entries latest slot at bounded is read below =
+    let before : get_or latest (slot_of width OfWanted (Group group)) 0 < moment = omega (arith, ap (λ (s : ℕ). get_or latest s 0) is, read, below) in
+    none_of_all _ entries (λ place within. later_than width moment group latest (entry_at entries place) before (bounded.by place within))
+
+pub one_wanted : (p : Entry ℕ → Bool) (entries : List (Entry ℕ)) (place : ℕ) (entry : Entry ℕ) → place < length entries → entry ≡ get_or entries place entry → p entry ≡ true → list_any p entries ≡ true
+one_wanted p [] place entry within read is = absurd (omega arith)
+one_wanted p (first ∷ entries) zero entry within read is = let here : p first ≡ true = ap p (sym read) ∙ is in rw here refl
+one_wanted p (first ∷ entries) (suc place) entry within read is =
+    let rest = one_wanted p entries place entry (omega (arith, within)) read is in
+    elim (cases_Bool (p first)) [ inl passes ↦ rw passes refl | inr fails ↦ rw fails rest ]
+
+-- the same of what is made of each item
+pub made_behind : {X : Type 0} (f : X → Entry ℕ) (items more : List X) → more ≡ drop 1 items → list_map f more ≡ drop 1 (list_map f items)
+made_behind f [] more is = ap (list_map f) is
+made_behind f (x ∷ items) more is = ap (list_map f) is
+
+pub made_set : {X : Type 0} (f : X → Entry ℕ) (items : List X) (place : ℕ) (changed : X) (entry : Entry ℕ) → f changed ≡ entry → list_map f (set items place changed) ≡ set (list_map f items) place entry
+made_set f items place changed entry is = map-set f items place changed ∙ ap (set (list_map f items) place) is
+
+pub made_put : {X : Type 0} (f : X → Entry ℕ) (items more : List X) (entry : X) → more ≡ items ++ entry ∷ [] → list_map f more ≡ list_map f items ++ f entry ∷ []
+made_put f items more entry is = ap (list_map f) is ∙ map-append f items (entry ∷ [])

@@ -1,0 +1,26 @@
+-- Findings that are written before a read that may wait.
+use Rattle.std.proofs.Common.{◌≡◌, ℕ, Bool, ◌||◌, List, [], ◌++◌, length, Result, Ok, Err, IfOk, is_err, append-nil, ap, ◌∙◌}
+use Rattle.std.proofs.Math.Bool.{or-false}
+use Rattle.mq_wire.specs.Family.{Family}
+use Rattle.mq_text.specs.Printing.{OutputState, Puts}
+use Rattle.mq_text.proofs.Passing.{put_as, then_put}
+use Rattle.mq_check.specs.declared.finding.Finding.{Finding}
+use Rattle.mq_check.specs.FindingLines.{finding_lines}
+use Rattle.mq_check.specs.Telling.{ToldState, Tells, counted_times}
+
+still_counted : {T E : Type 0} (times old mid new : ℕ) (r : Result T E) → mid ≡ counted_times times old → new ≡ mid → IfOk r (λ _. new ≡ counted_times times old)
+still_counted times old mid new (Ok x) counted same = same ∙ counted
+still_counted times old mid new (Err e) counted same = tt
+
+-- some were told, and then nothing more was put
+pub then_nothing : (T E : Type 0) (family : Family) (xs : List (Finding ℕ)) (old mid new : ToldState) (a b c : OutputState) (x : T) (r : Result T E)
+    → Tells {T = T} {E = E} family xs old mid a b (Ok x) → Puts b.held c.held mid.held new.held [] r → new.cite ≡ mid.cite → new.count ≡ mid.count → c.failed ≡ (b.failed || is_err r)
+    → Tells {T = T} {E = E} family xs old new a c r
+then_nothing T E family xs old mid new a b c x r tells put cite count failed =
+    let text = finding_lines family old.cite xs in
+    record {
+      cite = cite ∙ tells.cite;
+      count = still_counted (length xs) old.count mid.count new.count r tells.count count;
+      text = put_as a.held c.held old.held new.held (text ++ []) text r (append-nil text) (then_put a.held b.held c.held old.held mid.held new.held text [] r tells.text put);
+      failed = failed ∙ ap (λ (f : Bool). f || is_err r) (tells.failed ∙ or-false a.failed);
+    }

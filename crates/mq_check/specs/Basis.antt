@@ -1,0 +1,148 @@
+-- What a verdict rests on: the packets of the capture, and who was querier when.
+use Rattle.std.specs.Prelude.{ℕ, ◌+◌, ◌*◌, ◌==◌, ◌&&◌, nat_lt, nat_le, Bool, true, false, if◌then◌else◌, List, [], ◌∷◌, length, Option, None, Some, Result, Ok, Err}
+use Rattle.std.specs.List.{list_any}
+use Rattle.mq_pcap.specs.declared.link_type.LinkType.{LinkType}
+use Rattle.mq_pcap.specs.declared.link_type.LinkType.TheVariants.{Ethernet, RawIp}
+use Rattle.mq_pcap.specs.Frame.{Carried, word_at}
+use Rattle.mq_pcap.specs.Frame as carried
+use Rattle.mq_wire.specs.declared.message.Message.{Message}
+use Rattle.mq_wire.specs.declared.message.WireFault.{WireFault}
+use Rattle.mq_wire.specs.declared.message.WireFault.TheVariants.{Truncated, Checksum, UnknownType, QueryLength}
+use Rattle.mq_wire.specs.Family.{Family}
+use Rattle.mq_wire.specs.Family as family
+use Rattle.mq_sched.specs.declared.roles.OtherQuerier.{OtherQuerier}
+use Rattle.mq_sched.specs.Election.{Role, Querier, Other}
+use Rattle.mq_link.specs.Receive.{pseudo_of, read_of}
+use Rattle.mq_replay.specs.Report.{Datagram}
+use Rattle.mq_check.specs.declared.basis.Basis.{Basis}
+use Rattle.mq_check.specs.declared.querier_address.QuerierAddress.{QuerierAddress}
+use Rattle.mq_check.specs.declared.querier_address.QuerierAddress.TheVariants.{V4, V6}
+use Rattle.mq_check.specs.declared.totals.Totals.{Totals}
+use Rattle.mq_check.specs.declared.unjudged.Unjudged.{Unjudged}
+use Rattle.mq_check.specs.declared.unjudged.Unjudged.TheVariants.{NotUnderstood, NoMessage, NoQuery}
+use Rattle.mq_check.specs.Checking.{counted_up}
+
+-- the address of a router of a family
+abbrev pub named : Family → (address : ℕ) → QuerierAddress
+named family.Igmp address = V4 address
+named family.Mld address = V6 address
+
+-- no packet yet; the router that is checked is querier from 0
+abbrev pub basis_at_start : (own : QuerierAddress) → Basis
+basis_at_start own = record {
+  packets = 0;
+  messages = 0;
+  malformed = 0;
+  cut = 0;
+  unread = 0;
+  own = own;
+  is_querier = true;
+  lost = 0;
+  lost_at = 0;
+  other = own;
+  again_at = 0;
+}
+
+abbrev pub with_packet : Basis → Basis
+with_packet b = record b { packets = counted_up b.packets }
+
+abbrev pub with_message : Basis → Basis
+with_message b = record b { messages = counted_up b.messages }
+
+abbrev pub with_malformed : Basis → Basis
+with_malformed b = record b { malformed = counted_up b.malformed }
+
+abbrev pub with_cut : Basis → Basis
+with_cut b = record b { cut = counted_up b.cut }
+
+abbrev pub with_unread : Basis → Basis
+with_unread b = record b { unread = counted_up b.unread }
+
+-- A datagram by what was read of it. One of a type that the family doesn't have is none of its messages: neighbour discovery is
+-- ICMPv6 too.
+abbrev pub with_read : Result (Message ℕ) WireFault → Basis → Basis
+with_read (Ok message) b = with_message b
+with_read (Err (Truncated at)) b = with_malformed b
+with_read (Err Checksum) b = with_malformed b
+with_read (Err UnknownType) b = b
+with_read (Err QueryLength) b = with_malformed b
+
+abbrev pub with_datagram : Family → Datagram → Basis → Basis
+with_datagram family datagram b =
+    with_read (read_of family (pseudo_of family datagram.envelope datagram.body) datagram.body) b
+
+-- The types of Ethernet behind which an IP packet may stand that isn't looked into: tags (where they are not the first), MPLS,
+-- PPPoE and MACsec; and the one by which `convert` says that it doesn't read a packet's link type.
+abbrev pub wrapping_types : List ℕ
+wrapping_types = 0x8100 ∷ 0x88a8 ∷ 0x9100 ∷ 0x8847 ∷ 0x8848 ∷ 0x8864 ∷ 0x88e5 ∷ 0xffff ∷ []
+
+-- the type of a frame, behind one tag (0x8100); 0 where it ends before, and without a link header
+abbrev pub type_in : LinkType → (frame : List ℕ) → ℕ
+type_in Ethernet frame =
+    if nat_lt (length frame) 14
+    then 0
+    else if word_at 12 frame == 0x8100
+    then (if nat_lt (length frame) 18 then 0 else word_at 16 frame)
+    else word_at 12 frame
+type_in RawIp frame = 0
+
+abbrev pub is_wrapped : (kind : ℕ) → Bool
+is_wrapped kind = list_any (λ wrapping. kind == wrapping) wrapping_types
+
+-- a packet without a datagram of the family: its frame is cut, or isn't looked into, or has something else
+abbrev pub with_other : LinkType → (frame : List ℕ) → Carried → Basis → Basis
+with_other link frame carried.Cut b = with_cut b
+with_other link frame carried.Fragment b = with_unread b
+with_other link frame carried.Other b = if is_wrapped (type_in link frame) then with_unread b else b
+with_other link frame (carried.Igmp source body) b = b
+with_other link frame (carried.Mld source destination hop_limit alert body) b = b
+
+-- one packet more
+abbrev pub with_frame : Family → LinkType → (frame : List ℕ) → Carried → Option Datagram → Basis → Basis
+with_frame family link frame content (Some datagram) b = with_datagram family datagram (with_packet b)
+with_frame family link frame content None b = with_other link frame content (with_packet b)
+
+-- The role is lost, or had again.
+abbrev pub role_lost : (moment : ℕ) → Basis → Basis
+role_lost moment b = record b { is_querier = false; lost = counted_up b.lost; lost_at = moment }
+
+abbrev pub role_returned : (moment : ℕ) → Basis → Basis
+role_returned moment b = record b { is_querier = true; again_at = moment }
+
+abbrev pub role_changed : (moment : ℕ) → (was_querier is_querier : Bool) → Basis → Basis
+role_changed moment true true b = b
+role_changed moment true false b = role_lost moment b
+role_changed moment false true b = role_returned moment b
+role_changed moment false false b = b
+
+-- a tick takes the role from no router
+abbrev pub role_after_tick : (moment : ℕ) → (was_querier is_querier : Bool) → Basis → Basis
+role_after_tick moment true is_querier b = b
+role_after_tick moment false true b = role_returned moment b
+role_after_tick moment false false b = b
+
+-- the router that is querier in place of the one that is checked, if one is
+abbrev pub with_other_querier : Family → Role → Basis → Basis
+with_other_querier family (Querier due startup_queries) b = b
+with_other_querier family (Other address deadline) b = record b { other = named family address }
+
+-- the same of the code's answer
+abbrev pub with_other_named : {K : Type 0} → Family → (K → ℕ) → Option (OtherQuerier K) → Basis → Basis
+with_other_named family number None b = b
+with_other_named family number (Some querier) b = record b { other = named family (number querier.address) }
+
+-- every second packet or more is cut or wasn't looked into
+abbrev pub is_hardly_understood : Basis → Bool
+is_hardly_understood b = nat_lt 0 (b.cut + b.unread) && nat_le b.packets (2 * (b.cut + b.unread))
+
+-- Why a check judged nothing, if it didn't: too much of the capture wasn't understood; or it has no message of the family; or
+-- there is no query of the router that is checked, and none is missing.
+abbrev pub unjudged_by : Totals → Option Unjudged
+unjudged_by totals =
+    if is_hardly_understood totals.basis
+    then Some NotUnderstood
+    else if totals.basis.messages + totals.basis.malformed == 0
+    then Some NoMessage
+    else if totals.general + totals.specific + totals.findings == 0
+    then Some NoQuery
+    else None

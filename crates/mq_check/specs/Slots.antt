@@ -1,0 +1,76 @@
+-- The slots by which entries that wait are found. That of an entry is a number made of what it asks about, so that a search
+-- looks at few others; what is found doesn't depend on it.
+use Rattle.std.specs.Prelude.{◌≡◌, ℕ, ◌+◌, ◌*◌, ◌%◌, ◌<◌, ◌≤◌, List, [], ◌∷◌, length, slice_index, slice_index_or, Bool, true, false, Option, None, Some}
+use Rattle.byteorder.specs.Endian.{big_bytes}
+use Rattle.mq_check.specs.declared.asked.Asked.{Asked}
+use Rattle.mq_check.specs.declared.asked.Asked.TheVariants.{AllGroups, Group, Source}
+use Rattle.mq_check.specs.declared.entry.Entry.{Entry}
+use Rattle.mq_check.specs.declared.entry.Entry.TheVariants.{Wanted, Seen, Interval, Silence}
+use Rattle.mq_check.specs.declared.terms.Terms.{Terms}
+use Rattle.mq_check.specs.declared.waiting.Side.{Side}
+use Rattle.mq_check.specs.declared.waiting.Side.TheVariants.{OfWanted, OfSeen}
+use Rattle.mq_check.specs.Trails.{TrailsValue, Reaches}
+use Rattle.mq_check.specs.Waiting.{is_free}
+
+-- bytes mixed into a number, one after the other
+abbrev pub mixed : (n : ℕ) → (bytes : List ℕ) → ℕ
+mixed n [] = n
+mixed n (byte ∷ bytes) = mixed ((n * 257 + byte) % 65521) bytes
+
+abbrev pub number_of_side : Side → ℕ
+number_of_side OfWanted = 1
+number_of_side OfSeen = 2
+
+-- the slot of what asks about this, with addresses of so many bytes
+abbrev pub mixed_asked : (width n : ℕ) → Asked ℕ → ℕ
+mixed_asked width n AllGroups = n
+mixed_asked width n (Group group) = mixed n (big_bytes width group)
+mixed_asked width n (Source group source) = mixed (mixed n (big_bytes width group)) (big_bytes width source)
+
+unfoldable pub slot_of : (width : ℕ) → Side → Asked ℕ → ℕ
+slot_of width side asked = mixed_asked width (number_of_side side) asked
+
+-- the slot of an entry, which is that of no search where the entry finds no partner
+abbrev pub unused : ℕ
+unused = 65521
+
+abbrev pub slot_of_wanted : (width : ℕ) → Asked ℕ → (is_found : Bool) → ℕ
+slot_of_wanted width asked true = unused
+slot_of_wanted width asked false = slot_of width OfWanted asked
+
+abbrev pub slot_of_seen : (width : ℕ) → Asked ℕ → (partner : Option (Terms ℕ)) → ℕ
+slot_of_seen width asked (Some partner) = unused
+slot_of_seen width asked None = slot_of width OfSeen asked
+
+abbrev pub slot_in : (width : ℕ) → Entry ℕ → ℕ
+slot_in width (Wanted moment asked terms is_optional is_found) = slot_of_wanted width asked is_found
+slot_in width (Seen moment asked terms partner is_querier) = slot_of_seen width asked partner
+slot_in width (Interval moment after wanted) = unused
+slot_in width (Silence moment after wanted) = unused
+
+-- the entry at a place; beyond the last one that finds no partner
+abbrev pub entry_at : List (Entry ℕ) → (place : ℕ) → Entry ℕ
+entry_at entries place = slice_index_or entries place (Interval 0 0 0)
+
+-- each entry without a partner is in its slot, and a search there comes to it
+pub record AreMarked (width : ℕ) (entries : List (Entry ℕ)) (t : TrailsValue) : Type 0 where
+  pub long : length t.slots ≡ length entries
+  pub slot : (place : ℕ) (side : Side) (asked : Asked ℕ) → place < length entries → is_free side asked (entry_at entries place) ≡ true → slice_index t.slots place ≡ slot_of width side asked
+  pub reached : (place : ℕ) (side : Side) (asked : Asked ℕ) → place < length entries → is_free side asked (entry_at entries place) ≡ true → Reaches t place
+
+-- the slot and the moment of a query that is wanted
+abbrev pub wanted_slot : (width : ℕ) → Entry ℕ → ℕ
+wanted_slot width (Wanted moment asked terms is_optional is_found) = slot_of width OfWanted asked
+wanted_slot width (Seen moment asked terms partner is_querier) = unused
+wanted_slot width (Interval moment after wanted) = unused
+wanted_slot width (Silence moment after wanted) = unused
+
+abbrev pub wanted_moment : Entry ℕ → ℕ
+wanted_moment (Wanted moment asked terms is_optional is_found) = moment
+wanted_moment (Seen moment asked terms partner is_querier) = 0
+wanted_moment (Interval moment after wanted) = 0
+wanted_moment (Silence moment after wanted) = 0
+
+-- none of the queries of a slot is wanted later than at the moment that is kept for it
+pub record AreBounded (width : ℕ) (entries : List (Entry ℕ)) (latest : List ℕ) : Type 0 where
+  pub by : (place : ℕ) → place < length entries → wanted_moment (entry_at entries place) ≤ slice_index latest (wanted_slot width (entry_at entries place))

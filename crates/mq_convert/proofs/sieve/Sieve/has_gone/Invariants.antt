@@ -1,0 +1,10 @@
+-- it is none of those so far, come again
+use Rattle.std.proofs.Common.{◌≡◌, drop}
+use Rattle.std.specs.List.{list_any}
+use Rattle.mq_convert.specs.Frames.{framed}
+use Rattle.mq_convert.specs.Repeats.{is_again}
+use Rattle.mq_convert.proofs.sieve.Sieve.has_gone.Given as goal
+
+abbrev pub invariant-loop-place : goal.invariant-loop-place
+invariant-loop-place g l =
+    list_any (is_again l.moment (framed l.frame)) l.self.gone ≡ list_any (is_again l.moment (framed l.frame)) (drop l.place l.self.gone)

@@ -1,0 +1,46 @@
+use Rattle.std.proofs.Common.{ℕ, List, [], ◌∷◌, refl}
+use Rattle.mq_table.specs.declared.timers.FilterMode.TheVariants.{Include}
+use Rattle.mq_table.specs.Examples.{until}
+use Rattle.mq_wire.specs.Spelling.{fault_of}
+use Rattle.mq_sched.specs.Examples.{the_group}
+use Rattle.mq_link.specs.Receive.{read_of}
+use Rattle.mq_examples.specs.Links.{ListedLink, early, from, host, igmp, listed, octets, saying}
+use Rattle.mq_examples.proofs.KnownChanges.{Reports, record_leaves, record_names, tick_names}
+use Rattle.mq_examples.proofs.links.what_is_named.Goals as goal
+
+-- the Reports that allow and block a source, and the group that is held between them
+abbrev allowing : List ℕ
+allowing = octets 20 0x2200e5f90000000105000001e80101010a000001
+
+abbrev blocking : List ℕ
+blocking = octets 20 0x2200e4f90000000106000001e80101010a000001
+
+abbrev held : ListedLink
+held = early 1000 ((the_group, listed Include ((host 1, until 261000) ∷ [])) ∷ [])
+
+first : Reports igmp (from 1) allowing 1000 (early 0 []) the_group (saying the_group 5 (host 1 ∷ []))
+unfolding read_of fault_of
+first = record { read = refl; taken = refl; quiet = refl }
+
+again : Reports igmp (from 1) allowing 1500 held the_group (saying the_group 5 (host 1 ∷ []))
+unfolding read_of fault_of
+again = record { read = refl; taken = refl; quiet = refl }
+
+blocks : Reports igmp (from 1) blocking 2000 held the_group (saying the_group 6 (host 1 ∷ []))
+unfolding read_of fault_of
+blocks = record { read = refl; taken = refl; quiet = refl }
+
+pub returns-clause-joined : goal.returns-clause-joined
+returns-clause-joined c = record_names igmp (from 1) allowing 1000 (early 0 []) the_group (saying the_group 5 (host 1 ∷ [])) (host 1) first refl
+
+pub returns-clause-joined_again : goal.returns-clause-joined_again
+returns-clause-joined_again c = record_leaves igmp (from 1) allowing 1500 held the_group (saying the_group 5 (host 1 ∷ [])) again refl
+
+pub returns-clause-blocked : goal.returns-clause-blocked
+returns-clause-blocked c = record_leaves igmp (from 1) blocking 2000 held the_group (saying the_group 6 (host 1 ∷ [])) blocks refl
+
+pub returns-clause-gone : goal.returns-clause-gone
+returns-clause-gone c = tick_names _ _ _ _ (host 1) refl
+
+pub returns-clause-excluded : goal.returns-clause-excluded
+returns-clause-excluded c = tick_names _ _ _ _ (host 1) refl

@@ -1,0 +1,350 @@
+-- What is found in the course of a check whose queries pair up.
+use Rattle.std.proofs.Common.{◌≡◌, ℕ, ◌+◌, ◌≤◌, Bool, true, false, List, [], ◌∷◌, ◌++◌, refl, ap, sym, ◌∙◌, arith, subst, append_assoc}
+use Rattle.std.specs.Prelude.{Option, None, Some, fold, nat_le, if◌then◌else◌}
+use Rattle.mq_table.specs.declared.timing.Timing.{Timing}
+use Rattle.mq_check.specs.declared.asked.Asked.{Asked}
+use Rattle.mq_check.specs.declared.asked.Asked.TheVariants.{AllGroups}
+use Rattle.mq_check.specs.declared.entry.Entry.{Entry}
+use Rattle.mq_check.specs.declared.finding.Finding.{Finding}
+use Rattle.mq_check.specs.declared.phase.Phase.{Phase}
+use Rattle.mq_check.specs.declared.phase.Phase.TheVariants.{Starting, Heard, Returned, NotQuerier}
+use Rattle.mq_check.specs.declared.terms.Terms.{Terms}
+use Rattle.mq_check.specs.Checking.{CheckingValue, is_querier_in, with_wanted, with_seen, with_general, general_compared, general_seen, specific_seen, role_lost, role_returned, settled, told}
+use Rattle.mq_check.specs.Entries.{may_be_left_out, terms_differ}
+use Rattle.mq_check.specs.General.{wrong_interval, phase_again, phase_behind, silence_up_to}
+use Rattle.mq_check.specs.Queries.{is_same}
+use Rattle.mq_check.specs.Waiting.{WaitingValue}
+use Rattle.mq_laws.specs.Pairing.{Ask, Expected, Sent, LeftOut, ask_of, asks_of, missing_of}
+use Rattle.mq_laws.specs.Events.{CheckEvent, Comes, Wants, Sees, SeesGeneral, LosesRole, HasRoleAgain, moment_behind, check_by, told_by, moment_behind_all, check_by_all, told_by_all}
+use Rattle.mq_laws.specs.WantedAndSeen.{asks_at, wanted_in, seen_in, general_ask, general_returned, all_seen, all_wanted, return_seen, return_wanted, still_due, Returns}
+use Rattle.mq_laws.specs.OnTime.{AreInOrder, AreOnTime, IsAsWantedThen}
+use Rattle.mq_laws.specs.AsWanted.{AreMissed}
+use Rattle.mq_laws.proofs.Held.{ask, IsKept, ascending-to}
+use Rattle.mq_laws.proofs.Same.{same_asked}
+use Rattle.mq_laws.proofs.Steps.{Stands, Stepped, general_one, returns_of, see_one, want_one}
+use Rattle.mq_laws.proofs.Comings.{WantedFrom, SeenFrom, Waits, comes}
+use Rattle.mq_laws.proofs.Rooms.{wanted_part, seen_part, general_part, lost_part, required, told_now, settled_free, settled_full, compared_querier, compared_other, general_free, lost_free, returned_free, returned_part}
+
+-- What waits behind some steps, and the general queries among it.
+pub record StepsTo (within now : ℕ) (entries : List (Entry ℕ)) (before wanted : List Expected) (seen : List Ask) (returns : Returns) : Type 0 where
+  pub left : List Expected
+  pub stands : Stands within now entries left wanted seen
+  pub missing : missing_of before ≡ missing_of (left ++ wanted)
+  pub returns_are : returns_of AllGroups left entries ≡ returns
+
+abbrev pub general_returns : List Expected → List (Entry ℕ) → Returns
+general_returns free entries = returns_of AllGroups free entries
+
+-- one step, as far as general queries go
+stepped : (within now : ℕ) (asked : Asked ℕ) (step : (due early : List ℕ) → Returns) (old entries : List (Entry ℕ)) (free before wanted : List Expected) (seen : List Ask)
+    → Stepped within now asked step old entries free before wanted seen
+    → StepsTo within now entries before wanted seen
+    (if is_same AllGroups asked then step (general_returns free old).due (general_returns free old).early else general_returns free old)
+stepped within now asked step old entries free before wanted seen s = record {
+  left = s.left;
+  stands = s.stands;
+  missing = s.missing;
+  returns_are = elim (is_same AllGroups asked) as (λ b. is_same AllGroups asked ≡ b → returns_of AllGroups s.left entries ≡ (if is_same AllGroups asked then step (general_returns free old).due (general_returns free old).early else general_returns free old)) [
+    | true ↦ λ same.
+        let is : AllGroups ≡ asked = same_asked AllGroups asked same in
+        rw same (subst (λ (a : Asked ℕ). returns_of a s.left entries ≡ step (returns_of a free old).due (returns_of a free old).early) (sym is) s.here)
+    | false ↦ λ differs. rw differs (s.others AllGroups differs)
+  ] refl;
+}
+
+-- what is left to do behind some of what is wanted at a moment
+pub record WantedAll (within end now : ℕ) (c after : CheckingValue) (free before : List Expected) (seen : List Ask) (rest : List Ask) (returns : Returns) : Type 0 where
+  pub wanted : List Expected
+  pub step : StepsTo within now after.waiting.entries before wanted seen returns
+  pub asks : asks_of wanted ≡ rest
+  pub missed : AreMissed within end wanted
+  pub phase : after.phase ≡ c.phase
+  pub last : after.last_general ≡ c.last_general
+
+kept_of : (within end now : ℕ) (a : Asked ℕ) (terms : Terms ℕ) (entries : List (Entry ℕ)) (x : Expected) (xs : List Expected)
+    → ask_of x ≡ ask now a terms → AreMissed within end (x ∷ xs) → IsKept now a terms (may_be_left_out now a terms entries) x
+kept_of within end now a terms entries (Sent w) xs is missed = is
+kept_of within end now a terms entries (LeftOut w) xs is missed = (is, required now a terms entries (rw is at missed.0.has_to_be_sent))
+
+missed_behind : (within end : ℕ) (x : Expected) (xs : List Expected) → AreMissed within end (x ∷ xs) → AreMissed within end xs
+missed_behind within end (Sent w) xs missed = missed
+missed_behind within end (LeftOut w) xs missed = missed.1
+
+wants_free : (now : ℕ) (terms : Terms ℕ) (asked : List (Asked ℕ)) (c : CheckingValue) → (fold (with_wanted now terms) c asked).waiting.is_full ≡ false → c.waiting.is_full ≡ false
+wants_free now terms [] c free = free
+wants_free now terms (a ∷ more) c free = (wanted_part now terms c a (wants_free now terms more (with_wanted now terms c a) free)).was
+
+wants_all : (within end now : ℕ) (terms : Terms ℕ) (asked : List (Asked ℕ)) (c : CheckingValue) (free expected : List Expected) (seen : List Ask) (rest : List Ask)
+    → asks_of expected ≡ asks_at now terms asked ++ rest → AreMissed within end expected → (fold (with_wanted now terms) c asked).waiting.is_full ≡ false
+    → Stands within now c.waiting.entries free expected seen
+    → WantedAll within end now c (fold (with_wanted now terms) c asked) free (free ++ expected) seen rest (all_wanted now asked (general_returns free c.waiting.entries))
+wants_all within end now terms [] c free expected seen rest is missed room st =
+    record { wanted = expected; step = record { left = free; stands = st; missing = refl; returns_are = refl }; asks = is; missed = missed; phase = refl; last = refl }
+wants_all within end now terms (a ∷ more) c free [] seen rest is missed room st = absurd (cc)
+wants_all within end now terms (a ∷ more) c free (x ∷ xs) seen rest is missed room st =
+    let first : ask_of x ≡ ask now a terms = cc in
+    let others : asks_of xs ≡ asks_at now terms more ++ rest = cc in
+    let next = with_wanted now terms c a in
+    let part = wanted_part now terms c a (wants_free now terms more next room) in
+    let r = general_returns free c.waiting.entries in
+    let one : StepsTo within now next.waiting.entries (free ++ x ∷ xs) xs seen (if is_same AllGroups a then return_wanted now r.due r.early else r) =
+    rw part.entries (stepped within now a (return_wanted now) _ _ free (free ++ x ∷ xs) xs seen
+    (want_one within now a terms (may_be_left_out now a terms c.waiting.entries) x c.waiting.entries free xs seen (kept_of within end now a terms c.waiting.entries x xs first missed) st)) in
+    let all = wants_all within end now terms more next one.left xs seen rest others (missed_behind within end x xs missed) room one.stands in
+    record {
+      wanted = all.wanted;
+      step = record {
+        left = all.step.left;
+        stands = all.step.stands;
+        missing = one.missing ∙ all.step.missing;
+        returns_are = all.step.returns_are ∙ ap (all_wanted now more) one.returns_are;
+      };
+      asks = all.asks;
+      missed = all.missed;
+      phase = all.phase ∙ part.phase;
+      last = all.last ∙ part.last;
+    }
+
+-- all that a query asks about that was seen
+pub record SeenAll (within now : ℕ) (c after : CheckingValue) (free before wanted : List Expected) (rest : List Ask) (returns : Returns) : Type 0 where
+  pub step : StepsTo within now after.waiting.entries before wanted rest returns
+  pub phase : after.phase ≡ c.phase
+  pub last : after.last_general ≡ c.last_general
+
+sees_free : (now : ℕ) (terms : Terms ℕ) (asked : List (Asked ℕ)) (c : CheckingValue) → (fold (with_seen now terms) c asked).waiting.is_full ≡ false → c.waiting.is_full ≡ false
+sees_free now terms [] c free = free
+sees_free now terms (a ∷ more) c free = (seen_part now terms c a (sees_free now terms more (with_seen now terms c a) free)).was
+
+sees_all : (within now : ℕ) (terms : Terms ℕ) (asked : List (Asked ℕ)) (c : CheckingValue) (free wanted : List Expected) (rest : List Ask)
+    → (fold (with_seen now terms) c asked).waiting.is_full ≡ false
+    → Stands within now c.waiting.entries free wanted (asks_at now terms asked ++ rest)
+    → SeenAll within now c (fold (with_seen now terms) c asked) free (free ++ wanted) wanted rest (all_seen now asked (general_returns free c.waiting.entries))
+sees_all within now terms [] c free wanted rest room st = record { step = record { left = free; stands = st; missing = refl; returns_are = refl }; phase = refl; last = refl }
+sees_all within now terms (a ∷ more) c free wanted rest room st =
+    let next = with_seen now terms c a in
+    let part = seen_part now terms c a (sees_free now terms more next room) in
+    let r = general_returns free c.waiting.entries in
+    let one : StepsTo within now next.waiting.entries (free ++ wanted) wanted (asks_at now terms more ++ rest) (if is_same AllGroups a then return_seen now r.due r.early else r) =
+    rw part.entries (stepped within now a (return_seen now) _ _ free (free ++ wanted) wanted (asks_at now terms more ++ rest)
+    (see_one within now a terms (is_querier_in c.phase) c.waiting.entries free wanted (asks_at now terms more ++ rest) st)) in
+    let all = sees_all within now terms more next one.left wanted rest room one.stands in
+    record {
+      step = record {
+        left = all.step.left;
+        stands = all.step.stands;
+        missing = one.missing ∙ all.step.missing;
+        returns_are = all.step.returns_are ∙ ap (all_seen now more) one.returns_are;
+      };
+      phase = all.phase ∙ part.phase;
+      last = all.last ∙ part.last;
+    }
+
+-- where there is room at the end, there was at the beginning
+all_free : (within : ℕ) (timing : Timing) (now : ℕ) (events : List CheckEvent) (c : CheckingValue) → (check_by_all within timing now events c).waiting.is_full ≡ false → c.waiting.is_full ≡ false
+all_free within timing now [] c free = free
+all_free within timing now (Comes moment ∷ es) c free = sym (settled_full within moment c.waiting) ∙ all_free within timing moment es (settled within moment c) free
+all_free within timing now (Wants terms asked ∷ es) c free = wants_free now terms asked c (all_free within timing now es (fold (with_wanted now terms) c asked) free)
+all_free within timing now (Sees terms asked ∷ es) c free = sees_free now terms asked c (all_free within timing now es (specific_seen now terms asked c) free)
+all_free within timing now (SeesGeneral terms wanted ∷ es) c free = general_free within timing now terms wanted c (all_free within timing now es (general_seen within timing now terms wanted c) free)
+all_free within timing now (LosesRole ∷ es) c free = lost_free within timing now c (all_free within timing now es (role_lost within timing now c) free)
+all_free within timing now (HasRoleAgain ∷ es) c free = returned_free within now c (all_free within timing now es (role_returned within now c) free)
+
+-- What waits at the end, and that no less is missing than was told and is missing still.
+pub record Ended (within : ℕ) (timing : Timing) (end now : ℕ) (events : List CheckEvent) (c : CheckingValue) (missing : List (Finding ℕ)) : Type 0 where
+  pub left : List Expected
+  pub stands : Stands within (moment_behind_all now events) (check_by_all within timing now events c).waiting.entries left [] []
+  pub missing_is : missing ≡ told_by_all within timing now events c ++ missing_of (left ++ [])
+  pub silence : silence_up_to within timing end (check_by_all within timing now events c).phase ≡ None
+  pub in_time : moment_behind_all now events ≤ end
+
+-- what is still to come lies at a moment or later
+asks-from : (now : ℕ) (terms : Terms ℕ) (asked : List (Asked ℕ)) (rest : List Ask) → SeenFrom now rest → SeenFrom now (asks_at now terms asked ++ rest)
+asks-from now terms [] rest is = is
+asks-from now terms (a ∷ more) rest is = (omega arith, asks-from now terms more rest is)
+
+later-from : (now moment : ℕ) (asks : List Ask) → now ≤ moment → SeenFrom moment asks → SeenFrom now asks
+later-from now moment [] before is = is
+later-from now moment (a ∷ more) before is = (omega (arith, is.0), later-from now moment more before is.1)
+
+wanted-from : (now : ℕ) (events : List CheckEvent) (end : ℕ) → AreInOrder now events end → SeenFrom now (wanted_in now events)
+wanted-from now [] end order = tt
+wanted-from now (Comes moment ∷ es) end order = later-from now moment (wanted_in moment es) order.0 (wanted-from moment es end order.1)
+wanted-from now (Wants terms asked ∷ es) end order = asks-from now terms asked (wanted_in now es) (wanted-from now es end order)
+wanted-from now (Sees terms asked ∷ es) end order = wanted-from now es end order
+wanted-from now (SeesGeneral terms wanted ∷ es) end order = wanted-from now es end order
+wanted-from now (LosesRole ∷ es) end order = wanted-from now es end order
+wanted-from now (HasRoleAgain ∷ es) end order = wanted-from now es end order
+
+general-from : (is_querier : Bool) (due : List ℕ) (now : ℕ) (terms : Terms ℕ) (rest : List Ask) → SeenFrom now rest → SeenFrom now (general_ask is_querier due now terms ++ rest)
+general-from true [] now terms rest is = is
+general-from true (d ∷ due) now terms rest is = (omega arith, is)
+general-from false due now terms rest is = (omega arith, is)
+
+seen-from : (within : ℕ) (is_querier : Bool) (r : Returns) (now : ℕ) (events : List CheckEvent) (end : ℕ) → AreInOrder now events end → SeenFrom now (seen_in within is_querier r now events)
+seen-from within q r now [] end order = tt
+seen-from within q r now (Comes moment ∷ es) end order = later-from now moment _ order.0 (seen-from within q (record r { due = still_due within moment r.due }) moment es end order.1)
+seen-from within q r now (Wants terms asked ∷ es) end order = seen-from within q (all_wanted now asked r) now es end order
+seen-from within q r now (Sees terms asked ∷ es) end order = asks-from now terms asked _ (seen-from within q (all_seen now asked r) now es end order)
+seen-from within q r now (SeesGeneral terms wanted ∷ es) end order = general-from q r.due now terms _ (seen-from within q (general_returned q now r.due r.early) now es end order)
+seen-from within q r now (LosesRole ∷ es) end order = seen-from within false r now es end order
+seen-from within q r now (HasRoleAgain ∷ es) end order = seen-from within true r now es end order
+
+expected-from : (now : ℕ) (expected : List Expected) (asks : List Ask) → asks_of expected ≡ asks → SeenFrom now asks → WantedFrom now expected
+expected-from now [] asks is from = tt
+expected-from now (x ∷ xs) [] is from = absurd (cc)
+expected-from now (x ∷ xs) (a ∷ more) is from =
+    let first : ask_of x ≡ a = cc in
+    let others : asks_of xs ≡ more = cc in
+    (rw first from.0, expected-from now xs more others from.1)
+
+-- the phase behind a general query
+querier_behind : (within : ℕ) (timing : Timing) (now : ℕ) (phase : Phase) → is_querier_in (phase_behind within timing now phase) ≡ is_querier_in phase
+querier_behind within timing now (Starting startup) = refl
+querier_behind within timing now (Heard before startup) = refl
+querier_behind within timing now Returned = refl
+querier_behind within timing now NotQuerier = refl
+
+querier_again : (within now : ℕ) (last : Option ℕ) → is_querier_in (phase_again within now last) ≡ true
+querier_again within now None = refl
+querier_again within now (Some last) = elim (nat_le now (last + within)) as (λ b. nat_le now (last + within) ≡ b → is_querier_in (phase_again within now (Some last)) ≡ true) [
+  | true ↦ λ is. rw is refl
+  | false ↦ λ is. rw is refl
+] refl
+
+no_phase_behind : (within : ℕ) (timing : Timing) (now : ℕ) (phase : Phase) → is_querier_in phase ≡ false → phase_behind within timing now phase ≡ phase
+no_phase_behind within timing now (Starting startup) is = absurd (cc)
+no_phase_behind within timing now (Heard before startup) is = absurd (cc)
+no_phase_behind within timing now Returned is = absurd (cc)
+no_phase_behind within timing now NotQuerier is = refl
+
+-- a general query that was seen
+pub record GeneralAll (within : ℕ) (timing : Timing) (now : ℕ) (c after : CheckingValue) (free before wanted : List Expected) (rest : List Ask) (returns : Returns) : Type 0 where
+  pub step : StepsTo within now after.waiting.entries before wanted rest returns
+  pub phase : after.phase ≡ phase_behind within timing now c.phase
+
+-- one step about all groups
+general_step : (within now : ℕ) (step : (due early : List ℕ) → Returns) (old entries : List (Entry ℕ)) (free before wanted : List Expected) (seen : List Ask)
+    → Stepped within now AllGroups step old entries free before wanted seen
+    → StepsTo within now entries before wanted seen (step (general_returns free old).due (general_returns free old).early)
+general_step within now step old entries free before wanted seen s = record { left = s.left; stands = s.stands; missing = s.missing; returns_are = s.here }
+
+general_all : (within : ℕ) (timing : Timing) (now : ℕ) (terms partner : Terms ℕ) (c : CheckingValue) (free wanted : List Expected) (rest : List Ask)
+    → wrong_interval within timing now c.phase ≡ None → IsAsWantedThen (is_querier_in c.phase) terms partner
+    → (general_compared within timing now terms partner c).waiting.is_full ≡ false
+    → (let r = general_returns free c.waiting.entries in
+    Stands within now c.waiting.entries free wanted (general_ask (is_querier_in c.phase) r.due now terms ++ rest)
+    → GeneralAll within timing now c (general_compared within timing now terms partner c) free (free ++ wanted) wanted rest (general_returned (is_querier_in c.phase) now r.due r.early))
+general_all within timing now terms partner c free wanted rest in_time alike room st =
+    let r = general_returns free c.waiting.entries in
+    elim (is_querier_in c.phase) as (λ b. is_querier_in c.phase ≡ b → GeneralAll within timing now c (general_compared within timing now terms partner c) free (free ++ wanted) wanted rest (general_returned b now r.due r.early)) [
+      | true ↦ λ is.
+          let same = compared_querier within timing now terms partner c is in
+          let part = general_part within timing now terms partner c in_time (ap (λ (d : CheckingValue). d.waiting.is_full) (sym same) ∙ room) in
+          let before : Stands within now c.waiting.entries free wanted (general_ask true r.due now terms ++ rest) = subst (λ (b : Bool). Stands within now c.waiting.entries free wanted (general_ask b r.due now terms ++ rest)) is st in
+          let fits : terms_differ terms partner ≡ [] = subst (λ (b : Bool). IsAsWantedThen b terms partner) is alike in
+          let one : StepsTo within now (with_general within timing now terms partner c).waiting.entries (free ++ wanted) wanted rest (general_returned true now r.due r.early) =
+          rw part.entries (general_step within now (general_returned true now) _ _ free (free ++ wanted) wanted rest (general_one within now terms partner c.waiting.entries free wanted rest fits before)) in
+          rw same (record { step = one; phase = part.phase })
+      | false ↦ λ is.
+          let same = compared_other within timing now terms partner c is in
+          let part = seen_part now terms c AllGroups (ap (λ (d : CheckingValue). d.waiting.is_full) (sym same) ∙ room) in
+          let before : Stands within now c.waiting.entries free wanted (ask now AllGroups terms ∷ rest) = subst (λ (b : Bool). Stands within now c.waiting.entries free wanted (general_ask b r.due now terms ++ rest)) is st in
+          let one : StepsTo within now (with_seen now terms c AllGroups).waiting.entries (free ++ wanted) wanted rest (general_returned false now r.due r.early) =
+          rw part.entries (general_step within now (return_seen now) _ _ free (free ++ wanted) wanted rest (see_one within now AllGroups terms (is_querier_in c.phase) c.waiting.entries free wanted rest before)) in
+          rw same (record { step = one; phase = part.phase ∙ sym (no_phase_behind within timing now c.phase is) })
+    ] refl
+
+-- one more event before others
+ended_behind : (within : ℕ) (timing : Timing) (end now : ℕ) (e : CheckEvent) (es : List CheckEvent) (c : CheckingValue) (before after : List (Finding ℕ))
+    → before ≡ told_by within e c ++ after → Ended within timing end (moment_behind now e) es (check_by within timing now e c) after → Ended within timing end now (e ∷ es) c before
+ended_behind within timing end now e es c before after told rest = record {
+  left = rest.left;
+  stands = rest.stands;
+  missing_is = told ∙ ap (λ (l : List (Finding ℕ)). told_by within e c ++ l) rest.missing_is ∙ sym (append_assoc (told_by within e c) _ _);
+  silence = rest.silence;
+  in_time = rest.in_time;
+}
+
+-- What waits, whatever is known of the queries to come by other names.
+seen_as : (within now : ℕ) (entries : List (Entry ℕ)) (free wanted : List Expected) (q q' : Bool) (r r' : Returns) (events : List CheckEvent) → q' ≡ q → r' ≡ r
+    → Stands within now entries free wanted (seen_in within q r now events) → Stands within now entries free wanted (seen_in within q' r' now events)
+seen_as within now entries free wanted q q' r r' events same is st =
+    subst (λ (b : Bool). Stands within now entries free wanted (seen_in within b r' now events)) (sym same) (subst (λ (x : Returns). Stands within now entries free wanted (seen_in within q x now events)) (sym is) st)
+
+time_as : (within : ℕ) (timing : Timing) (phase phase' : Phase) (last last' : Option ℕ) (now : ℕ) (events : List CheckEvent) (end : ℕ) → phase' ≡ phase → last' ≡ last → AreOnTime within timing phase last now events end
+    → AreOnTime within timing phase' last' now events end
+time_as within timing phase phase' last last' now events end same is time =
+    subst (λ (p : Phase). AreOnTime within timing p last' now events end) (sym same) (subst (λ (l : Option ℕ). AreOnTime within timing phase l now events end) (sym is) time)
+
+-- What is wanted and what was seen are told at the end, or are pairs.
+pub course : (within : ℕ) (timing : Timing) (end now : ℕ) (events : List CheckEvent) (c : CheckingValue) (free expected : List Expected)
+    → asks_of expected ≡ wanted_in now events → AreMissed within end expected → AreInOrder now events end
+    → AreOnTime within timing c.phase c.last_general now events end → (check_by_all within timing now events c).waiting.is_full ≡ false
+    → Stands within now c.waiting.entries free expected (seen_in within (is_querier_in c.phase) (general_returns free c.waiting.entries) now events)
+    → Ended within timing end now events c (missing_of (free ++ expected))
+course within timing end now [] c free [] asks missed order general room st = record { left = free; stands = st; missing_is = refl; silence = general; in_time = order }
+course within timing end now [] c free (x ∷ xs) asks missed order general room st = absurd (cc)
+course within timing end now (Comes moment ∷ es) c free expected asks missed order general room st =
+    let next = settled within moment c in
+    let before = all_free within timing now (Comes moment ∷ es) c room in
+    let r = general_returns free c.waiting.entries in
+    let still : Returns = record r { due = still_due within moment r.due } in
+    let q = is_querier_in c.phase in
+    let waits : Waits within 0 moment c.waiting.entries free expected (seen_in within q still moment es) = record {
+      holds = st.holds;
+      ascending = ascending-to 0 c.waiting.entries now moment order.0 st.ascending;
+      one_side = st.one_side;
+      pairs = st.pairs;
+    } in
+    let come = comes within 0 moment c.changed c.waiting.entries free expected (seen_in within q still moment es)
+    (expected-from moment expected (wanted_in moment es) asks (wanted-from moment es end order.1)) (seen-from within q still moment es end order.1) waits in
+    let stands : Stands within moment next.waiting.entries come.left expected (seen_in within q still moment es) = rw (settled_free within moment c.waiting before) come.stands in
+    let returns : general_returns come.left next.waiting.entries ≡ still =
+    ap (general_returns come.left) (settled_free within moment c.waiting before) ∙ come.returns AllGroups in
+    ended_behind within timing end now (Comes moment) es c (missing_of (free ++ expected)) (missing_of (come.left ++ expected))
+    (come.missing ∙ ap (λ (l : List (Finding ℕ)). l ++ missing_of (come.left ++ expected)) (sym (told_now within moment c before)))
+    (course within timing end moment es next come.left expected asks missed order.1 general room
+    (seen_as within moment next.waiting.entries come.left expected q q still _ es refl returns stands))
+course within timing end now (Wants terms asked ∷ es) c free expected asks missed order general room st =
+    let next = fold (with_wanted now terms) c asked in
+    let r = general_returns free c.waiting.entries in
+    let all = wants_all within end now terms asked c free expected (seen_in within (is_querier_in c.phase) (all_wanted now asked r) now es) (wanted_in now es) asks missed (all_free within timing now es next room) st in
+    ended_behind within timing end now (Wants terms asked) es c (missing_of (free ++ expected)) (missing_of (all.step.left ++ all.wanted)) all.step.missing
+    (course within timing end now es next all.step.left all.wanted all.asks all.missed order
+    (time_as within timing c.phase next.phase c.last_general next.last_general now es end all.phase all.last general) room
+    (seen_as within now next.waiting.entries all.step.left all.wanted (is_querier_in c.phase) _ (all_wanted now asked r) _ es (ap is_querier_in all.phase) all.step.returns_are all.step.stands))
+course within timing end now (Sees terms asked ∷ es) c free expected asks missed order general room st =
+    let next = specific_seen now terms asked c in
+    let r = general_returns free c.waiting.entries in
+    let all = sees_all within now terms asked c free expected (seen_in within (is_querier_in c.phase) (all_seen now asked r) now es) (all_free within timing now es next room) st in
+    ended_behind within timing end now (Sees terms asked) es c (missing_of (free ++ expected)) (missing_of (all.step.left ++ expected)) all.step.missing
+    (course within timing end now es next all.step.left expected asks missed order
+    (time_as within timing c.phase next.phase c.last_general next.last_general now es end all.phase all.last general) room
+    (seen_as within now next.waiting.entries all.step.left expected (is_querier_in c.phase) _ (all_seen now asked r) _ es (ap is_querier_in all.phase) all.step.returns_are all.step.stands))
+course within timing end now (SeesGeneral terms partner ∷ es) c free expected asks missed order general room st =
+    let next = general_seen within timing now terms partner c in
+    let r = general_returns free c.waiting.entries in
+    let q = is_querier_in c.phase in
+    let all = general_all within timing now terms partner c free expected (seen_in within q (general_returned q now r.due r.early) now es) general.0 general.1 (all_free within timing now es next room) st in
+    ended_behind within timing end now (SeesGeneral terms partner) es c (missing_of (free ++ expected)) (missing_of (all.step.left ++ expected)) all.step.missing
+    (course within timing end now es next all.step.left expected asks missed order
+    (time_as within timing _ next.phase _ next.last_general now es end all.phase refl general.2) room
+    (seen_as within now next.waiting.entries all.step.left expected q _ (general_returned q now r.due r.early) _ es (ap is_querier_in all.phase ∙ querier_behind within timing now c.phase) all.step.returns_are all.step.stands))
+course within timing end now (LosesRole ∷ es) c free expected asks missed order general room st =
+    let next = role_lost within timing now c in
+    let part = lost_part within timing now c general.0 in
+    let r = general_returns free c.waiting.entries in
+    let entries = ap (λ (w : WaitingValue). w.entries) part.waiting in
+    ended_behind within timing end now LosesRole es c (missing_of (free ++ expected)) (missing_of (free ++ expected)) refl
+    (course within timing end now es next free expected asks missed order
+    (time_as within timing NotQuerier next.phase c.last_general next.last_general now es end part.phase part.last general.1) room
+    (seen_as within now next.waiting.entries free expected false _ r _ es (ap is_querier_in part.phase) (ap (general_returns free) entries) (rw entries st)))
+course within timing end now (HasRoleAgain ∷ es) c free expected asks missed order general room st =
+    let next = role_returned within now c in
+    let part = returned_part within now c in
+    let r = general_returns free c.waiting.entries in
+    let entries = ap (λ (w : WaitingValue). w.entries) part.waiting in
+    ended_behind within timing end now HasRoleAgain es c (missing_of (free ++ expected)) (missing_of (free ++ expected)) refl
+    (course within timing end now es next free expected asks missed order
+    (time_as within timing (phase_again within now c.last_general) next.phase c.last_general next.last_general now es end part.phase part.last general) room
+    (seen_as within now next.waiting.entries free expected true _ r _ es (ap is_querier_in part.phase ∙ querier_again within now c.last_general) (ap (general_returns free) entries) (rw entries st)))

@@ -1,0 +1,211 @@
+-- A check of a capture comes to what happens in it.
+use Rattle.std.proofs.Common.{◌≡◌, ℕ, zero, suc, ◌+◌, ◌<◌, ◌≤◌, Bool, true, false, not, ◌&&◌, List, [], ◌∷◌, ◌++◌, refl, ap, sym, ◌∙◌, subst, append_assoc, append-nil}
+use Rattle.std.specs.Prelude.{Option, None, Some, nat_lt}
+use Rattle.std.proofs.lemmas.Bool.{ltb-true, ltb-false, lt-ltb, le-ltb}
+use Rattle.mq_pcap.specs.declared.link_type.LinkType.{LinkType}
+use Rattle.mq_pcap.specs.Frame.{carried_in}
+use Rattle.mq_wire.specs.declared.query.Query.{Query}
+use Rattle.mq_wire.specs.Family.{Family}
+use Rattle.mq_table.specs.declared.timing.Timing.{Timing}
+use Rattle.mq_sched.specs.Election.{is_querier}
+use Rattle.mq_link.specs.Configuration.{Configuration}
+use Rattle.mq_link.specs.Receive.{receipt_of}
+use Rattle.mq_link.specs.Sent.{Outgoing, outgoing_of}
+use Rattle.mq_link.specs.State.{LinkState}
+use Rattle.mq_link.specs.Tick.{tick_of, next_of}
+use Rattle.mq_replay.specs.Report.{Datagram, datagram_of}
+use Rattle.mq_check.specs.declared.finding.Finding.{Finding}
+use Rattle.mq_check.specs.Check.{Checked, Outcome, behind, quiet, settled_at, ticked, ticked_within, ticked_through, received, seen_at, seen_or_received, with_datagram, with_packet, destination_in, noted}
+use Rattle.mq_check.specs.Checking.{CheckingValue, told, settled, with_message, with_messages, query_wanted, role_after_tick, role_changed, query_came}
+use Rattle.mq_check.specs.Queries.{is_general, query_sent, query_seen}
+use Rattle.mq_check.proofs.Steppings.{none_within, one_within}
+use Rattle.mq_laws.specs.Captures.{Passage, nothing_happens, happening_behind, wanted_for, wanted_of, wanted_by, role_by_tick, role_by_datagram, tick_passage, ticks_passage, ticks_through, event_of, datagram_passage, frame_passage, packet_passage}
+use Rattle.mq_laws.specs.Events.{CheckEvent, Comes, moment_behind, check_by, told_by, moment_behind_all, check_by_all, told_by_all}
+
+-- events one after the other
+check_by-append : (within : ℕ) (timing : Timing) (now : ℕ) (xs ys : List CheckEvent) (c : CheckingValue)
+    → check_by_all within timing now (xs ++ ys) c ≡ check_by_all within timing (moment_behind_all now xs) ys (check_by_all within timing now xs c)
+check_by-append within timing now [] ys c = refl
+check_by-append within timing now (x ∷ xs) ys c = check_by-append within timing (moment_behind now x) xs ys (check_by within timing now x c)
+
+told_by-append : (within : ℕ) (timing : Timing) (now : ℕ) (xs ys : List CheckEvent) (c : CheckingValue)
+    → told_by_all within timing now (xs ++ ys) c ≡ told_by_all within timing now xs c ++ told_by_all within timing (moment_behind_all now xs) ys (check_by_all within timing now xs c)
+told_by-append within timing now [] ys c = refl
+told_by-append within timing now (x ∷ xs) ys c =
+    ap (λ (l : List (Finding ℕ)). told_by within x c ++ l) (told_by-append within timing (moment_behind now x) xs ys (check_by within timing now x c))
+    ∙ sym (append_assoc (told_by within x c) (told_by_all within timing (moment_behind now x) xs (check_by within timing now x c)) _)
+
+-- What happens at one moment makes this of a check, and nothing is told by it.
+record IsStill (within : ℕ) (timing : Timing) (now : ℕ) (events : List CheckEvent) (c after : CheckingValue) : Type 0 where
+  check : check_by_all within timing now events c ≡ after
+  told : told_by_all within timing now events c ≡ []
+  moment : moment_behind_all now events ≡ now
+
+moment_behind-append : (now : ℕ) (xs ys : List CheckEvent) → moment_behind_all now (xs ++ ys) ≡ moment_behind_all (moment_behind_all now xs) ys
+moment_behind-append now [] ys = refl
+moment_behind-append now (x ∷ xs) ys = moment_behind-append (moment_behind now x) xs ys
+
+still-append : (within : ℕ) (timing : Timing) (now : ℕ) (xs ys : List CheckEvent) (c d e : CheckingValue)
+    → IsStill within timing now xs c d → IsStill within timing now ys d e → IsStill within timing now (xs ++ ys) c e
+still-append within timing now xs ys c d e first second = record {
+  check = check_by-append within timing now xs ys c ∙ (λ i. check_by_all within timing (first.moment i) ys (first.check i)) ∙ second.check;
+  told = told_by-append within timing now xs ys c ∙ (λ i. first.told i ++ told_by_all within timing (first.moment i) ys (first.check i)) ∙ second.told;
+  moment = moment_behind-append now xs ys ∙ ap (λ (m : ℕ). moment_behind_all m ys) first.moment ∙ second.moment;
+}
+
+-- a query that the link sends
+still-wanted : (within : ℕ) (timing : Timing) (now : ℕ) (family : Family) (is_returning : Bool) (to : ℕ) (query : Option (Query ℕ)) (c : CheckingValue)
+    → IsStill within timing now (wanted_for family is_returning to query) c (query_wanted family now is_returning to query c)
+still-wanted within timing now family is_returning to None c = record { check = refl; told = refl; moment = refl }
+still-wanted within timing now family is_returning to (Some query) c =
+    elim (is_general query && not is_returning) as (λ b.
+    (is_general query && not is_returning) ≡ b → IsStill within timing now (wanted_for family is_returning to (Some query)) c (query_wanted family now is_returning to (Some query) c)) [
+      | true ↦ λ is. rw is (record { check = refl; told = refl; moment = refl })
+      | false ↦ λ is. rw is (record { check = refl; told = refl; moment = refl })
+    ] refl
+
+still-messages : (within : ℕ) (config : Configuration) (now : ℕ) (is_returning : Bool) (messages : List Outgoing) (c : CheckingValue)
+    → IsStill within config.timing now (wanted_of config is_returning messages) c (with_messages config.family config.own now is_returning messages c)
+unfolding with_message
+still-messages within config now is_returning [] c = record { check = refl; told = refl; moment = refl }
+still-messages within config now is_returning (message ∷ messages) c =
+    let query = query_sent config.family config.own message in
+    still-append within config.timing now (wanted_for config.family is_returning message.to query) (wanted_of config is_returning messages) c
+    (with_message config.family config.own now is_returning c message) _
+    (still-wanted within config.timing now config.family is_returning message.to query c)
+    (still-messages within config now is_returning messages (with_message config.family config.own now is_returning c message))
+
+-- the role
+still-tick : (within : ℕ) (timing : Timing) (now : ℕ) (was is : Bool) (c : CheckingValue) → IsStill within timing now (role_by_tick was is) c (role_after_tick within now was is c)
+still-tick within timing now true is c = record { check = refl; told = refl; moment = refl }
+still-tick within timing now false true c = record { check = refl; told = refl; moment = refl }
+still-tick within timing now false false c = record { check = refl; told = refl; moment = refl }
+
+still-datagram : (within : ℕ) (timing : Timing) (now : ℕ) (was is : Bool) (c : CheckingValue) → IsStill within timing now (role_by_datagram was is) c (role_changed within timing now was is c)
+still-datagram within timing now true true c = record { check = refl; told = refl; moment = refl }
+still-datagram within timing now true false c = record { check = refl; told = refl; moment = refl }
+still-datagram within timing now false true c = record { check = refl; told = refl; moment = refl }
+still-datagram within timing now false false c = record { check = refl; told = refl; moment = refl }
+
+-- A check behind a passage: whatever moment came before.
+pub record Follows (within : ℕ) (timing : Timing) (p : Passage) (r : Checked) (o : Outcome) : Type 0 where
+  pub link : o.checked.link ≡ p.link
+  pub checking : (now : ℕ) → o.checked.checking ≡ check_by_all within timing now p.events r.checking
+  pub found : (now : ℕ) → o.found ≡ told_by_all within timing now p.events r.checking
+
+-- a moment comes, and then what happens at it
+follows-still : (within : ℕ) (timing : Timing) (moment : ℕ) (link : LinkState) (events : List CheckEvent) (r after : Checked)
+    → after.link ≡ link → IsStill within timing moment events (settled within moment r.checking) after.checking
+    → Follows within timing (record { link = link; events = Comes moment ∷ events }) r (record { checked = after; found = told within moment r.checking })
+follows-still within timing moment link events r after is still = record {
+  link = is;
+  checking = λ now. sym still.check;
+  found = λ now. sym (ap (λ (l : List (Finding ℕ)). told within moment r.checking ++ l) still.told ∙ append-nil (told within moment r.checking));
+}
+
+-- one passage behind another
+pub follows-behind : (within : ℕ) (timing : Timing) (p q : Passage) (r : Checked) (o u : Outcome) → Follows within timing p r o → Follows within timing q o.checked u
+    → Follows within timing (happening_behind p.events q) r (behind o.found u)
+follows-behind within timing p q r o u first second = record {
+  link = second.link;
+  checking = λ now.
+      second.checking (moment_behind_all now p.events) ∙ ap (λ (c : CheckingValue). check_by_all within timing (moment_behind_all now p.events) q.events c) (first.checking now)
+      ∙ sym (check_by-append within timing now p.events q.events r.checking);
+  found = λ now.
+      (λ i. first.found now i ++ (second.found (moment_behind_all now p.events) ∙ ap (λ (c : CheckingValue). told_by_all within timing (moment_behind_all now p.events) q.events c) (first.checking now)) i)
+      ∙ sym (told_by-append within timing now p.events q.events r.checking);
+}
+
+pub follows-nothing : (within : ℕ) (timing : Timing) (r : Checked) → Follows within timing (nothing_happens r.link) r (quiet r)
+follows-nothing within timing r = record { link = refl; checking = λ now. refl; found = λ now. refl }
+
+-- a tick
+follows-tick : (config : Configuration) (within moment : ℕ) (r : Checked)
+    → Follows within config.timing (tick_passage config moment r.link) r (record { checked = ticked config within moment (settled_at within moment r); found = told within moment r.checking })
+unfolding ticked
+follows-tick config within moment r =
+    let step = tick_of config moment r.link in
+    let was = is_querier r.link.election.role in
+    let c = settled within moment r.checking in
+    let wanted = with_messages config.family config.own moment (not was) (outgoing_of config step) c in
+    follows-still within config.timing moment _ (wanted_by config r.link step ++ role_by_tick was (is_querier step.state.election.role)) r (ticked config within moment (settled_at within moment r)) refl
+    (still-append within config.timing moment (wanted_by config r.link step) (role_by_tick was (is_querier step.state.election.role)) c wanted _
+    (still-messages within config moment (not was) (outgoing_of config step) c) (still-tick within config.timing moment was (is_querier step.state.election.role) wanted))
+
+-- ticks up to a limit
+pub none_passes : (most : ℕ) (config : Configuration) (limit : ℕ) (link : LinkState) → limit ≤ next_of link → ticks_passage most config limit link ≡ nothing_happens link
+unfolding ticks_passage
+none_passes zero config limit link reached = refl
+none_passes (suc most) config limit link reached = rw (le-ltb (next_of link) limit reached, ticks_passage) refl
+
+pub one_passes : (most : ℕ) (config : Configuration) (limit : ℕ) (link : LinkState) → next_of link < limit
+    → ticks_passage (suc most) config limit link ≡ happening_behind (tick_passage config (next_of link) link).events (ticks_passage most config limit (tick_passage config (next_of link) link).link)
+unfolding ticks_passage
+one_passes most config limit link due = rw (lt-ltb (next_of link) limit due, ticks_passage) refl
+
+follows-as : (within : ℕ) (timing : Timing) (p q : Passage) (r : Checked) (o u : Outcome) → p ≡ q → o ≡ u → Follows within timing q r u → Follows within timing p r o
+follows-as within timing p q r o u same is follows = rw (same, is) follows
+
+pub follows-ticks : (most : ℕ) (config : Configuration) (within limit : ℕ) (r : Checked) → Follows within config.timing (ticks_passage most config limit r.link) r (ticked_within most config within limit r)
+unfolding ticks_passage ticked_within
+follows-ticks zero config within limit r = follows-nothing within config.timing r
+follows-ticks (suc most) config within limit r =
+    elim (nat_lt (next_of r.link) limit) as (λ b. nat_lt (next_of r.link) limit ≡ b → Follows within config.timing (ticks_passage (suc most) config limit r.link) r (ticked_within (suc most) config within limit r)) [
+      | true ↦ λ due.
+          let before = ltb-true (next_of r.link) limit due in
+          let one = follows-tick config within (next_of r.link) r in
+          let next = ticked config within (next_of r.link) (settled_at within (next_of r.link) r) in
+          follows-as within config.timing _ _ r _ _ (one_passes most config limit r.link before) (one_within most config within limit r before)
+          (follows-behind within config.timing (tick_passage config (next_of r.link) r.link) _ r _ _ one
+          (subst (λ (l : LinkState). Follows within config.timing (ticks_passage most config limit l) next (ticked_within most config within limit next)) one.link
+          (follows-ticks most config within limit next)))
+      | false ↦ λ reached.
+          let beyond = ltb-false (next_of r.link) limit reached in
+          follows-as within config.timing _ _ r _ _ (none_passes (suc most) config limit r.link beyond) (none_within (suc most) config within limit r beyond) (follows-nothing within config.timing r)
+    ] refl
+
+-- a query that was seen
+still-came : (within : ℕ) (config : Configuration) (in_force : Timing) (moment to : ℕ) (query : Query ℕ) (c : CheckingValue)
+    → IsStill within config.timing moment (event_of config in_force to query ∷ []) c (query_came within config in_force moment to query c)
+unfolding query_came
+still-came within config in_force moment to query c =
+    elim (is_general query) as (λ b. is_general query ≡ b → IsStill within config.timing moment (event_of config in_force to query ∷ []) c (query_came within config in_force moment to query c)) [
+      | true ↦ λ is. rw is (record { check = refl; told = refl; moment = refl })
+      | false ↦ λ is. rw is (record { check = refl; told = refl; moment = refl })
+    ] refl
+
+-- any other datagram, or a query of the querier
+follows-datagram : (config : Configuration) (within moment to : ℕ) (datagram : Datagram) (query : Option (Query ℕ)) (r : Checked)
+    → Follows within config.timing (datagram_passage config moment to datagram query r.link) r
+    (record { checked = seen_or_received config within moment to datagram query (settled_at within moment r); found = told within moment r.checking })
+unfolding received seen_at
+follows-datagram config within moment to datagram (Some query) r =
+    follows-still within config.timing moment r.link (event_of config r.link.election.timing to query ∷ []) r (seen_at config within moment to query (settled_at within moment r)) refl
+    (still-came within config r.link.election.timing moment to query (settled within moment r.checking))
+follows-datagram config within moment to datagram None r =
+    let step = (receipt_of config datagram.envelope datagram.body moment r.link).step in
+    let was = is_querier r.link.election.role in
+    let c = settled within moment r.checking in
+    let wanted = with_messages config.family config.own moment (not was) (outgoing_of config step) c in
+    follows-still within config.timing moment _ (wanted_by config r.link step ++ role_by_datagram was (is_querier step.state.election.role)) r (received config within moment datagram (settled_at within moment r)) refl
+    (still-append within config.timing moment (wanted_by config r.link step) (role_by_datagram was (is_querier step.state.election.role)) c wanted _
+    (still-messages within config moment (not was) (outgoing_of config step) c) (still-datagram within config.timing moment was (is_querier step.state.election.role) wanted))
+
+follows-frame : (config : Configuration) (link : LinkType) (within moment : ℕ) (frame : List ℕ) (datagram : Option Datagram) (r : Checked)
+    → Follows within config.timing (frame_passage config link moment frame datagram r.link) r (with_datagram config link within moment frame datagram r)
+follows-frame config link within moment frame None r = follows-nothing within config.timing r
+follows-frame config link within moment frame (Some datagram) r =
+    follows-datagram config within moment (destination_in config.family link frame datagram.envelope) datagram (query_seen config datagram) r
+
+pub follows-packet : (config : Configuration) (link : LinkType) (within moment : ℕ) (frame : List ℕ) (r : Checked)
+    → Follows within config.timing (packet_passage config link moment frame r.link) r (with_packet config link within moment frame r)
+unfolding with_packet
+follows-packet config link within moment frame r =
+    let before = ticked_through config within moment r in
+    let ticks = follows-ticks (moment + 1) config within (moment + 1) r in
+    let datagram = datagram_of config.family (carried_in link frame) in
+    let counted = noted config link frame datagram before.checked in
+    let frame_in = follows-frame config link within moment frame datagram counted in
+    follows-behind within config.timing (ticks_through config moment r.link) _ r before _ ticks
+    (subst (λ (l : LinkState). Follows within config.timing (frame_passage config link moment frame datagram l) before.checked (with_datagram config link within moment frame datagram counted)) ticks.link
+    (record { link = frame_in.link; checking = frame_in.checking; found = frame_in.found }))

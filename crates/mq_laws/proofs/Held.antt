@@ -1,0 +1,144 @@
+-- What waits in the midst of a check whose queries pair up.
+use Rattle.std.proofs.Common.{◌≡◌, ℕ, ◌+◌, ◌≤◌, Bool, true, false, List, [], ◌∷◌, ◌++◌, refl, ap, sym, ◌∙◌, arith}
+use Rattle.std.specs.Prelude.{None, Some, ⊤}
+use Rattle.std.specs.List.{AllByRecursion}
+use Rattle.mq_check.specs.declared.asked.Asked.{Asked}
+use Rattle.mq_check.specs.declared.entry.Entry.{Entry}
+use Rattle.mq_check.specs.declared.entry.Entry.TheVariants.{Wanted, Seen, Interval, Silence}
+use Rattle.mq_check.specs.declared.terms.Terms.{Terms}
+use Rattle.mq_check.specs.Entries.{moment_of, terms_in, joined, first_terms, first_joined, terms_differ}
+use Rattle.mq_check.specs.Queries.{is_same}
+use Rattle.mq_laws.specs.Pairing.{Ask, Expected, Sent, LeftOut, ask_of, seen_about, wanted_about}
+
+abbrev pub ask : (moment : ℕ) → Asked ℕ → Terms ℕ → Ask
+ask moment asked terms = record { moment = moment; asked = asked; terms = terms }
+
+-- an entry without a partner is this one, and where that was left out it has to be sent
+abbrev pub IsKept : (moment : ℕ) → Asked ℕ → Terms ℕ → (is_optional : Bool) → Expected → Type 0
+IsKept moment asked terms is_optional (Sent w) = w ≡ ask moment asked terms
+IsKept moment asked terms is_optional (LeftOut w) = (w ≡ ask moment asked terms) × (is_optional ≡ false)
+
+-- Entries whose wanted queries without a partner are these, in their order. Nothing is found of pairs.
+abbrev pub Holds : List (Entry ℕ) → List Expected → Type 0
+Holds [] [] = ⊤
+Holds [] (x ∷ xs) = ⊥
+Holds (Wanted moment asked terms is_optional true ∷ es) xs = Holds es xs
+Holds (Wanted moment asked terms is_optional false ∷ es) [] = ⊥
+Holds (Wanted moment asked terms is_optional false ∷ es) (x ∷ xs) = IsKept moment asked terms is_optional x × Holds es xs
+Holds (Seen moment asked terms None is_querier ∷ es) xs = Holds es xs
+Holds (Seen moment asked terms (Some wanted) is_querier ∷ es) xs = (terms_differ terms wanted ≡ []) × Holds es xs
+Holds (Interval moment after wanted ∷ es) xs = ⊥
+Holds (Silence moment after wanted ∷ es) xs = ⊥
+
+-- the queries among entries that were seen and have no partner
+abbrev pub free_seen : List (Entry ℕ) → List Ask
+free_seen [] = []
+free_seen (Wanted moment asked terms is_optional is_found ∷ es) = free_seen es
+free_seen (Seen moment asked terms None is_querier ∷ es) = ask moment asked terms ∷ free_seen es
+free_seen (Seen moment asked terms (Some wanted) is_querier ∷ es) = free_seen es
+free_seen (Interval moment after wanted ∷ es) = free_seen es
+free_seen (Silence moment after wanted ∷ es) = free_seen es
+
+-- entries in the order of their moments, up to one
+abbrev pub IsAscending : (low : ℕ) → List (Entry ℕ) → (now : ℕ) → Type 0
+IsAscending low [] now = low ≤ now
+IsAscending low (e ∷ es) now = (low ≤ moment_of e) × IsAscending (moment_of e) es now
+
+-- none is over at a moment
+abbrev pub NoneOver : (within now : ℕ) → List (Entry ℕ) → Type 0
+NoneOver within now es = AllByRecursion (λ (e : Entry ℕ). now ≤ moment_of e + within) es
+
+pub kept_ask : (moment : ℕ) (asked : Asked ℕ) (terms : Terms ℕ) (is_optional : Bool) (x : Expected) → IsKept moment asked terms is_optional x → ask_of x ≡ ask moment asked terms
+kept_ask moment asked terms is_optional (Sent w) is = is
+kept_ask moment asked terms is_optional (LeftOut w) is = is.0
+
+-- those about one thing, one by one
+pub wanted_here : (asked : Asked ℕ) (x : Expected) (xs : List Expected) → is_same asked (ask_of x).asked ≡ true → wanted_about asked (x ∷ xs) ≡ x ∷ wanted_about asked xs
+wanted_here asked x xs is = rw is refl
+
+pub wanted_other : (asked : Asked ℕ) (x : Expected) (xs : List Expected) → is_same asked (ask_of x).asked ≡ false → wanted_about asked (x ∷ xs) ≡ wanted_about asked xs
+wanted_other asked x xs is = rw is refl
+
+pub wanted_both : (asked : Asked ℕ) (x : Expected) (xs ys : List Expected) → wanted_about asked xs ≡ wanted_about asked ys → wanted_about asked (x ∷ xs) ≡ wanted_about asked (x ∷ ys)
+wanted_both asked x xs ys e = rw e refl
+
+pub seen_here : (asked : Asked ℕ) (s : Ask) (ss : List Ask) → is_same asked s.asked ≡ true → seen_about asked (s ∷ ss) ≡ s ∷ seen_about asked ss
+seen_here asked s ss is = rw is refl
+
+pub seen_other : (asked : Asked ℕ) (s : Ask) (ss : List Ask) → is_same asked s.asked ≡ false → seen_about asked (s ∷ ss) ≡ seen_about asked ss
+seen_other asked s ss is = rw is refl
+
+pub seen_both : (asked : Asked ℕ) (s : Ask) (ss ts : List Ask) → seen_about asked ss ≡ seen_about asked ts → seen_about asked (s ∷ ss) ≡ seen_about asked (s ∷ ts)
+seen_both asked s ss ts e = rw e refl
+
+pub wanted_about-append : (asked : Asked ℕ) (xs ys : List Expected) → wanted_about asked (xs ++ ys) ≡ wanted_about asked xs ++ wanted_about asked ys
+wanted_about-append asked [] ys = refl
+wanted_about-append asked (x ∷ xs) ys = one (wanted_about-append asked xs ys) (is_same asked (ask_of x).asked) refl
+  where
+    one : wanted_about asked (xs ++ ys) ≡ wanted_about asked xs ++ wanted_about asked ys → (b : Bool) → is_same asked (ask_of x).asked ≡ b → wanted_about asked (x ∷ xs ++ ys) ≡ wanted_about asked (x ∷ xs) ++ wanted_about asked ys
+    one rest true is = wanted_here asked x (xs ++ ys) is ∙ ap (λ (l : List Expected). x ∷ l) rest ∙ ap (λ (l : List Expected). l ++ wanted_about asked ys) (sym (wanted_here asked x xs is))
+    one rest false is = wanted_other asked x (xs ++ ys) is ∙ rest ∙ ap (λ (l : List Expected). l ++ wanted_about asked ys) (sym (wanted_other asked x xs is))
+
+pub seen_about-append : (asked : Asked ℕ) (xs ys : List Ask) → seen_about asked (xs ++ ys) ≡ seen_about asked xs ++ seen_about asked ys
+seen_about-append asked [] ys = refl
+seen_about-append asked (x ∷ xs) ys = one (seen_about-append asked xs ys) (is_same asked x.asked) refl
+  where
+    one : seen_about asked (xs ++ ys) ≡ seen_about asked xs ++ seen_about asked ys → (b : Bool) → is_same asked x.asked ≡ b → seen_about asked (x ∷ xs ++ ys) ≡ seen_about asked (x ∷ xs) ++ seen_about asked ys
+    one rest true is = seen_here asked x (xs ++ ys) is ∙ ap (λ (l : List Ask). x ∷ l) rest ∙ ap (λ (l : List Ask). l ++ seen_about asked ys) (sym (seen_here asked x xs is))
+    one rest false is = seen_other asked x (xs ++ ys) is ∙ rest ∙ ap (λ (l : List Ask). l ++ seen_about asked ys) (sym (seen_other asked x xs is))
+
+-- in order
+pub ascending-from : (low low' : ℕ) (es : List (Entry ℕ)) (now : ℕ) → low' ≤ low → IsAscending low es now → IsAscending low' es now
+ascending-from low low' [] now before is = omega arith
+ascending-from low low' (e ∷ es) now before is = (omega arith, is.1)
+
+pub ascending-to : (low : ℕ) (es : List (Entry ℕ)) (now later : ℕ) → now ≤ later → IsAscending low es now → IsAscending low es later
+ascending-to low [] now later before is = omega arith
+ascending-to low (e ∷ es) now later before is = (is.0, ascending-to (moment_of e) es now later before is.1)
+
+pub ascending-put : (low : ℕ) (es : List (Entry ℕ)) (now : ℕ) (e : Entry ℕ) → moment_of e ≡ now → IsAscending low es now → IsAscending low (es ++ e ∷ []) now
+ascending-put low [] now e at is = (omega arith, omega arith)
+ascending-put low (d ∷ es) now e at is = (is.0, ascending-put (moment_of d) es now e at is.1)
+
+joined_moment : (other : Terms ℕ) (e : Entry ℕ) → moment_of (joined other e) ≡ moment_of e
+joined_moment other (Wanted moment asked terms is_optional is_found) = refl
+joined_moment other (Seen moment asked terms partner is_querier) = refl
+joined_moment other (Interval moment after wanted) = refl
+joined_moment other (Silence moment after wanted) = refl
+
+-- what the first entry that passes a test comes to
+pub passed_terms : (test : Entry ℕ → Bool) (e : Entry ℕ) (es : List (Entry ℕ)) → test e ≡ false → first_terms test (e ∷ es) ≡ first_terms test es
+passed_terms test e es is = rw is refl
+
+pub passed_joined : (test : Entry ℕ → Bool) (other : Terms ℕ) (e : Entry ℕ) (es : List (Entry ℕ)) → test e ≡ false → first_joined test other (e ∷ es) ≡ e ∷ first_joined test other es
+passed_joined test other e es is = rw is refl
+
+pub met_terms : (test : Entry ℕ → Bool) (e : Entry ℕ) (es : List (Entry ℕ)) → test e ≡ true → first_terms test (e ∷ es) ≡ terms_in e
+met_terms test e es is = rw is refl
+
+pub met_joined : (test : Entry ℕ → Bool) (other : Terms ℕ) (e : Entry ℕ) (es : List (Entry ℕ)) → test e ≡ true → first_joined test other (e ∷ es) ≡ joined other e ∷ es
+met_joined test other e es is = rw is refl
+
+pub ascending-joined : (test : Entry ℕ → Bool) (other : Terms ℕ) (low : ℕ) (es : List (Entry ℕ)) (now : ℕ) → IsAscending low es now → IsAscending low (first_joined test other es) now
+ascending-joined test other low [] now is = is
+ascending-joined test other low (e ∷ es) now is = one (ascending-joined test other (moment_of e) es now is.1) (test e) refl
+  where
+    one : IsAscending (moment_of e) (first_joined test other es) now → (b : Bool) → test e ≡ b → IsAscending low (first_joined test other (e ∷ es)) now
+    one rest true met = rw (met_joined test other e es met, joined_moment other e) is
+    one rest false met = rw (passed_joined test other e es met) (is.0, rest)
+
+pub none_over-joined : (test : Entry ℕ → Bool) (other : Terms ℕ) (within now : ℕ) (es : List (Entry ℕ)) → NoneOver within now es → NoneOver within now (first_joined test other es)
+none_over-joined test other within now [] is = is
+none_over-joined test other within now (e ∷ es) is = one (none_over-joined test other within now es is.1) (test e) refl
+  where
+    one : NoneOver within now (first_joined test other es) → (b : Bool) → test e ≡ b → NoneOver within now (first_joined test other (e ∷ es))
+    one rest true met = rw (met_joined test other e es met, joined_moment other e) is
+    one rest false met = rw (passed_joined test other e es met) (is.0, rest)
+
+pub none_over-put : (within now : ℕ) (es : List (Entry ℕ)) (e : Entry ℕ) → moment_of e ≡ now → NoneOver within now es → NoneOver within now (es ++ e ∷ [])
+none_over-put within now [] e at is = (omega arith, tt)
+none_over-put within now (d ∷ es) e at is = (is.0, none_over-put within now es e at is.1)
+
+pub none_over-ascending : (within now low : ℕ) (es : List (Entry ℕ)) (last : ℕ) → now ≤ low + within → IsAscending low es last → NoneOver within now es
+none_over-ascending within now low [] last ahead is = tt
+none_over-ascending within now low (e ∷ es) last ahead is = (omega arith, none_over-ascending within now (moment_of e) es last (omega arith) is.1)

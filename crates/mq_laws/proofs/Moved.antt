@@ -1,0 +1,171 @@
+-- Queries pair up that were seen at their moments, or no more than the tolerance from them, and where one was left out.
+use Rattle.std.proofs.Common.{◌≡◌, ℕ, ◌+◌, Bool, true, false, not, List, [], ◌∷◌, ◌++◌, refl, ap, sym, ◌∙◌, arith, subst, append_assoc}
+use Rattle.std.specs.Prelude.{Option, None, Some, ◌==◌}
+use Rattle.std.specs.List.{AllByRecursion}
+use Rattle.std.proofs.lemmas.Bool.{eq-eqb}
+use Rattle.mq_check.specs.declared.asked.Asked.{Asked}
+use Rattle.mq_check.specs.declared.finding.Difference.{Difference}
+use Rattle.mq_check.specs.declared.finding.Difference.TheVariants as field
+use Rattle.mq_check.specs.declared.finding.Finding.{Finding}
+use Rattle.mq_check.specs.declared.finding.Finding.TheVariants.{Missing}
+use Rattle.mq_check.specs.declared.terms.Terms.{Terms}
+use Rattle.mq_check.specs.declared.terms.QuerierTerms.{QuerierTerms}
+use Rattle.mq_check.specs.Entries.{terms_differ, difference_if, is_unlike, responses_differ, fields_differ, queriers_differ}
+use Rattle.mq_check.specs.Queries.{is_same}
+use Rattle.mq_laws.specs.Pairing.{Ask, Expected, Sent, LeftOut, Answers, IsMoved, AreMoved, AllLater, PairUp, ask_of, asks_of, all_sent, all_left_out, sent_but, seen_about, wanted_about, missing_of}
+use Rattle.mq_laws.specs.AsWanted.{AreMissed, TakesOut, all_missing}
+use Rattle.mq_laws.proofs.Same.{same_asked}
+use Rattle.mq_laws.proofs.Held.{wanted_here, wanted_other, wanted_about-append, seen_here, seen_other, seen_about-append}
+
+-- no field differs from itself
+none_if : (n : ℕ) (d : Difference ℕ) → difference_if (not (n == n)) d ≡ []
+none_if n d = ap (λ (b : Bool). difference_if (not b) d) (eq-eqb n n refl)
+
+none_unlike : (b : Bool) (d : Difference ℕ) → difference_if (is_unlike b b) d ≡ []
+none_unlike true d = refl
+none_unlike false d = refl
+
+no_response : (r : Option ℕ) → responses_differ r r ≡ []
+no_response None = refl
+no_response (Some n) = none_if n (field.Response n n)
+
+no_field : (q : QuerierTerms) → fields_differ q q ≡ []
+no_field q = λ i. (none_unlike q.suppress (field.Suppress q.suppress q.suppress) i ++ none_if q.robustness (field.Robustness q.robustness q.robustness) i) ++ none_if q.interval (field.QueryInterval q.interval q.interval) i
+
+no_querier : (q : Option QuerierTerms) → queriers_differ q q ≡ []
+no_querier None = refl
+no_querier (Some q) = no_field q
+
+pub terms_differ-self : (t : Terms ℕ) → terms_differ t t ≡ []
+terms_differ-self t =
+    λ i. ((none_if t.version (field.Version t.version t.version) i ++ no_response t.response i) ++ no_querier t.querier i) ++ none_if t.to (field.Destination t.to t.to) i
+
+answers_moved : (within : ℕ) (w s : Ask) → IsMoved within w s → Answers within w s
+answers_moved within w s is = record {
+  not_late = is.not_late;
+  not_early = is.not_early;
+  alike = ap (λ (t : Terms ℕ). terms_differ t w.terms) is.terms ∙ terms_differ-self w.terms;
+}
+
+moved_none : (within : ℕ) (w : Ask) → IsMoved within w w
+moved_none within w = record { not_late = omega arith; not_early = omega arith; terms = refl }
+
+pub moved-self : (within : ℕ) (ws : List Ask) → AreMoved within ws ws
+moved-self within [] = tt
+moved-self within (w ∷ ws) = (moved_none within w, moved-self within ws)
+
+-- those that were sent about one thing
+sent_about : (asked : Asked ℕ) (ws : List Ask) → wanted_about asked (all_sent ws) ≡ all_sent (seen_about asked ws)
+sent_about asked [] = refl
+sent_about asked (w ∷ ws) = one (sent_about asked ws) (is_same asked w.asked) refl
+  where
+    one : wanted_about asked (all_sent ws) ≡ all_sent (seen_about asked ws) → (b : Bool) → is_same asked w.asked ≡ b → wanted_about asked (all_sent (w ∷ ws)) ≡ all_sent (seen_about asked (w ∷ ws))
+    one rest true is = wanted_here asked (Sent w) (all_sent ws) is ∙ ap (λ (l : List Expected). Sent w ∷ l) rest ∙ ap all_sent (sym (seen_here asked w ws is))
+    one rest false is = wanted_other asked (Sent w) (all_sent ws) is ∙ rest ∙ ap all_sent (sym (seen_other asked w ws is))
+
+pairs_moved : (within : ℕ) (ws ss : List Ask) → AreMoved within ws ss → PairUp within (all_sent ws) ss
+pairs_moved within [] [] are = tt
+pairs_moved within [] (s ∷ ss) are = absurd are
+pairs_moved within (w ∷ ws) [] are = absurd are
+pairs_moved within (w ∷ ws) (s ∷ ss) are = (answers_moved within w s are.0, pairs_moved within ws ss are.1)
+
+pub all_pair_up : (within : ℕ) (wanted seen : List Ask) → ((asked : Asked ℕ) → AreMoved within (seen_about asked wanted) (seen_about asked seen))
+    → (asked : Asked ℕ) → PairUp within (wanted_about asked (all_sent wanted)) (seen_about asked seen)
+all_pair_up within wanted seen are asked = rw (sent_about asked wanted) (pairs_moved within (seen_about asked wanted) (seen_about asked seen) (are asked))
+
+-- all but some of those about one thing
+abbrev AllLaterThan : (within : ℕ) → (taken behind : List Ask) → Type 0
+AllLaterThan within taken behind = AllByRecursion (λ (ask : Ask). AllLater (ask.moment + within) behind) taken
+
+pairs_behind : (within : ℕ) (taken behind : List Ask) → AllLaterThan within taken behind → PairUp within (all_left_out taken ++ all_sent behind) behind
+pairs_behind within [] behind later = pairs_moved within behind behind (moved-self within behind)
+pairs_behind within (ask ∷ taken) behind later = (later.0, pairs_behind within taken behind later.1)
+
+pairs_but : (within : ℕ) (before taken behind : List Ask) → AllLaterThan within taken behind → PairUp within (all_sent before ++ (all_left_out taken ++ all_sent behind)) (before ++ behind)
+pairs_but within [] taken behind later = pairs_behind within taken behind later
+pairs_but within (w ∷ before) taken behind later = (answers_moved within w w (moved_none within w), pairs_but within before taken behind later)
+
+left_out_about : (asked : Asked ℕ) (ws : List Ask) → wanted_about asked (all_left_out ws) ≡ all_left_out (seen_about asked ws)
+left_out_about asked [] = refl
+left_out_about asked (w ∷ ws) = one (left_out_about asked ws) (is_same asked w.asked) refl
+  where
+    one : wanted_about asked (all_left_out ws) ≡ all_left_out (seen_about asked ws) → (b : Bool) → is_same asked w.asked ≡ b → wanted_about asked (all_left_out (w ∷ ws)) ≡ all_left_out (seen_about asked (w ∷ ws))
+    one rest true is = wanted_here asked (LeftOut w) (all_left_out ws) is ∙ ap (λ (l : List Expected). LeftOut w ∷ l) rest ∙ ap all_left_out (sym (seen_here asked w ws is))
+    one rest false is = wanted_other asked (LeftOut w) (all_left_out ws) is ∙ rest ∙ ap all_left_out (sym (seen_other asked w ws is))
+
+sent_but_about : (asked : Asked ℕ) (before taken behind : List Ask)
+    → wanted_about asked (sent_but before taken behind) ≡ all_sent (seen_about asked before) ++ (all_left_out (seen_about asked taken) ++ all_sent (seen_about asked behind))
+sent_but_about asked before taken behind =
+    wanted_about-append asked (all_sent before ++ all_left_out taken) (all_sent behind)
+    ∙ ap (λ (l : List Expected). l ++ wanted_about asked (all_sent behind)) (wanted_about-append asked (all_sent before) (all_left_out taken))
+    ∙ (λ i. (sent_about asked before i ++ left_out_about asked taken i) ++ sent_about asked behind i)
+    ∙ append_assoc (all_sent (seen_about asked before)) (all_left_out (seen_about asked taken)) (all_sent (seen_about asked behind))
+
+-- of those about one thing each is taken out more than the tolerance before the next
+later_about : (within end : ℕ) (asked : Asked ℕ) (taken behind : List Ask) → TakesOut within end taken behind → AllLaterThan within (seen_about asked taken) (seen_about asked behind)
+later_about within end asked [] behind out = tt
+later_about within end asked (ask ∷ taken) behind out = one (later_about within end asked taken behind out.2) (is_same asked ask.asked) refl
+  where
+    one : AllLaterThan within (seen_about asked taken) (seen_about asked behind) → (b : Bool) → is_same asked ask.asked ≡ b → AllLaterThan within (seen_about asked (ask ∷ taken)) (seen_about asked behind)
+    one rest true is = rw (seen_here asked ask taken is) (subst (λ (a : Asked ℕ). AllLater (ask.moment + within) (seen_about a behind)) (sym (same_asked asked ask.asked is)) out.1, rest)
+    one rest false is = rw (seen_other asked ask taken is) rest
+
+pub all_but_some_pair_up : (within end : ℕ) (before taken behind seen : List Ask)
+    → ((asked : Asked ℕ) → seen_about asked seen ≡ seen_about asked (before ++ behind)) → TakesOut within end taken behind
+    → (asked : Asked ℕ) → PairUp within (wanted_about asked (sent_but before taken behind)) (seen_about asked seen)
+all_but_some_pair_up within end before taken behind seen are out asked =
+    rw (sent_but_about asked before taken behind, are asked, seen_about-append asked before behind)
+    (pairs_but within (seen_about asked before) (seen_about asked taken) (seen_about asked behind) (later_about within end asked taken behind out))
+
+-- what is wanted of those that were sent and those that weren't
+pub asks_of-sent : (asks : List Ask) → asks_of (all_sent asks) ≡ asks
+asks_of-sent [] = refl
+asks_of-sent (a ∷ asks) = ap (λ (l : List Ask). a ∷ l) (asks_of-sent asks)
+
+asks_of-left_out : (asks : List Ask) → asks_of (all_left_out asks) ≡ asks
+asks_of-left_out [] = refl
+asks_of-left_out (a ∷ asks) = ap (λ (l : List Ask). a ∷ l) (asks_of-left_out asks)
+
+asks_of-append : (xs ys : List Expected) → asks_of (xs ++ ys) ≡ asks_of xs ++ asks_of ys
+asks_of-append [] ys = refl
+asks_of-append (x ∷ xs) ys = ap (λ (l : List Ask). ask_of x ∷ l) (asks_of-append xs ys)
+
+pub asks_of-sent_but : (before taken behind : List Ask) → asks_of (sent_but before taken behind) ≡ before ++ taken ++ behind
+asks_of-sent_but before taken behind =
+    asks_of-append (all_sent before ++ all_left_out taken) (all_sent behind) ∙ ap (λ (l : List Ask). l ++ asks_of (all_sent behind)) (asks_of-append (all_sent before) (all_left_out taken))
+    ∙ (λ i. (asks_of-sent before i ++ asks_of-left_out taken i) ++ asks_of-sent behind i)
+
+-- and what is missing
+pub missing_of-sent : (asks : List Ask) → missing_of (all_sent asks) ≡ []
+missing_of-sent [] = refl
+missing_of-sent (a ∷ asks) = missing_of-sent asks
+
+missing_of-left_out : (taken behind : List Ask) → missing_of (all_left_out taken ++ all_sent behind) ≡ all_missing taken
+missing_of-left_out [] behind = missing_of-sent behind
+missing_of-left_out (a ∷ taken) behind = ap (λ (l : List (Finding ℕ)). Missing a.moment a.asked ∷ l) (missing_of-left_out taken behind)
+
+missing_of-behind : (before : List Ask) (xs : List Expected) → missing_of (all_sent before ++ xs) ≡ missing_of xs
+missing_of-behind [] xs = refl
+missing_of-behind (a ∷ before) xs = missing_of-behind before xs
+
+pub missing_of-sent_but : (before taken behind : List Ask) → missing_of (sent_but before taken behind) ≡ all_missing taken
+missing_of-sent_but before taken behind =
+    ap missing_of (append_assoc (all_sent before) (all_left_out taken) (all_sent behind)) ∙ missing_of-behind before (all_left_out taken ++ all_sent behind) ∙ missing_of-left_out taken behind
+
+-- nothing is missed of what was sent, and of the rest what is taken out
+pub missed-sent : (within end : ℕ) (asks : List Ask) → AreMissed within end (all_sent asks)
+missed-sent within end [] = tt
+missed-sent within end (a ∷ asks) = missed-sent within end asks
+
+missed-left_out : (within end : ℕ) (taken behind : List Ask) → TakesOut within end taken behind → AreMissed within end (all_left_out taken ++ all_sent behind)
+missed-left_out within end [] behind out = missed-sent within end behind
+missed-left_out within end (a ∷ taken) behind out = (out.0, missed-left_out within end taken behind out.2)
+
+missed-behind : (within end : ℕ) (before : List Ask) (xs : List Expected) → AreMissed within end xs → AreMissed within end (all_sent before ++ xs)
+missed-behind within end [] xs missed = missed
+missed-behind within end (a ∷ before) xs missed = missed-behind within end before xs missed
+
+pub missed-sent_but : (within end : ℕ) (before taken behind : List Ask) → TakesOut within end taken behind → AreMissed within end (sent_but before taken behind)
+missed-sent_but within end before taken behind out =
+    subst (AreMissed within end) (sym (append_assoc (all_sent before) (all_left_out taken) (all_sent behind)))
+    (missed-behind within end before (all_left_out taken ++ all_sent behind) (missed-left_out within end taken behind out))

@@ -1,0 +1,193 @@
+-- What happens in the check of a capture comes in the order of moments.
+use Rattle.std.proofs.Common.{◌≡◌, ℕ, zero, suc, ◌+◌, ◌<◌, ◌≤◌, Bool, true, false, not, ◌&&◌, cond, List, [], ◌∷◌, ◌++◌, refl, arith}
+use Rattle.std.specs.Prelude.{Option, None, Some, nat_lt, unwrap_or}
+use Rattle.std.proofs.lemmas.Bool.{ltb-true, ltb-false}
+use Rattle.mq_pcap.specs.declared.form.Form.{Form}
+use Rattle.mq_pcap.specs.declared.link_type.LinkType.{LinkType}
+use Rattle.mq_pcap.specs.Capture.{Captured}
+use Rattle.mq_pcap.specs.Frame.{carried_in}
+use Rattle.mq_wire.specs.declared.query.Query.{Query}
+use Rattle.mq_wire.specs.Family.{Family}
+use Rattle.mq_table.specs.declared.timing.Timing.{Timing}
+use Rattle.mq_sched.specs.Election.{is_querier}
+use Rattle.mq_link.specs.Configuration.{Configuration, IsFaultless}
+use Rattle.mq_link.specs.Receive.{Envelope, receipt_of}
+use Rattle.mq_link.specs.Run.{answered}
+use Rattle.mq_link.specs.Sent.{Outgoing, outgoing_of}
+use Rattle.mq_link.specs.State.{LinkState, IsWellFormed, link_at}
+use Rattle.mq_link.specs.Tick.{Step, tick_of, next_of}
+use Rattle.mq_link.specs.Tick as tick
+use Rattle.mq_replay.specs.Listing.{moment_of}
+use Rattle.mq_replay.specs.Report.{Datagram, datagram_of, all_sent}
+use Rattle.mq_check.specs.Check.{destination_in}
+use Rattle.mq_check.specs.Queries.{asked_in, is_general, terms_of, query_sent, query_seen}
+use Rattle.mq_laws.specs.Captures.{Passage, happening_behind, wanted_for, wanted_of, wanted_by, role_by_tick, role_by_datagram, tick_passage, ticks_passage, ticks_through, event_of, datagram_passage, frame_passage, packet_passage, packets_passage, last_of, end_of, events_of}
+use Rattle.mq_laws.specs.Events.{CheckEvent, Comes, Wants, Sees, SeesGeneral, LosesRole, HasRoleAgain}
+use Rattle.mq_laws.specs.OnTime.{AreInOrder}
+use Rattle.mq_laws.proofs.Followed.{none_passes, one_passes}
+
+-- what is known of links
+pub record KnownOfLinks : Type 0 where
+  pub start : (config : Configuration) (start : ℕ) → IsFaultless config → IsWellFormed config (link_at config start)
+  pub ticked : (config : Configuration) (now : ℕ) (state : LinkState) → IsFaultless config → IsWellFormed config state → IsWellFormed config (tick_of config now state).state
+  pub received : (config : Configuration) (envelope : Envelope) (bytes : List ℕ) (now : ℕ) (state : LinkState) → IsFaultless config → IsWellFormed config state → IsWellFormed config (receipt_of config envelope bytes now state).step.state
+  pub later_tick : (config : Configuration) (now : ℕ) (state : LinkState) → IsFaultless config → IsWellFormed config state → tick.moment_of state now < next_of (tick_of config now state).state
+  pub later_datagram : (config : Configuration) (envelope : Envelope) (bytes : List ℕ) (now : ℕ) (state : LinkState) → IsFaultless config → IsWellFormed config state → tick.moment_of state now < next_of (receipt_of config envelope bytes now state).step.state
+
+-- the counters have no part in it
+counted_formed : (config : Configuration) (answers : List Bool) (step : Step) → IsWellFormed config step.state → IsWellFormed config (answered answers step)
+counted_formed config answers step h = record { groups = h.groups; within = h.within; timing = h.timing; silent = h.silent }
+
+-- events in order
+order-later : (now later : ℕ) (events : List CheckEvent) (end : ℕ) → now ≤ later → AreInOrder later events end → AreInOrder now events end
+order-later now later [] end before order = omega arith
+order-later now later (Comes moment ∷ es) end before order = (omega (arith, order.0), order.1)
+order-later now later (Wants terms asked ∷ es) end before order = order-later now later es end before order
+order-later now later (Sees terms asked ∷ es) end before order = order-later now later es end before order
+order-later now later (SeesGeneral terms wanted ∷ es) end before order = order-later now later es end before order
+order-later now later (LosesRole ∷ es) end before order = order-later now later es end before order
+order-later now later (HasRoleAgain ∷ es) end before order = order-later now later es end before order
+
+order-append : (now middle : ℕ) (xs ys : List CheckEvent) (end : ℕ) → AreInOrder now xs middle → AreInOrder middle ys end → AreInOrder now (xs ++ ys) end
+order-append now middle [] ys end first second = order-later now middle ys end first second
+order-append now middle (Comes moment ∷ es) ys end first second = (first.0, order-append moment middle es ys end first.1 second)
+order-append now middle (Wants terms asked ∷ es) ys end first second = order-append now middle es ys end first second
+order-append now middle (Sees terms asked ∷ es) ys end first second = order-append now middle es ys end first second
+order-append now middle (SeesGeneral terms wanted ∷ es) ys end first second = order-append now middle es ys end first second
+order-append now middle (LosesRole ∷ es) ys end first second = order-append now middle es ys end first second
+order-append now middle (HasRoleAgain ∷ es) ys end first second = order-append now middle es ys end first second
+
+-- what happens at one moment
+order-wanted_for : (now : ℕ) (family : Family) (is_returning : Bool) (to : ℕ) (query : Option (Query ℕ)) → AreInOrder now (wanted_for family is_returning to query) now
+order-wanted_for now family is_returning to None = omega arith
+order-wanted_for now family is_returning to (Some query) = by_test (is_general query && not is_returning)
+  where
+    by_test : (b : Bool) → AreInOrder now (cond b [] (Wants (terms_of family to query) (asked_in query) ∷ [])) now
+    by_test true = omega arith
+    by_test false = omega arith
+
+order-wanted : (now : ℕ) (config : Configuration) (is_returning : Bool) (messages : List Outgoing) → AreInOrder now (wanted_of config is_returning messages) now
+order-wanted now config is_returning [] = omega arith
+order-wanted now config is_returning (message ∷ messages) =
+    order-append now now (wanted_for config.family is_returning message.to (query_sent config.family config.own message)) (wanted_of config is_returning messages) now
+    (order-wanted_for now config.family is_returning message.to (query_sent config.family config.own message)) (order-wanted now config is_returning messages)
+
+order-tick : (now : ℕ) (was is : Bool) → AreInOrder now (role_by_tick was is) now
+order-tick now true is = omega arith
+order-tick now false true = omega arith
+order-tick now false false = omega arith
+
+order-datagram : (now : ℕ) (was is : Bool) → AreInOrder now (role_by_datagram was is) now
+order-datagram now true true = omega arith
+order-datagram now true false = omega arith
+order-datagram now false true = omega arith
+order-datagram now false false = omega arith
+
+-- A passage whose events come in order up to a moment, and whose link has more to do only later.
+pub record IsOrdered (config : Configuration) (now moment : ℕ) (p : Passage) : Type 0 where
+  pub order : AreInOrder now p.events moment
+  pub formed : IsWellFormed config p.link
+  pub later : moment < next_of p.link
+
+ordered-behind : (config : Configuration) (now middle moment : ℕ) (p q : Passage) → AreInOrder now p.events middle → IsOrdered config middle moment q → IsOrdered config now moment (happening_behind p.events q)
+ordered-behind config now middle moment p q first second = record { order = order-append now middle p.events q.events moment first second.order; formed = second.formed; later = second.later }
+
+-- a tick
+ordered-tick : KnownOfLinks → (config : Configuration) (now moment : ℕ) (link : LinkState) → IsFaultless config → IsWellFormed config link → now ≤ moment → IsOrdered config now moment (tick_passage config moment link)
+ordered-tick known config now moment link faultless formed before =
+    let step = tick_of config moment link in
+    record {
+      order = (
+        before,
+        order-append moment moment (wanted_by config link step) (role_by_tick (is_querier link.election.role) (is_querier step.state.election.role)) moment
+            (order-wanted moment config (not (is_querier link.election.role)) (outgoing_of config step)) (order-tick moment (is_querier link.election.role) (is_querier step.state.election.role)),
+      );
+      formed = counted_formed config (all_sent (outgoing_of config step)) step (known.ticked config moment link faultless formed);
+      later = let after = known.later_tick config moment link faultless formed in omega (arith, after);
+    }
+
+-- all ticks up to a moment
+ordered-ticks : KnownOfLinks → (most : ℕ) (config : Configuration) (now moment : ℕ) (link : LinkState) → IsFaultless config → IsWellFormed config link → now ≤ moment → now ≤ next_of link → moment + 1 ≤ most + next_of link
+    → IsOrdered config now moment (ticks_passage most config (moment + 1) link)
+unfolding ticks_passage
+ordered-ticks known zero config now moment link faultless formed before next enough = record { order = before; formed = formed; later = omega arith }
+ordered-ticks known (suc most) config now moment link faultless formed before next enough =
+    elim (nat_lt (next_of link) (moment + 1)) as (λ b. nat_lt (next_of link) (moment + 1) ≡ b → IsOrdered config now moment (ticks_passage (suc most) config (moment + 1) link)) [
+      | true ↦ λ due.
+          let at : next_of link < moment + 1 = ltb-true (next_of link) (moment + 1) due in
+          let first = tick_passage config (next_of link) link in
+          let one = ordered-tick known config now (next_of link) link faultless formed next in
+          let after = one.later in
+          rw (one_passes most config (moment + 1) link at)
+          (ordered-behind config now (next_of link) moment first _ one.order
+          (ordered-ticks known most config (next_of link) moment first.link faultless one.formed (omega arith) (omega arith) (omega arith)))
+      | false ↦ λ reached.
+          let beyond : moment + 1 ≤ next_of link = ltb-false (next_of link) (moment + 1) reached in
+          rw (none_passes (suc most) config (moment + 1) link beyond) (record { order = before; formed = formed; later = omega arith })
+    ] refl
+
+ordered-through : KnownOfLinks → (config : Configuration) (now moment : ℕ) (link : LinkState) → IsFaultless config → IsWellFormed config link → now ≤ moment → now ≤ next_of link → IsOrdered config now moment (ticks_through config moment link)
+ordered-through known config now moment link faultless formed before next = ordered-ticks known (moment + 1) config now moment link faultless formed before next (omega arith)
+
+-- a query of the querier
+order-event : (now : ℕ) (config : Configuration) (in_force : Timing) (to : ℕ) (query : Query ℕ) → AreInOrder now (event_of config in_force to query ∷ []) now
+order-event now config in_force to query = elim (is_general query) as (λ b. is_general query ≡ b → AreInOrder now (event_of config in_force to query ∷ []) now) [
+  | true ↦ λ is. rw is (omega arith)
+  | false ↦ λ is. rw is (omega arith)
+] refl
+
+-- a datagram, behind all ticks up to its moment
+ordered-datagram : KnownOfLinks → (config : Configuration) (moment to : ℕ) (datagram : Datagram) (query : Option (Query ℕ)) (link : LinkState) → IsFaultless config → IsWellFormed config link → moment < next_of link
+    → IsOrdered config moment moment (datagram_passage config moment to datagram query link)
+ordered-datagram known config moment to datagram (Some query) link faultless formed later =
+    record { order = (omega arith, order-event moment config link.election.timing to query); formed = formed; later = later }
+ordered-datagram known config moment to datagram None link faultless formed later =
+    let step = (receipt_of config datagram.envelope datagram.body moment link).step in
+    record {
+      order = (
+        omega arith,
+        order-append moment moment (wanted_by config link step) (role_by_datagram (is_querier link.election.role) (is_querier step.state.election.role)) moment
+            (order-wanted moment config (not (is_querier link.election.role)) (outgoing_of config step)) (order-datagram moment (is_querier link.election.role) (is_querier step.state.election.role)),
+      );
+      formed = counted_formed config (all_sent (outgoing_of config step)) step (known.received config datagram.envelope datagram.body moment link faultless formed);
+      later = let after = known.later_datagram config datagram.envelope datagram.body moment link faultless formed in omega (arith, after);
+    }
+
+ordered-frame : KnownOfLinks → (config : Configuration) (link_type : LinkType) (moment : ℕ) (frame : List ℕ) (datagram : Option Datagram) (link : LinkState) → IsFaultless config → IsWellFormed config link → moment < next_of link
+    → IsOrdered config moment moment (frame_passage config link_type moment frame datagram link)
+ordered-frame known config link_type moment frame None link faultless formed later = record { order = omega arith; formed = formed; later = later }
+ordered-frame known config link_type moment frame (Some datagram) link faultless formed later =
+    ordered-datagram known config moment (destination_in config.family link_type frame datagram.envelope) datagram (query_seen config datagram) link faultless formed later
+
+ordered-packet : KnownOfLinks → (config : Configuration) (link_type : LinkType) (now moment : ℕ) (frame : List ℕ) (link : LinkState) → IsFaultless config → IsWellFormed config link → now ≤ moment → now ≤ next_of link
+    → IsOrdered config now moment (packet_passage config link_type moment frame link)
+ordered-packet known config link_type now moment frame link faultless formed before next =
+    let ticks = ordered-through known config now moment link faultless formed before next in
+    ordered-behind config now moment moment (ticks_through config moment link) _ ticks.order
+    (ordered-frame known config link_type moment frame (datagram_of config.family (carried_in link_type frame)) (ticks_through config moment link).link faultless ticks.formed ticks.later)
+
+-- packets, one after the other
+pub record AreOrdered (config : Configuration) (now moment : ℕ) (p : Passage) : Type 0 where
+  pub order : AreInOrder now p.events moment
+  pub formed : IsWellFormed config p.link
+  pub next : moment ≤ next_of p.link
+
+ordered-packets : KnownOfLinks → (config : Configuration) (link_type : LinkType) (first : Option ℕ) (before : ℕ) (packets : List Captured) (link : LinkState) → IsFaultless config → IsWellFormed config link → before ≤ next_of link
+    → AreOrdered config before (last_of first before packets) (packets_passage config link_type first before packets link)
+unfolding packets_passage
+ordered-packets known config link_type first before [] link faultless formed next = record { order = omega arith; formed = formed; next = next }
+ordered-packets known config link_type first before (packet ∷ packets) link faultless formed next =
+    let moment = moment_of first before packet.stamp in
+    let this = packet_passage config link_type moment packet.bytes link in
+    let one = ordered-packet known config link_type before moment packet.bytes link faultless formed (omega arith) next in
+    let after = one.later in
+    let more = ordered-packets known config link_type (Some (unwrap_or first packet.stamp)) moment packets this.link faultless one.formed (omega arith) in
+    record { order = order-append before moment this.events _ _ one.order more.order; formed = more.formed; next = more.next }
+
+pub events_in_order : KnownOfLinks → (config : Configuration) (until : Option ℕ) (form : Form) (packets : List Captured) → IsFaultless config → AreInOrder 0 (events_of config until form packets) (end_of until packets)
+events_in_order known config until form packets faultless =
+    let last = last_of None 0 packets in
+    let all = ordered-packets known config form.link None 0 packets (link_at config 0) faultless (known.start config 0 faultless) (omega arith) in
+    let p = packets_passage config form.link None 0 packets (link_at config 0) in
+    let ticks = ordered-through known config last (end_of until packets) p.link faultless all.formed (omega arith) all.next in
+    order-append 0 last p.events _ (end_of until packets) all.order ticks.order

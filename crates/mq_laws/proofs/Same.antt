@@ -1,0 +1,25 @@
+-- When two ask about the same.
+use Rattle.std.proofs.Common.{◌≡◌, ℕ, true, false, refl, ap, sym, ◌∙◌}
+use Rattle.std.proofs.lemmas.Bool.{and_parts, and_from, eqb-true, eq-eqb}
+use Rattle.mq_check.specs.declared.asked.Asked.{Asked}
+use Rattle.mq_check.specs.declared.asked.Asked.TheVariants.{AllGroups, Group, Source}
+use Rattle.mq_check.specs.Queries.{is_same}
+
+pub is_same-self : (a : Asked ℕ) → is_same a a ≡ true
+is_same-self AllGroups = refl
+is_same-self (Group g) = eq-eqb g g refl
+is_same-self (Source g s) = and_from _ _ (eq-eqb g g refl) (eq-eqb s s refl)
+
+pub same_asked : (a b : Asked ℕ) → is_same a b ≡ true → a ≡ b
+same_asked AllGroups AllGroups is = refl
+same_asked AllGroups (Group g) is = cc
+same_asked AllGroups (Source g s) is = cc
+same_asked (Group g) AllGroups is = cc
+same_asked (Group g) (Group g') is = ap Group (eqb-true g g' is)
+same_asked (Group g) (Source g' s) is = cc
+same_asked (Source g s) AllGroups is = cc
+same_asked (Source g s) (Group g') is = cc
+same_asked (Source g s) (Source g' s') is = let both = and_parts _ _ is in λ i. Source (eqb-true g g' both.0 i) (eqb-true s s' both.1 i)
+
+pub other_than : (a b c : Asked ℕ) → is_same a b ≡ true → is_same c a ≡ false → is_same c b ≡ false
+other_than a b c same other = ap (is_same c) (sym (same_asked a b same)) ∙ other

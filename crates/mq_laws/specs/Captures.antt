@@ -1,0 +1,137 @@
+-- The events in the check of a capture. A link with the querier's own address runs over it, and each query that it
+-- sends is expected. The queries from that address are seen.
+use Rattle.std.specs.Prelude.{ℕ, zero, suc, ◌+◌, ◌&&◌, max, not, nat_lt, Bool, true, false, if◌then◌else◌, List, [], ◌∷◌, ◌++◌, Option, None, Some, unwrap_or, flat_map}
+use Rattle.mq_pcap.specs.declared.form.Form.{Form}
+use Rattle.mq_pcap.specs.declared.link_type.LinkType.{LinkType}
+use Rattle.mq_pcap.specs.Capture.{Captured}
+use Rattle.mq_pcap.specs.Frame.{carried_in}
+use Rattle.mq_wire.specs.declared.query.Query.{Query}
+use Rattle.mq_wire.specs.Family.{Family}
+use Rattle.mq_table.specs.declared.timing.Timing.{Timing}
+use Rattle.mq_sched.specs.Election.{is_querier}
+use Rattle.mq_link.specs.Configuration.{Configuration}
+use Rattle.mq_link.specs.Receive.{receipt_of}
+use Rattle.mq_link.specs.Run.{answered}
+use Rattle.mq_link.specs.Sent.{Outgoing, outgoing_of}
+use Rattle.mq_link.specs.State.{LinkState, link_at}
+use Rattle.mq_link.specs.Tick.{Step, tick_of, next_of}
+use Rattle.mq_replay.specs.Listing.{moment_of}
+use Rattle.mq_replay.specs.Report.{Datagram, datagram_of, all_sent}
+use Rattle.mq_check.specs.Check.{destination_in}
+use Rattle.mq_check.specs.Queries.{asked_in, is_general, terms_of, general_terms, query_sent, query_seen}
+use Rattle.mq_laws.specs.Events.{CheckEvent, Comes, Wants, Sees, SeesGeneral, LosesRole, HasRoleAgain}
+
+-- a link after a part of a capture, and the events of the check
+pub record Passage : Type 0 where
+  pub link : LinkState
+  pub events : List CheckEvent
+
+abbrev pub nothing_happens : LinkState → Passage
+nothing_happens link = record { link = link; events = [] }
+
+-- the passage after these events
+abbrev pub happening_behind : List CheckEvent → Passage → Passage
+happening_behind events p = record p { events = events ++ p.events }
+
+-- The expectation by a query of the link. A general query is only expected if the router is querier again.
+abbrev pub wanted_for : Family → (is_returning : Bool) → (to : ℕ) → Option (Query ℕ) → List CheckEvent
+wanted_for family is_returning to None = []
+wanted_for family is_returning to (Some query) =
+    if is_general query && not is_returning then [] else Wants (terms_of family to query) (asked_in query) ∷ []
+
+abbrev pub wanted_of : Configuration → (is_returning : Bool) → List Outgoing → List CheckEvent
+wanted_of config is_returning messages =
+    flat_map (λ (message : Outgoing). wanted_for config.family is_returning message.to (query_sent config.family config.own message)) messages
+
+-- the expectations by the link's queries in a step
+abbrev pub wanted_by : Configuration → LinkState → Step → List CheckEvent
+wanted_by config link step = wanted_of config (not (is_querier link.election.role)) (outgoing_of config step)
+
+-- The change of the role. A tick can make the router querier again, and a datagram can also take the role from it.
+abbrev pub role_by_tick : (was_querier is_querier : Bool) → List CheckEvent
+role_by_tick true is_querier = []
+role_by_tick false true = HasRoleAgain ∷ []
+role_by_tick false false = []
+
+abbrev pub role_by_datagram : (was_querier is_querier : Bool) → List CheckEvent
+role_by_datagram true true = []
+role_by_datagram true false = LosesRole ∷ []
+role_by_datagram false true = HasRoleAgain ∷ []
+role_by_datagram false false = []
+
+-- a tick at a moment
+abbrev pub tick_passage : Configuration → (moment : ℕ) → LinkState → Passage
+tick_passage config moment link =
+    let step = tick_of config moment link in
+    record {
+      link = answered (all_sent (outgoing_of config step)) step;
+      events = Comes moment ∷ wanted_by config link step ++ role_by_tick (is_querier link.election.role) (is_querier step.state.election.role);
+    }
+
+-- ticks at the link's next moments, while these are before a limit; at most `most`
+unfoldable pub ticks_passage : (most : ℕ) → Configuration → (limit : ℕ) → LinkState → Passage
+ticks_passage zero config limit link = nothing_happens link
+ticks_passage (suc most) config limit link =
+    elim (nat_lt (next_of link) limit) [
+      | true ↦
+          let first = tick_passage config (next_of link) link in
+          happening_behind first.events (ticks_passage most config limit first.link)
+      | false ↦ nothing_happens link
+    ]
+
+-- all ticks up to and including a moment
+abbrev pub ticks_through : Configuration → (moment : ℕ) → LinkState → Passage
+ticks_through config moment link = ticks_passage (moment + 1) config (moment + 1) link
+
+-- a query from the querier's address, or any other datagram, which the link receives
+abbrev pub event_of : Configuration → (in_force : Timing) → (to : ℕ) → Query ℕ → CheckEvent
+event_of config in_force to query =
+    if is_general query
+    then SeesGeneral (terms_of config.family to query) (general_terms config in_force)
+    else Sees (terms_of config.family to query) (asked_in query)
+
+abbrev pub datagram_passage : Configuration → (moment to : ℕ) → Datagram → Option (Query ℕ) → LinkState → Passage
+datagram_passage config moment to datagram (Some query) link =
+    record { link = link; events = Comes moment ∷ event_of config link.election.timing to query ∷ [] }
+datagram_passage config moment to datagram None link =
+    let step = (receipt_of config datagram.envelope datagram.body moment link).step in
+    record {
+      link = answered (all_sent (outgoing_of config step)) step;
+      events = Comes moment ∷ wanted_by config link step ++ role_by_datagram (is_querier link.election.role) (is_querier step.state.election.role);
+    }
+
+-- a frame, if it carries a datagram
+abbrev pub frame_passage : Configuration → LinkType → (moment : ℕ) → (frame : List ℕ) → Option Datagram → LinkState → Passage
+frame_passage config link_type moment frame None link = nothing_happens link
+frame_passage config link_type moment frame (Some datagram) link =
+    datagram_passage config moment (destination_in config.family link_type frame datagram.envelope) datagram (query_seen config datagram) link
+
+-- a packet at its moment, after the events up to then
+abbrev pub packet_passage : Configuration → LinkType → (moment : ℕ) → (frame : List ℕ) → LinkState → Passage
+packet_passage config link_type moment frame link =
+    let before = ticks_through config moment link in
+    happening_behind before.events (frame_passage config link_type moment frame (datagram_of config.family (carried_in link_type frame)) before.link)
+
+-- The moment of the last of some packets. Moments are counted from `first`, and `before` is the last one before these.
+abbrev pub last_of : (first : Option ℕ) (before : ℕ) → List Captured → ℕ
+last_of first before [] = before
+last_of first before (packet ∷ packets) =
+    last_of (Some (unwrap_or first packet.stamp)) (moment_of first before packet.stamp) packets
+
+-- packets, one after the other
+unfoldable pub packets_passage : Configuration → LinkType → (first : Option ℕ) (before : ℕ) → List Captured → LinkState → Passage
+packets_passage config link_type first before [] link = nothing_happens link
+packets_passage config link_type first before (packet ∷ packets) link =
+    let moment = moment_of first before packet.stamp in
+    let this = packet_passage config link_type moment packet.bytes link in
+    happening_behind this.events (packets_passage config link_type (Some (unwrap_or first packet.stamp)) moment packets this.link)
+
+-- the end of a capture: the moment of the last packet, or the requested one if it is later
+abbrev pub end_of : (until : Option ℕ) → List Captured → ℕ
+end_of until packets = max (last_of None 0 packets) (unwrap_or until 0)
+
+-- All events in the check of a capture.
+abbrev pub events_of : Configuration → (until : Option ℕ) → Form → List Captured → List CheckEvent
+events_of config until form packets =
+    let all = packets_passage config form.link None 0 packets (link_at config 0) in
+    all.events ++ (ticks_through config (end_of until packets) all.link).events

@@ -1,0 +1,69 @@
+-- The events of a check, in order, and its findings.
+use Rattle.std.specs.Prelude.{◌≡◌, ℕ, false, List, [], ◌∷◌, ◌++◌, fold}
+use Rattle.mq_table.specs.declared.timing.Timing.{Timing}
+use Rattle.mq_check.specs.declared.asked.Asked.{Asked}
+use Rattle.mq_check.specs.declared.finding.Finding.{Finding}
+use Rattle.mq_check.specs.declared.terms.Terms.{Terms}
+use Rattle.mq_check.specs.Checking.{CheckingValue, checking_at_start, told, settled, with_wanted, specific_seen, general_seen, role_lost, role_returned, told_at_end}
+
+-- An event of a check. A moment comes, the link sends a query about these things, which is expected, or a query about
+-- these was seen. A general query was seen, with the expected one. The router loses the role of querier, or is querier
+-- again.
+pub data CheckEvent : Type 0 where
+  Comes : (moment : ℕ) → CheckEvent
+  Wants : Terms ℕ → List (Asked ℕ) → CheckEvent
+  Sees : Terms ℕ → List (Asked ℕ) → CheckEvent
+  SeesGeneral : (terms wanted : Terms ℕ) → CheckEvent
+  LosesRole : CheckEvent
+  HasRoleAgain : CheckEvent
+
+-- the moment after an event
+abbrev pub moment_behind : (now : ℕ) → CheckEvent → ℕ
+moment_behind now (Comes moment) = moment
+moment_behind now (Wants terms asked) = now
+moment_behind now (Sees terms asked) = now
+moment_behind now (SeesGeneral terms wanted) = now
+moment_behind now LosesRole = now
+moment_behind now HasRoleAgain = now
+
+-- a check after one event, and the findings by it
+abbrev pub check_by : (within : ℕ) → Timing → (now : ℕ) → CheckEvent → CheckingValue → CheckingValue
+check_by within timing now (Comes moment) c = settled within moment c
+check_by within timing now (Wants terms asked) c = fold (with_wanted now terms) c asked
+check_by within timing now (Sees terms asked) c = specific_seen now terms asked c
+check_by within timing now (SeesGeneral terms wanted) c = general_seen within timing now terms wanted c
+check_by within timing now LosesRole c = role_lost within timing now c
+check_by within timing now HasRoleAgain c = role_returned within now c
+
+abbrev pub told_by : (within : ℕ) → CheckEvent → CheckingValue → List (Finding ℕ)
+told_by within (Comes moment) c = told within moment c
+told_by within (Wants terms asked) c = []
+told_by within (Sees terms asked) c = []
+told_by within (SeesGeneral terms wanted) c = []
+told_by within LosesRole c = []
+told_by within HasRoleAgain c = []
+
+-- the moment, the check and the findings after several events
+abbrev pub moment_behind_all : (now : ℕ) → List CheckEvent → ℕ
+moment_behind_all now [] = now
+moment_behind_all now (e ∷ es) = moment_behind_all (moment_behind now e) es
+
+abbrev pub check_by_all : (within : ℕ) → Timing → (now : ℕ) → List CheckEvent → CheckingValue → CheckingValue
+check_by_all within timing now [] c = c
+check_by_all within timing now (e ∷ es) c = check_by_all within timing (moment_behind now e) es (check_by within timing now e c)
+
+abbrev pub told_by_all : (within : ℕ) → Timing → (now : ℕ) → List CheckEvent → CheckingValue → List (Finding ℕ)
+told_by_all within timing now [] c = []
+told_by_all within timing now (e ∷ es) c = told_by within e c ++ told_by_all within timing (moment_behind now e) es (check_by within timing now e c)
+
+-- the check of a capture with these events up to its end, at a moment, and all its findings
+abbrev pub checked_by : (within : ℕ) → Timing → List CheckEvent → CheckingValue
+checked_by within timing events = check_by_all within timing 0 events (checking_at_start timing)
+
+abbrev pub found_by : (within : ℕ) → Timing → (end : ℕ) → List CheckEvent → List (Finding ℕ)
+found_by within timing end events =
+    told_by_all within timing 0 events (checking_at_start timing) ++ told_at_end within timing end (checked_by within timing events)
+
+-- there was room for all pending entries
+abbrev pub HasRoom : (within : ℕ) → Timing → List CheckEvent → Type 0
+HasRoom within timing events = (checked_by within timing events).waiting.is_full ≡ false

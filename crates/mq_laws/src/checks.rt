@@ -1,0 +1,118 @@
+//! Laws of the check of a capture: its definition (`mq_check`) means what it is for. The functions have no effect at
+//! run time: each contract is a law, for every configuration and tolerance.
+//!
+//! - The text of a check follows from its events: `checks_tell_what_happened`.
+//! - If the queries of a capture are those of the link at their moments: `nothing_is_found`.
+//! - If some of them are taken out, exactly these are missing: `what_is_taken_out_is_missing`.
+//! - If they are moved within the tolerance: `nothing_is_found_of_moved_queries`.
+//! - All three follow from `what_was_left_out_is_missing`.
+//! - The text in these cases: `clean_captures_are_told_so`, `what_was_left_out_is_told`.
+//! - The times of general queries: `general_queries_are_on_time_at_these_intervals`.
+//! - The existence of such checks: `a_check_of_two_queries`.
+ghost use Rattle.std.specs.Prelude.{◌≡◌, ◌↔◌, ℕ, ◌+◌, ◌-◌, ◌≤◌, List, [], ◌++◌, None};
+ghost use Rattle.mq_table.specs.declared.timing.Timing.{Timing};
+ghost use Rattle.mq_table.specs.Timing.{query_interval};
+ghost use Rattle.mq_check.specs.declared.phase.Phase.TheVariants.{Starting, Heard, Returned};
+ghost use Rattle.mq_check.specs.General.{silence_up_to, wrong_interval};
+ghost use Rattle.mq_link.specs.Configuration.{IsFaultless};
+ghost use Rattle.mq_laws.specs.OnTime.{AreInOrder, IsOnTime, IsWantedInterval};
+ghost use Rattle.mq_laws.specs.AsWanted.{AreSeen, AreSeenWithin, IsAsWanted, TakesOut, all_missing};
+ghost use Rattle.mq_laws.specs.Events.{CheckEvent, HasRoom, found_by};
+ghost use Rattle.mq_laws.specs.WantedAndSeen.{wanted_in};
+ghost use Rattle.mq_laws.specs.CheckExamples.{example_events, example_expected, example_timing};
+ghost use Rattle.mq_laws.specs.Pairing.{Ask, Expected, missing_of};
+ghost use Rattle.mq_laws.specs.Verdicts.{CameToItsEnd, CheckedCapture, IsClean, Tells, TellsWhatHappened, end_in, events_in};
+
+use crate::links::{
+    datagrams_leave_nothing_due, links_keep_form_and_limits, ticks_are_quiet_until_the_next_moment,
+};
+
+/// A lemma: the text of a check that comes to its end follows from its events, and from nothing else of the capture.
+/// The events are the queries that the link with the querier's address sends, those that were seen from there, and the
+/// moments between.
+pub fn checks_tell_what_happened()
+    ensures { (c : CheckedCapture) → CameToItsEnd c → TellsWhatHappened c }
+{}
+
+/// A lemma: the events of a capture's check come in the order of moments, up to the end. The link's next moment is
+/// never before the last event.
+pub fn what_happens_comes_in_order()
+    ensures { (c : CheckedCapture) → IsFaultless c.config → AreInOrder 0 (events_in c) (end_in c) }
+{
+    links_keep_form_and_limits();
+    ticks_are_quiet_until_the_next_moment();
+    datagrams_leave_nothing_due();
+}
+
+/// A lemma: if queries about each thing pair up in order, the findings are those that were left out. Each is within the
+/// tolerance of its partner, with the same fields. Each finding is there once, in the order in which the queries are
+/// expected.
+pub fn what_was_left_out_is_missing()
+    ensures { (within : ℕ) (timing : Timing) (end : ℕ) (expected : List Expected) (events : List CheckEvent)
+        → AreInOrder 0 events end → IsAsWanted within timing end expected events → HasRoom within timing events
+        → found_by within timing end events ≡ missing_of expected }
+{}
+
+/// A lemma: nothing is found if the seen queries are the expected ones, at their moments.
+pub fn nothing_is_found()
+    ensures { (within : ℕ) (timing : Timing) (end : ℕ) (events : List CheckEvent)
+        → AreInOrder 0 events end → IsOnTime within timing end events → HasRoom within timing events
+        → AreSeen within (wanted_in 0 events) events → found_by within timing end events ≡ [] }
+{}
+
+/// A lemma: if some of the expected queries are taken out, exactly these are missing.
+pub fn what_is_taken_out_is_missing()
+    ensures { (within : ℕ) (timing : Timing) (end : ℕ) (events : List CheckEvent) (before taken behind : List Ask)
+        → AreInOrder 0 events end → IsOnTime within timing end events → HasRoom within timing events
+        → wanted_in 0 events ≡ before ++ taken ++ behind → TakesOut within end taken behind
+        → AreSeen within (before ++ behind) events → found_by within timing end events ≡ all_missing taken }
+{}
+
+/// A lemma: nothing is found if any of the expected queries are moved within the tolerance. Queries about one thing
+/// keep their order.
+pub fn nothing_is_found_of_moved_queries()
+    ensures { (within : ℕ) (timing : Timing) (end : ℕ) (events : List CheckEvent)
+        → AreInOrder 0 events end → IsOnTime within timing end events → HasRoom within timing events
+        → AreSeenWithin within (wanted_in 0 events) events → found_by within timing end events ≡ [] }
+{}
+
+/// A lemma: the check of a capture with these queries says that nothing is found, and no more.
+pub fn clean_captures_are_told_so()
+    ensures { (c : CheckedCapture)
+        → IsFaultless c.config → CameToItsEnd c → IsOnTime c.within c.config.timing (end_in c) (events_in c)
+        → AreSeenWithin c.within (wanted_in 0 (events_in c)) (events_in c) → IsClean c }
+{
+    what_happens_comes_in_order();
+}
+
+/// A lemma: the check says what was left out, and no more.
+pub fn what_was_left_out_is_told()
+    ensures { (c : CheckedCapture) (expected : List Expected)
+        → IsFaultless c.config → CameToItsEnd c → IsAsWanted c.within c.config.timing (end_in c) expected (events_in c)
+        → Tells c (missing_of expected) }
+{
+    what_happens_comes_in_order();
+}
+
+/// A lemma: the times of general queries, each within the tolerance. The first comes at most a query interval after the
+/// start of the capture. Each other one comes at an expected interval after the one before it. The first after a return
+/// comes whenever its partner does. Until the end, or until the role is lost, no interval is longer than a query
+/// interval.
+pub fn general_queries_are_on_time_at_these_intervals()
+    ensures first { (within : ℕ) (timing : Timing) (moment startup : ℕ)
+        → (wrong_interval within timing moment (Starting startup) ≡ None) ↔ (moment ≤ query_interval timing + within) }
+    ensures next { (within : ℕ) (timing : Timing) (before moment startup : ℕ)
+        → (wrong_interval within timing moment (Heard before startup) ≡ None)
+        ↔ IsWantedInterval within timing startup (moment - before) }
+    ensures again { (within : ℕ) (timing : Timing) (moment : ℕ) → wrong_interval within timing moment Returned ≡ None }
+    ensures silence { (within : ℕ) (timing : Timing) (before moment startup : ℕ)
+        → (silence_up_to within timing moment (Heard before startup) ≡ None) ↔ (moment - before ≤ query_interval timing + within) }
+{}
+
+/// A lemma: there are such checks. There are two queries for a group: one was seen as late as the tolerance allows, and
+/// one was left out. Then the role was lost, and the router was querier again.
+pub fn a_check_of_two_queries()
+    ensures in_order { AreInOrder 0 example_events 262000 }
+    ensures as_wanted { IsAsWanted 100 example_timing 262000 example_expected example_events }
+    ensures room { HasRoom 100 example_timing example_events }
+{}

@@ -1,9 +1,0 @@
-use Rattle.std.proofs.Common.{refl}
-use Rattle.mq_wire.specs.Spelling.{fault_of}
-use Rattle.mq_link.specs.Receive.{read_of}
-use Rattle.mq_link_examples.proofs.Worked.{comes}
-use Rattle.mq_link_examples.proofs.a_group_met_six_times.Goals as goal
-
-pub returns : goal.returns
-unfolding read_of fault_of
-returns c = comes _ _ _ _ _ _ _ _ refl refl refl refl refl

@@ -1,6 +1,0 @@
-use Rattle.std.proofs.Common.{refl}
-use Rattle.mq_link_examples.proofs.Worked.{becomes}
-use Rattle.mq_link_examples.proofs.records.a_sending_names_those_that_wait.Goals as goal
-
-pub returns : goal.returns
-returns c = becomes _ _ _ _ _ _ refl refl refl

@@ -1,9 +1,0 @@
-use Rattle.mq_link.specs.Tick.{tick_of}
-use Rattle.mq_link.specs.Receive.{read_of, pseudo_of, drop_reason}
-use Rattle.mq_link_laws.proofs.Unchanged.{dropped_decided}
-use Rattle.mq_link_laws.proofs.dropped_datagrams_are_ticks.Goals as goal
-
-pub returns : goal.returns
-returns c config envelope bytes now state reason h =
-    let read = read_of config.family (pseudo_of config.family envelope bytes) bytes in
-    dropped_decided config envelope (tick_of config now state) read (drop_reason config envelope read) reason h

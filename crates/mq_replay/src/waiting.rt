@@ -1,0 +1,28 @@
+//! The writing of known lines before a read that may wait.
+
+ghost use Rattle.std.specs.Prelude.{◌≡◌, ◌||◌, [], is_err};
+ghost use Rattle.mq_count.specs.Streams.{inner_of, has_failed};
+ghost use Rattle.mq_text.specs.Printing.{Puts};
+
+use mq_count::Watched;
+use mq_pcap::{PcapReader, Supply};
+use mq_text::{LineFault, Text, flush};
+use std::io::Write;
+
+/// Writes the lines that the buffer holds if reading the next record may wait.
+pub(crate) fn write_before_wait<S: Supply, W: Write>(
+    capture: &PcapReader,
+    supply: &S,
+    buffer: &mut Text,
+    writer: &mut Watched<W>,
+) -> Result<(), LineFault>
+    ensures text { Puts
+        (W.contents (inner_of writer.old)) (W.contents (inner_of writer.new))
+        buffer.old.items buffer.new.items [] result }
+    ensures failed { has_failed writer.new ≡ has_failed writer.old || is_err result }
+{
+    if capture.may_wait(supply) {
+        return flush(buffer, writer);
+    }
+    Ok(())
+}

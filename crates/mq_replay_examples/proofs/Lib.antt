@@ -1,3 +1,0 @@
-pub mod Captures
-pub mod KnownReplays
-pub mod TicksDone

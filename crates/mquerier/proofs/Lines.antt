@@ -1,0 +1,16 @@
+-- Lines that are put in parts.
+use Rattle.std.proofs.Common.{◌≡◌, ◌<◌, ◌++◌, codes, ℕ, zero, suc, List, refl, append_assoc, arith}
+use Rattle.std.specs.Fmt.{decimal}
+use Rattle.mquerier.specs.Failures.{repeated_line}
+
+pub in_three : (x a b c : List ℕ) → ((x ++ a) ++ b) ++ c ≡ x ++ ((a ++ b) ++ c)
+in_three x a b c = simp append_assoc
+
+pub in_six : (x a b c d e f : List ℕ) → (((((x ++ a) ++ b) ++ c) ++ d) ++ e) ++ f ≡ x ++ (((((a ++ b) ++ c) ++ d) ++ e) ++ f)
+in_six x a b c d e f = simp append_assoc
+
+-- the line of some packets that came again
+pub repeated_some : (repeated : ℕ) → 0 < repeated
+    → repeated_line repeated ≡ (codes "mquerier: " ++ decimal repeated) ++ codes " packets that came again are left out\n"
+repeated_some zero some = absurd (omega (arith, some))
+repeated_some (suc n) some = refl

@@ -1,0 +1,5 @@
+use Rattle.mquerier.proofs.Telling.{told_by_printing}
+use Rattle.mquerier.proofs.program.tell_unjudged.Goals as goal
+
+pub returns : goal.returns
+returns g c = told_by_printing _ _ _ _ _ _ c.print.result c.print.ensures.text c.print.ensures.failed c.unjudged_line_of.ensures

@@ -1,0 +1,24 @@
+//! Files of other kinds that are given for a capture.
+
+use crate::source::FIRST;
+use mq_count::Watched;
+use mq_text::print;
+use std::io::Write;
+
+const PCAPNG: &str = "  the file is pcapng: mquerier convert FILE | mquerier ..\n";
+
+const GZIP: &str = "  the file is compressed by gzip: gunzip -c FILE | mquerier ..\n";
+
+const ZSTD: &str = "  the file is compressed by zstd: zstd -dc FILE | mquerier ..\n";
+
+/// Says on standard error how a file that begins so is read, if it is no capture for the command. `converts` says whether that
+/// is a conversion, which reads pcapng.
+pub(crate) fn tell_kind<E: Write>(first: [u8; FIRST], converts: bool, errors: &mut Watched<E>) {
+    let line = match first {
+        [0x0a, 0x0d, 0x0d, 0x0a] if !converts => PCAPNG,
+        [0x1f, 0x8b, _, _] => GZIP,
+        [0x28, 0xb5, 0x2f, 0xfd] => ZSTD,
+        _ => return,
+    };
+    let _ = print(line.as_bytes(), errors);
+}

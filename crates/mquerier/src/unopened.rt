@@ -1,0 +1,51 @@
+//! A file that can't be opened.
+
+ghost use Rattle.std.specs.Prelude.{◌≡◌, ◌≤◌, length, take};
+ghost use Rattle.mquerier.specs.Changes.{output_by};
+ghost use Rattle.mquerier.specs.Failures.{unopened_line};
+ghost use Rattle.mquerier.specs.Status.{IsTold};
+
+use crate::failure::FAULTY;
+use mq_count::Watched;
+use mq_text::{Text, print, put};
+use std::io::Write;
+
+/// The most bytes that are printed of a file's name.
+const MOST_OF_NAME: usize = 3000;
+
+/// The most bytes that are printed of a reason.
+const MOST_OF_REASON: usize = 300;
+
+/// Says on standard error that the file of this name can't be opened, and why, and returns the status.
+pub fn refuse_file<E: Write>(name: &str, reason: &str, errors: &mut Watched<E>) -> u8
+    ensures status { result ≡ 1 }
+    ensures line { IsTold (output_by E.contents errors.old errors.new) (unopened_line name.now reason.now) }
+{
+    let _ = print(unopened_line_of(name, reason).as_slice(), errors);
+    FAULTY
+}
+
+/// Returns the line for a file that can't be opened.
+fn unopened_line_of(name: &str, reason: &str) -> Text
+    ensures { result.items ≡ unopened_line name.now reason.now }
+{
+    let mut line = Text::new();
+    put(&mut line, b"mquerier: the file can't be opened: ");
+    put(&mut line, beginning(name, MOST_OF_NAME));
+    put(&mut line, b": ");
+    put(&mut line, beginning(reason, MOST_OF_REASON));
+    put(&mut line, b"\n");
+    line
+}
+
+/// Returns the first bytes of a text, at most `most`.
+fn beginning(text: &str, most: usize) -> &[u8]
+    ensures text { result.now ≡ take most text.now }
+    ensures room { length result.now ≤ most }
+{
+    let bytes = text.as_bytes();
+    if bytes.len() <= most {
+        return bytes;
+    }
+    &bytes[..most]
+}
