@@ -6,12 +6,12 @@ and `convert` read captures. Times are whole milliseconds of any clock that does
 
 from ._link import Link, message_line
 from ._types import Answer, Counts, Dropped, Group, Parsed, Query, Refused, Source
-from .captures import Converted, Findings, Lines, captures_by, check, convert, replay, show
+from .captures import Converted, Findings, Lines, check, convert, replay, show
 from .faults import CaptureFault, Fault
-from .lines import Change, End, Finding, Packet, Received, Sent, Skipped, Totals
+from .lines import Basis, Change, End, Finding, Packet, Received, Role, Sent, Skipped, Totals
 
 __all__ = [
-    "Answer", "CaptureFault", "Change", "Converted", "Counts", "Dropped", "End", "Fault", "Finding", "Findings", "Group", "Lines",
-    "Link", "Packet", "Parsed", "Query", "Received", "Refused", "Sent", "Skipped", "Source", "Totals", "captures_by", "check",
-    "convert", "message_line", "replay", "show",
+    "Answer", "Basis", "CaptureFault", "Change", "Converted", "Counts", "Dropped", "End", "Fault", "Finding", "Findings", "Group", "Lines",
+    "Link", "Packet", "Parsed", "Query", "Received", "Refused", "Role", "Sent", "Skipped", "Source", "Totals", "check", "convert",
+    "message_line", "replay", "show",
 ]  # fmt: skip

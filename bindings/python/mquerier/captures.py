@@ -6,11 +6,12 @@ import dataclasses
 import os
 from typing import Any, Callable, Generic, List, Optional, Sequence, TypeVar, Union, overload
 
-from . import _by_library, _by_program
+from . import _captures_library as library
 from ._arguments import AddressLike, any_address, config_of, family_named, moment, within
-from ._asked import Asked, Outcome
+from ._captures_library import NO_END, Outcome, Querier, Settings
+from ._library import VARIABLES
 from .faults import CaptureFault
-from .lines import Event, Finding, Packet, event_of, finding_of, packet_of
+from .lines import Event, Finding, Packet, basis_of, event_of, finding_of, packet_of, role_of
 
 # A capture: its bytes, or the path of its file.
 Capture = Union[bytes, bytearray, memoryview, str, "os.PathLike[str]"]
@@ -40,13 +41,18 @@ class Lines(Sequence[T], Generic[T]):
 
 
 class Findings(Lines[Finding]):
-    """The findings of a check, and how many general and specific queries of the querier were in the capture."""
+    """The findings of a check, and what they rest on: how many general and specific queries of the querier were in the capture, the
+    packets (`Basis`), and when it was querier (`Role`). `basis` and `role` are None if the check did not come to its end."""
 
     def __init__(self, text: str) -> None:
         lines = text.splitlines()
-        last = lines.pop().split() if lines and lines[-1].startswith("checked") else ["", "", "0", "", "0:"]
-        super().__init__(text, lines, finding_of)
-        self.general, self.specific = int(last[2]), int(last[4].rstrip(":"))
+        at = next((at for at, line in enumerate(lines) if line.startswith("checked")), len(lines))
+        super().__init__(text, lines[:at], finding_of)
+        is_whole = at + 3 <= len(lines)
+        words = lines[at].split() if is_whole else ["", "", "0", "", "0:"]
+        self.general, self.specific = int(words[2]), int(words[4].rstrip(":"))
+        self.basis = basis_of(lines[at + 1]) if is_whole else None
+        self.role = role_of(lines[at + 2]) if is_whole else None
 
 
 @dataclasses.dataclass(frozen=True)
@@ -57,18 +63,11 @@ class Converted:
     unread: int
 
 
-def captures_by() -> str:
-    """Returns the path of what reads captures: the shared library libmquerier-captures, or if that is not there, the program `mquerier`."""
-    return _by_library.path() or _by_program.path()
-
-
-def run(call: str, capture: Capture, asked: Optional[Asked] = None) -> Outcome:
+def run(call: str, capture: Capture, querier: Optional[Querier] = None) -> Outcome:
     if isinstance(capture, (str, os.PathLike)):
         with open(capture, "rb") as file:
-            data = file.read()
-    else:
-        data = bytes(memoryview(capture))
-    return (_by_library.run if _by_library.path() else _by_program.run)(call, data, asked)
+            return library.run(call, file.read(), querier)
+    return library.run(call, bytes(memoryview(capture)), querier)
 
 
 def whole(outcome: Outcome, lines: Read) -> Read:
@@ -77,11 +76,14 @@ def whole(outcome: Outcome, lines: Read) -> Read:
     return lines
 
 
-def asked_of(field: str, own: AddressLike, until: Optional[int], variables: Any, **more: Any) -> Asked:
+def querier_of(field: str, own: AddressLike, until: Optional[int], variables: Any, **asked: int) -> Querier:
+    """The querier at an address, of the family of that address."""
     address = any_address(field, own)
     family = family_named("igmp" if address.version == 4 else "mld")
     config = config_of(family, field, address, variables)
-    return Asked(family.name, address, config, None if until is None else moment("until", until), **more)
+    numbers = {name: getattr(config, name) for name in (*VARIABLES, "source_specific")}
+    end = NO_END if until is None else moment("until", until)
+    return Querier(family.name, address.packed, Settings(**numbers, until=end, **asked))
 
 
 def show(capture: Capture) -> Lines[Packet]:
@@ -96,7 +98,7 @@ def replay(
 ) -> Lines[Event]:
     """Replays a capture to a querier at the address `own`, of the family of that address. With `changes`, a `Change` follows each
     event for each group whose filter it changed. The variables are those of a `Link`."""
-    outcome = run("replay", capture, asked_of("own", own, until, variables, changes=bool(changes)))
+    outcome = run("replay", capture, querier_of("own", own, until, variables, changes=bool(changes)))
     text = outcome.text.decode()
     return whole(outcome, Lines(text, text.splitlines(), event_of))
 
@@ -113,7 +115,7 @@ def check(
     """Holds the querier at an address to the standards: returns what it does otherwise than is wanted, within a tolerance. The
     variables are those of a `Link`. Without `cite` no finding has a section."""
     most = within("tolerance", tolerance, 2**32 - 1)
-    outcome = run("check", capture, asked_of("querier", querier, until, variables, within=most, cite=bool(cite)))
+    outcome = run("check", capture, querier_of("querier", querier, until, variables, within=most, cite=bool(cite)))
     return whole(outcome, Findings(outcome.text.decode()))
 
 

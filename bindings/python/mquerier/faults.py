@@ -36,7 +36,7 @@ class Fault(ValueError):
 
 
 class CaptureFault(ValueError):
-    """Why a capture was not read to its end, in the words of docs/FORMATS.md. `lines` has what was read before."""
+    """Why a capture was not read to its end. `lines` has what was read before."""
 
     def __init__(self, why: str, lines: Sequence[Any]) -> None:
         super().__init__(why)

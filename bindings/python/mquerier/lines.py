@@ -100,6 +100,30 @@ class Finding:
     detail: str = ""
 
 
+@dataclasses.dataclass(frozen=True)
+class Basis:
+    """The packets of a checked capture: how many there are, how many are messages of the family, how many have a fault as such, how
+    many are cut, and how many were not looked into (fragments, second tags, PPPoE and the like)."""
+
+    packets: int
+    messages: int
+    malformed: int
+    cut: int
+    unread: int
+
+
+@dataclasses.dataclass(frozen=True)
+class Role:
+    """When the checked router was querier: from the start, but for the times that it lost the role. `lost_at` is the last such time,
+    `other` the last other querier, and `again_at` the time from which it has the role again."""
+
+    querier: Address
+    lost: int = 0
+    lost_at: Optional[int] = None
+    other: Optional[Address] = None
+    again_at: Optional[int] = None
+
+
 FINDING = re.compile(
     r"(?P<time>\d+) (?:"
     r"(?P<kind>missing|extra) (?P<asked>[^ (]+(?: [^ (]+)?)"
@@ -156,6 +180,24 @@ def source_of(word: str) -> Source:
         return Source(ipaddress.ip_address(word[1:]), None)
     address, _, deadline = word.partition("=")
     return Source(ipaddress.ip_address(address), int(deadline))
+
+
+def basis_of(line: str) -> Basis:
+    words = line.partition(";")[0].split()
+    return Basis(*map(int, words[1::2]))
+
+
+def role_of(line: str) -> Role:
+    querier, *rest = line.removeprefix("querier ").split(", ")
+    said = dict(it.rsplit(" ", 1) for it in rest)
+    lost_at, other, again = said.get("last at"), said.get("other"), said.get("again at")
+    return Role(
+        ipaddress.ip_address(querier.split()[0]),
+        int(said.get("lost", 0)),
+        None if lost_at is None else int(lost_at),
+        None if other is None else ipaddress.ip_address(other),
+        None if again is None else int(again),
+    )
 
 
 def finding_of(line: str) -> Finding:

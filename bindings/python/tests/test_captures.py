@@ -1,5 +1,7 @@
 """Captures: texts, objects, faults, and the command line."""
 
+import concurrent.futures
+import gc
 import glob
 import ipaddress
 import json
@@ -10,37 +12,84 @@ import sys
 
 import mquerier
 import pytest
-from conftest import TOP
-from mquerier import CaptureFault, Fault
+from conftest import TOP, used
+from mquerier import CaptureFault, Fault, _captures_library
 
 SAMPLE = f"{TOP}/samples/igmp.pcap"
-PROGRAM = os.environ.get("MQUERIER") or f"{TOP}/bin/mquerier"
 VARIABLES = {"response_interval": 2000, "last_member_interval": 500}
 DATA = pathlib.Path(SAMPLE).read_bytes()
-# Each text is compared with that of the program, if it is built.
-has_program = pytest.mark.skipif(not os.path.exists(PROGRAM), reason="bin/mquerier is not built")
+CAPTURES = sorted(glob.glob(f"{TOP}/vectors/*.pcap") + glob.glob(f"{TOP}/samples/*.pcap*"))
+QUERIERS = ("10.9.0.1", "10.0.0.9", "fe80::9")
 
 
-def printed(*words):
-    return subprocess.run([PROGRAM, *words], stdout=subprocess.PIPE, stderr=subprocess.DEVNULL, check=False).stdout
+def is_as_printed(data, words, call, *own, **more):
+    """Whether a call gives the text that the program `mquerier` prints, and a fault where the program has one."""
+    ran = subprocess.run([f"{TOP}/bin/mquerier", *words, *own], input=data, stdout=subprocess.PIPE, stderr=subprocess.PIPE, check=False)
+    try:
+        text, status = call(data, *own[1:], **more).text, 0
+    except CaptureFault as fault:
+        text, status = fault.lines.text, 1
+    assert ran.returncode in ((1,) if status else (0, 3, 4)), ran.stderr
+    return text.encode() == ran.stdout
 
 
-@has_program
-@pytest.mark.parametrize("file", sorted(glob.glob(f"{TOP}/samples/*.pcap*")), ids=os.path.basename)
-def test_texts_are_those_of_the_program(file):
-    assert mquerier.convert(file).data == printed("convert", file)
-    for own in ("10.9.0.1", "fe80::9"):
+def are_as_printed(data):
+    assert is_as_printed(data, ["show"], mquerier.show)
+    for own in QUERIERS:
         family = "mld" if ":" in own else "igmp"
-        for words, call, option, more in (
-            (["show"], mquerier.show, None, {}),
-            (["replay", family, "--changes"], mquerier.replay, "--own", {"changes": True}),
-            (["check", family, "--cite", "--within", "9"], mquerier.check, "--querier", {"tolerance": 9}),
-        ):
-            try:
-                text = (call(file, own, **more) if option else call(file)).text
-            except CaptureFault as fault:
-                text = fault.lines.text
-            assert text.encode() == printed(*words, *([option, own] if option else []), file)
+        assert is_as_printed(data, ["replay", family, "--changes"], mquerier.replay, "--own", own, changes=True)
+        assert is_as_printed(data, ["check", family, "--cite", "--within", "9"], mquerier.check, "--querier", own, tolerance=9)
+
+
+@pytest.mark.parametrize("file", CAPTURES, ids=os.path.basename)
+def test_texts_are_those_of_the_program(file):
+    ran = subprocess.run([f"{TOP}/bin/mquerier", "convert", file], stdout=subprocess.PIPE, check=True)
+    assert mquerier.convert(file) == mquerier.Converted(ran.stdout, 0)
+    are_as_printed(pathlib.Path(file).read_bytes())
+
+
+@pytest.mark.parametrize("length", [0, 3, 23, 24, 30, 60, 1000, len(DATA) - 1])
+def test_texts_of_what_is_truncated(length):
+    are_as_printed(DATA[:length])
+
+
+def test_texts_of_other_settings():
+    words = "--rv 3 --qi 20 --qri 1500 --lmqi 700 --groups 2 --group-sources 3 --sources 5 --scheduled 1 --ssm --until 86000000"
+    names = ("robustness", "query_interval", "response_interval", "last_member_interval", "groups", "group_sources", "sources", "scheduled")
+    more = {**dict(zip(names, (3, 20, 1500, 700, 2, 3, 5, 1))), "source_specific": True, "until": 86000000}
+    assert is_as_printed(DATA, ["replay", "igmp", *words.split()], mquerier.replay, "--own", "10.9.0.1", **more)
+    assert is_as_printed(DATA, ["check", "igmp", *words.split()], mquerier.check, "--querier", "10.9.0.1", cite=False, **more)
+
+
+def test_packets_of_a_link_type_that_is_not_read():
+    converted = mquerier.convert(DATA[:20] + (147).to_bytes(4, "little") + DATA[24:])
+    assert converted.unread == 46 and {it.message for it in mquerier.show(converted.data)} == {"other"}
+
+
+def test_memory_grows_until_it_suffices(monkeypatch):
+    wanted = mquerier.check(DATA, "10.9.0.1").text
+    monkeypatch.setattr(_captures_library, "LEAST_WORK", 16)
+    monkeypatch.setattr(_captures_library, "LEAST_TEXT", -2 * len(DATA) + 1)
+    assert mquerier.check(DATA, "10.9.0.1").text == wanted
+    monkeypatch.setattr(_captures_library, "MOST_WORK", 16)
+    with pytest.raises(CaptureFault, match="out of memory"):
+        mquerier.check(DATA, "10.9.0.1")
+
+
+def test_calls_give_their_memory_back():
+    for number in range(200):
+        mquerier.check(DATA, "10.9.0.1")
+        if number == 20:
+            gc.collect()
+            before = used()
+    gc.collect()
+    assert used() - before < 8 << 20
+
+
+def test_threads():
+    with concurrent.futures.ThreadPoolExecutor(8) as pool:
+        found = list(pool.map(lambda _: mquerier.replay(DATA, "10.9.0.1").text, range(64)))
+    assert set(found) == {mquerier.replay(DATA, "10.9.0.1").text}
 
 
 def test_packets():
@@ -64,6 +113,17 @@ def test_events_add_up():
     assert [it.time for it in events if isinstance(it, mquerier.End)] == [11983]
 
 
+def basis_line(it):
+    counts = f"packets {it.packets} messages {it.messages} malformed {it.malformed} cut {it.cut} unread {it.unread}"
+    return f"{counts}; groups held before 0 are unknown"
+
+
+def role_line(it):
+    line = f"querier {it.querier} from 0"
+    line += f", lost {it.lost}, last at {it.lost_at}, other {it.other}" if it.lost else ""
+    return line + (f", again at {it.again_at}" if it.again_at is not None else "")
+
+
 def line_of(it):
     asked = " ".join(str(part) for part in (it.group, it.source) if part is not None)
     asked += {"differs": f": {it.detail}", "general": it.detail}.get(it.kind, "")
@@ -76,19 +136,24 @@ def test_findings_have_all_of_their_lines(file):
     for querier in ("10.0.0.9", "10.9.0.1", "fe80::9", "fe80::2"):
         found = mquerier.check(data, querier, until=300000)
         last = f"checked general {found.general} specific {found.specific}: {len(found)} findings"
-        assert [*map(line_of, found), last] == found.text.splitlines()
+        assert [*map(line_of, found), last, basis_line(found.basis), role_line(found.role)] == found.text.splitlines()
         assert len(mquerier.check(data, querier, until=300000, cite=False)) == len(found)
 
 
 def test_faults_of_captures():
-    for data, why, read in [(b"", "capture fault 5 at record 0", 0), (b"x" * 99, "capture fault 2", 0), (DATA[:-1], "capture fault 6 at record 46", 45)]:
+    for data, why, read in [
+        (b"", "the header of record 0 is cut", 0),
+        (b"x" * 99, "no capture: the magic number is unknown", 0),
+        (DATA[:-1], "the data of record 46 are cut", 45),
+    ]:
         with pytest.raises(CaptureFault) as fault:
             mquerier.show(data)
         assert (str(fault.value), len(fault.value.lines)) == (why, read)
-    with pytest.raises(CaptureFault, match="conversion fault 9 at block 46"):
+    with pytest.raises(CaptureFault, match="block 46: the file ends within it"):
         mquerier.convert(DATA[:-1])
-    with pytest.raises(CaptureFault, match="gap before record 47"):
+    with pytest.raises(CaptureFault, match="more than a day lies between record 47 and what is before it") as gap:
         mquerier.replay(DATA, "10.9.0.1", until=2**53)
+    assert len(gap.value.lines) > 46
 
 
 def test_faults_of_arguments():

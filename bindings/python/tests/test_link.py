@@ -9,7 +9,7 @@ import threading
 
 import mquerier
 import pytest
-from conftest import TOP
+from conftest import TOP, used
 from mquerier import Dropped, Fault, Link, faults
 
 HOST, GROUP = "10.0.0.1", "239.1.2.3"
@@ -133,18 +133,13 @@ def test_texts_and_fields_are_those_of_the_header():
         assert [it.name for it in kind] == re.findall(rf"{prefix}(\w+)", names.partition("}")[0])
 
 
-def resident():
-    with open("/proc/self/statm", encoding="ascii") as it:
-        return int(it.read().split()[1]) * 4096
-
-
 def test_a_million_calls_take_no_memory():
     link = made()
     for now in range(1_000_000):
         link.receive(HOST, JOIN, now) if now % 2 else link.tick(now)
         if now == 100_000:
-            before = resident()
-    assert resident() - before < 1 << 20
+            before = used()
+    assert used() - before < 1 << 20
 
 
 def test_links_that_end_give_their_memory_back():
@@ -152,9 +147,9 @@ def test_links_that_end_give_their_memory_back():
         made().tick(0)
         if number == 20:
             gc.collect()
-            before = resident()
+            before = used()
     gc.collect()
-    assert resident() - before < 8 << 20
+    assert used() - before < 8 << 20
 
 
 def played(link, seen):

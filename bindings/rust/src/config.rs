@@ -39,8 +39,8 @@ impl<F: Family> Config<F> {
     ///
     /// If the archive has another version than this crate is for.
     pub fn new(own: F::Address) -> Self {
-        // "Header and archive must be of one version"; all other calls need a configuration.
-        // SAFETY: "A pointer points to as many elements as its prototype says": `own` is one address.
+        // All other calls need a configuration, so here "a program checks once that `mq_version`, that of the archive, returns the same".
+        // SAFETY: "A pointer points to as many elements as its prototype or its length says": `own` is one address.
         let (version, raw) = unsafe { (mq_version(), (F::CALLS.defaults)(&own)) };
         assert_eq!(version, VERSION, "libmquerier has another version than this crate is for");
         Config { raw }
@@ -74,19 +74,19 @@ impl<F: Family> Config<F> {
 
     /// Returns how many bytes suffice for a link, wherever they begin.
     pub fn size(&self) -> usize {
-        // SAFETY: "All other arguments are safe".
+        // SAFETY: "All other arguments are safe": a configuration, and numbers.
         unsafe { (F::CALLS.size)(self.raw) }
     }
 
     /// Returns how many bytes suffice for a workspace, wherever they begin.
     pub fn workspace_size(&self) -> usize {
-        // SAFETY: "All other arguments are safe".
+        // SAFETY: "All other arguments are safe": a configuration, and numbers.
         unsafe { (F::CALLS.workspace_size)(self.raw) }
     }
 
     /// Returns how much room for queries suffices for each call, if no body is longer than `longest_body`: 1480 bytes on Ethernet.
     pub fn outlet_bytes(&self, longest_body: u32) -> usize {
-        // SAFETY: "All other arguments are safe".
+        // SAFETY: "All other arguments are safe": a configuration, and numbers.
         unsafe { (F::CALLS.outlet_bytes)(self.raw, longest_body) }
     }
 }

@@ -5,7 +5,8 @@ use core::str;
 
 /// Writes a message of IGMP as a line, or the line of its fault. The line is truncated if `room` is too small.
 pub fn igmp_line<'l>(body: &[u8], room: &'l mut [u8]) -> &'l str {
-    // SAFETY: "A pointer points to as many elements as its length says", and `room` overlaps nothing.
+    // SAFETY: "A pointer points to as many elements as its prototype or its length says": these are slices.
+    // "Memory that a call writes overlaps no other argument": `room` is `&mut`.
     let length = unsafe { raw::igmp::line(body.as_ptr(), body.len(), room.as_mut_ptr(), room.len()) };
     text_of(room, length)
 }
@@ -13,7 +14,8 @@ pub fn igmp_line<'l>(body: &[u8], room: &'l mut [u8]) -> &'l str {
 /// Writes a message of MLD as a line, or the line of its fault; the addresses are those of its packet.
 pub fn mld_line<'l>(source: [u8; 16], destination: [u8; 16], body: &[u8], room: &'l mut [u8]) -> &'l str {
     let (at, to, length) = (body.as_ptr(), room.as_mut_ptr(), room.len());
-    // SAFETY: "A pointer points to as many elements as its prototype or its length says", and `room` overlaps nothing.
+    // SAFETY: "A pointer points to as many elements as its prototype or its length says": these are two addresses and
+    // slices. "Memory that a call writes overlaps no other argument": `room` is `&mut`.
     let length = unsafe { raw::mld::line(&source, &destination, at, body.len(), to, length) };
     text_of(room, length)
 }

@@ -33,8 +33,8 @@ impl<'m, F: Family> Link<'m, F> {
 
     fn made(config: &Config<F>, start: u64, units: Units, block: Block<'m>) -> Result<Self, Fault> {
         let mut raw = Handle(ptr::null_mut());
-        // SAFETY: "The memory of a link or a workspace belongs to the library until the last call on it, and stays where it is": the
-        // block is borrowed or owned as long as this value, which makes all calls.
+        // SAFETY: "The memory of a link or a workspace belongs to the library until the last call on it: nobody else reads or writes it,
+        // and it stays where it is": the block is borrowed or owned as long as this value, which makes all calls.
         Fault::of_status(unsafe { (F::CALLS.init_units)(config.raw, start, units, &mut raw) })?;
         Ok(Link { raw, _block: block, family: PhantomData })
     }
@@ -47,28 +47,30 @@ impl<'m, F: Family> Link<'m, F> {
         queries: &'q mut [u8],
     ) -> Result<Answer<'q, F>, Fault> {
         let (link, work, to, room) = (&mut self.raw, &mut workspace.raw, queries.as_mut_ptr(), queries.len());
-        // SAFETY: "Memory that a call writes overlaps no other argument": these are three `&mut`. Both objects come from `made`.
+        // SAFETY: "Memory that a call writes overlaps no other argument": these are three `&mut`.
+        // "A link or a workspace comes from a call that returned MQ_DONE": both from `made`.
         let raw = unsafe { (F::CALLS.tick)(link, work, now, to, room) };
         Answer::of(raw, queries)
     }
 
     /// Returns when the next tick is due, after a tick later than that tick; None if never again.
     pub fn next_deadline(&self) -> Option<u64> {
-        // SAFETY: "A link comes from a call that returned MQ_DONE". This holds for all calls below.
+        // SAFETY: "A link or a workspace comes from a call that returned MQ_DONE": this one from `made`, as for all calls below.
         let deadline = unsafe { (F::CALLS.next_deadline)(&self.raw) };
         (deadline <= LATEST).then_some(deadline)
     }
 
     /// Returns whether traffic from a source to a group is forwarded, as of the last call.
     pub fn forwards(&self, group: F::Address, source: F::Address) -> bool {
-        // SAFETY: "A pointer points to as many elements as its prototype says": each is one address.
+        // SAFETY: "A pointer points to as many elements as its prototype or its length says": each is one address.
         unsafe { (F::CALLS.forwards)(&self.raw, &group, &source) }
     }
 
     /// Returns a group, and writes its sources in ascending order to the front of `sources` if all of them fit.
     pub fn group_into(&self, address: F::Address, sources: &mut [Source<F>]) -> Option<Group<F>> {
         let mut group = Group::default();
-        // SAFETY: as above; a `Source` is a source of the header. "Memory that a call writes overlaps no other argument".
+        // SAFETY: "A pointer points to as many elements as its prototype or its length says": an address, a group, and a slice.
+        // "Memory that a call writes overlaps no other argument": `group` and `sources` are `&mut`.
         let page = unsafe {
             (F::CALLS.group_at)(&self.raw, &address, &mut group.0, sources.as_mut_ptr().cast(), sources.len())
         };
@@ -79,7 +81,8 @@ impl<'m, F: Family> Link<'m, F> {
     /// `sources`. Returns how many groups and sources it wrote.
     pub fn groups_into(&self, first: usize, groups: &mut [Group<F>], sources: &mut [Source<F>]) -> (usize, usize) {
         let first = u32::try_from(first).unwrap_or(u32::MAX);
-        // SAFETY: as above.
+        // SAFETY: "A pointer points to as many elements as its prototype or its length says": these are slices.
+        // "Memory that a call writes overlaps no other argument": they are `&mut`.
         let page = unsafe {
             let (to, sources_to) = (groups.as_mut_ptr().cast(), sources.as_mut_ptr().cast());
             (F::CALLS.groups)(&self.raw, first, to, groups.len(), sources_to, sources.len())
@@ -89,7 +92,7 @@ impl<'m, F: Family> Link<'m, F> {
 
     /// Returns how many groups the link has.
     pub fn len(&self) -> usize {
-        // SAFETY: as above.
+        // SAFETY: "A link or a workspace comes from a call that returned MQ_DONE".
         unsafe { (F::CALLS.len)(&self.raw) as usize }
     }
 
@@ -98,14 +101,14 @@ impl<'m, F: Family> Link<'m, F> {
     }
 
     pub fn is_querier(&self) -> bool {
-        // SAFETY: as above.
+        // SAFETY: "A link or a workspace comes from a call that returned MQ_DONE".
         unsafe { (F::CALLS.is_querier)(&self.raw) }
     }
 
     /// Returns the address of the querier with a lower address, and until when it is assumed; None while this router is querier.
     pub fn other_querier(&self) -> Option<(F::Address, u64)> {
         let mut address = F::ZERO;
-        // SAFETY: as above; `room` is the size of an address.
+        // SAFETY: "A pointer points to as many elements as its prototype or its length says": `room` is the size of an address.
         let until = unsafe { (F::CALLS.other_querier)(&self.raw, &mut address, core::mem::size_of::<F::Address>()) };
         (until != NONE).then_some((address, until))
     }
@@ -113,7 +116,7 @@ impl<'m, F: Family> Link<'m, F> {
     /// Returns what the link has counted.
     pub fn counts(&self) -> Counts {
         let mut counts = Counts::default();
-        // SAFETY: as above; `Counts` is `COUNTERS` numbers.
+        // SAFETY: "A pointer points to as many elements as its prototype or its length says": `Counts` is `COUNTERS` numbers.
         unsafe { (F::CALLS.counters)(&self.raw, (&mut counts as *mut Counts).cast(), COUNTERS) };
         counts
     }
@@ -132,7 +135,8 @@ impl Link<'_, Igmp> {
     ) -> Result<Answer<'q, Igmp>, Fault> {
         let (link, work, to, room) = (&mut self.raw, &mut workspace.raw, queries.as_mut_ptr(), queries.len());
         let (at, length) = (body.as_ptr(), body.len());
-        // SAFETY: as of `tick`; `body` is shared, and so none of the memory that is written.
+        // SAFETY: "Memory that a call writes overlaps no other argument": as of `tick`, and `body` is shared.
+        // "A pointer points to as many elements as its prototype or its length says": these are slices and addresses.
         let raw = unsafe { raw::igmp::receive(link, work, &source, at, length, now, to, room) };
         Answer::of(raw, queries)
     }
@@ -162,7 +166,8 @@ impl Link<'_, Mld> {
         let (link, work, to, room) = (&mut self.raw, &mut workspace.raw, queries.as_mut_ptr(), queries.len());
         let Envelope { source, destination, hop_limit: hops, alert } = *envelope;
         let (at, length, ends) = (body.as_ptr(), body.len(), (&source, &destination));
-        // SAFETY: as of `tick`; `body` is shared, and so none of the memory that is written.
+        // SAFETY: "Memory that a call writes overlaps no other argument": as of `tick`, and `body` is shared.
+        // "A pointer points to as many elements as its prototype or its length says": these are slices and addresses.
         let raw = unsafe { raw::mld::receive(link, work, ends.0, ends.1, hops, alert, at, length, now, to, room) };
         Answer::of(raw, queries)
     }

@@ -19,7 +19,8 @@ pub(crate) struct Block<'m> {
 
 /// Returns the whole units in lent memory.
 pub(crate) fn lent(memory: &mut [u8]) -> (Units, Block<'_>) {
-    // SAFETY: any bytes are a `Unit`, and the other way round.
+    // SAFETY: any bytes are a `Unit`, and the other way round. This makes "Memory in whole units of 16 bytes, which begins at a
+    // multiple of 16".
     let (_, units, _) = unsafe { memory.align_to_mut::<Unit>() };
     let block = Block {
         _lent: PhantomData,

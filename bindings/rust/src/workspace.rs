@@ -34,8 +34,8 @@ impl<'m, F: Family> Workspace<'m, F> {
 
     fn made(config: &Config<F>, units: Units, block: Block<'m>) -> Result<Self, Fault> {
         let mut raw = Handle(ptr::null_mut());
-        // SAFETY: "The memory of a link or a workspace belongs to the library until the last call on it, and stays where it is": the
-        // block is borrowed or owned as long as this value, which makes all calls.
+        // SAFETY: "The memory of a link or a workspace belongs to the library until the last call on it: nobody else reads or writes it,
+        // and it stays where it is": the block is borrowed or owned as long as this value, which makes all calls.
         Fault::of_status(unsafe { (F::CALLS.workspace_init_units)(config.raw, units, &mut raw) })?;
         Ok(Workspace { raw, _block: block, family: PhantomData })
     }
@@ -67,7 +67,8 @@ impl<F: Family> Iterator for Changed<'_, F> {
 
     fn next(&mut self) -> Option<F::Address> {
         let mut address = <F as Calling>::ZERO;
-        // SAFETY: "A workspace comes from a call that returned MQ_DONE"; `address` is one address, and no other argument.
+        // SAFETY: "A link or a workspace comes from a call that returned MQ_DONE": this one from `made`.
+        // "Memory that a call writes overlaps no other argument": `address` is one address, and `&mut`.
         let count = unsafe { (F::CALLS.changed)(self.workspace, self.first, &mut address, 1) };
         (self.first < count).then(|| {
             self.first += 1;

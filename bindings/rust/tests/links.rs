@@ -84,12 +84,91 @@ fn faults() {
 }
 
 #[test]
-fn texts_are_those_of_the_header() {
-    let folder = std::env::var("MQUERIER_LIB").expect("MQUERIER_LIB is lib/ of the repository");
-    let header = std::fs::read_to_string(folder + "/../include/mquerier.h").unwrap();
-    for text in [Fault::ResponseInterval.to_string(), Fault::Workspace.to_string(), Dropped::Group.to_string()] {
-        assert!(header.contains(&format!("\"{text}\"")), "{text}");
+fn any_length() {
+    for length in [0, 1, 3, 7, 9, 1480, 65_535, 1 << 20] {
+        let (mut link, mut workspace) = made();
+        let answer = link.receive(&mut workspace, HOST, &vec![0; length], 0, &mut []).unwrap();
+        let wanted = if length < 4 { Dropped::Truncated } else { Dropped::Checksum };
+        assert_eq!(answer.dropped, Some(wanted), "{length}");
     }
+}
+
+/// The header, each run of white space as one space.
+fn header() -> String {
+    let folder = std::env::var("MQUERIER_LIB").expect("MQUERIER_LIB is lib/ of the repository");
+    spaced(&std::fs::read_to_string(folder + "/../include/mquerier.h").unwrap())
+}
+
+fn spaced(text: &str) -> String {
+    text.split_whitespace().collect::<Vec<_>>().join(" ")
+}
+
+#[test]
+fn texts_are_those_of_the_header() {
+    let (header, quoted) = (header(), |it: String| format!("\"{it}\""));
+    let texts = |name: &str| header[header.find(name).unwrap()..].split("};").next().unwrap().to_string();
+    let (statuses, reasons) = (texts("mq_status_text"), texts("mq_dropped_text"));
+    let mut at = 0;
+    for fault in [
+        Fault::Robustness,
+        Fault::QueryInterval,
+        Fault::ResponseInterval,
+        Fault::LastMemberInterval,
+        Fault::Groups,
+        Fault::GroupSources,
+        Fault::Sources,
+        Fault::Scheduled,
+        Fault::OwnAddress,
+        Fault::Memory,
+        Fault::Moment,
+        Fault::Workspace,
+    ] {
+        at += statuses[at..].find(&quoted(fault.to_string())).expect("the header has the text, in this order");
+    }
+    at = 0;
+    for reason in [
+        Dropped::Truncated,
+        Dropped::Checksum,
+        Dropped::UnknownType,
+        Dropped::QueryLength,
+        Dropped::Source,
+        Dropped::HopLimit,
+        Dropped::NoAlert,
+        Dropped::OwnOrZero,
+        Dropped::Igmpv1Query,
+        Dropped::Group,
+    ] {
+        at += reasons[at..].find(&quoted(reason.to_string())).expect("the header has the text, in this order");
+    }
+    assert_eq!((statuses.matches('"').count(), reasons.matches('"').count()), (2 * 13, 2 * 11));
+}
+
+/// What a comment of `// SAFETY:` quotes of the header, for each such comment of a file.
+fn quoted(file: &str) -> Vec<Vec<String>> {
+    let lines: Vec<&str> = file.lines().map(str::trim).collect();
+    let begins = (0..lines.len()).filter(|&at| lines[at].starts_with("// SAFETY:"));
+    let comment =
+        |at: usize| lines[at..].iter().take_while(|it| it.starts_with("//")).map(|it| &it[2..]).collect::<String>();
+    begins.map(|at| comment(at).split('"').skip(1).step_by(2).map(spaced).collect()).collect()
+}
+
+#[test]
+fn each_unsafe_block_quotes_the_header() {
+    let header = header();
+    let mut blocks = 0;
+    for file in std::fs::read_dir(concat!(env!("CARGO_MANIFEST_DIR"), "/src")).unwrap() {
+        let text = std::fs::read_to_string(file.unwrap().path()).unwrap();
+        let all = quoted(&text);
+        assert_eq!(all.len(), text.matches("unsafe {").count() + text.matches("unsafe impl").count());
+        for quotes in all {
+            assert!(!quotes.is_empty());
+            for it in quotes {
+                assert!(header.contains(&it), "not in the header: {it}");
+            }
+            blocks += 1;
+        }
+    }
+    assert!(blocks > 20);
 }
 
 #[test]

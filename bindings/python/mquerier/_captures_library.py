@@ -1,0 +1,90 @@
+"""The shared library that reads captures: the crate `mq_page`, which is proved, for this processor."""
+
+from __future__ import annotations
+
+import ctypes
+import dataclasses
+import functools
+import mmap
+from ctypes import POINTER, c_char_p, c_size_t, c_uint32, c_uint64, c_void_p
+from typing import Any, List, Optional
+
+from ._library import VARIABLES, VERSION, Units, found
+
+DONE, FULL, MEMORY = 0, 1, 2
+LEAST_TEXT, LEAST_WORK, MOST_WORK, UNIT = 1 << 16, 1 << 26, 1 << 36, 16
+LONGEST_SENTENCE = 256
+NO_END = 2**64 - 1
+SETTINGS = (*VARIABLES, "source_specific", "changes", "within", "cite")
+
+
+class Settings(ctypes.Structure):
+    """What is asked of a querier: its variables, its limits, and the options of a replay or a check."""
+
+    _fields_ = [(name, c_uint32) for name in SETTINGS] + [("until", c_uint64)]
+
+
+class RawOutcome(ctypes.Structure):
+    """`number` is the count that a call returns, or the record or the block that has the fault."""
+
+    _fields_ = [("status", c_uint64), ("written", c_uint64), ("number", c_uint64)]
+
+
+@dataclasses.dataclass(frozen=True)
+class Querier:
+    """A querier that a capture is replayed to, or that is checked."""
+
+    family: str
+    own: bytes
+    settings: Settings
+
+
+@dataclasses.dataclass(frozen=True)
+class Outcome:
+    """The text, the sentence of the fault that ended it, and the count that a call returns."""
+
+    text: bytes
+    fault: Optional[str]
+    count: int
+
+
+@functools.lru_cache(None)
+def library() -> Any:
+    calls = ctypes.CDLL(found(f"libmquerier-captures.so.{VERSION}"))
+    ends: List[Any] = [c_char_p, c_size_t, Units, c_void_p, c_size_t]
+    for name in ("show", "convert", "replay_igmp", "replay_mld", "check_igmp", "check_mld"):
+        call = getattr(calls, f"page_{name}")
+        call.restype, call.argtypes = RawOutcome, [c_char_p, POINTER(Settings), *ends] if "_" in name else ends
+    calls.page_fault_text.restype, calls.page_fault_text.argtypes = c_size_t, [POINTER(RawOutcome), c_void_p, c_size_t]
+    return calls
+
+
+class Lent:
+    """Zeroed memory of the system, whose pages exist once they are used. It begins at a multiple of 16."""
+
+    def __init__(self, size: int) -> None:
+        self.pages = mmap.mmap(-1, size)
+        self.at = ctypes.addressof(ctypes.c_char.from_buffer(self.pages))
+
+
+def run(call: str, data: bytes, querier: Optional[Querier] = None) -> Outcome:
+    """Makes a call, again with twice the memory if that is too little. Its work needs room for the text once more."""
+    function = getattr(library(), f"page_{call}_{querier.family}" if querier else f"page_{call}")
+    asked = [querier.own, ctypes.byref(querier.settings)] if querier else []
+    room, work = LEAST_TEXT + 2 * len(data), LEAST_WORK
+    while True:
+        text, units = Lent(room), (work + room) // UNIT + 1
+        memory = Lent(units * UNIT)
+        raw = function(*asked, data, len(data), Units(memory.at, units), text.at, room)
+        if raw.status == FULL:
+            room *= 2
+        elif raw.status == MEMORY and work < MOST_WORK:
+            work *= 2
+        else:
+            return Outcome(text.pages[: raw.written], sentence_of(raw), raw.number)
+
+
+def sentence_of(raw: RawOutcome) -> Optional[str]:
+    room = ctypes.create_string_buffer(LONGEST_SENTENCE)
+    length = library().page_fault_text(ctypes.byref(raw), room, len(room))
+    return room.raw[:length].decode() if raw.status != DONE else None
