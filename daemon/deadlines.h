@@ -1,4 +1,4 @@
-/* The earliest of many moments: a binary heap of a fixed number of entries, each of which has one moment. */
+/* The earliest of many deadlines: a binary heap with a fixed number of entries, each with one deadline. */
 #ifndef DEADLINES_H
 #define DEADLINES_H
 
@@ -6,16 +6,16 @@
 #include <stdint.h>
 
 struct deadlines {
-    uint64_t *moments; /* by entry */
-    size_t *heap;      /* entries; the parent of the one at `n` is at `(n - 1) / 2`, and isn't later */
-    size_t *places;    /* of entries in the heap */
+    uint64_t *moments; /* the deadline of each entry */
+    size_t *heap;      /* entries: the parent of place `n` is at `(n - 1) / 2`, and is not later */
+    size_t *places;    /* the place of each entry in the heap */
     size_t count;
 };
 
-/* Makes so many entries, all of them at MQ_NONE. */
+/* Makes `count` entries, all at MQ_NONE. */
 void deadlines_open(struct deadlines *deadlines, size_t count);
 void deadlines_set(struct deadlines *deadlines, size_t entry, uint64_t moment);
-/* Returns the entry with the earliest moment. */
+/* Returns the entry with the earliest deadline. */
 size_t deadlines_first(const struct deadlines *deadlines);
 
 #endif

@@ -1,7 +1,7 @@
 """Switches of the live test: bridges with many ports in one namespace, the far ends of the ports in another, and the querier.
 
-The test's own process has sockets in both namespaces. A host is a far end, with the calls of the Linux kernel: it joins groups,
-and the kernel reports them and answers queries. Frames that a far end sends or receives are seen by packet sockets."""
+The test's own process has sockets in both namespaces. A host is a far end that uses the calls of the Linux kernel: it joins groups,
+and the kernel reports them and answers queries. Packet sockets see the frames that a far end sends or receives."""
 
 import contextlib
 import ctypes
@@ -22,7 +22,8 @@ from frames import data_frame
 from lab import PROGRAM, Wrong, ip, is_true
 
 LIBC = ctypes.CDLL(None, use_errno=True)
-SHORT = ["--qi", "4", "--qri", "1000", "--lmqi", "500"]
+QUERY_INTERVAL = 4
+SHORT = ["--qi", str(QUERY_INTERVAL), "--qri", "1000", "--lmqi", "500"]
 SETTLED, MEMBERSHIP = 2.5, 9
 OWN = {"igmp": "10.0.0.1", "mld": "fe80::1"}
 FAMILIES = ("igmp", "mld")
@@ -34,7 +35,7 @@ REPORTS = re.compile(rb"(.{12}\x08\x00.{9}\x02|.{12}\x86\xdd.{6}\x00.{33}\x3a)",
 
 @contextlib.contextmanager
 def inside(space):
-    """Has what follows be in a namespace: sockets that are made there stay there."""
+    """Runs the block in a namespace. Sockets that it makes stay there."""
     with open("/proc/thread-self/ns/net", "rb") as here, open(f"/run/netns/{space}", "rb") as there:
         if LIBC.setns(there.fileno(), 0x40000000):
             raise Wrong(f"setns: {os.strerror(ctypes.get_errno())}")
@@ -52,7 +53,7 @@ def run(space, *words, text=None):
 
 
 def place_of(address):
-    """An address as `sockaddr_storage`."""
+    """Returns an address as `sockaddr_storage`."""
     if address.version == 4:
         return struct.pack("=HH4s120x", socket.AF_INET, 0, address.packed)
     return struct.pack("=HHI16sI100x", socket.AF_INET6, 0, 0, address.packed, 0)
@@ -122,7 +123,7 @@ class Querier:
         return found
 
     def settled(self):
-        """Waits until all links that have begun know what hosts want."""
+        """Waits until all links that began know what hosts want."""
         for bridge in self.fabric.bridges:
             self.until(lambda it: all("settles" not in port[of] for port in it["ports"] for of in FAMILIES if port[of]["on"]), "settled", 12, bridge)
 
@@ -138,7 +139,7 @@ class Querier:
 
 
 class Fabric:
-    """Bridges br0, br1 .. with so many ports each: ports b0p1 .. and far ends b0h1 .. ."""
+    """Bridges br0, br1 .., each with a number of ports: b0p1 .. with the far ends b0h1 .. ."""
 
     numbers = itertools.count()
 
@@ -199,7 +200,7 @@ class Fabric:
         return self.queriers[-1]
 
     def entries(self):
-        """What stands in the databases: of each port and family, its groups with a mode and sources."""
+        """Returns the entries of the databases: for each port and family, its groups with a mode and sources."""
         found = {}
         shown = subprocess.run(["bridge", "-n", self.near, "-d", "-j", "mdb", "show"], capture_output=True, text=True, check=True)
         for it in json.loads(shown.stdout)[0]["mdb"]:
@@ -222,7 +223,7 @@ class Fabric:
             time.sleep(0.05)
 
     def received(self, sender, cases, others=()):
-        """Sends a datagram of each (source, group) into a bridge, and returns at which of its far ends each was received."""
+        """Sends a datagram of each (source, group) into a bridge. Returns the far ends that received it."""
         with inside(self.far), socket.socket(socket.AF_PACKET, socket.SOCK_RAW, socket.htons(3)) as ears:
             ears.setsockopt(socket.SOL_SOCKET, socket.SO_RCVBUF, 1 << 22)
             ears.settimeout(0.5)
@@ -241,10 +242,30 @@ class Fabric:
         return found
 
     def gets(self, sender, wanted, seconds=8):
-        """Waits until each datagram comes to exactly the far ends that are wanted: {(source, group): names}."""
+        """Waits until each datagram arrives at exactly the wanted far ends: {(source, group): names}."""
         limit = time.monotonic() + seconds
         while (found := self.received(sender, wanted)) != wanted:
             if time.monotonic() > limit:
                 wrong = {case: (sorted(found[case] - wanted[case]), sorted(wanted[case] - found[case])) for case in wanted if found[case] != wanted[case]}
                 raise Wrong(f"too much and missing: {str(wrong)[:800]}; {self.queriers[-1].errors[-5:]}")
             time.sleep(0.2)
+
+
+class Stream:
+    """A stream of datagrams, and those that a far end misses."""
+
+    def __init__(self, fabric, sender, cases):
+        self.fabric, self.sender, self.cases, self.is_over, self.rounds, self.missed = fabric, sender, cases, False, 0, []
+        self.thread = threading.Thread(target=self.run)
+        self.thread.start()
+
+    def run(self):
+        while not self.is_over:
+            found = self.fabric.received(self.sender, self.cases)
+            self.rounds += 1
+            self.missed += [(case, sorted(wanted - found[case])) for case, wanted in self.cases.items() if wanted - found[case]]
+
+    def end(self):
+        self.is_over = True
+        self.thread.join()
+        is_true(self.rounds > 3 and not self.missed, f"missed in {self.rounds} rounds: {self.missed[:4]}")

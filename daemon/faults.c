@@ -6,14 +6,24 @@
 #include <stdlib.h>
 #include <time.h>
 
-/* So many lines of a kind are printed at once, and then one for each second that has passed. */
+/* The most lines of a kind at once. Afterwards each second allows one more. */
 enum { LINES_AT_ONCE = 4 };
 
 const char *const fault_names[FAULT_KINDS] = {
-    [FAULT_LOST] = "frames_lost",         [FAULT_MALFORMED] = "frames_malformed",     [FAULT_UNSENT] = "queries_unsent",
-    [FAULT_REFUSED] = "entries_refused",  [FAULT_SOURCES] = "entries_without_sources", [FAULT_OTHERS] = "entries_of_others",
-    [FAULT_OVERRUN] = "netlink_overruns", [FAULT_NETLINK] = "netlink_refusals",       [FAULT_PORTS] = "ports_unserved",
-    [FAULT_MISSING] = "settings_missing", [FAULT_STATUS] = "status_refused",
+    [FAULT_LOST] = "frames_lost",
+    [FAULT_MALFORMED] = "frames_malformed",
+    [FAULT_FRAGMENTS] = "frames_fragmented",
+    [FAULT_UNSENT] = "queries_unsent",
+    [FAULT_REFUSED] = "entries_refused",
+    [FAULT_SOURCES] = "entries_without_sources",
+    [FAULT_OTHERS] = "entries_of_others",
+    [FAULT_ALWAYS] = "groups_forwarded_always",
+    [FAULT_OVERRUN] = "netlink_overruns",
+    [FAULT_NETLINK] = "netlink_refusals",
+    [FAULT_PORTS] = "ports_unserved",
+    [FAULT_MISSING] = "settings_missing",
+    [FAULT_STATUS] = "status_refused",
+    [FAULT_CLOCK] = "clock_jumps",
 };
 uint64_t fault_counts[FAULT_KINDS];
 
@@ -21,7 +31,7 @@ void tell(const char *what, const char *why) {
     fprintf(stderr, "mquerier-live: %s: %s\n", what, why);
 }
 
-/* Whether a line of a kind may be printed now. */
+/* Returns whether a line of a kind may be printed now. */
 static int may_tell(enum fault kind) {
     static int64_t earliest[FAULT_KINDS];
     struct timespec now;

@@ -19,12 +19,13 @@ struct filter filter_of(const struct link *link, const uint8_t *address) {
     return filter;
 }
 
-/* Walks two ascending lists at once, and keeps the sources that stand in `one` alone, in both, and in `other` alone, as asked. */
+/* Merges two ascending lists. The flags choose the sources of `one` alone, of both, and of `other` alone. Returns how many it
+   wrote. */
 static size_t merge(const struct filter *one, const struct filter *other, bool of_one, bool of_both, bool of_other,
                     uint8_t (*to)[LONG_ADDRESS]) {
     size_t count = 0, at = 0, beside = 0;
     while (at < one->count || beside < other->count) {
-        int order = at == one->count        ? 1
+        int order = at == one->count         ? 1
                     : beside == other->count ? -1
                                              : memcmp(one->sources[at], other->sources[beside], LONG_ADDRESS);
         const uint8_t *source = order <= 0 ? one->sources[at] : other->sources[beside];
@@ -40,9 +41,9 @@ struct filter filter_join(const struct filter *one, const struct filter *other) 
     static uint8_t joined[2 * PAGE_SOURCES][LONG_ADDRESS];
     bool excludes = one->mode == MODE_EXCLUDE, other_excludes = other->mode == MODE_EXCLUDE;
     struct filter filter = {MODE_INCLUDE, 0, (const uint8_t(*)[LONG_ADDRESS])joined};
-    if (excludes && other_excludes) /* stopped is what both stop */
+    if (excludes && other_excludes) /* excludes what both exclude */
         filter.count = merge(one, other, false, true, false, joined);
-    else if (excludes || other_excludes) /* stopped is what the one stops and the other doesn't ask for */
+    else if (excludes || other_excludes) /* excludes what one excludes and the other does not include */
         filter.count = merge(one, other, excludes, false, other_excludes, joined);
     else
         filter.count = merge(one, other, true, true, true, joined);

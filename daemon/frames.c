@@ -9,14 +9,17 @@ enum {
     IPV4_ALERT = 24, /* with a Router Alert option */
     IPV6 = 40,
     HOP_BY_HOP = 8,
+    FRAGMENT = 8,
     PROTOCOL_IGMP = 2,
     PROTOCOL_PIM = 103,
     NO_PROTOCOL = 256,
+    ONLY_A_FRAGMENT = 257,
     NEXT_HOP_BY_HOP = 0,
+    NEXT_FRAGMENT = 44,
     NEXT_ICMPV6 = 58,
     OPTION_PAD1 = 0,
     OPTION_ALERT = 5,
-    PIM = 4, /* the head of a message of PIM */
+    PIM = 4, /* the head of a message of PIM, in bytes */
     PIM_HELLO = 0x20,
     PIM_HOLDTIME = 1,
     PIM_DEFAULT_SECONDS = 105,
@@ -31,7 +34,7 @@ static void put_word(uint8_t *bytes, size_t word) {
     bytes[1] = (uint8_t)word;
 }
 
-/* The checksum of an IPv4 header, whose length is even: 0 where the field in it is right (RFC 1071). */
+/* Returns the checksum of an IPv4 header of even length. It is 0 if the header's field is right (RFC 1071). */
 static size_t header_checksum(const uint8_t *header, size_t length) {
     size_t sum = 0;
     for (size_t at = 0; at < length; at += 2)
@@ -41,7 +44,7 @@ static size_t header_checksum(const uint8_t *header, size_t length) {
     return sum ^ 0xffff;
 }
 
-/* Reads an IPv4 packet. Returns its protocol, or NO_PROTOCOL if it is malformed or a fragment. */
+/* Reads an IPv4 packet. Returns its protocol, NO_PROTOCOL if it is malformed, or ONLY_A_FRAGMENT for a fragment of IGMP. */
 static unsigned read_ipv4(const uint8_t *packet, size_t length, struct datagram *datagram) {
     if (length < IPV4 || packet[0] >> 4 != 4)
         return NO_PROTOCOL;
@@ -49,7 +52,7 @@ static unsigned read_ipv4(const uint8_t *packet, size_t length, struct datagram 
     if (header < IPV4 || total < header || total > length || header_checksum(packet, header) != 0)
         return NO_PROTOCOL;
     if (word_at(packet + 6) & 0x3fff) /* more fragments, or an offset */
-        return NO_PROTOCOL;
+        return packet[9] == PROTOCOL_IGMP ? ONLY_A_FRAGMENT : NO_PROTOCOL;
     memcpy(datagram->source, packet + 12, 4);
     memcpy(datagram->destination, packet + 16, 4);
     datagram->body = packet + header; /* after the options */
@@ -57,7 +60,7 @@ static unsigned read_ipv4(const uint8_t *packet, size_t length, struct datagram 
     return packet[9];
 }
 
-/* Whether a Router Alert option for MLD stands in the options of a hop-by-hop header. */
+/* Returns whether the options of a hop-by-hop header include Router Alert for MLD. */
 static bool has_alert(const uint8_t *options, size_t length) {
     for (size_t at = 0; at < length;) {
         if (options[at] == OPTION_PAD1) {
@@ -73,12 +76,20 @@ static bool has_alert(const uint8_t *options, size_t length) {
     return false;
 }
 
-/* Whether an ICMPv6 message has a type of MLD: Query, Report and Done of version 1, Report of version 2. */
+/* Returns whether an ICMPv6 message has a type of MLD: Query, Report or Done of version 1, or Report of version 2. */
 static bool is_mld(const uint8_t *body, size_t length) {
     return length > 0 && ((body[0] >= 130 && body[0] <= 132) || body[0] == 143);
 }
 
-/* Reads an IPv6 packet. Returns the header that follows those that are read, or NO_PROTOCOL if the packet is malformed. */
+/* Returns whether a fragment header is the first of its packet, and MLD follows. A later fragment does not say what it carries (RFC
+   8200 section 4.5). */
+static bool is_first_of_mld(const uint8_t *header, size_t length) {
+    return length > FRAGMENT && header[0] == NEXT_ICMPV6 && (word_at(header + 2) & 0xfff8) == 0
+           && is_mld(header + FRAGMENT, length - FRAGMENT);
+}
+
+/* Reads an IPv6 packet. Returns the next header after those that it reads, NO_PROTOCOL if the packet is malformed, or
+   ONLY_A_FRAGMENT for the first fragment of MLD. */
 static unsigned read_ipv6(const uint8_t *packet, size_t length, struct datagram *datagram) {
     if (length < IPV6 || packet[0] >> 4 != 6 || word_at(packet + 4) > length - IPV6)
         return NO_PROTOCOL;
@@ -95,6 +106,8 @@ static unsigned read_ipv6(const uint8_t *packet, size_t length, struct datagram 
         body += options;
         payload -= options;
     }
+    if (next == NEXT_FRAGMENT)
+        return is_first_of_mld(body, payload) ? ONLY_A_FRAGMENT : NO_PROTOCOL;
     memcpy(datagram->source, packet + 8, 16);
     memcpy(datagram->destination, packet + 24, 16);
     datagram->hop_limit = packet[7];
@@ -109,6 +122,8 @@ enum carried read_frame(const uint8_t *frame, size_t length, struct datagram *da
         return CARRIED_NOTHING;
     datagram->is_ipv6 = ethertype == 0x86dd;
     unsigned next = (datagram->is_ipv6 ? read_ipv6 : read_ipv4)(frame + ETHERNET, length - ETHERNET, datagram);
+    if (next == ONLY_A_FRAGMENT)
+        return CARRIED_FRAGMENT;
     if (next == PROTOCOL_PIM && datagram->length >= PIM && datagram->body[0] == PIM_HELLO)
         return CARRIED_HELLO;
     if (datagram->is_ipv6 ? next == NEXT_ICMPV6 && is_mld(datagram->body, datagram->length) : next == PROTOCOL_IGMP)
@@ -139,7 +154,7 @@ static size_t write_igmp_frame(const uint8_t mac[MAC], const uint8_t *own, const
                                size_t length, uint8_t *frame) {
     static const uint8_t start[IPV4_ALERT] = {0x46, 0xc0, 0, 0, 0, 0, 0x40, 0, 1, PROTOCOL_IGMP, [20] = 0x94, 4, 0, 0};
     const uint8_t group[3] = {0x01, 0x00, 0x5e};
-    memcpy(frame, group, 3); /* RFC 1112 section 6.4: and the low 23 bits of the address */
+    memcpy(frame, group, 3); /* and the low 23 bits of the address (RFC 1112 section 6.4) */
     memcpy(frame + 3, destination + 1, 3);
     frame[3] &= 0x7f;
     memcpy(frame + 6, mac, MAC);

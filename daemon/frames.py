@@ -1,4 +1,4 @@
-"""Frames as the standards spell them, for the live test: written apart from the program's own."""
+"""Frames by the formats of the standards, for the live test. The code is independent of the program's."""
 
 import ipaddress
 import struct
@@ -13,7 +13,7 @@ def checksum(data):
 
 
 def summed(message):
-    """A message with its checksum in its place."""
+    """Returns a message with its checksum in place."""
     return message[:2] + struct.pack(">H", checksum(message)) + message[4:]
 
 
@@ -22,7 +22,7 @@ def padded(frame):
 
 
 def igmp_frame(source, destination, message, fragment=0x4000):
-    """From MAC 02:00:00:00:00:07, with TTL 1, Type of Service 0xc0 and Router Alert (RFC 3376 section 4)."""
+    """Returns a frame from MAC 02:00:00:00:00:07, with TTL 1, Type of Service 0xc0 and Router Alert (RFC 3376 section 4)."""
     source, destination = ipaddress.ip_address(source).packed, ipaddress.ip_address(destination).packed
     header = struct.pack(">BBHHHBBH", 0x46, 0xC0, 24 + len(message), 0, fragment, 1, 2, 0) + source + destination
     header += bytes.fromhex("94040000")
@@ -31,19 +31,24 @@ def igmp_frame(source, destination, message, fragment=0x4000):
     return padded(mac + bytes.fromhex("020000000007 0800") + header + message)
 
 
-def mld_frame(source, destination, message, hop_limit=1, alert=True):
-    """With its checksum; with Router Alert, with other options only (False), or with no header of options (None)."""
+def mld_frame(source, destination, message, hop_limit=1, alert=True, fragment=None):
+    """Returns a frame of a message with its checksum. It has Router Alert, other options only (`alert` is False), or no options
+    (None). `fragment` adds a fragment header with this word: the offset, and the bit for more fragments."""
     source, destination = ipaddress.ip_address(source).packed, ipaddress.ip_address(destination).packed
     pseudo = source + destination + struct.pack(">II", len(message), 58)
     message = message[:2] + struct.pack(">H", checksum(pseudo + message)) + message[4:]
     options = {True: bytes.fromhex("3a00050200000100"), False: bytes.fromhex("3a00010400000000"), None: b""}[alert]
-    header = struct.pack(">IHBB", 6 << 28, len(options + message), 0 if options else 58, hop_limit) + source + destination
+    first = 0 if options else 58
+    if fragment is not None:
+        message = struct.pack(">BBHI", 58, 0, fragment, 7) + message
+        options, first = options and b"\x2c" + options[1:], 0 if options else 44
+    header = struct.pack(">IHBB", 6 << 28, len(options + message), first, hop_limit) + source + destination
     mac = b"\x33\x33" + destination[12:]
     return padded(mac + bytes.fromhex("020000000007 86dd") + header + options + message)
 
 
 def report_frame(family, kind, group, sources):
-    """A Report of one record, of IGMPv3 (RFC 3376 section 4.2) or MLDv2 (RFC 3810 section 5.2)."""
+    """Returns a Report of one record, of IGMPv3 (RFC 3376 section 4.2) or MLDv2 (RFC 3810 section 5.2)."""
     record = struct.pack(">BBH", kind, 0, len(sources)) + ipaddress.ip_address(group).packed
     body = struct.pack(">HHHH", 0, 0, 0, 1) + record + b"".join(ipaddress.ip_address(it).packed for it in sources)
     if family == "igmp":
@@ -52,7 +57,7 @@ def report_frame(family, kind, group, sources):
 
 
 def data_frame(source, group):
-    """A datagram of UDP without data, from port 9 to port 9."""
+    """Returns a datagram of UDP without data, from port 9 to port 9."""
     source, group = ipaddress.ip_address(source), ipaddress.ip_address(group)
     if group.version == 4:
         header = struct.pack(">BBHHHBBH", 0x45, 0, 28, 0, 0, 4, 17, 0) + source.packed + group.packed

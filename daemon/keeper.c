@@ -2,9 +2,10 @@
 
 #include "faults.h"
 
+#include <errno.h>
 #include <string.h>
 
-/* All groups may end in one call, and as many begin. */
+/* In one call all groups may end, and as many begin. */
 enum { ROWS_FOR_A_GROUP = 2 };
 
 void keeper_open(struct keeper *keeper, size_t groups) {
@@ -18,7 +19,7 @@ void keeper_begin(struct keeper *keeper, uint64_t settles) {
     keeper->settles = settles;
 }
 
-/* The kernel forwards 224.0.0.0/24 always, and takes no entry for it. */
+/* Returns whether the kernel always forwards a group, and accepts no entry for it: 224.0.0.0/24. */
 static bool is_always_forwarded(const struct link *link, const uint8_t *group) {
     return !link->family->is_mld && group[0] == 224 && group[1] == 0 && group[2] == 0;
 }
@@ -27,9 +28,15 @@ void keeper_update(struct keeper *keeper, const struct link *link, const struct 
     struct row *row = rows_find(&keeper->rows, group);
     struct filter filter = filter_of(link, group);
     struct entry entry;
-    if (is_always_forwarded(link, group))
+    if (is_always_forwarded(link, group)) {
+        if (filter.mode != MODE_NONE)
+            mdb_fault(FAULT_ALWAYS, place, group, "the kernel forwards 224.0.0.0/24 always, and takes no entry for it");
         return;
-    if (row != NULL && row->is_inherited && mdb_read(place, group, &entry) && entry.maker == MAKER_US)
+    }
+    int error = row != NULL && row->is_inherited ? mdb_read(place, group, &entry) : ENOENT;
+    if (error != 0 && error != ENOENT)
+        return; /* the inherited filter is not known: the entry stays until the next repair */
+    if (error == 0 && entry.maker == MAKER_US)
         filter = filter_join(&filter, &entry.filter);
     if (filter.mode == MODE_NONE) {
         if (row != NULL && mdb_remove(place, group))
@@ -44,7 +51,7 @@ void keeper_update(struct keeper *keeper, const struct link *link, const struct 
 void keeper_settle(struct keeper *keeper, const struct link *link, const struct place *place) {
     keeper->settles = MQ_NONE;
     for (size_t left = keeper->rows.count; left > 0; left--) {
-        struct row *row = keeper->rows.all + left - 1; /* from the last on, since an update may remove it */
+        struct row *row = keeper->rows.all + left - 1; /* from the last one on, because an update may remove a row */
         uint8_t group[LONG_ADDRESS];
         if (!row->is_inherited)
             continue;
@@ -63,7 +70,7 @@ void keeper_note(struct keeper *keeper, const struct link *link, const struct en
     bool is_known = rows_find(&keeper->rows, entry->group) != NULL;
     struct row *row = rows_put(&keeper->rows, entry->group);
     if (row == NULL)
-        return; /* the next repair has room for it */
+        return; /* the next repair may have room for it */
     struct filter wanted = {MODE_NONE, 0, NULL};
     if (link != NULL)
         wanted = filter_of(link, entry->group);
@@ -75,13 +82,13 @@ void keeper_note(struct keeper *keeper, const struct link *link, const struct en
         row->is_inherited = link == NULL || keeper->settles != MQ_NONE;
 }
 
-/* Makes the entries that are missing. */
+/* Makes the missing entries. */
 static void repair_missing(struct keeper *keeper, const struct link *link, const struct place *place) {
     struct held groups[PAGE_GROUPS];
     for (size_t first = 0, count = 1; count > 0; first += count) {
         count = link_groups(link, first, groups);
         for (size_t at = 0; at < count; at++)
-            if (rows_find(&keeper->rows, groups[at].address) == NULL)
+            if (!is_always_forwarded(link, groups[at].address) && rows_find(&keeper->rows, groups[at].address) == NULL)
                 keeper_update(keeper, link, place, groups[at].address);
     }
 }

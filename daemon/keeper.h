@@ -1,4 +1,4 @@
-/* Keeps the database of a bridge as one link wants it at one port. */
+/* The keeper of one link's entries in the database of a bridge. */
 #ifndef KEEPER_H
 #define KEEPER_H
 
@@ -12,20 +12,21 @@
 
 struct keeper {
     struct rows rows;
-    uint64_t settles; /* until when inherited entries forward on, what else the link wants; MQ_NONE: there are none */
+    uint64_t settles; /* the time until which inherited entries stay, or MQ_NONE */
 };
 
-/* Takes the memory for a link of so many groups. */
+/* Allocates the rows for a link with at most `groups` groups. */
 void keeper_open(struct keeper *keeper, size_t groups);
-/* Has the entries that stand be inherited: until `settles` none of them is removed or made narrower. */
+/* Makes the present entries inherited: until `settles`, none is removed or made narrower. */
 void keeper_begin(struct keeper *keeper, uint64_t settles);
-/* Has the database forward of a group what the link does. */
+/* Makes the entry of a group forward what the link forwards. */
 void keeper_update(struct keeper *keeper, const struct link *link, const struct place *place, const uint8_t *group);
-/* Ends inheritance: the database forwards what the link does. */
+/* Ends inheritance: all entries forward what the link forwards. */
 void keeper_settle(struct keeper *keeper, const struct link *link, const struct place *place);
 
-/* A repair begins, notes each entry of ours from a dump, and then corrects what isn't as the link wants it. `is_whole`: the dump
-   had all entries. A link that hasn't begun is NULL: its entries are inherited. */
+/* A repair calls `keeper_forget_seen`, then `keeper_note` for each own entry of a dump, then `keeper_repair`, which corrects the
+   entries. `is_whole` says that the dump had all entries. `link` is NULL if the link has not begun: then its entries are inherited.
+   */
 void keeper_forget_seen(struct keeper *keeper);
 void keeper_note(struct keeper *keeper, const struct link *link, const struct entry *entry);
 void keeper_repair(struct keeper *keeper, const struct link *link, const struct place *place, bool is_whole);

@@ -21,7 +21,7 @@ SOURCES = {"igmp": ["10.9.9.1", "10.9.9.2"], "mld": ["2001:db8::1", "2001:db8::2
 
 
 class Wrong(Exception):
-    """What a case found to be wrong."""
+    """A fault that a case found."""
 
 
 def is_true(test, what):
@@ -37,7 +37,7 @@ def ip(*words):
 
 
 class State:
-    """What a querier printed of itself: its role, its groups by their address, its counts."""
+    """The printed state of a querier: its role, its groups by address, its counters."""
 
     def __init__(self, lines):
         self.moment, self.role = int(lines[0].split()[1]), lines[0].split()[2]
@@ -46,7 +46,7 @@ class State:
         self.counts = dict(zip(words[::2], map(int, words[1::2])))
 
     def shape(self, group):
-        """A group's words without its moments: as `exclude`, `include 10.9.9.1`, `exclude !10.9.9.1 v2`."""
+        """Returns a group's words without times: `exclude`, `include 10.9.9.1` or `exclude !10.9.9.1 v2`."""
         words = self.groups.get(group)
         return words and " ".join(word.split("=")[0] for word in words if not word.isdigit())
 
@@ -75,7 +75,7 @@ class Querier:
                 self.news.notify_all()
 
     def line(self, test, what, begin=0, seconds=10):
-        """The place of the first line from `begin` on that the test holds of, waited for."""
+        """Waits for the first line from `begin` on that fits the test, and returns its place."""
         def found():
             return next((at for at in range(begin, len(self.lines)) if test(self.lines[at])), None)
 
@@ -98,7 +98,7 @@ class Querier:
         return State(self.lines[first : last + 1])
 
     def until(self, test, what, seconds=4):
-        """The first state that the test holds of, waited for."""
+        """Waits for the first state that fits the test, and returns it."""
         limit = time.monotonic() + seconds
         while not test(state := self.state()):
             if time.monotonic() > limit:
@@ -110,12 +110,12 @@ class Querier:
         return self.until(lambda state: state.shape(group) == shape, f"{group} {shape}", seconds)
 
     def queries(self, to):
-        """The moments of its queries to an address."""
+        """Returns the times of its queries to an address."""
         sent = [line.split() for line in self.lines if " send " in line]
         return [int(words[0]) for words in sent if words[2] == to]
 
     def end(self):
-        """Ends it, and answers its status, once all is read that it said."""
+        """Ends it, and returns its status after all its lines were read."""
         self.process.send_signal(signal.SIGTERM)
         status = self.process.wait(10)
         for thread in self.listening:
@@ -144,7 +144,7 @@ class Host:
 
 
 class Lab:
-    """One link of its own: a bridge in a namespace, and whoever is put on it."""
+    """A link of its own: a bridge in a namespace, and the stations on it."""
 
     numbers = itertools.count()
 
@@ -172,7 +172,7 @@ class Lab:
         return space
 
     def station(self, number):
-        """A namespace on the bridge, with the address of that number; and its port of the bridge."""
+        """Makes a namespace on the bridge, with the address of that number. Returns it and its port of the bridge."""
         space, port = self.space(f"s{number}"), f"p{number}"
         ip("-n", self.switch, "link", "add", port, "type", "veth", "peer", "name", "eth0", "netns", space)
         setting = "accept_dad" if self.family == "mld" else "disable_ipv6"
@@ -203,7 +203,7 @@ class Lab:
         return host
 
     def mac(self, number):
-        """The MAC address of a station's interface."""
+        """Returns the MAC address of a station's interface."""
         place = "/sys/class/net/eth0/address"
         words = ["ip", "netns", "exec", f"{self.name}-s{number}", "cat", place]
         ran = subprocess.run(words, capture_output=True, text=True, check=True)

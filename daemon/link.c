@@ -10,17 +10,18 @@
 /* The longest body that a frame carries. */
 enum { LONGEST_BODY = 65535 };
 
-/* An expression of which CALL makes the one for a family: CALL(igmp) or CALL(mld). */
+/* CALL(mld) or CALL(igmp), as the family needs. */
 #define EITHER(is_mld, CALL) ((is_mld) ? CALL(mld) : CALL(igmp))
 
 union configuration family_defaults(bool is_mld, const uint8_t *own) {
-#define DEFAULTS(family) (union configuration){.family = mq_##family##_defaults(own)}
-    return EITHER(is_mld, DEFAULTS);
+    if (is_mld)
+        return (union configuration){.mld = mq_mld_defaults(own)};
+    return (union configuration){.igmp = mq_igmp_defaults(own)};
 }
 
 uint32_t family_check(bool is_mld, union configuration configuration) {
 #define CHECK(family) mq_##family##_workspace_init(configuration.family, NULL, 0, &(mq_##family##_workspace){NULL})
-    uint32_t status = EITHER(is_mld, CHECK); /* the library looks at the configuration first */
+    uint32_t status = EITHER(is_mld, CHECK); /* the library checks the configuration first */
     return status == MQ_MEMORY ? MQ_DONE : status;
 }
 
@@ -85,8 +86,8 @@ static void put_long(uint8_t *to, const uint8_t *address, size_t width) {
     memcpy(to, address, width);
 }
 
-/* Reads the group of an address, or without one the groups from the `first`th on, and says how many there are; and writes a page of
-   the groups that the last call changed. */
+/* For each family, `read_` reads the group of an address, or if that is NULL a page of groups from the `first`th on. `changed_`
+   writes a page of the groups that the last call changed. Both return the number of groups. */
 #define READING(of, width, v2_of) \
     static size_t read_##of(const struct link *link, const uint8_t *address, size_t first, struct held *groups) { \
         static mq_##of##_group read[PAGE_GROUPS]; \
@@ -106,7 +107,7 @@ static void put_long(uint8_t *to, const uint8_t *address, size_t width) {
         } \
         return page.groups; \
     } \
-    static size_t changed_##of(const struct link *link, size_t first, uint8_t (*groups)[LONG_ADDRESS]) { \
+    static size_t changed_##of(const struct link *link, size_t first, uint8_t groups[][LONG_ADDRESS]) { \
         static uint8_t read[PAGE_GROUPS][width]; \
         size_t left = mq_##of##_changed(&link->family->of, (uint32_t)first, read, PAGE_GROUPS) - first; \
         size_t count = left < PAGE_GROUPS ? left : PAGE_GROUPS; \

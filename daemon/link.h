@@ -1,4 +1,4 @@
-/* One link of the library, of either family, behind one set of calls. */
+/* One set of calls for links of both families. */
 #ifndef LINK_H
 #define LINK_H
 
@@ -7,9 +7,9 @@
 
 #include <stdio.h>
 
-enum { LONG_ADDRESS = 16 }; /* an address of IPv4 has its 4 bytes first, and zeros after them */
+enum { LONG_ADDRESS = 16 }; /* an IPv4 address has its 4 bytes first, then zeros */
 
-/* What one call hands out of groups and sources at most. A group has at most as many sources. */
+/* The most groups and sources that one call returns. A group has at most PAGE_SOURCES sources. */
 enum { PAGE_GROUPS = 64, PAGE_SOURCES = 1024 };
 
 union configuration {
@@ -17,7 +17,7 @@ union configuration {
     mq_mld_config mld;
 };
 
-/* A source, and a group that the link has, of either family. A group of MLD has no `v2`. */
+/* A source, and a group of a link of either family. A group of MLD has no `v2`. */
 struct source {
     uint8_t address[LONG_ADDRESS];
     uint64_t deadline;
@@ -30,15 +30,15 @@ struct held {
     size_t count;
 };
 
-/* What all links of a family share: their configuration, the workspace of their calls, and room for the queries of one call. */
+/* The shared parts of a family's links: the configuration, the workspace, and room for the queries of one call. */
 struct family {
     bool is_mld;
     union configuration configuration;
     mq_igmp_workspace igmp; /* one of these two */
     mq_mld_workspace mld;
-    void *memory; /* of the workspace */
+    void *memory; /* the workspace's */
     uint8_t *queries;
-    size_t room, link_size, groups, entries; /* entries: the most that one link can want in a database */
+    size_t room, link_size, groups, entries; /* entries: the most that one link can need in a database */
 };
 
 struct link {
@@ -48,38 +48,39 @@ struct link {
     void *memory; /* `link_size` bytes */
 };
 
-/* Returns the defaults of the standards, at an own address. */
+/* Returns the defaults of the standards, with an own address. */
 union configuration family_defaults(bool is_mld, const uint8_t *own);
-/* Returns MQ_DONE, or the status that says what is wrong with a configuration. */
+/* Returns MQ_DONE, or the status of the first fault of a configuration. */
 uint32_t family_check(bool is_mld, union configuration configuration);
-/* Takes the memory that the links of a family share. Its configuration has no fault. */
+/* Allocates the shared parts of a family. The configuration has no fault. */
 void family_open(struct family *family, bool is_mld, union configuration configuration);
-/* Takes over the timing of another configuration, for links that begin from now on. Returns whether it was otherwise. */
+/* Sets the timing of links that begin from now on. Returns whether it changed. */
 bool family_retime(struct family *family, const union configuration *next);
-/* Makes a link at an own address in its memory, without groups. It begins as querier at `now`. */
+/* Makes a link in its memory, with an own address and without groups. It begins as querier at `now`. */
 uint32_t link_begin(struct link *link, const uint8_t *own, uint64_t now);
 
 mq_answer link_receive(struct link *link, const struct datagram *datagram, uint64_t now);
 mq_answer link_tick(struct link *link, uint64_t now);
 uint64_t link_next_deadline(const struct link *link);
-/* Reads the next query of an answer, and steps over it; `*at` begins at `link->family->queries`. */
+/* Reads the query at `*at`, which begins as `link->family->queries`, and moves `*at` to the next one. Returns false if none is
+   left. */
 bool link_next_query(const struct link *link, const uint8_t **at, mq_answer answer, mq_query *query);
 
 /* Writes the groups that the last call changed, in ascending order, at most `2 * family->groups`. Returns how many. */
 size_t link_changed(const struct link *link, uint8_t (*groups)[LONG_ADDRESS]);
-/* Reads the group of an address, whose sources stand until the next call; false if the link does not have it. */
+/* Reads the group of an address, whose sources stand until the next call. Returns false if the link lacks the group. */
 bool link_group_at(const struct link *link, const uint8_t *address, struct held *group);
 /* Writes a page of groups in ascending order from the `first`th on. Returns how many; their sources stand until the next call. */
 size_t link_groups(const struct link *link, size_t first, struct held *groups);
 
 bool link_is_querier(const struct link *link);
-/* Returns until when another router is querier, and writes its address; or returns MQ_NONE. */
+/* Returns the end of the role of another querier, and writes its address. Returns MQ_NONE if there is none. */
 uint64_t link_other_querier(const struct link *link, uint8_t *address);
 void link_counts(const struct link *link, mq_counts *counts);
 
 /* Writes an address as text, without a NUL, and returns the place after it; at most 39 bytes. */
 char *link_put_address(const struct link *link, char *to, const uint8_t *address);
-/* Prints what `mquerier replay` ends with: who is querier at moment `now`, what is held, and what was counted. */
+/* Prints the last lines of `mquerier replay`: the querier at `now`, the groups, and the counters. */
 void link_print_state(const struct link *link, uint64_t now, FILE *to);
 
 #endif

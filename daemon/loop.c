@@ -4,6 +4,7 @@
 #include "faults.h"
 #include "ports.h"
 #include "service.h"
+#include "setup.h"
 #include "status.h"
 
 #include <errno.h>
@@ -47,7 +48,7 @@ void loop_open(struct querier *querier) {
         wait_for(querier->bridges[at].listening);
 }
 
-/* Reads the options again. Those that memory or sockets depend on stay; each link begins anew if its timing changed. */
+/* Reads the options again. Those of memory and sockets stay. The links of a family begin again if its timing changed. */
 static void reload(struct querier *querier, int count, char **words) {
     static struct options options;
     struct options *used = querier->options;
@@ -60,14 +61,14 @@ static void reload(struct querier *querier, int count, char **words) {
     }
     for (size_t at = 0; at < 2; at++) {
         used->configuration[at] = options.configuration[at];
-        bool is_changed = used->serves[at] && family_retime(&querier->families[at], &options.configuration[at]);
-        for (size_t port = 0; port < querier->room && is_changed; port++)
-            querier->ports[port].served[at].is_on = false; /* it begins anew below */
+        if (used->serves[at] && family_retime(&querier->families[at], &options.configuration[at]))
+            querier_begin_all(querier, at == 1, moment());
     }
     memcpy(used->own, options.own, sizeof used->own);
     memcpy(used->has_own, options.has_own, sizeof used->has_own);
     memcpy(used->routers, options.routers, sizeof used->routers);
     used->router_count = options.router_count;
+    querier->is_stale = true; /* the Query Interval may have changed */
     ports_refresh(querier, moment());
 }
 
@@ -78,30 +79,35 @@ static void read_signals(struct querier *querier, int count, char **words) {
         case SIGCHLD: status_reap(); break;
         case SIGUSR1: is_asked = true; break;
         case SIGHUP:
-            if (!querier->options->is_interface)
-                reload(querier, count, words);
+            if (querier->options->is_interface)
+                break;
+            service_reloading();
+            reload(querier, count, words);
+            service_notify("READY=1");
             break;
         default: is_over = true;
         }
     }
 }
 
-/* Reads ports anew, and the databases too if something was lost. */
+/* Reads the ports again. If the state may be stale, it also checks the rules and repairs the databases. */
 static void refresh(struct querier *querier) {
-    bool was_overrun = querier->was_overrun;
-    querier->was_overrun = false;
+    bool was_stale = querier->is_stale;
+    querier->is_stale = false;
+    if (was_stale)
+        setup_check(querier);
     ports_refresh(querier, moment());
     if (querier->options->is_interface && querier->bridges[0].index == 0)
         fail(STATUS_FAILED, querier->bridges[0].name, strerror(ENODEV));
-    if (was_overrun)
+    if (was_stale)
         querier_repair(querier, moment());
 }
 
-/* Handles what is ready at one file. */
+/* Handles one file that is ready. */
 static void handle(struct querier *querier, int file, int count, char **words) {
     uint64_t expired;
     if (file == querier->ring.packets) {
-        int error; /* reading an error clears it; frames are handled by the loop */
+        int error; /* reading the error clears it; the loop handles frames */
         socklen_t length = sizeof error;
         getsockopt(file, SOL_SOCKET, SO_ERROR, &error, &length);
     } else if (file == querier->news) {
@@ -119,7 +125,7 @@ static void handle(struct querier *querier, int file, int count, char **words) {
     }
 }
 
-/* Sets the timer to the earliest moment. */
+/* Sets the timer to the earliest deadline. */
 static void set_timer(const struct querier *querier, uint64_t now) {
     static uint64_t set = MQ_NONE;
     uint64_t next = querier->deadlines.moments[deadlines_first(&querier->deadlines)], wait = next > now ? next - now : 0;
@@ -133,14 +139,14 @@ static void set_timer(const struct querier *querier, uint64_t now) {
         fail(STATUS_FAILED, "timer", strerror(errno));
 }
 
-/* What is done at most once a second. */
+/* Does the duties of each second: it refreshes stale state, and reports to the watchdog. */
 static void look_around(struct querier *querier, uint64_t now) {
     static uint64_t next, next_word;
     uint64_t interval = service_interval();
     if (now < next)
         return;
     next = now + EVERY;
-    if (querier->was_overrun)
+    if (querier->is_stale)
         refresh(querier);
     if (interval != 0 && now >= next_word) {
         service_notify("WATCHDOG=1");
@@ -152,7 +158,8 @@ void loop_run(struct querier *querier, int count, char **words) {
     struct epoll_event ready[READY];
     while (!is_over) {
         uint64_t now = moment();
-        querier_hear(querier, now); /* before what is due, which it does too: a late Report still counts */
+        querier_watch_clock(querier, now);
+        querier_hear(querier, now); /* before ticks: a Report that is read late still counts */
         querier_tick(querier, now);
         look_around(querier, now);
         if (is_asked && querier->options->is_interface) {

@@ -4,9 +4,9 @@
 
 #include "querier.h"
 
-/* Opens what the loop waits for. Signals that it handles act only in the loop from here on. */
+/* Opens the files that the loop waits for, and blocks the signals that it reads. */
 void loop_open(struct querier *querier);
-/* Runs until SIGTERM or SIGINT. `words` are those of the command line, which SIGHUP has read again. */
+/* Runs until SIGTERM or SIGINT. On SIGHUP it reads `words`, the command line, again. */
 void loop_run(struct querier *querier, int count, char **words);
 
 #endif

@@ -1,5 +1,5 @@
-/* A multicast querier on Linux, for one interface or for all ports of bridges, over the library `mquerier`. The library's decisions
-   are proved; sockets, clock, headers, the database of a bridge and this program are plain C. */
+/* The program `mquerier-live`: a multicast querier on Linux, for one interface or for all ports of bridges. The library `mquerier`
+   decides, and its decisions are proved. This program is plain C, and is not proved. */
 #define _GNU_SOURCE
 #include "faults.h"
 #include "loop.h"
@@ -20,14 +20,14 @@
 #include <unistd.h>
 
 enum { NOBODY = 65534 };
-/* So much is printed at once. */
+/* The bytes that standard output buffers. */
 enum { PRINTED = 1 << 16 };
 
 static struct querier querier;
 static struct options options;
 
-/* From here on the process is nobody, without capabilities but what a bridge's database asks for, and gains none by what it might
-   execute. What `--setup` executes keeps that one. */
+/* Makes the process nobody. It keeps CAP_NET_ADMIN if it keeps a database, drops all other capabilities, and gains none by a
+   program that it executes. With `--setup`, these programs have CAP_NET_ADMIN too. */
 static void drop_privileges(bool keeps_database) {
     struct __user_cap_header_struct header = {.version = _LINUX_CAPABILITY_VERSION_3};
     struct __user_cap_data_struct left[_LINUX_CAPABILITY_U32S_3] = {{0}};
@@ -43,7 +43,7 @@ static void drop_privileges(bool keeps_database) {
         fail(STATUS_FAILED, "capabilities", strerror(errno));
 }
 
-/* At the program's end, however it ends but by a signal that it doesn't handle. */
+/* Undoes `--setup`, and removes the entries. It runs at the end of the program, unless an unhandled signal ends it. */
 static void end(void) {
     if (options.sets_up || options.router_count > 0)
         for (size_t at = 0; at < querier.bridges_count; at++)
@@ -53,8 +53,9 @@ static void end(void) {
 }
 
 static int index_of(const char *name, struct interface *found) {
-    if (!interface_read(querier.netlink, name, found))
-        fail(STATUS_FAILED, name, strerror(ENODEV));
+    int error = interface_read(querier.netlink, name, found);
+    if (error != 0)
+        fail(STATUS_FAILED, name, strerror(error));
     return found->index;
 }
 
@@ -70,7 +71,7 @@ static void open_database(void) {
     querier.kept_port = port_index;
 }
 
-/* Finds the interface that is served alone. */
+/* Finds the interface to serve, and the database of --mdb. */
 static void open_interface(void) {
     struct interface found;
     int index = index_of(options.names[0], &found);
@@ -87,7 +88,7 @@ static void make_folder(const char *name) {
         fail(STATUS_FAILED, name, strerror(errno));
 }
 
-/* Finds the bridges, and opens what belongs to each. */
+/* Finds the bridges, and opens each bridge's files and socket. */
 static void open_bridges(void) {
     struct interface found;
     char folder[4096];
@@ -126,7 +127,7 @@ static void run(int count, char **words) {
     if (!options.is_interface || options.bridge != NULL)
         atexit(end);
     deadlines_set(&querier.deadlines, 2 * querier.room + DEADLINE_SECOND, moment());
-    setvbuf(stdout, printed, _IOFBF, sizeof printed); /* what is ready is written at once, by the loop */
+    setvbuf(stdout, printed, _IOFBF, sizeof printed); /* the loop writes all that is ready at once */
     service_notify("READY=1");
     loop_run(&querier, count, words);
     service_notify("STOPPING=1");

@@ -14,9 +14,9 @@
 #include <stdlib.h>
 #include <string.h>
 
-/* What Linux has in <linux/if_bridge.h> and older headers haven't: what stands beside an entry, and in its list of sources. */
+/* Numbers of attributes that older versions of <linux/if_bridge.h> lack. */
 enum { BESIDE_SOURCES = 2, BESIDE_MODE = 3, BESIDE_PROTOCOL = 4, LISTED_SOURCE = 1, SOURCE_ADDRESS = 1 };
-/* Who made an entry, as the database has it: this program has a number for each family. */
+/* The makers of our entries as the database has them, a number for each family. */
 enum { PROTOCOL_IGMP = 211, PROTOCOL_MLD = 212 };
 /* No program has this number: removing its entries changes nothing. */
 enum { PROTOCOL_NOBODY = 213 };
@@ -30,8 +30,7 @@ static size_t address_bytes(const struct place *place) {
     return place->is_mld ? 16 : 4;
 }
 
-/* Counts what went wrong at one entry. */
-static void fault_of(enum fault kind, const struct place *place, const uint8_t *group, const char *why) {
+void mdb_fault(enum fault kind, const struct place *place, const uint8_t *group, const char *why) {
     char what[LONGEST_ADDRESS + IF_NAMESIZE + 16], port[IF_NAMESIZE] = "?", *to = put_text(what, "mdb ");
     if_indextoname((unsigned)place->port, port);
     to = put_text((place->is_mld ? put_ipv6_address : put_ipv4_address)(to, group), " at ");
@@ -39,7 +38,7 @@ static void fault_of(enum fault kind, const struct place *place, const uint8_t *
     fault(kind, what, why);
 }
 
-/* Begins a request about the entry of a group at a port, or about all of a port where there is no group. */
+/* Begins a request about the entry of a group at a port, or about all entries of a port if `group` is NULL. */
 static void begin(const struct place *place, struct request *request, uint16_t type, uint16_t flags, const uint8_t *group,
                   int port) {
     struct br_port_msg head = {.family = AF_BRIDGE, .ifindex = (uint32_t)place->bridge};
@@ -64,7 +63,7 @@ static void put_sources(const struct place *place, struct request *request, cons
     request_end_nest(request, list);
 }
 
-/* Says who makes an entry, or whose entries are meant; and the filter, where there is one. */
+/* Adds the maker of the entry or entries, and the filter if there is one. */
 static void put_beside(const struct place *place, struct request *request, const struct filter *filter) {
     uint8_t protocol = own_protocol(place);
     size_t beside = request_begin_nest(request, MDBA_SET_ENTRY_ATTRS);
@@ -105,7 +104,7 @@ static int by_address(const void *one, const void *other) {
     return memcmp(one, other, LONG_ADDRESS);
 }
 
-/* Reads the list of an entry's sources, in ascending order. */
+/* Reads the filter of an entry, with its sources in ascending order. */
 static struct filter read_filter(const uint8_t *at, const uint8_t *end, size_t width) {
     static uint8_t sources[PAGE_SOURCES][LONG_ADDRESS];
     struct filter filter = {MODE_EXCLUDE, 0, (const uint8_t(*)[LONG_ADDRESS])sources};
@@ -126,7 +125,7 @@ static struct filter read_filter(const uint8_t *at, const uint8_t *end, size_t w
     return filter;
 }
 
-/* Reads one entry of a message; false if it is none of a group, as one of a source beside it. */
+/* Reads one entry of a message. Returns false if it is no entry of a group, for example the kernel's entry of one source. */
 static bool read_entry(const struct nlattr *found, struct entry *entry) {
     const uint8_t *at = attribute_data(found), *end = attribute_end(found);
     const struct br_mdb_entry *head = (const void *)at;
@@ -147,7 +146,7 @@ static bool read_entry(const struct nlattr *found, struct entry *entry) {
     return true;
 }
 
-/* Hands each entry from `at` to `end` to `each`. */
+/* Passes each entry from `at` to `end` to `each`. */
 static void read_entries(const uint8_t *at, const uint8_t *end, mdb_each *each, void *context) {
     struct entry entry;
     const struct nlattr *all = attribute_find(at, end, MDBA_MDB), *group, *found;
@@ -174,15 +173,16 @@ static void compare_port(void *context, const struct entry *entry) {
     search->is_found = true;
 }
 
-bool mdb_read(const struct place *place, const uint8_t *group, struct entry *entry) {
+int mdb_read(const struct place *place, const uint8_t *group, struct entry *entry) {
     struct request request;
     struct answer answer;
     struct search search = {.port = place->port, .entry = entry};
     begin(place, &request, RTM_GETMDB, 0, group, 0);
-    if (netlink_ask(place->netlink, &request, &answer) != 0)
-        return false;
+    int error = netlink_ask(place->netlink, &request, &answer);
+    if (error != 0)
+        return error;
     read_entries(answer.message + NLMSG_ALIGN(sizeof(struct br_port_msg)), answer.message + answer.length, compare_port, &search);
-    return search.is_found;
+    return search.is_found ? 0 : ENOENT;
 }
 
 struct dump {
@@ -221,16 +221,16 @@ bool mdb_set(const struct place *place, const uint8_t *group, const struct filte
     struct answer answer;
     struct entry found;
     if (filter->count > GREATEST_LIST) {
-        fault_of(FAULT_SOURCES, place, group, "more sources than the kernel takes: all are forwarded");
+        mdb_fault(FAULT_SOURCES, place, group, "more sources than the kernel takes: all are forwarded");
         filter = &filter_of_all;
     }
     int error = put_entry(place, group, filter, is_ours ? NLM_F_REPLACE : NLM_F_EXCL, &answer);
-    if (error == EEXIST && mdb_read(place, group, &found) && found.maker != MAKER_OTHER)
+    if (error == EEXIST && mdb_read(place, group, &found) == 0 && found.maker != MAKER_OTHER)
         error = put_entry(place, group, filter, NLM_F_REPLACE, &answer);
     if (error == EEXIST)
-        fault_of(FAULT_OTHERS, place, group, "there is an entry of another's, which stays");
+        mdb_fault(FAULT_OTHERS, place, group, "there is an entry of another's, which stays");
     else if (error != 0)
-        fault_of(FAULT_REFUSED, place, group, answer.why);
+        mdb_fault(FAULT_REFUSED, place, group, answer.why);
     return is_ours || error == 0;
 }
 
@@ -240,6 +240,6 @@ bool mdb_remove(const struct place *place, const uint8_t *group) {
     begin(place, &request, RTM_DELMDB, 0, group, place->port);
     int error = netlink_ask(place->netlink, &request, &answer);
     if (error != 0 && error != ENOENT && error != ENODEV)
-        fault_of(FAULT_REFUSED, place, group, answer.why);
+        mdb_fault(FAULT_REFUSED, place, group, answer.why);
     return error == 0 || error == ENOENT || error == ENODEV;
 }

@@ -11,16 +11,16 @@
 
 enum { RECEIVE_ROOM = 1 << 20 };
 
-int netlink_open(uint32_t groups) {
+int netlink_open(int protocol, uint32_t groups) {
     const int is_on = 1, room = RECEIVE_ROOM;
     struct timeval patience = {.tv_sec = 2};
     struct sockaddr_nl any = {.nl_family = AF_NETLINK, .nl_groups = groups};
-    int netlink = socket(AF_NETLINK, SOCK_RAW | SOCK_CLOEXEC | (groups != 0 ? SOCK_NONBLOCK : 0), NETLINK_ROUTE);
+    int netlink = socket(AF_NETLINK, SOCK_RAW | SOCK_CLOEXEC | (groups != 0 ? SOCK_NONBLOCK : 0), protocol);
     if (netlink < 0)
         return -1;
     if (setsockopt(netlink, SOL_SOCKET, SO_RCVBUFFORCE, &room, sizeof room) < 0)
         setsockopt(netlink, SOL_SOCKET, SO_RCVBUF, &room, sizeof room);
-    /* The kernel says in words why it refuses, doesn't send the request back, and dumps only what is asked for. */
+    /* The kernel explains errors in words, does not send requests back, and filters dumps as the request says. */
     if (setsockopt(netlink, SOL_NETLINK, NETLINK_EXT_ACK, &is_on, sizeof is_on) == 0
         && setsockopt(netlink, SOL_NETLINK, NETLINK_CAP_ACK, &is_on, sizeof is_on) == 0
         && setsockopt(netlink, SOL_NETLINK, NETLINK_GET_STRICT_CHK, &is_on, sizeof is_on) == 0
@@ -33,7 +33,7 @@ int netlink_open(uint32_t groups) {
     return -1;
 }
 
-/* Puts bytes at the end, and zeros up to the next whole word. */
+/* Appends bytes, and zeros up to a whole word. */
 static void put_bytes(struct request *request, const void *data, size_t length) {
     uint8_t *to = (uint8_t *)request + request->header.nlmsg_len;
     memset(to, 0, NLMSG_ALIGN(length));
@@ -93,7 +93,7 @@ const struct nlattr *attribute_find(const uint8_t *at, const uint8_t *end, uint1
     return NULL;
 }
 
-/* Keeps the kernel's own words for an error where it has some, else those of <errno.h>. */
+/* Keeps the kernel's words for an error, or those of <errno.h> if it has none. Returns the error. */
 static int refused(struct answer *answer, int error, const struct nlattr *words) {
     const char *why = words != NULL ? (const char *)attribute_data(words) : strerror(error);
     size_t length = words != NULL ? strnlen(why, (size_t)(attribute_end(words) - attribute_data(words))) : strlen(why);
@@ -103,21 +103,29 @@ static int refused(struct answer *answer, int error, const struct nlattr *words)
     return error;
 }
 
-/* Reads the message that ends an answer. */
-static int read_end(const struct nlmsghdr *message, struct answer *answer) {
-    const struct nlmsgerr *end = NLMSG_DATA(message);
-    const uint8_t *behind = (const uint8_t *)(end + 1), *last = (const uint8_t *)message + message->nlmsg_len;
-    if (end->error == 0)
-        return 0;
-    bool has_words = message->nlmsg_flags & NLM_F_ACK_TLVS;
-    return refused(answer, -end->error, has_words ? attribute_find(behind, last, NLMSGERR_ATTR_MSG) : NULL);
+/* Reads the error number in the last message of an answer. Returns 0 or an error of <errno.h>. */
+static int read_error(const struct nlmsghdr *message) {
+    int32_t code;
+    if (message->nlmsg_len < NLMSG_LENGTH(sizeof code))
+        return EBADMSG;
+    memcpy(&code, NLMSG_DATA(message), sizeof code);
+    return code > 0 || code == INT32_MIN ? EBADMSG : -code;
 }
 
-static uint32_t number; /* of the last request */
+/* Reads the last message of an answer. Returns 0 or an error of <errno.h>. */
+static int read_end(const struct nlmsghdr *message, struct answer *answer) {
+    const uint8_t *behind = (const uint8_t *)NLMSG_DATA(message) + sizeof(struct nlmsgerr);
+    const uint8_t *last = (const uint8_t *)message + message->nlmsg_len;
+    int error = read_error(message);
+    bool has_words = message->nlmsg_flags & NLM_F_ACK_TLVS;
+    return error == 0 ? 0 : refused(answer, error, has_words ? attribute_find(behind, last, NLMSGERR_ATTR_MSG) : NULL);
+}
+
+static uint32_t number; /* the sequence number of the last request */
 
 int netlink_ask(int netlink, struct request *request, struct answer *answer) {
     static uint8_t bytes[2 * GREATEST_ANSWER] __attribute__((aligned(NLMSG_ALIGNTO)));
-    size_t kept = 0; /* the length of the one message that may come before the end */
+    size_t kept = 0; /* the length of the message before the last one, if there is one */
     answer->message = bytes;
     answer->length = 0;
     request->header.nlmsg_seq = ++number;
@@ -129,7 +137,7 @@ int netlink_ask(int netlink, struct request *request, struct answer *answer) {
             return refused(answer, length < 0 ? errno : EMSGSIZE, NULL);
         const struct nlmsghdr *message = (const void *)(bytes + kept);
         if (!NLMSG_OK(message, (int)length) || message->nlmsg_seq != number)
-            continue; /* what is left of an earlier answer */
+            continue; /* a rest of an earlier answer */
         if (message->nlmsg_type == NLMSG_ERROR)
             return read_end(message, answer);
         if (kept > 0)
@@ -140,19 +148,18 @@ int netlink_ask(int netlink, struct request *request, struct answer *answer) {
     }
 }
 
-/* Reads the messages of one part of a dump. Returns whether it was the last part, with `*error`. */
+/* Reads the messages of one part of a dump. Returns whether it was the last part, and sets `*error` if something failed. */
 static bool read_part(const uint8_t *bytes, size_t length, netlink_each *each, void *context, struct answer *answer, int *error) {
     const struct nlmsghdr *message = (const void *)bytes;
     for (int left = (int)length; NLMSG_OK(message, left); message = NLMSG_NEXT(message, left)) {
         if (message->nlmsg_seq != number)
-            continue; /* what is left of an earlier answer */
+            continue; /* a rest of an earlier answer */
         if (message->nlmsg_flags & NLM_F_DUMP_INTR)
             *error = EINTR;
         if (message->nlmsg_type == NLMSG_ERROR || message->nlmsg_type == NLMSG_DONE) {
-            int32_t code = 0;
-            memcpy(&code, NLMSG_DATA(message), message->nlmsg_len < NLMSG_LENGTH(sizeof code) ? 0 : sizeof code);
+            int code = message->nlmsg_len > NLMSG_HDRLEN ? read_error(message) : 0;
             if (code != 0)
-                *error = refused(answer, -code, NULL);
+                *error = refused(answer, code, NULL);
             return true;
         }
         each(context, message);

@@ -19,76 +19,73 @@ static const char HELP[] =
     "       mquerier-live bridge BRIDGE.. [OPTION]..\n"
     "       mquerier-live status BRIDGE [--json | --metrics] [--run DIR]\n"
     "\n"
-    "A multicast querier on Linux: it hears the IGMP or MLD messages of hosts, and sends queries. `interface` serves one\n"
-    "link of one family and prints what it does. `bridge` serves all ports of these bridges, and has each bridge forward\n"
-    "to each port what the hosts there want. `status` prints what a running `bridge` holds.\n"
-    "It has to be root, or have the capability CAP_NET_RAW (with a bridge also CAP_NET_ADMIN). Once its sockets are open it\n"
-    "keeps no privileges (with a bridge CAP_NET_ADMIN alone). This program is not proved; the library's decisions are.\n"
+    "A multicast querier on Linux. `interface` serves one link of one family, and prints a line for each message and query.\n"
+    "`bridge` serves all ports of these bridges: each bridge forwards to each port what the hosts there want. `status` prints\n"
+    "the state of a running `bridge`.\n"
+    "It needs root, or the capability CAP_NET_RAW, with a bridge also CAP_NET_ADMIN. Once its sockets are open it drops its\n"
+    "privileges; with a bridge it keeps CAP_NET_ADMIN alone. This program is not proved. The decisions of its library are.\n"
     "\n"
-    "  --own ADDR           the source of its queries: an address of the interface, for mld a link-local one. `bridge`\n"
-    "                       takes the addresses of the bridge if none is given\n"
+    "  --own ADDR           source of queries: an address of the interface, for mld a link-local one. By default `bridge`\n"
+    "                       takes the first addresses of the bridge\n"
     "  --rv N               Robustness Variable, 1 to 7 (2)\n"
     "  --qi S               Query Interval, 1 to 31744 seconds (125)\n"
     "  --qri MS             Query Response Interval in milliseconds, below the Query Interval (10000)\n"
     "  --lmqi MS            Last Member (Last Listener) Query Interval in milliseconds (1000)\n"
-    "  --groups N           how many groups a link may have, up to 65535 (1024)\n"
-    "  --group-sources N    how many sources a group may have, up to 1024 (igmp 366, mld 89)\n"
-    "  --sources N          how many sources all groups of a link may have together, up to 65535 (16384)\n"
-    "  --scheduled N        how many schedules of specific queries a link may have, two at most of a group, up to 65535 (256)\n"
+    "  --groups N           most groups of a link, up to 65535 (1024)\n"
+    "  --group-sources N    most sources of a group, up to 1024 (igmp 366, mld 89)\n"
+    "  --sources N          most sources of all groups of a link together, up to 65535 (16384)\n"
+    "  --scheduled N        most schedules of specific queries of a link, up to two for each group, up to 65535 (256)\n"
     "  --ssm                keep 232.0.0.0/8, or ff3x::/32, for source-specific multicast\n"
-    "  --changes            print what is forwarded of a group whenever that changes\n"
+    "  --changes            print a line for each change of what is forwarded of a group\n"
     "\n"
     "For `interface` only:\n"
-    "  --mdb BRIDGE PORT    have the bridge BRIDGE forward to its port PORT what is forwarded of each group, by entries of its\n"
+    "  --mdb BRIDGE PORT    make the bridge BRIDGE forward to its port PORT what is forwarded of each group, by entries of its\n"
     "                       multicast database. INTERFACE is PORT, or BRIDGE if all hosts are at one port\n"
     "\n"
     "For `bridge` only:\n"
-    "  --own6 ADDR          the link-local source of the queries of MLD; then --own is that of IGMP\n"
+    "  --own6 ADDR          link-local source of queries of MLD. Then --own is that of IGMP\n"
     "  --family F           serve only igmp, or only mld\n"
-    "  --ports N            how many ports all bridges may have, up to 1024 (64). Memory is taken for so many\n"
-    "  --setup              set the bridges up, and put back at the end what was there\n"
+    "  --ports N            most ports of all bridges, up to 1024 (64). Memory is allocated for all of them\n"
+    "  --setup              set the bridges up, and restore the earlier settings at the end\n"
     "  --router-port PORT   forward all multicast to this port. May be given up to 64 times\n"
-    "  --run DIR            the folder of its files (/run/mquerier-live)\n"
-    "  --options FILE       read options from this file too: words, and comments from # to the end of a line. SIGHUP has it\n"
-    "                       read again\n"
+    "  --run DIR            folder of its files (/run/mquerier-live)\n"
+    "  --options FILE       read options from this file too: words, and comments from # to the end of a line. SIGHUP reads it\n"
+    "                       again\n"
     "\n"
-    "Lines of `interface` on standard output, T in milliseconds from the start, ADDR an address:\n"
-    "  T send ADDR HEX               a query that it sends to ADDR, without its IP header\n"
-    "  T receive N ADDR taken A I R  the N-th datagram, from ADDR: how many records were applied, ignored, refused\n"
-    "  T receive N ADDR dropped K    the same, dropped for reason K\n"
-    "  T change G include S ..       with --changes: of group G only these sources are forwarded\n"
-    "  T change G exclude !S ..      all sources but these\n"
-    "  T change G none               no source\n"
-    "On SIGUSR1 it prints what it holds, as `mquerier replay` ends with it: `end T querier` or `end T other`, a line for\n"
-    "each group, and `counts ..`. `mquerier replay --help` explains these lines and the reasons. `bridge` prints only lines\n"
-    "of changes, with the port after T.\n"
+    "Lines of `interface` on standard output, T in milliseconds since the start, ADDR an address:\n"
+    "  T send ADDR HEX               a query to ADDR, without its IP header\n"
+    "  T receive N ADDR taken A I R  the N-th datagram, from ADDR: the numbers of applied, ignored and refused records\n"
+    "  T receive N ADDR dropped K    the N-th datagram was dropped for reason K\n"
+    "  T change G include S ..       with --changes: only these sources of group G are forwarded\n"
+    "  T change G exclude !S ..      all sources but these are forwarded\n"
+    "  T change G none               no source is forwarded\n"
+    "On SIGUSR1 it prints its state like the end of `mquerier replay`: `end T querier` or `end T other`, a line for each\n"
+    "group, and `counts ..`. `mquerier replay --help` explains these lines and the reasons. `bridge` prints only lines of\n"
+    "changes, with the port after T.\n"
     "\n"
-    "Not heard are fragments, damaged IPv4 headers, and frames with a VLAN tag (give the VLAN's own interface). Send it\n"
-    "SIGTERM to end it; then it removes what it made in the bridge. A line on standard error says what the kernel refused,\n"
-    "and it goes on. daemon/README.md says how a bridge has to be set.\n"
+    "It does not hear fragments, damaged IPv4 headers, and frames with a VLAN tag (give the VLAN's own interface). SIGTERM\n"
+    "ends it, and it removes what it made in the bridge. A line on standard error says what the kernel rejected, and it goes\n"
+    "on. daemon/README.md has the settings that a bridge needs.\n"
     "\n"
     "Status: 0 if a signal ended it, 1 if the interface, the bridge, memory or the output failed, 2 if the command line or\n"
-    "the configuration is faulty or help is asked for.\n";
+    "the configuration is faulty or asks for help.\n";
 
-#define PLACE(field) {offsetof(mq_igmp_config, field), offsetof(mq_mld_config, field)}
+#define PLACE(field) \
+    { offsetof(mq_igmp_config, field), offsetof(mq_mld_config, field) }
 static const struct {
     const char *name;
-    size_t places[2]; /* where the number stands in the configuration of each family */
+    size_t places[2]; /* its offsets in the configurations of igmp and mld */
 } NUMBERS[] = {
-    {"rv", PLACE(robustness)},
-    {"qi", PLACE(query_interval)},
-    {"qri", PLACE(response_interval)},
-    {"lmqi", PLACE(last_member_interval)},
-    {"groups", PLACE(groups)},
-    {"group-sources", PLACE(group_sources)},
-    {"sources", PLACE(sources)},
-    {"scheduled", PLACE(scheduled)},
+    {"rv", PLACE(robustness)},         {"qi", PLACE(query_interval)},
+    {"qri", PLACE(response_interval)}, {"lmqi", PLACE(last_member_interval)},
+    {"groups", PLACE(groups)},         {"group-sources", PLACE(group_sources)},
+    {"sources", PLACE(sources)},       {"scheduled", PLACE(scheduled)},
 };
 enum { COUNT = sizeof NUMBERS / sizeof *NUMBERS };
 enum { OWN = COUNT, OWN6, FAMILY, SSM, CHANGES, MDB, PORTS, SETUP, ROUTER_PORT, RUN, FILE_OF, ASKED_HELP, OPTIONS };
 static const char *const FAMILIES[2] = {"igmp", "mld"};
 
-/* What is wrong, as a text that stands until the next call. */
+/* Returns the text of a fault, which stands until the next call. */
 static const char *wrong(const char *what, const char *text) {
     static char line[200];
     snprintf(line, sizeof line, "%s%s (--help says more)", what, text);
@@ -137,7 +134,9 @@ static const char *read_database(struct options *options, int count, char **word
 static const char *read_router(struct options *options, const char *port) {
     if (options->router_count == GREATEST_ROUTERS)
         return wrong("too many ports of routers: ", port);
-    options->routers[options->router_count++] = port;
+    if (strlen(port) >= IF_NAMESIZE)
+        return wrong("no port has so long a name: ", port);
+    strcpy(options->routers[options->router_count++], port);
     return NULL;
 }
 
@@ -146,7 +145,7 @@ static const char *read_ports(struct options *options, const char *text) {
     return is_read ? NULL : wrong("--ports is from 1 to 1024, not ", text);
 }
 
-/* Reads one option of which the value is `optarg`. */
+/* Reads one option, whose value is `optarg`. */
 static const char *read_option(struct options *options, int found, int count, char **words) {
     if (found < COUNT)
         return read_limit(options, found, optarg);
@@ -167,22 +166,28 @@ static const char *read_option(struct options *options, int found, int count, ch
     return NULL;
 }
 
-/* Reads options and names from words, the first of which is skipped. */
+/* Reads options and names from all words but the first. */
 static const char *read_words(struct options *options, int count, char **words) {
     static const struct option others[] = {
-        {"own", required_argument, NULL, OWN},         {"own6", required_argument, NULL, OWN6},
-        {"family", required_argument, NULL, FAMILY},   {"ssm", no_argument, NULL, SSM},
-        {"changes", no_argument, NULL, CHANGES},       {"mdb", required_argument, NULL, MDB},
-        {"ports", required_argument, NULL, PORTS},     {"setup", no_argument, NULL, SETUP},
-        {"router-port", required_argument, NULL, ROUTER_PORT}, {"run", required_argument, NULL, RUN},
-        {"options", required_argument, NULL, FILE_OF}, {"help", no_argument, NULL, ASKED_HELP},
+        {"own", required_argument, NULL, OWN},
+        {"own6", required_argument, NULL, OWN6},
+        {"family", required_argument, NULL, FAMILY},
+        {"ssm", no_argument, NULL, SSM},
+        {"changes", no_argument, NULL, CHANGES},
+        {"mdb", required_argument, NULL, MDB},
+        {"ports", required_argument, NULL, PORTS},
+        {"setup", no_argument, NULL, SETUP},
+        {"router-port", required_argument, NULL, ROUTER_PORT},
+        {"run", required_argument, NULL, RUN},
+        {"options", required_argument, NULL, FILE_OF},
+        {"help", no_argument, NULL, ASKED_HELP},
     };
     struct option all[OPTIONS + 1] = {{0}};
     for (int at = 0; at < COUNT; at++)
         all[at] = (struct option){NUMBERS[at].name, required_argument, NULL, at};
     memcpy(all + COUNT, others, sizeof others);
     opterr = 0;
-    optind = 0; /* begins anew */
+    optind = 0; /* getopt begins again */
     for (int found; (found = getopt_long(count, words, "", all, NULL)) != -1;) {
         const char *why = found == '?' ? wrong("no such option, or its value is missing: ", words[optind - 1])
                                        : read_option(options, found, count, words);
@@ -197,19 +202,17 @@ static const char *read_words(struct options *options, int count, char **words) 
     return NULL;
 }
 
-/* Ends the words of a line at its comment. */
+/* Replaces comments by spaces. */
 static void cut_comments(char *text) {
     for (char *at; (at = strchr(text, '#')) != NULL;)
         memset(at, ' ', strcspn(at, "\n"));
 }
 
-/* Reads the words of the file of options. They stand until the next call. */
+/* Reads the file of options. Its words stand until the next call, and no option that may change later points to them. */
 static const char *read_file(struct options *options) {
     enum { GREATEST_FILE = 8192, GREATEST_WORDS = 512 };
-    static char texts[2][GREATEST_FILE + 1], name[] = "options";
+    static char text[GREATEST_FILE + 1], name[] = "options";
     static char *words[GREATEST_WORDS + 1];
-    static int used; /* the text of the options in force */
-    char *text = texts[!used];
     const char *file_name = options->file;
     int count = 1, file = open(file_name, O_RDONLY | O_CLOEXEC);
     ssize_t length = file < 0 ? -1 : read(file, text, GREATEST_FILE);
@@ -227,11 +230,10 @@ static const char *read_file(struct options *options) {
     const char *why = read_words(options, count, words);
     if (why == NULL && options->count != names)
         why = wrong("the file of options has a word that is none: ", options->names[names]);
-    used ^= why == NULL;
     return why;
 }
 
-/* Reads the family of an interface, which is the word after its name. */
+/* Checks the words of `interface`: an interface, a family and --own. */
 static const char *finish_interface(struct options *options) {
     if (options->count != 2)
         return wrong("an interface and a family are needed, and nothing else", "");
@@ -241,7 +243,7 @@ static const char *finish_interface(struct options *options) {
 }
 
 const char *options_read(struct options *options, int count, char **words) {
-    static const uint8_t placeholders[2][16] = {{192, 0, 2, 1}, {0xfe, 0x80, [15] = 1}}; /* a bridge's own address comes later */
+    static const uint8_t placeholders[2][16] = {{192, 0, 2, 1}, {0xfe, 0x80, [15] = 1}}; /* the bridge's address replaces it */
     *options = (struct options){.serves = {true, true}, .ports = 64, .run = "/run/mquerier-live"};
     for (int at = 0; at < 2; at++)
         options->configuration[at] = family_defaults(at == 1, placeholders[at]);
@@ -251,7 +253,7 @@ const char *options_read(struct options *options, int count, char **words) {
     if (!options->is_interface && (count == 0 || strcmp(words[0], "bridge") != 0))
         return wrong("the first word is interface, bridge or status", "");
     if (options->is_interface && count > 1 && words[count - 1] != NULL)
-        for (int at = 1; at < count; at++) /* the family stands among the words, and --own depends on it */
+        for (int at = 1; at < count; at++) /* --own depends on the family, which may come later */
             if (strcmp(words[at], "igmp") == 0 || strcmp(words[at], "mld") == 0)
                 read_family(options, words[at]);
     const char *why = read_words(options, count, words);

@@ -7,22 +7,22 @@
 
 #include <errno.h>
 #include <linux/if_addr.h>
-#include <net/if_arp.h>
 #include <linux/if_link.h>
 #include <linux/rtnetlink.h>
+#include <net/if_arp.h>
 #include <stdlib.h>
 #include <string.h>
 #include <sys/socket.h>
 #include <unistd.h>
 
 void ports_open(struct querier *querier) {
-    querier->netlink = netlink_open(0);
-    querier->news = netlink_open(RTMGRP_LINK | RTMGRP_IPV4_IFADDR | RTMGRP_IPV6_IFADDR);
+    querier->netlink = netlink_open(NETLINK_ROUTE, 0);
+    querier->news = netlink_open(NETLINK_ROUTE, RTMGRP_LINK | RTMGRP_IPV4_IFADDR | RTMGRP_IPV6_IFADDR);
     if (querier->netlink < 0 || querier->news < 0)
         fail(STATUS_FAILED, "netlink", strerror(errno));
 }
 
-/* So many notifications are read before what they are about. */
+/* The most notifications that one call reads. */
 enum { NEWS = 256 };
 
 static void read_interface(const struct nlmsghdr *message, struct interface *interface) {
@@ -39,19 +39,21 @@ static void read_interface(const struct nlmsghdr *message, struct interface *int
     interface->master = (int)master;
 }
 
-bool interface_read(int netlink, const char *name, struct interface *interface) {
+int interface_read(int netlink, const char *name, struct interface *interface) {
     struct request request;
     struct answer answer;
     const uint32_t without = RTEXT_FILTER_SKIP_STATS;
     if (strlen(name) >= IF_NAMESIZE)
-        return false;
+        return ENODEV;
     request_link(&request, RTM_GETLINK, 0, 0);
     request_put(&request, IFLA_IFNAME, name, strlen(name) + 1);
     request_put(&request, IFLA_EXT_MASK, &without, sizeof without);
-    if (netlink_ask(netlink, &request, &answer) != 0 || answer.length < sizeof(struct ifinfomsg))
-        return false;
-    read_interface((const struct nlmsghdr *)(answer.message - NLMSG_HDRLEN), interface);
-    return true;
+    int error = netlink_ask(netlink, &request, &answer);
+    if (error == 0 && answer.length < sizeof(struct ifinfomsg))
+        error = EBADMSG;
+    if (error == 0)
+        read_interface((const struct nlmsghdr *)(answer.message - NLMSG_HDRLEN), interface);
+    return error;
 }
 
 bool interface_setting(const struct interface *interface, bool is_port, uint16_t type, uint32_t *number) {
@@ -61,10 +63,12 @@ bool interface_setting(const struct interface *interface, bool is_port, uint16_t
     return found != NULL && attribute_number(attribute_data(found), attribute_end(found), type, number);
 }
 
-/* Takes the first address of each family that may be the source of queries. */
+/* Takes the first address of each family that can be the source of queries. */
 static void take_address(void *context, const struct nlmsghdr *message) {
     struct bridge *bridge = context;
     const struct ifaddrmsg *head = NLMSG_DATA(message);
+    if (message->nlmsg_len < NLMSG_LENGTH(sizeof *head))
+        return;
     bool is_mld = head->ifa_family == AF_INET6;
     const uint8_t *at = (const uint8_t *)head + NLMSG_ALIGN(sizeof *head), *end = (const uint8_t *)message + message->nlmsg_len;
     const struct nlattr *address = attribute_find(at, end, is_mld ? IFA_ADDRESS : IFA_LOCAL);
@@ -82,8 +86,9 @@ static void take_address(void *context, const struct nlmsghdr *message) {
     bridge->has_own[is_mld] = true;
 }
 
-/* Reads the addresses of a bridge. One that it has no longer stays in use until there is another. */
-static void read_addresses(struct querier *querier, struct bridge *bridge) {
+/* Reads the addresses of a bridge. A removed address stays in use until there is another. Returns whether the kernel's list was
+   whole. */
+static bool read_addresses(struct querier *querier, struct bridge *bridge) {
     static const char *const missing[2] = {"it has no IPv4 address, and there is no --own: IGMP waits for one",
                                            "it has no link-local address, and there is no --own6: MLD waits for one"};
     struct request request;
@@ -93,49 +98,19 @@ static void read_addresses(struct querier *querier, struct bridge *bridge) {
     memcpy(read.has_own, querier->options->has_own, sizeof read.has_own);
     memcpy(read.own, querier->options->own, sizeof read.own);
     request_begin(&request, RTM_GETADDR, 0, &head, sizeof head);
-    netlink_dump(querier->netlink, &request, take_address, &read, &answer);
+    bool is_whole = netlink_dump(querier->netlink, &request, take_address, &read, &answer) == 0;
     for (int at = 0; at < 2; at++) {
         if (read.has_own[at])
             memcpy(bridge->own[at], read.own[at], LONG_ADDRESS);
-        else if (querier->options->serves[at] && !bridge->is_missed[at])
+        else if (is_whole && querier->options->serves[at] && !bridge->is_missed[at])
             fault(FAULT_MISSING, bridge->name, missing[at]);
         bridge->has_own[at] |= read.has_own[at];
-        bridge->is_missed[at] = !read.has_own[at];
+        bridge->is_missed[at] = is_whole && !read.has_own[at];
     }
+    return is_whole;
 }
 
-/* Reads a bridge, or the interface that is served alone. Returns false if there is none that can be served. */
-static bool read_bridge(struct querier *querier, struct bridge *bridge) {
-    struct interface found;
-    uint32_t filters = 0;
-    bool is_interface = querier->options->is_interface, was_there = bridge->index != 0;
-    if (!interface_read(querier->netlink, bridge->name, &found)) {
-        if (was_there)
-            fault(FAULT_PORTS, bridge->name, "it is gone");
-        bridge->index = 0;
-        return false;
-    }
-    if (!is_interface && interface_setting(&found, false, IFLA_BR_VLAN_FILTERING, &filters) && filters != 0) {
-        fault(FAULT_PORTS, bridge->name, "it filters VLANs, which is not served: make a bridge for each VLAN");
-        if (was_there) /* until now it didn't */
-            querier_remove_entries(querier, bridge);
-        bridge->index = 0;
-        return false;
-    }
-    bridge->index = 0;
-    if (!is_interface && !interface_setting(&found, false, IFLA_BR_MCAST_SNOOPING, &filters)) {
-        fault(FAULT_PORTS, bridge->name, "it is no bridge, or the kernel can't snoop");
-        return false;
-    }
-    bridge->index = found.index;
-    const struct nlattr *mac = attribute_find(found.at, found.end, IFLA_ADDRESS);
-    if (mac != NULL && attribute_end(mac) - attribute_data(mac) == MAC)
-        memcpy(bridge->mac, attribute_data(mac), MAC);
-    read_addresses(querier, bridge);
-    return true;
-}
-
-/* Finds the place of a port, or a free one for it. */
+/* Returns the place of a port, a free place, or NULL. */
 static struct port *place_of(struct querier *querier, int index) {
     struct port *free_one = NULL;
     for (size_t at = querier->room; at > 0; at--) {
@@ -159,7 +134,7 @@ struct search {
     uint64_t now;
 };
 
-/* Begins the links of a port that have an address and haven't begun, or have to begin anew. */
+/* Begins those links of a port that have an address, and have not begun, have another address now, or have to begin again. */
 static void begin_links(struct querier *querier, struct port *port, bool is_anew, uint64_t now) {
     for (int at = 0; at < 2; at++) {
         const struct served *served = &port->served[at];
@@ -169,7 +144,7 @@ static void begin_links(struct querier *querier, struct port *port, bool is_anew
     }
 }
 
-/* Takes a port over as the kernel has it. One that has come up asks its hosts at once. */
+/* Copies a port as the kernel has it. If the port came up, its links begin again and query at once. */
 static void take_port(const struct search *search, const struct interface *found) {
     struct querier *querier = search->querier;
     struct port *port = place_of(querier, found->index);
@@ -184,8 +159,12 @@ static void take_port(const struct search *search, const struct interface *found
     if (is_new)
         querier_forget(querier, port);
     bool is_anew = !is_new && found->is_up && !port->is_up;
-    *port = (struct port){.index = found->index, .bridge = search->bridge, .is_up = found->is_up, .is_found = true,
-                          .router = port->router, .hello_until = is_new ? 0 : port->hello_until,
+    *port = (struct port){.index = found->index,
+                          .bridge = search->bridge,
+                          .is_up = found->is_up,
+                          .is_found = true,
+                          .router = port->router,
+                          .hello_until = is_new ? 0 : port->hello_until,
                           .served = {port->served[0], port->served[1]}};
     strcpy(port->name, (const char *)attribute_data(name));
     interface_setting(found, true, IFLA_BRPORT_MULTICAST_ROUTER, &port->router);
@@ -202,7 +181,7 @@ static void take_message(void *context, const struct nlmsghdr *message) {
         take_port(search, &found);
 }
 
-/* Reads the ports of a bridge. Returns whether these were all of them. */
+/* Reads the ports of a bridge. Returns whether the kernel's list was whole. */
 static bool read_ports(struct querier *querier, struct bridge *bridge, uint64_t now) {
     struct request request;
     struct answer answer;
@@ -210,9 +189,10 @@ static bool read_ports(struct querier *querier, struct bridge *bridge, uint64_t 
     struct search search = {querier, bridge, now};
     const uint32_t without = RTEXT_FILTER_SKIP_STATS, master = (uint32_t)bridge->index;
     if (querier->options->is_interface) {
-        if (interface_read(querier->netlink, bridge->name, &found))
+        bool is_read = interface_read(querier->netlink, bridge->name, &found) == 0;
+        if (is_read)
             take_port(&search, &found);
-        return true;
+        return is_read;
     }
     request_link(&request, RTM_GETLINK, 0, 0);
     request_put(&request, IFLA_MASTER, &master, sizeof master);
@@ -220,12 +200,51 @@ static bool read_ports(struct querier *querier, struct bridge *bridge, uint64_t 
     return netlink_dump(querier->netlink, &request, take_message, &search, &answer) == 0;
 }
 
+/* Returns the reason why a bridge cannot be served, or NULL. */
+static const char *unserved(const struct interface *found) {
+    uint32_t number;
+    if (!interface_setting(found, false, IFLA_BR_MCAST_SNOOPING, &number))
+        return "it is no bridge, or the kernel can't snoop";
+    if (interface_setting(found, false, IFLA_BR_VLAN_FILTERING, &number) && number != 0)
+        return "it filters VLANs, which is not served: make a bridge for each VLAN";
+    return NULL;
+}
+
+/* Copies a bridge as the kernel has it, with its addresses and ports. Returns whether the kernel's lists were whole. */
+static bool take_bridge(struct querier *querier, struct bridge *bridge, const struct interface *found, uint64_t now) {
+    const struct nlattr *mac = attribute_find(found->at, found->end, IFLA_ADDRESS);
+    bridge->index = found->index;
+    if (mac != NULL && attribute_end(mac) - attribute_data(mac) == MAC)
+        memcpy(bridge->mac, attribute_data(mac), MAC);
+    bool has_all = read_addresses(querier, bridge);
+    return read_ports(querier, bridge, now) && has_all;
+}
+
+/* Reads a bridge and its ports, or the one interface. Returns whether the kernel's lists were whole. */
+static bool read_bridge(struct querier *querier, struct bridge *bridge, uint64_t now) {
+    struct interface found;
+    int error = interface_read(querier->netlink, bridge->name, &found);
+    if (error != 0 && error != ENODEV) {
+        fault(FAULT_NETLINK, bridge->name, strerror(error)); /* the copy stays */
+        return false;
+    }
+    const char *why = error == ENODEV ? "it is gone" : querier->options->is_interface ? NULL : unserved(&found);
+    if (why == NULL)
+        return take_bridge(querier, bridge, &found, now);
+    if (error == 0 || bridge->index != 0)
+        fault(FAULT_PORTS, bridge->name, why);
+    if (error == 0 && bridge->index != 0)
+        querier_remove_entries(querier, bridge); /* it was served before */
+    bridge->index = 0;
+    return true;
+}
+
 static int by_index(const void *one, const void *other) {
     const struct by_index *it = one, *its = other;
     return (it->index > its->index) - (it->index < its->index);
 }
 
-/* Has the ring hear the ports that there are. */
+/* Makes the ring hear at the present ports. */
 static void listen_at_ports(struct querier *querier) {
     static int indexes[GREATEST_PORTS];
     querier->ports_count = 0;
@@ -235,8 +254,10 @@ static void listen_at_ports(struct querier *querier) {
     qsort(querier->by_index, querier->ports_count, sizeof *querier->by_index, by_index);
     for (size_t at = 0; at < querier->ports_count; at++)
         indexes[at] = querier->by_index[at].index;
-    if (ring_listen(&querier->ring, indexes, querier->ports_count) < 0)
-        fail(STATUS_FAILED, "packets", strerror(errno));
+    if (ring_listen(&querier->ring, indexes, querier->ports_count) < 0) {
+        fault(FAULT_NETLINK, "packets", strerror(errno));
+        querier->is_stale = true;
+    }
 }
 
 void ports_refresh(struct querier *querier, uint64_t now) {
@@ -244,20 +265,19 @@ void ports_refresh(struct querier *querier, uint64_t now) {
     for (size_t at = 0; at < querier->room; at++)
         querier->ports[at].is_found = false;
     for (size_t at = 0; at < querier->bridges_count; at++)
-        if (read_bridge(querier, &querier->bridges[at]))
-            is_whole &= read_ports(querier, &querier->bridges[at], now);
+        is_whole &= read_bridge(querier, &querier->bridges[at], now);
     for (size_t at = 0; at < querier->room && is_whole; at++) {
         if (querier->ports[at].index == 0 || querier->ports[at].is_found)
             continue;
         lose_port(querier, querier->ports + at);
-        querier->was_overrun = true; /* no notification said so: all is read again in a second, since there is a free place now */
+        querier->is_stale = true; /* no notification came: read all again in a second, since a place is free now */
     }
-    querier->was_overrun |= !is_whole;
+    querier->is_stale |= !is_whole;
     listen_at_ports(querier);
     setup_apply(querier);
 }
 
-/* Whether an interface is a bridge that is served, or may be one that is missing. */
+/* Returns whether an interface is a served bridge, or may be a missing one. */
 static bool is_bridge(const struct querier *querier, int index) {
     for (size_t at = 0; at < querier->bridges_count; at++)
         if (querier->bridges[at].index == 0 || querier->bridges[at].index == index)
@@ -265,7 +285,7 @@ static bool is_bridge(const struct querier *querier, int index) {
     return false;
 }
 
-/* Whether a notification concerns a bridge or a port. A port that leaves a bridge loses its entries, also if it comes back at
+/* Returns whether a notification concerns a bridge or a port. A port that leaves its bridge is forgotten, even if it returns at
    once. */
 static bool concerns(struct querier *querier, const struct nlmsghdr *message) {
     struct interface found;
@@ -290,7 +310,7 @@ bool ports_read_news(struct querier *querier) {
         ssize_t length = recv(querier->news, bytes, sizeof bytes, 0);
         if (length < 0 && errno == ENOBUFS) {
             fault(FAULT_OVERRUN, "netlink", "notifications were lost: all is read anew");
-            querier->was_overrun = true;
+            querier->is_stale = true;
             continue;
         }
         if (length <= 0)

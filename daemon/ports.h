@@ -1,4 +1,4 @@
-/* The bridges and their ports as the kernel has them, and how the querier follows them. */
+/* Bridges and ports as the kernel has them, and the querier's copy of them. */
 #ifndef PORTS_H
 #define PORTS_H
 
@@ -9,19 +9,21 @@
 
 /* Opens the sockets for requests and for notifications. Ends the program if that fails. */
 void ports_open(struct querier *querier);
-/* Reads notifications. Returns whether one concerns a bridge or a port. */
+/* Reads notifications. Returns whether any concerns a bridge or a port. */
 bool ports_read_news(struct querier *querier);
-/* Reads bridges, addresses and ports anew. Begins links for what has come, and ends those of what is gone. */
+/* Reads bridges, addresses and ports again. Begins the links of new ports, and ends the links of ports that are gone. */
 void ports_refresh(struct querier *querier, uint64_t now);
 
-/* Reads the attributes of an interface, which stand until the next request; false if there is none. */
+/* An interface, with its attributes from `at` to `end`. */
 struct interface {
     int index, master;
     bool is_up, is_ethernet;
     const uint8_t *at, *end;
 };
-bool interface_read(int netlink, const char *name, struct interface *interface);
-/* Reads a number of the settings that only bridges have, or only ports of a bridge; false if the kernel doesn't have it. */
+/* Reads an interface, whose attributes stand until the next request. Returns 0, ENODEV if there is none, or an error of <errno.h>.
+   */
+int interface_read(int netlink, const char *name, struct interface *interface);
+/* Reads a number that only bridges have, or only ports of a bridge. Returns false if the kernel does not report it. */
 bool interface_setting(const struct interface *interface, bool is_port, uint16_t type, uint32_t *number);
 
 #endif

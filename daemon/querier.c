@@ -14,9 +14,9 @@
 #include <sys/socket.h>
 #include <time.h>
 
-/* So many frames are handled before the loop looks at its other duties again. */
+/* FRAMES is the most frames that one call handles, so that other duties are done in time. */
 enum { FRAMES = 1024, SECOND = 1000, LONGEST_QUERY = 65535 };
-/* The responses to the last query of a link that begins may come a little late. */
+/* The milliseconds by which responses to the last startup query may be late. */
 enum { LATE = 500 };
 
 uint64_t moment(void) {
@@ -29,7 +29,7 @@ uint64_t moment(void) {
     return (uint64_t)((seconds * 1000000000 + nanoseconds) / 1000000);
 }
 
-/* The configuration of a family, with the own address of the options if there is one. */
+/* Returns the configuration of a family, with the own address of the options if there is one. */
 static union configuration configured(const struct options *options, bool is_mld) {
     union configuration configuration = options->configuration[is_mld];
     if (options->has_own[is_mld] && is_mld)
@@ -108,7 +108,7 @@ void querier_remove_entries(struct querier *querier, const struct bridge *bridge
     }
 }
 
-/* Sends a query at a port. One that is lost is lost as on the wire: queries are repeated. */
+/* Sends a query at a port. A query that fails is lost as on the wire: queries are repeated. */
 static void send_query(struct querier *querier, const struct port *port, bool is_mld, const mq_query *query, uint64_t now) {
     static uint8_t frame[GREATEST_FRAME];
     static char line[2 * LONGEST_QUERY + 128];
@@ -124,8 +124,10 @@ static void send_query(struct querier *querier, const struct port *port, bool is
     if (!port->is_up)
         return;
     size_t length = write_frame(is_mld, bridge->mac, bridge->own[is_mld], query->destination, query->message, query->length, frame);
-    struct sockaddr_ll at = {
-        .sll_family = AF_PACKET, .sll_protocol = htons(is_mld ? ETH_P_IPV6 : ETH_P_IP), .sll_ifindex = port->index, .sll_halen = MAC};
+    struct sockaddr_ll at = {.sll_family = AF_PACKET,
+                             .sll_protocol = htons(is_mld ? ETH_P_IPV6 : ETH_P_IP),
+                             .sll_ifindex = port->index,
+                             .sll_halen = MAC};
     memcpy(at.sll_addr, frame, MAC);
     if (sendto(querier->ring.packets, frame, length, MSG_DONTWAIT, (struct sockaddr *)&at, sizeof at) < 0)
         fault(FAULT_UNSENT, port->name, strerror(errno));
@@ -139,11 +141,10 @@ static void print_address(const struct link *link, const char *before, const uin
     fwrite(text, 1, (size_t)(link_put_address(link, text, address) - text), stdout);
 }
 
-/* `T change G none`, `T change G include S ..`, `T change G exclude !S ..`; with the port after T if there may be several. */
+/* Prints `T change G none`, `T change G include S ..` or `T change G exclude !S ..`. For bridges the port follows T. */
 static void print_change(const struct querier *querier, const struct port *port, const struct link *link, const uint8_t *group,
-                         uint64_t now) {
+                         struct filter filter, uint64_t now) {
     static const char *const modes[] = {[MODE_NONE] = " none", [MODE_INCLUDE] = " include", [MODE_EXCLUDE] = " exclude"};
-    struct filter filter = filter_of(link, group);
     printf("%" PRIu64, now);
     if (!querier->options->is_interface)
         printf(" %s", port->name);
@@ -154,7 +155,19 @@ static void print_change(const struct querier *querier, const struct port *port,
     putchar('\n');
 }
 
-/* Sets when a link has to be looked at next. */
+/* Prints for each group of a link that nothing is forwarded any longer. The link ends or begins again. */
+static void print_ends(const struct querier *querier, const struct port *port, const struct served *served, uint64_t now) {
+    struct held groups[PAGE_GROUPS];
+    if (!querier->options->prints_changes || !served->is_on)
+        return;
+    for (size_t first = 0, count = 1; count > 0; first += count) {
+        count = link_groups(&served->link, first, groups);
+        for (size_t at = 0; at < count; at++)
+            print_change(querier, port, &served->link, groups[at].address, (struct filter){MODE_NONE, 0, NULL}, now);
+    }
+}
+
+/* Sets the next deadline of a link. */
 static void set_deadline(struct querier *querier, const struct port *port, bool is_mld) {
     const struct served *served = &port->served[is_mld];
     uint64_t next = served->is_on ? link_next_deadline(&served->link) : MQ_NONE;
@@ -163,7 +176,7 @@ static void set_deadline(struct querier *querier, const struct port *port, bool 
     deadlines_set(&querier->deadlines, 2 * (size_t)(port - querier->ports) + is_mld, next);
 }
 
-/* Sends the queries of a call at a link. */
+/* Sends the queries that a call on a link wrote. */
 static void send_queries(struct querier *querier, struct port *port, bool is_mld, mq_answer answer, uint64_t now) {
     const struct link *link = &port->served[is_mld].link;
     mq_query query;
@@ -171,7 +184,7 @@ static void send_queries(struct querier *querier, struct port *port, bool is_mld
         send_query(querier, port, is_mld, &query, now);
 }
 
-/* Follows the groups whose filters the last call at a link changed. */
+/* Prints the filters that the last call on a link changed, and corrects their entries. */
 static void follow(struct querier *querier, struct port *port, bool is_mld, uint64_t now) {
     struct served *served = &port->served[is_mld];
     struct place place;
@@ -179,15 +192,15 @@ static void follow(struct querier *querier, struct port *port, bool is_mld, uint
     size_t count = keeps || prints ? link_changed(&served->link, querier->changed) : 0;
     for (size_t at = 0; at < count; at++) {
         if (prints)
-            print_change(querier, port, &served->link, querier->changed[at], now);
+            print_change(querier, port, &served->link, querier->changed[at], filter_of(&served->link, querier->changed[at]), now);
         if (keeps)
             keeper_update(&served->keeper, &served->link, &place, querier->changed[at]);
     }
     set_deadline(querier, port, is_mld);
 }
 
-/* How long after its beginning a link knows what hosts want: they answered one of its first queries, of which all but the last
-   may be lost (RFC 3376 sections 8.6 and 8.7, RFC 3810 sections 9.6 and 9.7). */
+/* Returns the milliseconds after which a link knows what hosts want. They have answered a startup query then, even if all but the
+   last were lost (RFC 3376 sections 8.6 and 8.7, RFC 3810 sections 9.6 and 9.7). */
 static uint64_t settling(const struct family *family) {
     const mq_igmp_config *igmp = &family->configuration.igmp;
     const mq_mld_config *mld = &family->configuration.mld;
@@ -198,6 +211,7 @@ static uint64_t settling(const struct family *family) {
 
 void querier_begin(struct querier *querier, struct port *port, bool is_mld, uint64_t now) {
     struct served *served = &port->served[is_mld];
+    print_ends(querier, port, served, now);
     uint32_t status = link_begin(&served->link, port->bridge->own[is_mld], now);
     served->is_on = status == MQ_DONE;
     memcpy(served->own, port->bridge->own[is_mld], sizeof served->own);
@@ -207,15 +221,22 @@ void querier_begin(struct querier *querier, struct port *port, bool is_mld, uint
     set_deadline(querier, port, is_mld);
 }
 
+void querier_begin_all(struct querier *querier, bool is_mld, uint64_t now) {
+    for (size_t at = 0; at < querier->room; at++)
+        if (querier->ports[at].served[is_mld].is_on)
+            querier_begin(querier, querier->ports + at, is_mld, now);
+}
+
 void querier_forget(struct querier *querier, struct port *port) {
     for (int at = 0; at < 2; at++) {
+        print_ends(querier, port, &port->served[at], moment());
         port->served[at].is_on = false;
         port->served[at].keeper.rows.count = 0;
         set_deadline(querier, port, at == 1);
     }
 }
 
-/* Prints what a datagram did. */
+/* Prints the result of a datagram. */
 static void print_answer(const struct querier *querier, const struct link *link, const struct datagram *datagram, mq_answer answer,
                          uint64_t now) {
     char line[256], *to = put_number(put_text(put_number(line, now), " receive "), querier->heard);
@@ -234,7 +255,7 @@ static void print_answer(const struct querier *querier, const struct link *link,
     fwrite(line, 1, (size_t)(to - line), stdout);
 }
 
-/* Handles one frame that came by a port. */
+/* Handles one frame that came in at a port. */
 static void hear(struct querier *querier, struct port *port, const struct frame *frame, uint64_t now) {
     struct datagram datagram;
     enum carried carried = read_frame(frame->bytes, frame->length, &datagram);
@@ -242,6 +263,8 @@ static void hear(struct querier *querier, struct port *port, const struct frame 
         port->hello_until = now + SECOND * (uint64_t)hello_seconds(&datagram);
     if (carried == CARRIED_NOTHING && !querier->options->is_interface)
         fault(FAULT_MALFORMED, port->name, "a frame without a whole message");
+    if (carried == CARRIED_FRAGMENT && !querier->options->is_interface)
+        fault(FAULT_FRAGMENTS, port->name, "a fragment of a message, which is not put together");
     bool is_mld = carried == CARRIED_DATAGRAM && datagram.is_ipv6;
     if (carried != CARRIED_DATAGRAM || !port->served[is_mld].is_on)
         return;
@@ -262,7 +285,23 @@ void querier_hear(struct querier *querier, uint64_t now) {
     }
 }
 
-/* Does what is due at a link. */
+/* Returns the Query Interval in milliseconds. Both families have the same. */
+static uint64_t query_interval(const struct querier *querier) {
+    return SECOND * (uint64_t)querier->options->configuration[false].igmp.query_interval;
+}
+
+void querier_watch_clock(struct querier *querier, uint64_t now) {
+    char why[80];
+    uint64_t due = querier->deadlines.moments[deadlines_first(&querier->deadlines)];
+    if (now < due || now - due < query_interval(querier))
+        return;
+    snprintf(why, sizeof why, "%" PRIu64 " ms passed unseen: each link begins anew", now - due);
+    fault(FAULT_CLOCK, "clock", why);
+    querier_begin_all(querier, false, now);
+    querier_begin_all(querier, true, now);
+}
+
+/* Runs a tick of a link, and ends inheritance if that is due. */
 static void tick(struct querier *querier, struct port *port, bool is_mld, uint64_t now) {
     struct served *served = &port->served[is_mld];
     struct place place;
@@ -281,7 +320,7 @@ void querier_tick_all(struct querier *querier, uint64_t now) {
             tick(querier, querier->ports + at / 2, at % 2, now);
 }
 
-/* What is done about once a second while there is something to do. */
+/* Counts the frames that the kernel dropped since the last call. */
 static void count_lost(struct querier *querier) {
     char why[80];
     unsigned lost = ring_lost(&querier->ring);
@@ -297,7 +336,8 @@ void querier_tick(struct querier *querier, uint64_t now) {
         if (first < 2 * querier->room) {
             tick(querier, querier->ports + first / 2, first % 2, now);
         } else if (first == 2 * querier->room + DEADLINE_REPAIR) {
-            querier_repair(querier, now);
+            querier->is_stale = true;
+            deadlines_set(deadlines, first, MQ_NONE); /* the repair sets the next one */
         } else {
             count_lost(querier);
             deadlines_set(deadlines, first, now + SECOND);
@@ -305,8 +345,7 @@ void querier_tick(struct querier *querier, uint64_t now) {
     }
 }
 
-
-/* The part of the database that an entry belongs to, if it is kept. */
+/* Notes an own entry of the dump at its link. */
 static void note(void *context, const struct entry *entry) {
     const struct querier *querier = context;
     bool is_interface = querier->options->is_interface;
@@ -317,7 +356,7 @@ static void note(void *context, const struct entry *entry) {
         keeper_note(&served->keeper, served->is_on ? &served->link : NULL, entry);
 }
 
-/* Corrects the database of a port, of which a dump was noted. */
+/* Corrects the entries of a port after a dump was noted. */
 static void repair(struct querier *querier, struct port *port, bool is_mld, bool is_whole) {
     struct served *served = &port->served[is_mld];
     struct place place;
@@ -326,12 +365,12 @@ static void repair(struct querier *querier, struct port *port, bool is_mld, bool
 }
 
 void querier_repair(struct querier *querier, uint64_t now) {
-    const mq_igmp_config *igmp = &querier->options->configuration[false].igmp; /* both families have one Query Interval */
     bool keeps = !querier->options->is_interface || querier->kept_port != 0;
     for (size_t at = 0; at < 2 * querier->room; at++)
         keeper_forget_seen(&querier->ports[at / 2].served[at % 2].keeper);
     bool is_whole = !keeps || mdb_dump(querier->netlink, note, querier);
     for (size_t at = 0; at < 2 * querier->room; at++)
         repair(querier, querier->ports + at / 2, at % 2, is_whole);
-    deadlines_set(&querier->deadlines, 2 * querier->room + DEADLINE_REPAIR, now + SECOND * (uint64_t)igmp->query_interval);
+    querier->is_stale |= !is_whole;
+    deadlines_set(&querier->deadlines, 2 * querier->room + DEADLINE_REPAIR, now + query_interval(querier));
 }

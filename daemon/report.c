@@ -26,7 +26,7 @@ static const char *address_text(const struct link *link, const uint8_t *address)
     return text;
 }
 
-/* What is left of a timer, in milliseconds. */
+/* Returns the milliseconds until a deadline. */
 static uint64_t left(uint64_t deadline, uint64_t now) {
     return deadline > now ? deadline - now : 0;
 }
@@ -48,7 +48,7 @@ static bool has_link(const struct querier *querier, const struct port *port, con
     return port->index != 0 && port->bridge == bridge && querier->room > 0;
 }
 
-/* Where a general line ends: who is querier at a link. */
+/* Prints who is querier on a link. */
 static void text_role(const struct link *link, uint64_t now, FILE *to) {
     uint8_t address[LONG_ADDRESS] = {0};
     uint64_t until = link_other_querier(link, address);
@@ -186,10 +186,12 @@ static void json_port(const struct querier *querier, const struct port *port, bo
 static void report_json(const struct querier *querier, const struct bridge *bridge, uint64_t now, FILE *to) {
     const mq_igmp_config *it = &querier->options->configuration[0].igmp;
     bool is_first = true;
-    fprintf(to, "{\"bridge\":\"%s\",\"now\":%" PRIu64 ",\"robustness\":%" PRIu32 ",\"query_interval\":%" PRIu32
+    fprintf(to,
+            "{\"bridge\":\"%s\",\"now\":%" PRIu64 ",\"robustness\":%" PRIu32 ",\"query_interval\":%" PRIu32
             ",\"response_interval\":%" PRIu32 ",\"last_member_interval\":%" PRIu32 ",\"datagrams\":%" PRIu64 ",\"queries\":%" PRIu64
-            ",\"faults\":{", bridge->name, now, it->robustness, it->query_interval, it->response_interval, it->last_member_interval,
-            querier->heard, querier->sent);
+            ",\"faults\":{",
+            bridge->name, now, it->robustness, it->query_interval, it->response_interval, it->last_member_interval, querier->heard,
+            querier->sent);
     for (int at = 0; at < FAULT_KINDS; at++)
         fprintf(to, "%s\"%s\":%" PRIu64, at > 0 ? "," : "", fault_names[at], fault_counts[at]);
     fputs("},\"ports\":[", to);
@@ -206,22 +208,30 @@ static void count_group(const struct link *link, const struct held *group, size_
     (void)link, (void)group, (void)number, (void)now, (void)to;
 }
 
-/* Writes one metric of each link: `which` is a counter, COUNTERS for groups, or one more for entries. */
+/* The gauges of a link, after its counters. */
+enum { GROUPS = COUNTERS, ENTRIES, IS_QUERIER, METRICS };
+
+static uint64_t metric_of(const struct served *served, int which, FILE *to) {
+    uint64_t counters[COUNTERS];
+    switch (which) {
+    case GROUPS: return walk_groups(&served->link, count_group, 0, to);
+    case ENTRIES: return served->keeper.rows.count;
+    case IS_QUERIER: return link_is_querier(&served->link);
+    default: counters_of(&served->link, counters); return counters[which];
+    }
+}
+
+/* Writes one metric of each link. */
 static void metric(const struct querier *querier, const struct bridge *bridge, int which, FILE *to) {
-    const char *name = which < COUNTERS ? counter_names[which] : which == COUNTERS ? "groups" : "entries";
-    fprintf(to, "# TYPE mquerier_%s%s\n", name, which < COUNTERS ? "_total counter" : " gauge");
+    static const char *const gauges[] = {"groups", "entries", "is_querier"};
+    const char *name = which < COUNTERS ? counter_names[which] : gauges[which - COUNTERS], *end = which < COUNTERS ? "_total" : "";
+    fprintf(to, "# TYPE mquerier_%s%s %s\n", name, end, which < COUNTERS ? "counter" : "gauge");
     for (size_t at = 0; at < 2 * querier->room; at++) {
         const struct port *port = querier->ports + at / 2;
         const struct served *served = &port->served[at % 2];
-        uint64_t counters[COUNTERS];
-        if (!has_link(querier, port, bridge) || !served->is_on)
-            continue;
-        counters_of(&served->link, counters);
-        uint64_t value = which < COUNTERS    ? counters[which]
-                         : which == COUNTERS ? walk_groups(&served->link, count_group, 0, to)
-                                             : served->keeper.rows.count;
-        fprintf(to, "mquerier_%s%s{bridge=\"%s\",port=\"%s\",family=\"%s\"} %" PRIu64 "\n", name, which < COUNTERS ? "_total" : "",
-                bridge->name, port->name, family_names[at % 2], value);
+        if (has_link(querier, port, bridge) && served->is_on)
+            fprintf(to, "mquerier_%s%s{bridge=\"%s\",port=\"%s\",family=\"%s\"} %" PRIu64 "\n", name, end, bridge->name, port->name,
+                    family_names[at % 2], metric_of(served, which, to));
     }
 }
 
@@ -229,7 +239,7 @@ static void report_metrics(const struct querier *querier, const struct bridge *b
     for (int at = 0; at < FAULT_KINDS; at++)
         fprintf(to, "# TYPE mquerier_%s_total counter\nmquerier_%s_total %" PRIu64 "\n", fault_names[at], fault_names[at],
                 fault_counts[at]);
-    for (int which = 0; which < COUNTERS + 2; which++)
+    for (int which = 0; which < METRICS; which++)
         metric(querier, bridge, which, to);
 }
 

@@ -8,10 +8,10 @@
 #include <sys/mman.h>
 #include <sys/socket.h>
 
-/* A block that isn't full is handed over after a millisecond, or one beat of the kernel's clock. So the blocks last for at least
-   256 beats, a second at 250 Hz, in which the program may do something else. */
-enum { BLOCKS = 256, BLOCK = 1 << 16, FRAME = 1 << 11, HANDED_OVER_MS = 1 };
-enum { KEPT_BYTES = BLOCK }; /* of a frame */
+/* The kernel hands a block over when it is full, or after four milliseconds. So slow traffic takes four seconds to use up the ring,
+   while the program may do other work. A frame is shorter than a block. */
+enum { BLOCKS = 1024, BLOCK = 1 << 14, FRAME = 1 << 11, HANDED_OVER_MS = 4 };
+enum { KEPT_BYTES = BLOCK }; /* the most bytes of a frame that are kept */
 
 static struct tpacket_block_desc *block_of(const struct ring *ring) {
     return (struct tpacket_block_desc *)(ring->blocks + (size_t)ring->at * BLOCK);
@@ -27,7 +27,7 @@ int ring_open(struct ring *ring) {
         .tp_frame_nr = BLOCKS * (BLOCK / FRAME),
         .tp_retire_blk_tov = HANDED_OVER_MS,
     };
-    *ring = (struct ring){.packets = socket(AF_PACKET, SOCK_RAW | SOCK_CLOEXEC, 0)}; /* it hears nothing before it is bound */
+    *ring = (struct ring){.packets = socket(AF_PACKET, SOCK_RAW | SOCK_CLOEXEC, 0)}; /* it hears nothing until it is bound */
     int packets = ring->packets;
     if (packets < 0 || setsockopt(packets, SOL_PACKET, PACKET_VERSION, &version, sizeof version) < 0
         || setsockopt(packets, SOL_PACKET, PACKET_RX_RING, &request, sizeof request) < 0
@@ -37,36 +37,48 @@ int ring_open(struct ring *ring) {
     return ring->blocks == MAP_FAILED ? -1 : 0;
 }
 
-/* Lets messages of IGMP, of the types of MLD and Hellos of PIM through to what follows, and drops the rest. */
-enum { PROTOCOL_IGMP = 2, PROTOCOL_ICMPV6 = 58, PROTOCOL_PIM = 103, PIM_HELLO = 0x20 };
+/* Drops all but messages of IGMP, messages of the types of MLD, their first fragments, and Hellos of PIM. The list of ports
+   follows. For IPv6, X is the length of the headers that were skipped after the header of IPv6. */
+enum { PROTOCOL_IGMP = 2, NEXT_FRAGMENT = 44, PROTOCOL_ICMPV6 = 58, PROTOCOL_PIM = 103, PIM_HELLO = 0x20 };
+enum { IPV4 = 14, IPV6 = 14, IN_IPV6 = IPV6 + 40 };
 static const struct sock_filter MESSAGES[] = {
     BPF_STMT(BPF_LD | BPF_W | BPF_ABS, SKF_AD_OFF + SKF_AD_VLAN_TAG),
     BPF_STMT(BPF_ALU | BPF_AND | BPF_K, 0x0fff),
-    BPF_JUMP(BPF_JMP | BPF_JEQ | BPF_K, 0, 0, 27),
+    BPF_JUMP(BPF_JMP | BPF_JEQ | BPF_K, 0, 0, 33),
     BPF_STMT(BPF_LD | BPF_H | BPF_ABS, 12),
     BPF_JUMP(BPF_JMP | BPF_JEQ | BPF_K, ETH_P_IPV6, 7, 0),
-    BPF_JUMP(BPF_JMP | BPF_JEQ | BPF_K, ETH_P_IP, 0, 24),
-    BPF_STMT(BPF_LD | BPF_B | BPF_ABS, 14 + 9),
-    BPF_JUMP(BPF_JMP | BPF_JEQ | BPF_K, PROTOCOL_IGMP, 23, 0),
-    BPF_JUMP(BPF_JMP | BPF_JEQ | BPF_K, PROTOCOL_PIM, 0, 21),
-    BPF_STMT(BPF_LDX | BPF_B | BPF_MSH, 14),
-    BPF_STMT(BPF_LD | BPF_B | BPF_IND, 14),
-    BPF_JUMP(BPF_JMP | BPF_JEQ | BPF_K, PIM_HELLO, 19, 18),
-    BPF_STMT(BPF_LD | BPF_B | BPF_ABS, 14 + 6),
+    BPF_JUMP(BPF_JMP | BPF_JEQ | BPF_K, ETH_P_IP, 0, 30),
+    /* IPv4 */
+    BPF_STMT(BPF_LD | BPF_B | BPF_ABS, IPV4 + 9),
+    BPF_JUMP(BPF_JMP | BPF_JEQ | BPF_K, PROTOCOL_IGMP, 29, 0),
+    BPF_JUMP(BPF_JMP | BPF_JEQ | BPF_K, PROTOCOL_PIM, 0, 27),
+    BPF_STMT(BPF_LDX | BPF_B | BPF_MSH, IPV4),
+    BPF_STMT(BPF_LD | BPF_B | BPF_IND, IPV4),
+    BPF_JUMP(BPF_JMP | BPF_JEQ | BPF_K, PIM_HELLO, 25, 24),
+    /* IPv6: a Hello; or hop-by-hop options, which are skipped */
+    BPF_STMT(BPF_LDX | BPF_IMM, 0),
+    BPF_STMT(BPF_LD | BPF_B | BPF_ABS, IPV6 + 6),
     BPF_JUMP(BPF_JMP | BPF_JEQ | BPF_K, PROTOCOL_PIM, 0, 2),
-    BPF_STMT(BPF_LD | BPF_B | BPF_ABS, 14 + 40),
-    BPF_JUMP(BPF_JMP | BPF_JEQ | BPF_K, PIM_HELLO, 15, 14),
-    BPF_JUMP(BPF_JMP | BPF_JEQ | BPF_K, 0, 0, 6),
-    BPF_STMT(BPF_LD | BPF_B | BPF_ABS, 14 + 40),
-    BPF_JUMP(BPF_JMP | BPF_JEQ | BPF_K, PROTOCOL_ICMPV6, 0, 11),
-    BPF_STMT(BPF_LD | BPF_B | BPF_ABS, 14 + 41),
+    BPF_STMT(BPF_LD | BPF_B | BPF_ABS, IN_IPV6),
+    BPF_JUMP(BPF_JMP | BPF_JEQ | BPF_K, PIM_HELLO, 20, 19),
+    BPF_JUMP(BPF_JMP | BPF_JEQ | BPF_K, 0, 0, 5),
+    BPF_STMT(BPF_LD | BPF_B | BPF_ABS, IN_IPV6 + 1),
     BPF_STMT(BPF_ALU | BPF_ADD | BPF_K, 1),
     BPF_STMT(BPF_ALU | BPF_LSH | BPF_K, 3),
-    BPF_JUMP(BPF_JMP | BPF_JA, 2, 0, 0),
-    BPF_JUMP(BPF_JMP | BPF_JEQ | BPF_K, PROTOCOL_ICMPV6, 0, 6),
-    BPF_STMT(BPF_LD | BPF_IMM, 0),
     BPF_STMT(BPF_MISC | BPF_TAX, 0),
-    BPF_STMT(BPF_LD | BPF_B | BPF_IND, 14 + 40),
+    BPF_STMT(BPF_LD | BPF_B | BPF_ABS, IN_IPV6),
+    BPF_JUMP(BPF_JMP | BPF_JEQ | BPF_K, PROTOCOL_ICMPV6, 8, 0),
+    BPF_JUMP(BPF_JMP | BPF_JEQ | BPF_K, NEXT_FRAGMENT, 0, 11),
+    /* the header of a first fragment, whose offset is 0 */
+    BPF_STMT(BPF_LD | BPF_B | BPF_IND, IN_IPV6),
+    BPF_JUMP(BPF_JMP | BPF_JEQ | BPF_K, PROTOCOL_ICMPV6, 0, 9),
+    BPF_STMT(BPF_LD | BPF_H | BPF_IND, IN_IPV6 + 2),
+    BPF_JUMP(BPF_JMP | BPF_JSET | BPF_K, 0xfff8, 7, 0),
+    BPF_STMT(BPF_MISC | BPF_TXA, 0),
+    BPF_STMT(BPF_ALU | BPF_ADD | BPF_K, 8),
+    BPF_STMT(BPF_MISC | BPF_TAX, 0),
+    /* the type of ICMPv6 */
+    BPF_STMT(BPF_LD | BPF_B | BPF_IND, IN_IPV6),
     BPF_JUMP(BPF_JMP | BPF_JEQ | BPF_K, 143, 3, 0),
     BPF_JUMP(BPF_JMP | BPF_JGE | BPF_K, 133, 1, 0),
     BPF_JUMP(BPF_JMP | BPF_JGE | BPF_K, 130, 1, 0),
@@ -88,7 +100,7 @@ int ring_listen(struct ring *ring, const int *indexes, size_t count) {
     filter[HEAD + 2 * count] = drop;
     if (setsockopt(ring->packets, SOL_SOCKET, SO_ATTACH_FILTER, &program, sizeof program) < 0)
         return -1;
-    return bind(ring->packets, (struct sockaddr *)&all, sizeof all); /* a port of a bridge is heard only by sockets for all kinds */
+    return bind(ring->packets, (struct sockaddr *)&all, sizeof all); /* only sockets for all protocols hear at ports of bridges */
 }
 
 int ring_join(struct ring *ring, int index) {
@@ -96,7 +108,7 @@ int ring_join(struct ring *ring, int index) {
     return setsockopt(ring->packets, SOL_PACKET, PACKET_ADD_MEMBERSHIP, &every, sizeof every);
 }
 
-/* Begins a block that the kernel handed over, once it has. Returns whether frames are left. */
+/* Begins the next block if the kernel has handed it over. Returns whether frames are left. */
 static bool begin_block(struct ring *ring) {
     struct tpacket_block_desc *block = block_of(ring);
     if (ring->left == 0 && (__atomic_load_n(&block->hdr.bh1.block_status, __ATOMIC_ACQUIRE) & TP_STATUS_USER)) {
@@ -106,7 +118,7 @@ static bool begin_block(struct ring *ring) {
     return ring->left > 0;
 }
 
-/* Gives the block back to the kernel. */
+/* Returns the block to the kernel. */
 static void end_block(struct ring *ring) {
     __atomic_store_n(&block_of(ring)->hdr.bh1.block_status, TP_STATUS_KERNEL, __ATOMIC_RELEASE);
     ring->at = (ring->at + 1) % BLOCKS;

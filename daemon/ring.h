@@ -1,5 +1,5 @@
-/* Frames that the kernel of Linux writes into memory that a packet socket shares with it, many for each wait. One socket serves
-   all ports: each frame has the index of the interface that it came by. */
+/* A ring of frames in memory that a packet socket shares with the kernel. One socket serves all ports: each frame has the index of
+   its interface. */
 #ifndef RING_H
 #define RING_H
 
@@ -13,26 +13,27 @@ enum { GREATEST_PORTS = 1024 };
 struct ring {
     int packets; /* the socket */
     uint8_t *blocks;
-    unsigned at;                       /* the block that is filled next */
-    const struct tpacket3_hdr *packet; /* the next frame of it, if some are left */
+    unsigned at;                       /* the block that is read next */
+    const struct tpacket3_hdr *packet; /* its next frame if `left` is not 0 */
     unsigned left;
 };
 
 struct frame {
     const uint8_t *bytes;
     size_t length;
-    int index; /* of the interface */
+    int index; /* the interface that it came in at */
 };
 
-/* Opens a socket that hears nothing yet: 0, or -1 with `errno`. */
+/* Opens a socket that hears nothing yet. Returns 0, or -1 with `errno`. */
 int ring_open(struct ring *ring);
-/* Has the socket hear IGMP, MLD and Hellos of PIM, without a VLAN tag, at these interfaces, at most GREATEST_PORTS. */
+/* Makes the socket hear messages of IGMP and MLD, their first fragments and Hellos of PIM, without a VLAN tag. It hears at these
+   interfaces, at most GREATEST_PORTS. Returns 0, or -1 with `errno`. */
 int ring_listen(struct ring *ring, const int *indexes, size_t count);
-/* Has an interface hear all multicast frames. */
+/* Makes an interface receive all multicast frames. Returns 0, or -1 with `errno`. */
 int ring_join(struct ring *ring, int index);
-/* Returns the next frame that is there and came from outside; it stands until the next call. */
+/* Reads the next frame that came from outside. It stands until the next call. Returns false if no frame waits. */
 bool ring_next(struct ring *ring, struct frame *frame);
-/* Returns how many frames the kernel has dropped since the last call, since no block was free. */
+/* Returns how many frames the kernel dropped since the last call because no block was free. */
 unsigned ring_lost(struct ring *ring);
 
 #endif

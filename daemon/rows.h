@@ -1,4 +1,4 @@
-/* The groups of which a bridge's database has an entry of this program for a port: a table of fixed room, in ascending order. */
+/* The groups with an own entry in the database for a port: a table of fixed size, in ascending order. */
 #ifndef ROWS_H
 #define ROWS_H
 
@@ -10,9 +10,9 @@
 
 struct row {
     uint8_t group[LONG_ADDRESS];
-    bool is_inherited; /* an earlier run made the entry, and it isn't known yet who wants it */
-    bool is_seen;      /* the last dump of the database had it, */
-    bool is_right;     /* and with the filter that the link has */
+    bool is_inherited; /* an earlier link made the entry, and hosts have not answered since */
+    bool is_seen;      /* the last dump had the entry */
+    bool is_right;     /* the dump had it with the link's filter */
 };
 
 struct rows {
@@ -22,7 +22,7 @@ struct rows {
 
 /* Returns the row of a group, or NULL. */
 struct row *rows_find(const struct rows *rows, const uint8_t *group);
-/* Returns the row of a group, which it makes if there is none; NULL if there is no room for it. */
+/* Returns the row of a group, after making it if it is missing. Returns NULL if there is no room. */
 struct row *rows_put(struct rows *rows, const uint8_t *group);
 void rows_remove(struct rows *rows, struct row *row);
 

@@ -2,91 +2,125 @@
 #include "rules.h"
 
 #include "faults.h"
+#include "netlink.h"
+#include "text.h"
 
+#include <arpa/inet.h>
 #include <ctype.h>
 #include <errno.h>
 #include <fcntl.h>
-#include <spawn.h>
-#include <stdio.h>
+#include <linux/netfilter/nf_tables.h>
+#include <linux/netfilter/nfnetlink.h>
+#include <signal.h>
 #include <string.h>
+#include <sys/socket.h>
 #include <sys/wait.h>
 #include <unistd.h>
 
-enum { GREATEST_RULES = 1 << 16, LONGEST_NAME = 64 };
-extern char **environ;
+/* Room for the rules of all ports: six lists, with at most 12 bytes for each port. The status of a child that cannot run `nft`. */
+enum { GREATEST_RULES = 6 * 12 * GREATEST_PORTS + 4096, NOT_THERE = 127 };
 
-/* The ports that the rules of each bridge are made for. */
+/* The ports in the rules of each bridge. */
 static struct ruled {
     int indexes[GREATEST_PORTS];
     size_t count;
 } ruled[GREATEST_BRIDGES];
 
-/* Hands a text to `nft`, and waits for its end. */
-static void run_nft(const char *text, size_t length) {
-    char *words[] = {"nft", "-f", "-", NULL};
-    posix_spawn_file_actions_t actions;
+/* The generation of the rules of nftables after the last change by this program, or 0 if it is not known. The kernel adds one for
+   each change, by anybody. */
+static uint32_t generation;
+static int netfilter = -1; /* the socket that asks for it */
+
+/* Returns the generation that the kernel has now, or 0 if the kernel does not say. */
+static uint32_t ask_generation(void) {
+    struct request request;
+    struct answer answer;
+    const struct nfgenmsg head = {.nfgen_family = AF_UNSPEC, .version = NFNETLINK_V0};
+    uint32_t number = 0;
+    request_begin(&request, NFNL_SUBSYS_NFTABLES << 8 | NFT_MSG_GETGEN, 0, &head, sizeof head);
+    if (netlink_ask(netfilter, &request, &answer) != 0 || answer.length < sizeof head)
+        return 0;
+    attribute_number(answer.message + sizeof head, answer.message + answer.length, NFTA_GEN_ID, &number);
+    return ntohl(number);
+}
+
+void rules_open(void) {
+    netfilter = netlink_open(NETLINK_NETFILTER, 0);
+    generation = ask_generation();
+}
+
+/* Runs `nft` in the child, with `end` as its standard input. */
+static void become_nft(int end) {
+    static char nft[] = "nft", option[] = "-f", input[] = "-";
+    char *words[] = {nft, option, input, NULL};
+    sigset_t none;
+    sigemptyset(&none);
+    sigprocmask(SIG_SETMASK, &none, NULL);
+    signal(SIGPIPE, SIG_DFL);
+    dup2(end, STDIN_FILENO);
+    execvp(words[0], words);
+    _exit(NOT_THERE);
+}
+
+/* Passes a text to `nft`, and waits for its end. Returns whether it succeeded. */
+static bool run_nft(const char *text, size_t length) {
     int ends[2], status = 0;
-    pid_t child;
     if (pipe2(ends, O_CLOEXEC) < 0) {
         fault(FAULT_NETLINK, "nft", strerror(errno));
-        return;
+        return false;
     }
-    posix_spawn_file_actions_init(&actions);
-    posix_spawn_file_actions_adddup2(&actions, ends[0], STDIN_FILENO);
-    int error = posix_spawnp(&child, words[0], &actions, NULL, words, environ);
-    posix_spawn_file_actions_destroy(&actions);
+    pid_t child = fork();
+    if (child == 0)
+        become_nft(ends[0]);
     close(ends[0]);
-    bool is_written = error == 0 && write(ends[1], text, length) == (ssize_t)length;
+    bool is_written = child > 0 && write(ends[1], text, length) == (ssize_t)length;
     close(ends[1]);
-    if (error != 0)
-        fault(FAULT_NETLINK, "nft", strerror(error));
-    else if (waitpid(child, &status, 0) < 0 || status != 0 || !is_written)
-        fault(FAULT_NETLINK, "nft", "the rules that keep the kernel's own snooping away can't be made");
+    bool is_done = child > 0 && waitpid(child, &status, 0) == child && status == 0 && is_written;
+    bool is_missing = child > 0 && WIFEXITED(status) && WEXITSTATUS(status) == NOT_THERE;
+    if (!is_done)
+        fault(FAULT_NETLINK, "nft",
+              is_missing ? "it can't be run" : "the rules that keep the kernel's own snooping away can't be made");
+    return is_done;
 }
 
-/* The name of a bridge's table: `nft` takes letters, digits and underlines. */
-static void name_table(const struct bridge *bridge, char *name) {
-    size_t length = (size_t)snprintf(name, LONGEST_NAME, "mquerier_%s", bridge->name);
-    for (size_t at = 0; at < length; at++)
-        if (!isalnum((unsigned char)name[at]))
-            name[at] = '_';
+/* Writes the name of a bridge's table. `nft` allows letters, digits and underlines. */
+static char *put_table(char *to, const struct bridge *bridge) {
+    to = put_text(to, "table bridge mquerier_");
+    for (const char *at = bridge->name; *at != '\0'; at++)
+        *to++ = isalnum((unsigned char)*at) ? *at : '_';
+    return to;
 }
 
-/* Adds a chain that drops the messages of the families that are served at these ports. */
-static void put_chain(FILE *to, const bool serves[2], const struct ruled *ports, const char *name, const char *hook,
-                      const char *side) {
-    static const char *const kinds[2] = {"ip protocol igmp", "icmpv6 type { 130, 131, 132, 143 }"};
-    fprintf(to, "chain %s { type filter hook %s priority 0;", name, hook);
-    for (int family = 0; family < 2; family++) {
-        if (!serves[family])
-            continue;
-        fprintf(to, " %s {", side);
-        for (size_t at = 0; at < ports->count; at++)
-            fprintf(to, "%s %d", at > 0 ? "," : "", ports->indexes[at]);
-        fprintf(to, " } %s drop;", kinds[family]);
-    }
-    fputs(" }\n", to);
+/* Writes a rule that drops the messages of a family at these ports. */
+static char *put_rule(char *to, bool is_mld, const struct ruled *ports, const char *side) {
+    to = put_text(put_text(put_text(to, " "), side), " {");
+    for (size_t at = 0; at < ports->count; at++)
+        to = put_number(put_text(to, at > 0 ? ", " : " "), (uint64_t)ports->indexes[at]);
+    return put_text(to, is_mld ? " } icmpv6 type { 130, 131, 132, 143 } drop;" : " } ip protocol igmp drop;");
 }
 
-/* Replaces the table of a bridge in one step. */
-static void replace_table(const bool serves[2], const struct bridge *bridge, const struct ruled *ports) {
+/* Writes a chain that drops the messages of the served families at these ports. */
+static char *put_chain(char *to, const bool serves[2], const struct ruled *ports, const char *head, const char *side) {
+    to = put_text(put_text(put_text(to, "chain "), head), " priority 0;");
+    for (int family = 0; family < 2; family++)
+        if (serves[family])
+            to = put_rule(to, family == 1, ports, side);
+    return put_text(to, " }\n");
+}
+
+/* Replaces the table of a bridge in one step. Returns whether that succeeded. */
+static bool replace_table(const bool serves[2], const struct bridge *bridge, const struct ruled *ports) {
     static char text[GREATEST_RULES];
-    char table[LONGEST_NAME];
-    name_table(bridge, table);
-    FILE *to = fmemopen(text, sizeof text, "w");
-    if (to == NULL)
-        return;
-    fprintf(to, "table bridge %s\ndelete table bridge %s\n", table, table);
+    char *to = put_text(put_table(text, bridge), "\ndelete ");
+    to = put_text(put_table(to, bridge), "\n");
     if (ports->count > 0) {
-        fprintf(to, "table bridge %s {\n", table);
-        put_chain(to, serves, ports, "from_port", "prerouting", "iif");
-        put_chain(to, serves, ports, "to_port", "postrouting", "oif");
-        put_chain(to, serves, ports, "own_to_port", "output", "oif");
-        fputs("}\n", to);
+        to = put_text(put_table(to, bridge), " {\n");
+        to = put_chain(to, serves, ports, "from_port { type filter hook prerouting", "iif");
+        to = put_chain(to, serves, ports, "to_port { type filter hook postrouting", "oif");
+        to = put_chain(to, serves, ports, "own_to_port { type filter hook output", "oif");
+        to = put_text(to, "}\n");
     }
-    long length = ftell(to);
-    fclose(to);
-    run_nft(text, (size_t)length);
+    return run_nft(text, (size_t)(to - text));
 }
 
 void rules_apply(struct querier *querier, const struct bridge *bridge) {
@@ -96,8 +130,20 @@ void rules_apply(struct querier *querier, const struct bridge *bridge) {
             now.indexes[now.count++] = querier->by_index[at].index;
     if (now.count == before->count && memcmp(now.indexes, before->indexes, now.count * sizeof *now.indexes) == 0)
         return;
-    replace_table(querier->options->serves, bridge, &now);
+    if (!replace_table(querier->options->serves, bridge, &now))
+        return;
     *before = now;
+    bool is_only_change = generation != 0 && ask_generation() == generation + 1;
+    generation = is_only_change ? generation + 1 : 0;
+}
+
+void rules_check(void) {
+    uint32_t now = ask_generation();
+    if (now != 0 && now == generation)
+        return;
+    generation = now;
+    for (size_t at = 0; at < GREATEST_BRIDGES; at++)
+        ruled[at].count = 0;
 }
 
 void rules_remove(const struct bridge *bridge) {

@@ -1,11 +1,16 @@
-/* Rules of nftables that keep the kernel's own snooping away from the messages at ports: it neither learns nor asks there. */
+/* Rules of nftables that hide the messages at ports from the kernel's own snooping, so that it neither learns nor asks there. */
 #ifndef RULES_H
 #define RULES_H
 
 #include "querier.h"
 
-/* Makes the rules for the ports of a bridge, if they aren't those of the last call. */
+/* Opens the socket that asks for the generation of the rules. */
+void rules_open(void);
+/* Makes the rules for the ports of a bridge, unless the last call made the same ones. */
 void rules_apply(struct querier *querier, const struct bridge *bridge);
+/* Makes the next `rules_apply` make all rules again if anybody else changed any rule of nftables. This only asks the kernel: it
+   runs no program. */
+void rules_check(void);
 void rules_remove(const struct bridge *bridge);
 
 #endif

@@ -1,11 +1,14 @@
 #define _GNU_SOURCE
 #include "service.h"
 
+#include <inttypes.h>
 #include <stddef.h>
+#include <stdio.h>
 #include <stdlib.h>
 #include <string.h>
 #include <sys/socket.h>
 #include <sys/un.h>
+#include <time.h>
 #include <unistd.h>
 
 void service_notify(const char *state) {
@@ -24,7 +27,16 @@ void service_notify(const char *state) {
     close(service);
 }
 
+void service_reloading(void) {
+    char state[64];
+    struct timespec now;
+    clock_gettime(CLOCK_MONOTONIC, &now);
+    uint64_t microseconds = (uint64_t)now.tv_sec * 1000000 + (uint64_t)now.tv_nsec / 1000;
+    snprintf(state, sizeof state, "RELOADING=1\nMONOTONIC_USEC=%" PRIu64, microseconds);
+    service_notify(state);
+}
+
 uint64_t service_interval(void) {
     const char *microseconds = getenv("WATCHDOG_USEC");
-    return microseconds == NULL ? 0 : strtoull(microseconds, NULL, 10) / 3000; /* three times in its period */
+    return microseconds == NULL ? 0 : strtoull(microseconds, NULL, 10) / 3000; /* three messages in its period */
 }

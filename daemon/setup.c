@@ -16,7 +16,7 @@
 #include <sys/file.h>
 #include <unistd.h>
 
-/* The settings of a bridge, and what happens if one is otherwise. */
+/* The settings of a bridge, each with the effect of a wrong value. */
 enum { SNOOPING, IGMP_VERSION, MLD_VERSION, HASH_MAX, QUERIER, SETTINGS };
 static const struct setting {
     const char *name;
@@ -33,7 +33,7 @@ static const struct setting router = {"mcast_router", IFLA_BRPORT_MULTICAST_ROUT
                                       "a query that is heard there brings all groups there"};
 enum { ROUTER_NEVER = 0, ROUTER_ALWAYS = 2, GREATEST_BEFORE = 1 << 16 };
 
-/* The least value that a setting has to have. */
+/* Returns the least value that a setting needs. */
 static uint32_t wanted(const struct querier *querier, int which) {
     const bool *serves = querier->options->serves;
     uint64_t entries = 0;
@@ -49,8 +49,8 @@ static uint32_t wanted(const struct querier *querier, int which) {
     }
 }
 
-/* Sets a number of a bridge, or of a port. */
-static void set(struct querier *querier, int index, const char *name, bool is_port, const struct setting *it, uint32_t value) {
+/* Sets a number of a bridge or of a port. Returns whether that succeeded. */
+static bool set(struct querier *querier, int index, const char *name, bool is_port, const struct setting *it, uint32_t value) {
     struct request request;
     struct answer answer;
     uint8_t byte = (uint8_t)value;
@@ -61,8 +61,10 @@ static void set(struct querier *querier, int index, const char *name, bool is_po
     request_put(&request, it->type, it->width == 1 ? (const void *)&byte : (const void *)&value, it->width);
     request_end_nest(&request, data);
     request_end_nest(&request, about);
-    if (netlink_ask(querier->netlink, &request, &answer) != 0)
+    int error = netlink_ask(querier->netlink, &request, &answer);
+    if (error != 0)
         fault(FAULT_NETLINK, name, answer.why);
+    return error == 0;
 }
 
 static void tell_setting(const char *name, const struct setting *it, uint32_t value, uint32_t least) {
@@ -71,7 +73,7 @@ static void tell_setting(const char *name, const struct setting *it, uint32_t va
     fault(FAULT_MISSING, name, why);
 }
 
-/* Adds a line to the file with what was there before, of a port by its index, or of the bridge if that is 0. */
+/* Adds an earlier value to the bridge's file: that of the port with this index, or of the bridge if the index is 0. */
 static void remember(const struct bridge *bridge, int port, const struct setting *it, uint32_t value) {
     char line[128];
     int length = snprintf(line, sizeof line, "%d %s %" PRIu32 "\n", port, it->name, value);
@@ -79,7 +81,7 @@ static void remember(const struct bridge *bridge, int port, const struct setting
         fault(FAULT_NETLINK, bridge->name, "what was there before --setup can't be written down");
 }
 
-/* Reads the file with what was there before. Returns its text, which stands until the next call. */
+/* Returns the text of the file of earlier settings. It stands until the next call. */
 static char *read_before(const struct bridge *bridge) {
     static char text[GREATEST_BEFORE + 1];
     ssize_t length = bridge->before < 0 ? 0 : pread(bridge->before, text, GREATEST_BEFORE, 0);
@@ -87,7 +89,7 @@ static char *read_before(const struct bridge *bridge) {
     return text;
 }
 
-/* Whether the file has a line about a setting of a port, or of the bridge. */
+/* Returns whether the file has a setting of a port, or of the bridge if the index is 0. */
 static bool is_remembered(const struct bridge *bridge, int port, const struct setting *it) {
     char start[64];
     int length = snprintf(start, sizeof start, "%d %s ", port, it->name);
@@ -97,13 +99,15 @@ static bool is_remembered(const struct bridge *bridge, int port, const struct se
     return false;
 }
 
-/* Sets up a bridge, or says what stands in the way. */
+/* Sets up a bridge, or prints its wrong settings. */
 static void apply_to_bridge(struct querier *querier, struct bridge *bridge, const char *name, bool tells) {
     struct interface found;
     uint32_t values[SETTINGS];
     bool has[SETTINGS];
-    if (!interface_read(querier->netlink, name, &found))
+    if (interface_read(querier->netlink, name, &found) != 0) {
+        querier->is_stale = true;
         return;
+    }
     for (int at = 0; at < SETTINGS; at++)
         has[at] = interface_setting(&found, false, settings[at].type, &values[at]);
     for (int at = 0; at < SETTINGS; at++) {
@@ -119,7 +123,7 @@ static void apply_to_bridge(struct querier *querier, struct bridge *bridge, cons
     }
 }
 
-/* Sets how a port forwards to routers, or says what stands in the way. */
+/* Sets whether a port leads to a router, or prints that its setting is wrong. */
 static void apply_to_port(struct querier *querier, struct port *port, bool tells) {
     bool is_router = options_is_router(querier->options, port->name);
     uint32_t value = is_router ? ROUTER_ALWAYS : ROUTER_NEVER;
@@ -136,7 +140,7 @@ static void apply_to_port(struct querier *querier, struct port *port, bool tells
 }
 
 void setup_apply(struct querier *querier) {
-    static int told[GREATEST_BRIDGES]; /* the bridge that lines were printed about */
+    static int told[GREATEST_BRIDGES]; /* the bridges whose wrong settings were printed */
     const struct options *options = querier->options;
     for (size_t at = 0; at < querier->bridges_count; at++) {
         struct bridge *bridge = &querier->bridges[at];
@@ -153,36 +157,45 @@ void setup_apply(struct querier *querier) {
     }
 }
 
-/* Puts back what a line of the file says. */
-static void put_back(struct querier *querier, const struct bridge *bridge, const char *line) {
+void setup_check(const struct querier *querier) {
+    if (querier->options->sets_up)
+        rules_check();
+}
+
+/* Restores the setting of a line of the file. Returns false if that has to be tried again. */
+static bool put_back(struct querier *querier, const struct bridge *bridge, const char *line) {
     char name[32], port[IF_NAMESIZE];
     int index;
     uint32_t value;
     struct interface found;
     if (sscanf(line, "%d %31s %" SCNu32, &index, name, &value) != 3)
-        return;
-    if (index != 0 && strcmp(name, router.name) == 0 && if_indextoname((unsigned)index, port) != NULL)
-        set(querier, index, port, true, &router, value);
-    if (index != 0 || !interface_read(querier->netlink, bridge->name, &found))
-        return;
-    for (int at = 0; at < SETTINGS; at++)
+        return true;
+    if (index != 0)
+        return strcmp(name, router.name) != 0 || if_indextoname((unsigned)index, port) == NULL
+               || set(querier, index, port, true, &router, value);
+    int error = interface_read(querier->netlink, bridge->name, &found);
+    for (int at = 0; at < SETTINGS && error == 0; at++)
         if (strcmp(name, settings[at].name) == 0)
-            set(querier, found.index, bridge->name, false, &settings[at], value);
+            return set(querier, found.index, bridge->name, false, &settings[at], value);
+    return error == 0 || error == ENODEV;
 }
 
 void setup_undo(struct querier *querier, struct bridge *bridge) {
     char *left = NULL;
+    bool is_back = true;
     if (bridge->before < 0)
         return;
     for (char *line = strtok_r(read_before(bridge), "\n", &left); line != NULL; line = strtok_r(NULL, "\n", &left))
-        put_back(querier, bridge, line);
+        is_back &= put_back(querier, bridge, line);
     rules_remove(bridge);
-    if (ftruncate(bridge->before, 0) < 0)
+    if (is_back && ftruncate(bridge->before, 0) < 0)
         fault(FAULT_NETLINK, bridge->name, strerror(errno));
 }
 
 void setup_open(struct querier *querier) {
     char name[4096];
+    if (querier->options->sets_up)
+        rules_open();
     for (size_t at = 0; at < querier->bridges_count; at++) {
         struct bridge *bridge = &querier->bridges[at];
         snprintf(name, sizeof name, "%s/%s/before", querier->options->run, bridge->name);

@@ -1,14 +1,16 @@
-/* How a bridge of Linux has to be set so that its database decides, and what stands in the way. */
+/* The settings of bridges and ports with which the database decides what is forwarded. */
 #ifndef SETUP_H
 #define SETUP_H
 
 #include "querier.h"
 
-/* Opens the file of each bridge that keeps what --setup found. Ends the program if another one serves the bridge. */
+/* Opens each bridge's file of earlier settings. Ends the program if another process serves the bridge. */
 void setup_open(struct querier *querier);
-/* Sets bridges, ports and rules as --setup and --router-port ask, where they are otherwise; or prints what stands in the way. */
+/* Sets bridges, ports and rules as --setup and --router-port require. Without these options it prints the wrong settings. */
 void setup_apply(struct querier *querier);
-/* Puts back what was there before --setup, also by an earlier run that was killed. */
+/* Makes the next `setup_apply` make the rules again if somebody changed them. */
+void setup_check(const struct querier *querier);
+/* Restores the settings from before --setup, also those that a killed run changed. */
 void setup_undo(struct querier *querier, struct bridge *bridge);
 
 #endif

@@ -6,21 +6,21 @@
 
 #include <errno.h>
 #include <fcntl.h>
+#include <signal.h>
 #include <stdio.h>
 #include <stdlib.h>
 #include <string.h>
 #include <sys/socket.h>
-#include <signal.h>
 #include <sys/stat.h>
 #include <sys/un.h>
 #include <sys/wait.h>
 #include <unistd.h>
 
-/* So many readers at once, each for so many seconds. */
+/* The most readers at once, the seconds that each has, and the connections that may wait. */
 enum { READERS = 8, SECONDS = 20, WAITING = 8 };
 static int readers;
 
-/* Writes the address of a bridge's socket; false if the name is too long. */
+/* Writes the address of a bridge's socket. Returns false if the name is too long. */
 static bool name_socket(const char *run, const char *bridge, struct sockaddr_un *at) {
     *at = (struct sockaddr_un){.sun_family = AF_UNIX};
     return (size_t)snprintf(at->sun_path, sizeof at->sun_path, "%s/%s/status", run, bridge) < sizeof at->sun_path;
@@ -46,13 +46,13 @@ void status_reap(void) {
         readers--;
 }
 
-/* In the process of a reader: reads which form it wants, writes it, and ends. */
+/* Serves a reader in the child process: reads the form, writes the status, and exits. */
 static void serve(struct querier *querier, const struct bridge *bridge, int reader, uint64_t now) {
     static char room[1 << 16];
     char form = 't';
     sigset_t none;
     dup2(reader, STDIN_FILENO);
-    close_range(STDERR_FILENO + 1, ~0U, 0); /* it holds nothing of the querier open */
+    close_range(STDERR_FILENO + 1, ~0U, 0); /* closes the querier's files */
     sigemptyset(&none);
     sigprocmask(SIG_SETMASK, &none, NULL);
     signal(SIGPIPE, SIG_DFL);

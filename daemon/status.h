@@ -1,4 +1,4 @@
-/* What a running querier holds, for whoever reads it over a Unix socket: as text, as JSON, or as metrics of Prometheus. */
+/* The status of a running querier over a Unix socket: as text, JSON, or metrics of Prometheus. */
 #ifndef STATUS_H
 #define STATUS_H
 
@@ -6,12 +6,12 @@
 
 /* Opens the socket of each bridge: DIR/BRIDGE/status. Ends the program if that fails. */
 void status_open(struct querier *querier);
-/* Answers one reader of a bridge's socket, by a process of its own, which has all as it is now. */
+/* Answers one reader of a bridge's socket, in a child process with a copy of the present state. */
 void status_answer(struct querier *querier, const struct bridge *bridge, uint64_t now);
-/* Takes note of readers that have ended. */
+/* Waits for the child processes of readers that ended. */
 void status_reap(void);
 
-/* `mquerier-live status BRIDGE [--json | --metrics] [--run DIR]`: returns the status of the process. */
+/* Runs `mquerier-live status BRIDGE [--json | --metrics] [--run DIR]`. Returns the exit status. */
 int status_print(int count, char **words);
 
 #endif

@@ -43,7 +43,7 @@ static unsigned word_at(const uint8_t *address, int at) {
     return (unsigned)address[2 * at] << 8 | address[2 * at + 1];
 }
 
-/* A word without leading zeros. */
+/* Writes a word without leading zeros. */
 static char *put_word(char *to, unsigned word) {
     for (int shift = 12; shift >= 0; shift -= 4)
         if (word >> shift != 0 || shift == 0)
@@ -51,7 +51,7 @@ static char *put_word(char *to, unsigned word) {
     return to;
 }
 
-/* The first of the longest runs of two or more words that are zero: where it begins, and its length, or 0. */
+/* Returns the place of the first longest run of at least two zero words. Sets its length, or 0 if there is none. */
 static int longest_zeros(const uint8_t *address, int *length) {
     int first = 0;
     *length = 0;

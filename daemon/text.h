@@ -1,4 +1,4 @@
-/* Text that is written without a format. Each call writes at `to`, without a NUL, and answers the place behind. */
+/* Texts without formats. Each call writes at `to`, without a NUL, and returns the place after the text. */
 #ifndef TEXT_H
 #define TEXT_H
 
@@ -10,11 +10,11 @@ enum { LONGEST_ADDRESS = 39, LONGEST_NUMBER = 20 };
 
 char *put_text(char *to, const char *text);
 char *put_number(char *to, uint64_t number);
-/* Two digits for each byte. */
+/* Writes two digits for each byte. */
 char *put_hexadecimal(char *to, const uint8_t *bytes, size_t count);
-/* Four decimal numbers with dots between them. */
+/* Writes four decimal numbers with dots between them. */
 char *put_ipv4_address(char *to, const uint8_t address[4]);
-/* As RFC 5952 section 4 says. */
+/* Writes an address in the form of RFC 5952 section 4. */
 char *put_ipv6_address(char *to, const uint8_t address[16]);
 
 #endif
