@@ -21,7 +21,7 @@ def a_site(family, variables):
 
 
 def sent(cast, others, options):
-    """What the model sends of a case, played with the queries of other routers in its stage."""
+    """The queries of the model for a case, played with the queries of other routers in its stage."""
     wide = [step for other in others if other is not cast for step in other.wide()]
     steps = sorted([*cast.steps, *wide], key=lambda step: step.at)
     data = wire.capture([(step.at, step.frame) for step in steps if not step.what])
@@ -49,7 +49,7 @@ def flat(wanted):
 
 
 def differences(family, variables):
-    """What the table says otherwise than the model."""
+    """The differences between the table and the model."""
     site, found = a_site(family, variables), []
     casts = [Cast(it, at * 10 + 1, site) for at, it in enumerate(cases_of(family)) if not it.of]
     its = {"own": site.router, "rv": variables.rv, "qi": variables.qi, "qri": variables.qri, "lmqi": variables.lmqi}

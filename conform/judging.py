@@ -1,4 +1,4 @@
-"""What is found of a case: by `mquerier check` and `mquerier replay` over its capture, and by rules of its own."""
+"""The findings of a case: by `mquerier check` and `mquerier replay` over its capture, and by its own rules."""
 
 import collections
 import dataclasses
@@ -40,7 +40,7 @@ class Heard:
 
 @dataclasses.dataclass
 class Finding:
-    """What the router did otherwise than is wanted: at a moment of the case, of a group, by a packet of its capture."""
+    """A finding about the router: its time in the case, its group, and its packet in the capture."""
 
     at: int
     kind: str
@@ -80,7 +80,7 @@ def filters_of(history, begin, end):
 
 
 def passes(words, source):
-    """Whether a filter forwards a source: `none`, `include S ..` or `exclude !S ..`."""
+    """Returns whether a filter forwards a source. The filter is `none`, `include S ..` or `exclude !S ..`."""
     if words[0] == "exclude":
         return f"!{text_of(source)}" not in words
     return words[0] == "include" and text_of(source) in words
@@ -111,11 +111,11 @@ class Judge:
         return self.is_router(it.packet.source, it.frame[6:12])
 
     def is_router(self, source, mac):
-        """Whether an address and that of an interface are the router's: of MLD also its interface with no link-local address."""
+        """Returns whether a source and a MAC address are the router's. For MLD its interface may have no link-local address."""
         return source == self.site.router or mac == self.mac and self.family is not IGMP and not is_link_local(source)
 
     def concerns(self, it, cast, wide):
-        """Whether a frame is of the capture of a case: its own, those of its groups, and what concerns all."""
+        """Returns whether a frame belongs to the capture of a case: its own, those of its groups, and those that concern all."""
         if it.is_sent:
             return it.frame in wide or any(it.frame == step.frame for step in cast.steps)
         if any(cast.is_own(group) for group in it.groups()):
@@ -143,18 +143,18 @@ class Judge:
         return wire.in_ethernet(wire.in_ipv6(body, self.site.router, to), to)
 
     def run(self, words, frames, name):
-        """What the program says of frames; its status is 0 or 3."""
+        """The program's text for frames. Its status is 0, 3, or 4 if a check has nothing to judge."""
         place = os.path.join(self.options.out, "captures", f"{name}.mended.pcap")
         with open(place, "wb") as to:
             to.write(link.written(frames))
         its = [*self.site.variables.words(), *LIMITS, *(["--ssm"] if self.options.ssm else [])] if words[1:] else []
         ran = subprocess.run([self.program, *words, *its, place], capture_output=True, text=True, check=False, preexec_fn=as_others)
         os.unlink(place)
-        if ran.returncode not in (0, 3):
+        if ran.returncode not in (0, 3, 4):
             raise OSError(f"{' '.join([self.program, *words])}: status {ran.returncode}: {ran.stderr.strip()}")
         return ran.stdout.splitlines()
 
-    # What is found.
+    # Findings.
 
     def judged(self, cast, stage, records, began):
         """The findings of a case, and its capture."""
@@ -166,7 +166,7 @@ class Judge:
         return self.checked(cast, frames, began), frames
 
     def checked(self, cast, frames, began, within=None):
-        """What a check finds of a case."""
+        """The findings of a check of a case."""
         within = within or self.options.within
         if not frames:
             return [Finding(0, "asks", "nothing was recorded")]
@@ -193,7 +193,7 @@ class Judge:
         return Finding(moment, kind, f"{what} at {moment} {rest}", not any(group), packet, cite, cast.name, group)
 
     def is_judged(self, it, cast):
-        """Whether a finding is one that the case judges."""
+        """Returns whether the case judges a finding."""
         if it.kind == "general":
             return "general" in cast.case.judged
         wants_general = any(not any(group) for _, group, _, _ in cast.wanted())
@@ -211,7 +211,7 @@ class Judge:
             if not is_known and not (is_lower and it.kind in ("interval", "qrv")):
                 self.fields.append(it)
 
-    # What is forwarded.
+    # Forwarding.
 
     def forwarded(self, cast, frames, began, sent, seen):
         """Which datagrams were forwarded otherwise than the filter says that a replay has at their moment, and a tolerance before
@@ -270,7 +270,7 @@ class Judge:
         return [Finding(0, "asks", f"{text_of(it)} was asked for {number} times, at most {most} wanted") for it, number in times.items() if number > most]
 
     def own_general(self, cast, frames, began):
-        """General queries a Query Interval apart, and a fiftieth of it earlier or later: of which there have to be two."""
+        """Checks that there are two general queries, a Query Interval apart with a tolerance of a fiftieth."""
         number = sum(it.is_general() for _, it in self.seen(cast, frames, began))
         if number < 2:
             return [Finding(cast.until, "general", f"{number} general queries in {cast.until} ms", True)]
@@ -298,7 +298,7 @@ class Judge:
             found.append(Finding(0, "general", f"{len(moments)} general queries at the start, wanted {number}", True))
         return found
 
-    # What all queries say, and their headers.
+    # Fields and headers of all queries.
 
     def over_all(self, case, queries):
         """The findings of a case over all queries: None where there was no query of its kind."""

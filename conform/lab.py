@@ -24,8 +24,9 @@ def run(*words, is_checked=True):
 
 
 class Lab:
-    """A namespace with two links: q0 is the router's end of the one that is held to the standards, p0 the other; u0 is the
-    router's end of the link of sources, v0 the other."""
+    """A namespace with two links.
+
+    The tested link has the ends q0, of the router, and p0. The link of sources has the ends u0, of the router, and v0."""
 
     numbers = itertools.count()
 

@@ -17,7 +17,7 @@ PAUSE = 20000000
 
 
 class Faulty(Exception):
-    """What is wrong with a capture."""
+    """The fault of a capture."""
 
 
 def packets(name):
@@ -68,7 +68,7 @@ def mac_of(interface):
 
 
 class Recording:
-    """What goes over an interface, as long as it lasts: `found` has stamps, frames, and whether this machine sent them."""
+    """The traffic of an interface. `found` has timestamps, frames, and whether this machine sent them."""
 
     def __init__(self, interface):
         self.packets = socket.socket(socket.AF_PACKET, socket.SOCK_RAW, socket.htons(EVERY))
@@ -92,11 +92,11 @@ class Recording:
             self.found.append((seconds * 10**9 + nanoseconds, frame, source[2] == OUTGOING))
 
     def ignore_outgoing(self, is_so):
-        """Whether frames that this machine sends are left out."""
+        """Leaves out frames that this machine sends, or not."""
         self.packets.setsockopt(SOL_PACKET, PACKET_IGNORE_OUTGOING, int(is_so))
 
     def end(self):
-        """Ends it, and answers how many frames the kernel couldn't hand over."""
+        """Ends it, and returns how many frames the kernel lost."""
         self.is_over = True
         self.thread.join()
         lost = struct.unpack("II", self.packets.getsockopt(SOL_PACKET, PACKET_STATISTICS, 8))[1]
@@ -144,7 +144,7 @@ class Sender:
                 self.socket.send(what)
 
     def burst(self, frames, rate, seconds):
-        """Sends frames in turn, so many a second; answers how many went in that time."""
+        """Sends frames in turn at this rate per second, and returns how many it sent in that time."""
         began, sent, wanted = time.monotonic(), 0, int(rate * seconds)
         while (passed := time.monotonic() - began) < seconds:
             due = min(wanted, int(rate * passed) + 1)
@@ -159,8 +159,9 @@ class Sender:
 
 
 def play(interface, capture, until=None):
-    """Plays a capture, and answers what was recorded meanwhile: up to `until` milliseconds after the first packet, or where that
-    is None up to a second after the last one; and how many packets were sent."""
+    """Plays a capture. Returns the recording and how many packets were sent.
+
+    The recording ends `until` milliseconds after the first packet, or by default a second after the last one."""
     wanted = packets(capture)
     sender, recording = Sender(interface), Recording(interface)
     began = time.monotonic_ns()

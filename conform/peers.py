@@ -17,7 +17,7 @@ FRR = {
     "igmp": "ip pim rp 10.9.9.254\ninterface q0\n ip igmp\n ip pim\ninterface u0\n ip pim\n",
     "mld": "interface q0\n ipv6 mld\ninterface u0\n ipv6 pim\n",
 }
-# What of Debian 13 is unpacked for pim6d, besides what is there.
+# The packages of Debian 13 that pim6d needs in addition.
 FRR_13 = "frr libcares2 libjson-c5 liblua5.3-0 libpcre2-8-0 libprotobuf-c1 libreadline8t64 libunwind8 libxxhash0 libyang3"
 # One at a time installs.
 MAKING = threading.RLock()

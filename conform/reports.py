@@ -1,4 +1,4 @@
-"""What is said of a run: lines, and the files of a report: report.xml (JUnit), report.html, and captures."""
+"""The output of a run: lines, and the files of a report: report.xml (JUnit), report.html, and captures."""
 
 import html
 import importlib.machinery
@@ -150,7 +150,7 @@ def sections_of(case):
 
 
 def summary(verdicts):
-    """How many cases of each section passed and failed."""
+    """The numbers of passed and failed cases of each section."""
     found = {}
     for it in verdicts:
         for section in sections_of(it.case):

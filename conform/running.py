@@ -20,7 +20,7 @@ PROBE = 250
 
 @dataclasses.dataclass
 class Verdict:
-    """What became of a case: `pass`, `FAIL`, `late` where this machine was late each time, or `not applicable`."""
+    """The verdict of a case: `pass`, `FAIL`, `late` if this machine was late each time, or `not applicable`."""
 
     case: object
     what: str
@@ -235,7 +235,7 @@ class Run:
         return it
 
     def was_late(self, cast, known, began, pauses):
-        """Whether this machine was late while a case ran: by the stamps of its packets, by pauses, by a burst that was cut short."""
+        """Returns whether this machine was late during a case: by timestamps of packets, by pauses, or by a short burst."""
         most, latest = self.options.late, 0
         stamps = {}
         for it in known:
@@ -304,7 +304,7 @@ class Probes:
         return found
 
     def seen(self, cast, known):
-        """What those carry that came out on the link."""
+        """The contents of the datagrams that were forwarded to the link."""
         ends = (it.frame[-len(MAGIC) - 4 :] for it in known if not it.is_sent and it.packet is None)
         return {it for it in ends if self.whose.get(it, (None,))[0] == cast.number}
 
@@ -338,7 +338,7 @@ class Records:
 
 
 class Probe:
-    """What makes any querier ask: groups that are left, in each way."""
+    """Packets after which any querier sends a query: groups are left, in each way."""
 
     name, title, stage, own = "probe", "", "", ""
     begin, until, sees, probes = "0", "1000", [], []

@@ -28,7 +28,7 @@ QUICK = 20000
 
 
 class Wrong(Exception):
-    """What is wrong with the table, the command line or the link."""
+    """The fault of the table, the command line or the link."""
 
 
 @dataclasses.dataclass
@@ -136,7 +136,7 @@ def case_of(block, at, family):
 
 
 def value(text, names):
-    """What a formula of the table comes to."""
+    """The value of a formula of the table."""
     if not re.fullmatch(r"[0-9A-Z+*/() -]+", text):
         raise Wrong(f"the table: the formula {text}")
     return int(eval(text.replace("/", "//"), {"__builtins__": {}}, names))  # pylint: disable=eval-used
@@ -164,7 +164,7 @@ class Site:
 
 @dataclasses.dataclass
 class Step:
-    """A frame with its moment; `is_wide` where it concerns all groups. `what` is `burst`, `restart` or `quiet` for one that isn't a frame."""
+    """A frame with its time. `is_wide` is true if it concerns all groups. `what` is `burst`, `restart` or `quiet` for an event without frame."""
 
     at: int
     frame: bytes
@@ -206,7 +206,7 @@ class Cast:
         return (first + (self.number << 16) + 1 + at).to_bytes(16, "big")
 
     def shift(self, group):
-        """How many milliseconds later than the first one a group of G~N comes."""
+        """The milliseconds between the first group of G~N and this group."""
         at = int.from_bytes(group, "big") - int.from_bytes(self.group_at(EACH), "big")
         return SPREAD * at if 0 <= at < self.number_each else 0
 
@@ -232,7 +232,7 @@ class Cast:
         return found
 
     def is_own(self, group):
-        """Whether a group is one of this case."""
+        """Returns whether a group belongs to this case."""
         base = self.group_at(-1)
         step = 256 if self.family is IGMP else 65536
         is_range = self.group_at(-1, True)
@@ -245,7 +245,7 @@ class Cast:
         """For words of G~N, those of each of N groups, and how much later than the first one it comes."""
         return [(SPREAD * at, [f"G@{at}" if word.startswith("G~") else word for word in words]) for at in range(self.number_each)]
 
-    # What is said.
+    # Packets.
 
     def said(self, at, words):
         """The steps of a line of the table."""
@@ -371,7 +371,7 @@ class Cast:
         sources = [self.site.source(at) for at in range(4)]
         return [self.report(0, [(KIND_OF["IS_IN"], self.group_at(8 + at), sources)], "burst").frame for at in range(8)]
 
-    # What has to be seen.
+    # Expected queries.
 
     def wanted(self):
         """The queries that the table names, each as its moment, its group, its sources and whether S is set."""
@@ -388,7 +388,7 @@ class Cast:
         return found
 
     def named(self):
-        """What the letters of the case stand for."""
+        """The meaning of the letters of the case."""
         words = [word.split("*")[0] for _, its in self.case.steps for word in its]
         groups = [f"{it} is {text_of(self.group(it))}" for it in "GHIR" if it in words]
         if self.number_each:
