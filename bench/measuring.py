@@ -1,5 +1,5 @@
-"""Runs of the program and of its peers on captures, what they take, and the tables that say so. The program is bin/mquerier, or
-that which the environment names as MQUERIER."""
+"""Runs of the program and of its peers on captures, their costs, and tables of these. The program is bin/mquerier, or the file in
+the environment variable MQUERIER."""
 
 import os
 import platform
@@ -31,7 +31,7 @@ def without_packets(folder):
 
 
 def told(words, name):
-    """What a run with the capture as standard input says on standard error."""
+    """The text of a run on standard error. The capture is its standard input."""
     with open(name, "rb") as capture:
         how = {"stdin": capture, "stdout": subprocess.DEVNULL, "stderr": subprocess.PIPE, "text": True}
         ran = subprocess.run(words, **how)
@@ -54,15 +54,15 @@ def run(words, name):
 
 
 def best(*runs):
-    """Of some runs, each words and a capture, the least seconds of three times, and the most memory. They are made by turns, so that
-    the machine is the same for all."""
+    """The least seconds of three times and the most memory of some runs, each words and a capture. The runs take turns, so that the
+    machine is the same for all."""
     rounds = [[run(*it) for it in runs] for _ in range(3)]
     return [(min(seconds for seconds, _ in them), max(memory for _, memory in them)) for them in zip(*rounds)]
 
 
 def counted(words, name):
-    """How many instructions a run takes, and how many of its branches a processor would guess wrong, as valgrind counts them. It
-    would count one instruction for each byte that is copied by `rep movsb`, so that isn't used here."""
+    """Counts the instructions and the mispredicted branches of a run, by valgrind. It would count one instruction for each byte that
+    `rep movsb` copies, so that instruction is turned off."""
     plain = ["env", f"GLIBC_TUNABLES=glibc.cpu.x86_rep_movsb_threshold={2**40}"]
     said = told([*plain, "valgrind", "--tool=callgrind", "--branch-sim=yes", "--callgrind-out-file=/dev/null", *words], name)
     all_of_them, _, conditional, _, indirect = map(int, re.search(r"Collected : (.*)", said)[1].split())
@@ -70,7 +70,7 @@ def counted(words, name):
 
 
 def allocated(words, name):
-    """How many bytes a run asks the C library for, as valgrind counts them."""
+    """Counts the bytes that a run requests from the C library, by valgrind."""
     said = told(["valgrind", *words], name)
     return int(re.search(r"([\d,]+) bytes allocated", said)[1].replace(",", ""))
 
@@ -89,8 +89,8 @@ def source():
 
 
 def tell(script, head, rows, words, page="bench/README.md", how=""):
-    """Prints a table of Markdown with where it is from; where the script was asked to, puts it into a page, between the lines that
-    name the script."""
+    """Prints a table of Markdown with its source. With `--write` it puts the table into a page, between the lines that name the
+    script."""
     table = [f"| {' | '.join(row)} |" for row in (head, *rows)]
     text = "\n".join([f"{source()}{how}:", "", table[0], "|" + "---|" * len(head), *table[1:], ""])
     print(text, flush=True)

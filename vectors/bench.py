@@ -1,4 +1,4 @@
-"""What cases are made of: addresses, packets with what is told of them, and cases."""
+"""The parts of cases: addresses, packets with their descriptions, and cases."""
 
 import dataclasses
 
@@ -10,9 +10,10 @@ IS_IN, IS_EX, TO_IN, TO_EX, ALLOW, BLOCK = range(1, 7)
 
 @dataclasses.dataclass
 class Case:
-    """A vector. `steps` are the moments with what comes then. `has` says what its text has, apart from the model: how lines
-    begin, in their order. Where it says anything, each query but general ones is named in it; where it names a group or the
-    counts, each group is. `own` is what of it no standard says."""
+    """A vector. `steps` are packets with their times. `has` lists the beginnings of lines of its text in order, apart from the model.
+
+    If `has` has a line, it names each query except general ones. If it names a group or the counts, it names each group. `own` is
+    a choice of this project."""
 
     name: str
     shows: str
@@ -28,7 +29,7 @@ class Case:
 
 @dataclasses.dataclass
 class Step:
-    """A frame, and what the README says of it."""
+    """A frame, and its words in the README."""
 
     frame: bytes
     told: str
@@ -64,7 +65,7 @@ class Bench:
         self.senders = {self.__dict__[name]: name for name in ("lower", "higher", "own")}
 
     def sources(self, number, first=1):
-        """So many addresses, ascending."""
+        """`number` addresses in ascending order."""
         base = int.from_bytes(self.a, "big") - 1 + (0 if len(self.a) == 16 else 1 << 16)
         return [(base + first + at).to_bytes(len(self.a), "big") for at in range(number)]
 
@@ -115,7 +116,7 @@ class Bench:
         what = "general query" if general else f"Q({self.named(group)}{', ' + self.listed(sources) if sources else ''})"
         fields = ["S set"] * s + [f"QRV {qrv}"] * (qrv != 2) + [f"QQIC {qqic}"] * (qqic != 125)
         what += f"{' with ' if fields else ''}{', '.join(fields)} from {told or self.senders.get(source, text_of(source))}"
-        what += f", with {len(behind)} bytes behind its fields" if behind else ""
+        what += f", with {len(behind)} bytes after its fields" if behind else ""
         return self.step(body, self.everyone if general else group, what, source)
 
     def older_query(self, source, group=None, version=None):
@@ -126,5 +127,5 @@ class Bench:
         return self.step(body, group or self.everyone, f"{told} {what} from {self.senders.get(source, text_of(source))}", source)
 
     def bare(self, hexadecimal, told, to=None, **how):
-        """A message of these bytes, whose checksum is made right."""
+        """A message of these bytes, with a right checksum."""
         return self.step(bytes.fromhex(hexadecimal), to or self.all_reports, told, **how)

@@ -1,6 +1,7 @@
-"""A model of the check of another querier, written from the words of docs/FORMATS.md: what a querier at the same address
-sends is wanted, what the capture has from that address was seen, and the two are compared when all is known. It pairs over
-whole lists, each thing asked about by itself, and streams nothing. `check` gives the text of a capture.
+"""A model of the check of another querier, written from docs/FORMATS.md.
+
+The queries of a querier at the same address are wanted, and the capture's queries from that address were seen. The model compares
+the two at the end. It pairs whole lists, for each group or source apart, and streams nothing. `check` returns the verdict of a capture.
 """
 
 import dataclasses
@@ -11,7 +12,7 @@ from wire import IGMP, CaptureFault, Fault, code_of, moments, opened, read, text
 
 @dataclasses.dataclass
 class Terms:
-    """What a query says besides what it asks about. `querier` is S, QRV and the seconds of QQIC."""
+    """The fields of a query besides its group and sources. `querier` is S, QRV and the seconds of QQIC."""
 
     version: int
     response: int | None
@@ -40,16 +41,70 @@ class Asked:
         return text_of(self.group) + (f" {text_of(self.source)}" if self.source is not None else "")
 
 
+# Types of Ethernet behind which an IP packet may stand that no check looks into: tags, MPLS, PPPoE, MACsec; and that of `convert`
+# for a link type that it doesn't read.
+WRAPPING = {0x8100, 0x88A8, 0x9100, 0x8847, 0x8848, 0x8864, 0x88E5, 0xFFFF}
+
+
+def is_wrapped(kind, frame):
+    """Whether an IP packet may stand in a frame that isn't looked into."""
+    if kind == 101:
+        return False
+    start = 16 if frame[12:14] == b"\x81\x00" else 12
+    return int.from_bytes(frame[start : start + 2], "big") in WRAPPING
+
+
+class Basis:
+    """What a verdict rests on: the packets, and who was querier."""
+
+    def __init__(self, family, own):
+        self.family, self.own = family, own
+        self.packets, self.messages, self.malformed, self.cut, self.unread = 0, 0, 0, 0, 0
+        self.lost, self.lost_at, self.other, self.again = 0, 0, None, None
+
+    def count(self, kind, frame, packet):
+        self.packets += 1
+        if isinstance(packet, str):
+            self.cut += packet == "cut"
+            self.unread += packet == "fragment" or packet == "other" and is_wrapped(kind, frame)
+        elif packet.family is self.family:
+            try:
+                read(self.family, packet.body, packet.source, packet.to)
+                self.messages += 1
+            except Fault as fault:
+                self.malformed += fault.number != 3
+
+    def lines(self):
+        counts = f"packets {self.packets} messages {self.messages} malformed {self.malformed} cut {self.cut} unread {self.unread}"
+        role = f"querier {text_of(self.own)} from 0"
+        if self.lost:
+            role += f", lost {self.lost}, last at {self.lost_at}, other {text_of(self.other)}"
+            role += f", again at {self.again}" if self.again is not None else ""
+        return [f"{counts}; groups held before 0 are unknown", role]
+
+    def unjudged(self, general, specific, findings):
+        """Why nothing is judged, or None."""
+        if 0 < 2 * (self.cut + self.unread) >= self.packets:
+            return "every second packet or more is cut or isn't read"
+        if not self.messages and not self.malformed:
+            return "there is no message of this family"
+        return None if general or specific or findings else "no query from this address was seen, and none is missing"
+
+
 class Observed(Querier):
     """A querier whose queries are wanted, in place of sent."""
 
     def __init__(self, family, options):
         super().__init__(family, options)
-        self.wanted, self.is_back, self.order = [], False, 0
+        self.wanted, self.is_back, self.order, self.heard = [], False, 0, None
 
     def next_order(self):
         self.order += 1
         return self.order
+
+    def hear(self, source, message):
+        super().hear(source, message)
+        self.heard = source if source < self.it.own else self.heard
 
     def terms(self, group, s, response):
         bits, unit = (8, 100) if self.family is IGMP else (16, 1)
@@ -67,6 +122,21 @@ class Observed(Querier):
             self.wanted.append(Asked(self.next_order(), self.now, group, source, terms, None, other and source is not None))
 
 
+@dataclasses.dataclass
+class Verdict:
+    """The lines of a check, its findings, and why it judged nothing, if it didn't."""
+
+    lines: list
+    findings: list
+    unjudged: str | None
+
+    def status(self):
+        return 4 if self.unjudged else 3 if self.findings else 0
+
+    def errors(self):
+        return f"mquerier: nothing judged: {self.unjudged}\n".encode() if self.unjudged else b""
+
+
 class Check:
     """A check of a capture. `findings` are lines with their order."""
 
@@ -75,6 +145,7 @@ class Check:
         self.link = Observed(family, options)
         self.seen, self.changes, self.findings = [], [], []
         self.general, self.specific = 0, 0
+        self.basis = Basis(family, options.own)
         # The last general query in this time as querier; None where there was none, or where it isn't known of any.
         self.before, self.is_known, self.startup = 0, False, options.rv - 1
         self.last_general = None
@@ -82,7 +153,7 @@ class Check:
     def is_near(self, one, other):
         return abs(one - other) <= self.within
 
-    # What happens.
+    # Events.
 
     def step(self, what, *words):
         """Something that the link does, and whether the role changes by it."""
@@ -94,8 +165,11 @@ class Check:
             self.silence(self.link.now, self.link.next_order())
             self.changes.append(self.link.now)
             self.before = None
+            self.basis.lost, self.basis.lost_at, self.basis.again = self.basis.lost + 1, self.link.now, None
+        self.basis.other = self.link.heard
         if has_role and not had_role:
             self.changes.append(self.link.now)
+            self.basis.again = self.link.now
             self.startup, self.is_known = 0, False
             if self.last_general is not None and self.link.now <= self.last_general + self.within:
                 self.before, self.is_known = self.last_general, True
@@ -151,7 +225,7 @@ class Check:
         if self.before is not None and moment - self.before > 1000 * self.it.qi + self.within:
             self.find(order, f"{moment} general none for {moment - self.before}, wanted {1000 * self.it.qi}")
 
-    # What is found.
+    # Findings.
 
     def find(self, order, line):
         self.findings.append((order, line))
@@ -161,7 +235,7 @@ class Check:
         has no partner."""
         for it in self.seen:
             of_thing = [one for one in self.link.wanted if one.thing() == it.thing() and self.is_near(one.at, it.at) and not one.partner]
-            # A general query that is seen in the role takes one that is wanted already.
+            # A general query seen in the role takes a query that is already wanted.
             of_thing = [one for one in of_thing if one.order < it.order] if it.partner else of_thing
             if of_thing:
                 of_thing[0].partner = it.terms
@@ -192,7 +266,9 @@ class Check:
         if self.link.other is None:
             self.silence(end, self.link.next_order())
         lines = [line for _, line in sorted(self.findings, key=lambda it: it[0])]
-        return [*lines, f"checked general {self.general} specific {self.specific}: {len(lines)} findings"]
+        totals = f"checked general {self.general} specific {self.specific}: {len(lines)} findings"
+        unjudged = self.basis.unjudged(self.general, self.specific, len(lines))
+        return Verdict([*lines, totals, *self.basis.lines()], lines, unjudged)
 
 
 def destination(kind, frame, packet):
@@ -204,7 +280,7 @@ def destination(kind, frame, packet):
 
 
 def check(data, family, options, within=100):
-    """The lines of a check of a whole capture, or None and what it says where a fault or a gap ends it."""
+    """The verdict of a whole capture, or None and what it says where a fault or a gap ends it."""
     it, last, number = Check(family, options, within), 0, 0
     try:
         kind, records = opened(data)
@@ -214,6 +290,7 @@ def check(data, family, options, within=100):
             last = moment
             it.tick_to(moment)
             packet = unwrap(kind, frame)
+            it.basis.count(kind, frame, packet)
             if isinstance(packet, str) or packet.family is not family:
                 continue
             message = it.query_in(packet)

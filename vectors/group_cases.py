@@ -1,11 +1,11 @@
-"""The cases: what comes when, what it shows, and the sections of RFC 3376 and RFC 3810 that it is an instance of."""
+"""The cases: packets with their times, their subject, and their sections of RFC 3376 and RFC 3810."""
 
 import wire
 from bench import ALLOW, BLOCK, IS_EX, IS_IN, TO_EX, TO_IN, Case
 from wire import IGMP, KINDS, address, text_of
 
-# The rows of the standards' tables: the record, the group behind it, and what is asked for at its moment. `=N` is a timer
-# that ends at N, `!` a stopped one; `G` is the group itself.
+# The rows of the standards' tables: the record, the group afterwards, and the queries at its time. `=N` is a timer that expires at
+# N, `!` a stopped timer; `G` is the group itself.
 INCLUDE_ROWS = [
     (IS_IN, "include a=260000 b=261000 c=261000", []),
     (IS_EX, "exclude 261000 b=260000 !c", []),
@@ -56,7 +56,7 @@ def tables(b):
             shows = f"{mode.upper()}, {KINDS[kind]}"
             has = (*[asked_of(b, it, 1000) for it in asked], "end 1000 querier", state_of(b, state))
             sections = ("6.4.1", "7.4.1") if kind in (IS_IN, IS_EX) else ("6.4.2, 6.6.3", "7.4.2, 7.6.3")
-            own = "the timer of a source new to X is that of the group from before the record" if (mode, kind) == ("exclude", TO_EX) else ""
+            own = "a source new to X gets the group timer from before the record" if (mode, kind) == ("exclude", TO_EX) else ""
             yield Case(name, shows, sections, [*begun[mode], (1000, b.report((kind, g, named[mode])))], own=own, has=has)
 
 
@@ -79,7 +79,7 @@ def worked(b):
     older = ("7.3.2, 6.4.2, 6.6.3.1", "8.3.2, 7.4.2, 7.6.3.1")
     yield Case(
         "leave",
-        "an older host leaves: the group is asked for at once and a Last Member Query Interval later, and is gone after the Last Member Query Time",
+        "an older host leaves: a query for the group is sent at once and a Last Member Query Interval later; the group ends after the Last Member Query Time",
         older,
         [(0, b.older()), (1000, b.leave())],
         "--until 3000",
@@ -87,7 +87,7 @@ def worked(b):
     )
     yield Case(
         "leave-and-report-again",
-        "the group is reported again between the two queries: the second one has S set, and the group stays",
+        "a Report between the two queries: the second query has S set, and the group stays",
         older,
         [(0, b.older()), (1000, b.leave()), (1500, b.older())],
         "--until 3000",
@@ -95,7 +95,7 @@ def worked(b):
     )
     yield Case(
         "leave-without-group",
-        "a Leave for a group that is not held asks nothing",
+        "a Leave for an unknown group causes no query",
         ("6.4.2", "7.4.2"),
         [(0, b.leave())],
         "--until 3000",
@@ -104,7 +104,7 @@ def worked(b):
     )
     yield Case(
         "leave-of-sources",
-        "a Leave for a group in INCLUDE mode asks for its sources",
+        "a Leave for a group in INCLUDE mode causes queries for its sources",
         ("6.4.2, 6.6.3.2", "7.4.2, 7.6.3.2"),
         [(0, b.report((ALLOW, g, [a, bb]))), (1000, b.leave())],
         "--until 2999",
@@ -113,7 +113,7 @@ def worked(b):
     )
     yield Case(
         "blocked-and-one-refreshed",
-        "two sources are blocked and one is allowed again: the second sending is two queries, with S set for that one and with S clear for the other",
+        "two sources are blocked and one is allowed again: two queries are sent the second time, with S set for this source and with S clear for the other",
         ("6.6.3.2", "7.6.3.2"),
         [(0, b.report((ALLOW, h, [a, bb]))), (1000, b.report((BLOCK, h, [a, bb]))), (1500, b.report((ALLOW, h, [a])))],
         "--until 3000",
@@ -121,7 +121,7 @@ def worked(b):
     )
     yield Case(
         "blocked-again",
-        "a second BLOCK of a source whose timer is lowered already asks nothing",
+        "a second BLOCK of a source with a lowered timer causes no query",
         ("6.6.3.2", "7.6.3.2"),
         [(0, b.report((ALLOW, g, [a]))), (1000, b.report((BLOCK, g, [a]))), (1100, b.report((BLOCK, g, [a])))],
         "--until 2999",
@@ -129,16 +129,16 @@ def worked(b):
     )
     yield Case(
         "blocked-one-by-one",
-        "a source is blocked while another is asked for: both are asked for at once, and the second again an interval later",
+        "a source is blocked between two queries for another: a query for both is sent at once, and one for the second source an interval later",
         ("6.6.3.2", "7.6.3.2"),
         [(0, b.report((ALLOW, g, [a, bb]))), (1000, b.report((BLOCK, g, [a]))), (1500, b.report((BLOCK, g, [bb])))],
         "--until 3500",
-        own="the sending of the new query is the second one of the first source",
+        own="the query for the new source is also the second query for the first source",
         has=("1000 send", "1500 send", "2500 send", "end 3500"),
     )
     yield Case(
         "blocked-near-the-end",
-        "a source that is new to an EXCLUDE group gets the group timer, and is not asked for where that is within the Last Member Query Time",
+        "a source new to an EXCLUDE group gets the group timer; if this is within the Last Member Query Time, no query is sent",
         ("6.4.2, 6.6.3.2", "7.4.2, 7.6.3.2"),
         [(0, b.report((TO_EX, g, []))), (259000, b.report((BLOCK, g, [a])))],
         "--until 259999",
@@ -146,7 +146,7 @@ def worked(b):
     )
     yield Case(
         "blocked-and-gone",
-        "a blocked source that nobody wants is gone after the Last Member Query Time, and the group with it",
+        "a blocked source without a listener ends after the Last Member Query Time, and the group with it",
         ("6.3, 6.6.3.2", "7.3, 7.6.3.2"),
         [(0, b.report((ALLOW, g, [a]))), (1000, b.report((BLOCK, g, [a])))],
         "--until 3000",
@@ -159,16 +159,16 @@ def timers(b):
     g, g2, g3, a, bb = b.G, b.G2, b.G3, b.a, b.b
     yield Case(
         "startup",
-        "general queries at startup: as many as the Robustness Variable, a quarter of the Query Interval apart, and then a Query Interval apart",
+        "general queries at startup: the Robustness Variable is their number, a quarter of the Query Interval their interval; then a Query Interval",
         ("8.2, 8.6, 8.7", "9.2, 9.6, 9.7"),
         [(0, b.report())],
         "--until 281250",
-        own="later queries are counted from the one before",
+        own="each later query is due a Query Interval after the previous one",
         has=("0 send", "31250 send", "156250 send", "281250 send", "end"),
     )
     yield Case(
         "startup-three",
-        "the same with Robustness Variable 3",
+        "general queries at startup with Robustness Variable 3",
         ("8.6, 8.7", "9.6, 9.7"),
         [(0, b.report())],
         "--rv 3 --until 187500",
@@ -176,7 +176,7 @@ def timers(b):
     )
     yield Case(
         "startup-one",
-        "the same with Robustness Variable 1",
+        "general queries at startup with Robustness Variable 1",
         ("8.1, 8.7", "9.1, 9.7"),
         [(0, b.report())],
         "--rv 1 --until 125000",
@@ -184,7 +184,7 @@ def timers(b):
     )
     yield Case(
         "until-before-a-query",
-        "the end is a millisecond before a general query is due",
+        "the text ends a millisecond before a general query is due",
         ("8.6", "9.6"),
         [(0, b.report())],
         "--until 31249",
@@ -192,7 +192,7 @@ def timers(b):
     )
     yield Case(
         "until-at-a-query",
-        "the end is the moment at which a general query is due",
+        "the text ends exactly when a general query is due",
         ("8.6", "9.6"),
         [(0, b.report())],
         "--until 31250",
@@ -200,7 +200,7 @@ def timers(b):
     )
     yield Case(
         "until-before-the-last-packet",
-        "an end before the last packet changes nothing",
+        "`--until` before the last packet changes nothing",
         ("6.4.2", "7.4.2"),
         [(0, b.report()), (2000, b.report((ALLOW, g, [a])))],
         "--until 1000",
@@ -216,15 +216,15 @@ def timers(b):
     )
     yield Case(
         "variables-between-codes",
-        "intervals that no code has: the greatest one below is written, and timers keep the exact ones",
+        "intervals that no code has: queries have the greatest lower value, timers are exact",
         ("4.1.1, 4.1.7, 8.8", "5.1.3, 5.1.9, 9.8"),
         [(0, b.older()), (1000, b.leave())],
         "--qi 135 --qri 40001 --lmqi 33001",
-        own="the standards say it of the Last Member Query Interval alone",
+        own="the standards say this only of the Last Member Query Interval",
     )
     yield Case(
         "several-records",
-        "the records of one Report act one after the other; one of an unknown type or for a group that nobody reports is ignored",
+        "the records of a Report act in order; a record of an unknown type or for a group that hosts do not report is ignored",
         ("4.2.12, 6.4", "5.2.12, 7.4"),
         [
             (
@@ -244,7 +244,7 @@ def timers(b):
     )
     yield Case(
         "sources-repeated",
-        "repeated sources, auxiliary data and bytes behind the last record change nothing",
+        "repeated sources, auxiliary data and bytes after the last record change nothing",
         ("4.2.10, 4.2.11", "5.2.10, 5.2.11"),
         [(0, b.report((ALLOW, g, [bb, a, bb, a]), auxiliary=b"\1\2\3\4", behind=b"\5\6"))],
         has=(f"group {text_of(g)} include {text_of(a)}=260000 {text_of(bb)}=260000",),
@@ -252,7 +252,7 @@ def timers(b):
     ends = [(0, b.report((ALLOW, g, [a]))), (1000, b.report((TO_EX, g2, []))), (2000, b.report((ALLOW, g3, [bb])))]
     yield Case(
         "groups-end",
-        "groups that were reported at different moments: the first two have ended",
+        "groups reported at different times: the first two have ended",
         ("6.3, 6.5", "7.3, 7.5"),
         ends,
         "--until 261000",
@@ -260,7 +260,7 @@ def timers(b):
     )
     yield Case(
         "groups-end-all",
-        "the same to the end of the last",
+        "groups reported at different times: all have ended",
         ("6.3, 6.5", "7.3, 7.5"),
         ends,
         "--until 262000",
@@ -269,7 +269,7 @@ def timers(b):
     both = [(0, b.report((TO_EX, g, [a, bb]))), (40000, b.report((ALLOW, g, [a])))]
     yield Case(
         "exclude-ends-as-include",
-        "at the end of the group timer the sources that still run are left, in INCLUDE mode",
+        "when the group timer expires, the sources with running timers stay, in INCLUDE mode",
         ("6.5", "7.5"),
         both,
         "--until 260000",
@@ -277,7 +277,7 @@ def timers(b):
     )
     yield Case(
         "exclude-ends-as-include-ends",
-        "the same to the end of the last source",
+        "the sources that stayed in INCLUDE mode end, and the group with them",
         ("6.3, 6.5", "7.3, 7.5"),
         both,
         "--until 300000",
@@ -285,7 +285,7 @@ def timers(b):
     )
     yield Case(
         "source-ends-in-exclude",
-        "a source whose timer ends in EXCLUDE mode stays, stopped, and is no longer forwarded",
+        "a source whose timer expires in EXCLUDE mode stays, stopped, and is no longer forwarded",
         ("6.2.3, 6.3", "7.2.3, 7.3"),
         [(0, b.report((TO_EX, g, []))), (1000, b.report((BLOCK, g, [a])))],
         "--until 3000",
@@ -293,7 +293,7 @@ def timers(b):
     )
     yield Case(
         "packet-as-timers-end",
-        "a packet at the very moment at which timers end finds them ended",
+        "a packet exactly when timers expire comes after their end",
         ("6.3", "7.3"),
         [(0, b.report((ALLOW, g, [a]))), (260000, b.report((BLOCK, g, [a])))],
         own="a timer is at zero at its deadline",
@@ -305,10 +305,10 @@ def elections(b):
     g, a, lower, higher = b.G, b.a, b.lower, b.higher
     allow, elected = (0, b.report((ALLOW, g, [a]))), ("6.6.2", "7.6.2")
     adopted = ("4.1.6, 4.1.7", "5.1.8, 5.1.9")
-    first = "what is due at a packet's moment is done before it"
+    first = "everything due at a packet's time comes before the packet"
     yield Case(
         "query-from-lower",
-        "a query from a lower address: the router is no querier for the Other Querier Present Interval, and sends no general query",
+        "a query from a lower address: the router is not querier for the Other Querier Present Interval, and sends no general query",
         ("6.6.2, 8.5", "7.6.2, 9.5"),
         [allow, (5000, b.query(lower))],
         "--until 259999",
@@ -316,11 +316,11 @@ def elections(b):
     )
     yield Case(
         "other-querier-gone",
-        "the same to the end of that interval: the router is querier again, and sends general queries",
+        "the Other Querier Present Interval ends: the router is querier again, and sends general queries",
         ("6.6.2, 8.5", "7.6.2, 9.5"),
         [allow, (5000, b.query(lower))],
         "--until 385000",
-        own="there is no other startup",
+        own="it does not start up again",
         has=("0 send", "260000 send", "385000 send", "end 385000 querier"),
     )
     yield Case(
@@ -333,7 +333,7 @@ def elections(b):
     )
     yield Case(
         "query-as-general-query-is-due",
-        "a query from a lower address at the very moment at which the general query is due: that one goes first",
+        "a query from a lower address exactly when the general query is due: the general query is sent first",
         elected,
         [allow, (31250, b.query(lower))],
         own=first,
@@ -341,7 +341,7 @@ def elections(b):
     )
     yield Case(
         "query-before-general-query-is-due",
-        "the same a millisecond earlier: the general query doesn't go",
+        "a query from a lower address a millisecond before the general query is due: the general query is not sent",
         elected,
         [allow, (31249, b.query(lower))],
         "--until 31250",
@@ -349,7 +349,7 @@ def elections(b):
     )
     yield Case(
         "query-as-other-querier-ends",
-        "the next query of the other querier comes at the end of the interval: a general query goes, and the router is no querier again",
+        "the other querier's next query comes exactly at the end of the interval: the router sends a general query, and loses the role again",
         elected,
         [(0, b.query(lower)), (255000, b.query(lower))],
         "--until 509999",
@@ -358,7 +358,7 @@ def elections(b):
     )
     yield Case(
         "query-before-other-querier-ends",
-        "the same a millisecond earlier: the router stays no querier",
+        "the other querier's next query comes a millisecond before the end of the interval: the router does not become querier",
         elected,
         [(0, b.query(lower)), (254999, b.query(lower))],
         "--until 509998",
@@ -366,7 +366,7 @@ def elections(b):
     )
     yield Case(
         "queries-of-two-other-queriers",
-        "two routers have lower addresses: the interval is counted from the last query of either",
+        "two routers have lower addresses: the interval starts at the last query of either",
         elected,
         [(0, b.query(lower)), (1000, b.query(b.lowest)), (2000, b.query(lower))],
         "--until 257000",
@@ -384,24 +384,24 @@ def elections(b):
     g13 = "1164ec1e00000000027d0000"
     yield Case(
         "variables-of-other-querier",
-        "a router that loses the role takes over QRV and QQIC; as querier again it has its own",
+        "a router that loses the role takes QRV and QQIC; as querier again it has its own",
         ("4.1.6, 4.1.7, 6.6.2", "5.1.8, 5.1.9, 7.6.2"),
         [(0, b.query(lower, qrv=3, qqic=60))],
         "--until 310000",
-        own="the variables are taken over before the interval is counted; as querier again it has the configured ones",
+        own="it takes the variables before it starts the interval; as querier again it has the configured ones",
         has=tuple(f"{it} send 224.0.0.1 {g13}" if b.family is IGMP else f"{it} send" for it in (0, 185000, 310000)) + ("end 310000 querier",),
     )
     yield Case(
         "variables-back",
-        "as querier again the router's timers are by its own variables",
+        "as querier again the router's timers use its own variables",
         adopted,
         [(0, b.query(lower, qrv=3, qqic=60)), (1000, b.report((ALLOW, g, [a]))), (186000, b.report((ALLOW, b.G2, [a])))],
-        own="the standard says it of received zeros alone",
+        own="the standard says this only of received zeros",
         has=(f"group {text_of(g)} include {text_of(a)}=191000", f"group {text_of(b.G2)} include {text_of(a)}=446000"),
     )
     yield Case(
         "qrv-of-higher",
-        "the querier takes over QRV from a query of a higher address, and not QQIC",
+        "the querier takes QRV from a query of a higher address, but not QQIC",
         adopted,
         [(0, b.query(higher, qrv=3, qqic=60)), (1000, b.report((ALLOW, g, [a]))), (2000, b.report((BLOCK, g, [a])))],
         "--until 31250",
@@ -409,36 +409,36 @@ def elections(b):
     )
     yield Case(
         "qrv-zero",
-        "QRV 0 brings the router's own back",
+        "QRV 0 restores the router's own value",
         adopted,
         [(0, b.query(higher, qrv=3)), (1000, b.query(higher, qrv=0)), (2000, b.report((ALLOW, g, [a])))],
-        own="of the default and the configured value, which are the same here, the configured one",
+        own="the standard allows the default or the configured value; it takes the configured one, the same here",
         has=(f"group {text_of(g)} include {text_of(a)}=262000",),
     )
     yield Case(
         "qrv-zero-configured",
-        "the same where another value is configured",
+        "QRV 0 restores a configured value that is not the default",
         adopted,
         [(0, b.query(higher, qrv=3)), (1000, b.query(higher, qrv=0)), (2000, b.report((ALLOW, g, [a])))],
         "--rv 4",
-        own="of the default and the configured value, which the standard allows both, the configured one",
+        own="the standard allows the default or the configured value; it takes the configured one",
         has=(f"group {text_of(g)} include {text_of(a)}=512000",),
     )
     yield Case(
         "qqic-zero",
-        "QQIC 0 brings the Query Interval back",
+        "QQIC 0 restores the Query Interval",
         adopted,
         [(0, b.query(lower, qqic=60)), (1000, b.query(lower, qqic=0)), (2000, b.report((ALLOW, g, [a])))],
-        own="the standard takes the default; this is the configured one, the same here",
+        own="the standard takes the default; it takes the configured value, the same here",
         has=(f"group {text_of(g)} include {text_of(a)}=262000",),
     )
     yield Case(
         "qqic-zero-configured",
-        "the same where another value is configured",
+        "QQIC 0 restores a configured Query Interval that is not the default",
         adopted,
         [(0, b.query(lower, qqic=60)), (1000, b.query(lower, qqic=0)), (2000, b.report((ALLOW, g, [a])))],
         "--qi 100",
-        own="the standard takes the default, 125 seconds; this is the configured one",
+        own="the standard takes the default, 125 seconds; it takes the configured value",
         has=(f"group {text_of(g)} include {text_of(a)}=212000",),
     )
     yield Case(
@@ -450,20 +450,20 @@ def elections(b):
     )
     yield Case(
         "older-query-from-lower",
-        "a query of an older version from a lower address: the router is no querier, and keeps its variables",
+        "an older query from a lower address: the router is not querier, and keeps its variables",
         ("6.6.2, 7.3.1", "7.6.2, 8.3.1"),
         [allow, (5000, b.older_query(lower))],
         "--until 260000",
-        own="it stays in its own version, which the standard wants changed by configuration",
+        own="it stays in its own version; the standard requires an administrator to change it",
         has=("0 send", "260000 send", "end 260000 querier"),
     )
     yield Case(
         "older-query-for-a-group",
-        "a query of an older version for a group lowers its timer",
+        "an older query for a group lowers its timer",
         ("6.6.1", "7.6.1"),
         [(0, b.older()), (1000, b.older_query(lower, g))],
         "--until 2999",
-        own="it counts as one with S clear, and lowers to the router's own Last Member Query Time",
+        own="it counts as a query with S clear, and lowers to the router's own Last Member Query Time",
         has=("end 2999 other", f"group {text_of(g)} exclude 3000"),
     )
     s18 = [allow, (4000, b.query(lower, g, [a]))]
@@ -477,7 +477,7 @@ def elections(b):
     )
     yield Case(
         "query-lowers-as-its-own-would",
-        "the same where the query has the bytes that the router's own for this source would have",
+        "a query for a source with the bytes of the router's own query lowers its timer",
         ("6.6.1", "7.6.1"),
         [(0, b.report((ALLOW, b.H, [a]))), (4000, b.query(lower, b.H, [a]))],
         "--until 5999",
@@ -485,7 +485,7 @@ def elections(b):
     )
     yield Case(
         "query-with-s-lowers-as-little",
-        "the same with S set, from a higher address",
+        "a query for a source with S set, from a higher address, lowers no timer",
         ("6.6.1, 6.6.2", "7.6.1, 7.6.2"),
         [(0, b.report((ALLOW, b.H, [a]))), (4000, b.query(higher, b.H, [a], s=True))],
         "--until 6000",
@@ -495,7 +495,7 @@ def elections(b):
         second, least = address("fe80::2"), address("fe80::")
         yield Case(
             "query-lowers-from-the-one-below",
-            "the same from the one address below the router's own, which is fe80::1",
+            "a query for a source from the only address below the router's own, fe80::1, lowers its timer",
             ("", "7.6.1, 7.6.2"),
             [(0, b.report((ALLOW, b.H, [a]), source=second)), (4000, b.query(least, b.H, [a]))],
             "--own fe80::1 --until 5999",
@@ -503,7 +503,7 @@ def elections(b):
         )
         yield Case(
             "query-with-s-from-the-one-above",
-            "the same with S set, from the next address above",
+            "a query for a source with S set, from the next higher address, lowers no timer",
             ("", "7.6.1, 7.6.2"),
             [(0, b.report((ALLOW, b.H, [a]), source=second)), (4000, b.query(second, b.H, [a], s=True))],
             "--own fe80::1 --until 6000",
@@ -511,7 +511,7 @@ def elections(b):
         )
     yield Case(
         "query-with-bytes-behind",
-        "bytes behind the fields of a query, and of one with a source, count for the checksum and for nothing else",
+        "bytes after the fields of a query, without and with a source, only count for the checksum",
         ("4.1.10", "5.1.12"),
         [allow, (1000, b.query(lower, behind=b"\1\2")), (4000, b.query(lower, g, [a], behind=bytes(b.a)))],
         "--until 5999",
@@ -525,7 +525,7 @@ def elections(b):
     )
     yield Case(
         "query-lowers-to-the-end",
-        "the same to the timer's end",
+        "a source whose timer a query lowered ends at the lowered deadline",
         ("6.6.1", "7.6.1"),
         s18,
         "--until 6000",
@@ -533,7 +533,7 @@ def elections(b):
     )
     yield Case(
         "query-with-s-lowers-nothing",
-        "a query with S set lowers nothing, and one from a higher address leaves the role",
+        "a query with S set lowers no timer, and a query from a higher address does not change the role",
         ("6.6.1, 6.6.2", "7.6.1, 7.6.2"),
         [allow, (4000, b.query(higher, g, [a], s=True))],
         "--until 6000",
@@ -541,7 +541,7 @@ def elections(b):
     )
     yield Case(
         "query-lowers-the-group",
-        "a query for a group with S clear lowers the group timer, and those of no source",
+        "a query for a group with S clear lowers the group timer, but no source timer",
         ("6.6.1", "7.6.1"),
         [(0, b.report((TO_EX, g, []))), (500, b.report((ALLOW, g, [a]))), (1000, b.query(higher, g))],
         "--until 2999",
@@ -549,7 +549,7 @@ def elections(b):
     )
     yield Case(
         "query-for-a-group-in-include",
-        "a query for a group in INCLUDE mode lowers nothing",
+        "a query for a group in INCLUDE mode lowers no timer",
         ("6.6.1", "7.6.1"),
         [allow, (1000, b.query(higher, g))],
         "--until 2999",
@@ -561,12 +561,12 @@ def elections(b):
         elected,
         [allow, (1000, b.report((BLOCK, g, [a]))), (1500, b.query(lower))],
         "--until 2999",
-        own="what was to be sent is dropped for good",
+        own="pending queries are dropped for good",
         has=("1000 send", "1500 receive", "end 2999 other", f"group {text_of(g)} include {text_of(a)}=3000"),
     )
     yield Case(
         "no-querier-asks-nothing",
-        "a router that is no querier neither asks nor lowers timers when a source is blocked or a group is left",
+        "a router that is not querier sends no query and lowers no timer if a source is blocked or a group is left",
         ("6.4.2, 6.6.3.2", "7.1, 7.4.2"),
         [
             (0, b.query(lower)),
@@ -574,7 +574,7 @@ def elections(b):
             (1000, b.report((BLOCK, g, [a]), (TO_IN, b.G2, []))),
         ],
         "--until 4000",
-        own="" if b.family is IGMP else "the standard names no role where it lowers timers",
+        own="" if b.family is IGMP else "the standard does not say that only the querier lowers timers",
         has=(
             "0 send",
             "end 4000 other",
@@ -584,7 +584,7 @@ def elections(b):
     )
     yield Case(
         "no-querier-to-ex",
-        "a source that is new to an EXCLUDE group at TO_EX gets the group timer",
+        "a source new to an EXCLUDE group at TO_EX gets the group timer",
         ("6.4.2", "7.4.2"),
         [(0, b.query(lower)), (500, b.report((TO_EX, g, [b.b]))), (1000, b.report((TO_EX, g, [a])))],
         own="it is the group timer from before the record",

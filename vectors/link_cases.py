@@ -8,7 +8,7 @@ from wire import ALERT, FAMILIES, IGMP, text_of
 def limits(b):
     """Each reason to refuse a record, alone. The standards have no limits."""
     g, g2, a, bb, c = b.G, b.G2, b.a, b.b, b.c
-    own, sections = "the limit; by the standard the record acts", ("6.4", "7.4")
+    own, sections = "the limit; the standard has none", ("6.4", "7.4")
     host = text_of(b.host)
     yield Case(
         "refused-long",
@@ -21,7 +21,7 @@ def limits(b):
     )
     yield Case(
         "refused-repeated",
-        "the fifth and sixth record of one Report for a group that is held",
+        "the fifth and sixth record of one Report for a known group",
         sections,
         [(0, b.report((ALLOW, g, [a]))), (1000, b.report(*[(BLOCK, g, [])] * 6))],
         own=own,
@@ -29,7 +29,7 @@ def limits(b):
     )
     yield Case(
         "refused-groups",
-        "a group more than may be held",
+        "one group more than the limit",
         sections,
         [(0, b.report((ALLOW, g, [a]))), (1000, b.report((ALLOW, g2, [a])))],
         "--groups 1",
@@ -38,7 +38,7 @@ def limits(b):
     )
     yield Case(
         "refused-group-sources",
-        "a source more than a group may have",
+        "one source more than the limit of a group",
         sections,
         [(0, b.report((ALLOW, g, [a, bb]))), (1000, b.report((IS_IN, g, [c])))],
         "--group-sources 2",
@@ -47,7 +47,7 @@ def limits(b):
     )
     yield Case(
         "refused-sources",
-        "a source more than all groups may have together",
+        "one source more than the limit of all groups",
         sections,
         [(0, b.report((ALLOW, g, [a, bb]))), (1000, b.report((ALLOW, g2, [a]), (ALLOW, g, [bb])))],
         "--sources 2",
@@ -56,7 +56,7 @@ def limits(b):
     )
     yield Case(
         "refused-scheduled",
-        "one more group is to be asked for than may be at once",
+        "one group with pending queries more than the limit",
         sections,
         [(0, b.report((ALLOW, g, [a]), (ALLOW, g2, [a]))), (1000, b.report((BLOCK, g, [a]), (BLOCK, g2, [a])))],
         "--scheduled 1 --until 3000",
@@ -74,7 +74,7 @@ def limits(b):
     those = f"for each of 257 groups from {b.named(g)} up"
     yield Case(
         "refused-scheduled-by-default",
-        "256 groups are asked for at once, and not one more",
+        "256 groups may have pending queries, and not one more",
         sections,
         [
             (0, Step(b.report(*[(ALLOW, it, [a]) for it in groups]).frame, f"ALLOW {{a}} {those}")),
@@ -99,7 +99,7 @@ def older_hosts(b):
     sections, version = ("7.3.2", "8.3.2"), 2 if b.family is IGMP else 1
     yield Case(
         f"v{version}-host-mutes",
-        f"while a version {version} host is there BLOCK is ignored, and TO_EX loses its sources; the other records act",
+        f"while a version {version} host is present, BLOCK is ignored, and TO_EX loses its sources; other records act",
         sections,
         [
             (0, b.older()),
@@ -119,15 +119,15 @@ def older_hosts(b):
     )
     yield Case(
         f"v{version}-host-is-ex",
-        f"while a version {version} host is there IS_EX keeps its sources",
+        f"while a version {version} host is present, IS_EX keeps its sources",
         sections,
         [(0, b.older()), (1000, b.report((IS_EX, g, [a])))],
-        own="the standard names BLOCK and TO_EX alone",
+        own="the standard names only BLOCK and TO_EX",
         has=(f"group {text_of(g)} exclude 261000 {text_of(a)}=261000 v{version} 260000",),
     )
     yield Case(
         "older-host-gone",
-        "at the end of the older host present interval BLOCK acts again",
+        "after the older host present interval BLOCK acts again",
         ("7.3.2, 8.13", "8.3.2, 9.13"),
         [
             (0, b.older()),
@@ -155,7 +155,7 @@ def older_hosts(b):
     else:
         yield Case(
             "v1-host-done",
-            "Done acts while a version 1 host is there",
+            "Done acts while a version 1 host is present",
             ("", "8.3.2"),
             [(0, b.older()), (1000, b.leave())],
             "--until 3000",
@@ -167,7 +167,7 @@ def version_one(b, host):
     g, a, sections = b.G, b.a, ("7.3.2", "")
     yield Case(
         "v1-host-mutes-leave",
-        "while a version 1 host is there Leave is ignored",
+        "while a version 1 host is present, Leave is ignored",
         sections,
         [(0, b.older(1)), (1000, b.leave())],
         "--until 3000",
@@ -175,7 +175,7 @@ def version_one(b, host):
     )
     yield Case(
         "v1-host-mutes",
-        "while a version 1 host is there TO_IN and BLOCK are ignored, and TO_EX loses its sources; ALLOW acts",
+        "while a version 1 host is present, TO_IN and BLOCK are ignored, and TO_EX loses its sources; ALLOW acts",
         sections,
         [
             (0, b.older(1)),
@@ -194,7 +194,7 @@ def version_one(b, host):
     )
     yield Case(
         "v1-and-v2-hosts",
-        "hosts of versions 1 and 2: when the first have gone Leave acts, and BLOCK is still ignored",
+        "hosts of versions 1 and 2: after the interval of version 1 Leave acts, and BLOCK is still ignored",
         sections,
         [(0, b.older(1)), (200000, b.older(2)), (259999, b.leave()), (260000, b.report((BLOCK, g, [a]))), (260001, b.leave())],
         own="a timer is at zero at its deadline",
@@ -220,7 +220,7 @@ def source_specific(b):
     sections = ("RFC 4604 3.1, 3.5, 3.7", "RFC 4604 3.1, 3.5, 3.7")
     yield Case(
         "range-kept",
-        "in the source-specific range TO_EX, IS_EX, older Reports and Leave are ignored, and the rest acts",
+        "in the source-specific range TO_EX, IS_EX, older Reports and Leave are ignored; other records act",
         sections,
         steps,
         "--ssm --until 3500",
@@ -236,7 +236,7 @@ def source_specific(b):
     )
     yield Case(
         "range-not-kept",
-        "the same where the range is not kept: all of it acts",
+        "if the source-specific range is not kept, TO_EX, IS_EX, older Reports and Leave act",
         ("6.4, 7.3.2", "7.4, 8.3.2"),
         steps,
         "--until 3500",
@@ -253,7 +253,7 @@ def source_specific(b):
     )
     yield Case(
         "range-and-others",
-        "groups outside of the range are as without it",
+        "groups outside the range do not depend on it",
         sections,
         [(0, b.older()), (1000, b.leave()), (1500, b.report((TO_EX, b.G2, [a])))],
         "--ssm --until 3000",
@@ -283,7 +283,7 @@ def large(b):
 
     yield Case(
         "full-query",
-        f"{most} sources go in one query, as large as it may be on an MTU of 1500",
+        f"{most} sources in one query, the largest on an MTU of 1500",
         sections,
         blocked(most),
         "--until 3000",
@@ -291,7 +291,7 @@ def large(b):
     )
     yield Case(
         "several-queries",
-        f"{most + 1} sources go in two queries: as many as one holds, and the greatest alone",
+        f"{most + 1} sources in two queries: a full one, and the greatest source alone",
         sections,
         blocked(most + 1),
         f"--group-sources {400 if b.family is IGMP else 90} --until 3000",
@@ -302,7 +302,7 @@ def large(b):
     number = len(again)
     yield Case(
         "several-queries-with-s",
-        "half of the blocked sources are allowed again: queries with S set, then with S clear, and no empty one",
+        "half of the blocked sources are allowed again: queries with S set, then with S clear, and no empty query",
         sections,
         [*blocked(number), (1500, b.report((ALLOW, g, again[::2])))],
         f"--group-sources {number} --until 2000",
@@ -312,7 +312,7 @@ def large(b):
     if b.family is IGMP:
         yield Case(
             "sending-of-1024-sources",
-            "1024 sources go in three queries",
+            "1024 sources in three queries",
             sections,
             blocked(1024),
             "--group-sources 1024 --until 3000",
@@ -322,7 +322,7 @@ def large(b):
 
 
 def dropping(b):
-    """Each reason to drop a message. A good one follows."""
+    """Each reason to drop a message. A correct message follows."""
     g, a = b.G, b.a
     good, host = (1000, b.report((ALLOW, g, [a]))), text_of(b.host)
     igmp = b.family is IGMP
@@ -341,9 +341,9 @@ def dropping(b):
     yield dropped(
         "truncated",
         1,
-        "a Report whose last source is cut",
+        "a Report with a truncated last source",
         ("4.2", "5.2"),
-        b.bare(cut.hex(), "a Report with a cut record"),
+        b.bare(cut.hex(), "a Report with a truncated record"),
         "the records before it are dropped too",
     )
     yield dropped(
@@ -356,7 +356,7 @@ def dropping(b):
     yield dropped(
         "unknown-type",
         3,
-        "a message of a type that is not listed",
+        "a message of an unknown type",
         ("4", "5"),
         b.bare("13000000" if igmp else "99000000", "a message of type 0x13" if igmp else "a message of type 153"),
     )
@@ -391,7 +391,7 @@ def dropping(b):
         yield dropped(
             "v1-query",
             9,
-            "a query of IGMPv1, whose routers elect none",
+            "a query of IGMPv1, which has no election",
             ("6.6.2, 7.1", ""),
             b.older_query(b.lower, version=1),
             "dropped and counted",
@@ -437,7 +437,7 @@ def dropping(b):
 
 
 def frames(b):
-    """What a frame may hold, each followed by a Report."""
+    """Contents of frames, each followed by a Report."""
     good = b.report((ALLOW, b.G, [b.a]))
     to, host, igmp = b.all_reports, text_of(b.host), b.family is IGMP
     body = wire.with_checksum(b.family, wire.report(b.family, [(ALLOW, b.G2, [b.b])]), b.host, to)
@@ -475,7 +475,7 @@ def frames(b):
         fragment = [
             ethernet(in_ip(flags=0x2000), "more fragments"),
             ethernet(in_ip(flags=1), "an offset"),
-            ethernet(in_ip(flags=0x2000)[:-1], "a fragment that is cut"),
+            ethernet(in_ip(flags=0x2000)[:-1], "a truncated fragment"),
         ]
     else:
         other = [
@@ -483,14 +483,14 @@ def frames(b):
             ethernet(whole[:6] + b"\6" + whole[7:], "TCP"),
             ethernet(whole[:4] + b"\0\7" + whole[6:], "a payload of 7 bytes with options"),
             ethernet(whole[:41] + b"\xff" + whole[42:], "options that are longer than the payload"),
-            ethernet(in_ip(following=17), "UDP behind options"),
+            ethernet(in_ip(following=17), "UDP after options"),
             ethernet(whole[:40] + b"\0" + whole[41:], "a second hop-by-hop header"),
         ]
         cut = [ethernet(whole[:39], "less than a header"), ethernet(whole[:-1], "less than the payload length")]
         fragment = [
             ethernet(whole[:6] + b"\x2c" + whole[7:], "a fragment"),
-            ethernet(whole[:40] + b"\x2c" + whole[41:], "a fragment behind options"),
-            ethernet(whole[:6] + b"\x2c" + whole[7:-1], "a fragment that is cut"),
+            ethernet(whole[:40] + b"\x2c" + whole[41:], "a fragment after options"),
+            ethernet(whole[:6] + b"\x2c" + whole[7:-1], "a truncated fragment"),
         ]
     yield case(
         "frames-other",
@@ -500,17 +500,17 @@ def frames(b):
     )
     yield case(
         "frames-cut",
-        "frames that were captured in part",
+        "frames captured in part",
         "cut",
-        [Step(arp.frame[:13], "less than an Ethernet header"), Step(wire.in_ethernet(whole, to, tag=tag)[:17], "a cut tag"), *cut],
+        [Step(arp.frame[:13], "less than an Ethernet header"), Step(wire.in_ethernet(whole, to, tag=tag)[:17], "a truncated tag"), *cut],
     )
-    yield case("frames-fragment", "fragments, which are not put together", "fragment", fragment)
+    yield case("frames-fragment", "fragments, which are not reassembled", "fragment", fragment)
     taken = [f"{at * 1000} receive {at + 1} {host} taken 1 0 0" for at in range(2)]
     yield case(
         "frames-tag",
-        "a Report behind a VLAN tag, and one with padding behind it",
+        "a Report after a VLAN tag, and a Report before padding",
         taken,
-        [ethernet(whole, "a Report behind a tag", tag=tag), ethernet(whole + bytes(18), "a Report with padding")],
+        [ethernet(whole, "a Report after a tag", tag=tag), ethernet(whole + bytes(18), "a Report with padding")],
     )
     bare = [Step(b"", "no byte"), Step(b"\x50" + whole[1:], "version 5")]
     yield case(
@@ -524,7 +524,7 @@ def frames(b):
     yield case("nanoseconds", "a capture with nanoseconds", taken[:1], [ethernet(whole, "a Report")], nanoseconds=True)
     yield case(
         "big-endian-nanoseconds",
-        "a capture with both",
+        "a capture in the other byte order, with nanoseconds",
         taken[:1],
         [ethernet(whole, "a Report")],
         order=">",
@@ -535,7 +535,7 @@ def frames(b):
             "ip-options",
             "IP options before the message",
             taken[:1],
-            [ethernet(in_ip(options=b"\x94\x04\0\0" + bytes(4)), "a Report behind 8 bytes of options")],
+            [ethernet(in_ip(options=b"\x94\x04\0\0" + bytes(4)), "a Report after 8 bytes of options")],
         )
         yield case(
             "do-not-fragment",
@@ -546,12 +546,12 @@ def frames(b):
     else:
         yield from alerts(case, lambda options, told: ethernet(in_ip(options=options), told), host)
         empty = [
-            ethernet(wire.in_ipv6(b"", b.host, to), "no byte behind options"),
-            ethernet(wire.in_ipv6(b"", b.host, to, None), "no byte behind the header"),
+            ethernet(wire.in_ipv6(b"", b.host, to), "no byte after options"),
+            ethernet(wire.in_ipv6(b"", b.host, to, None), "no byte after the header"),
         ]
         yield case(
             "empty-message",
-            "packets whose message is empty",
+            "packets with an empty message",
             [f"{at * 1000} receive {at + 1} {host} dropped 1" for at in range(2)],
             empty,
         )
@@ -560,12 +560,12 @@ def frames(b):
 
 
 def alerts(case, report, host):
-    """Where among the options of a hop-by-hop header Router Alert stands, and what is not one."""
+    """Places of Router Alert among the options of a hop-by-hop header, and options that are not Router Alert."""
     there = [
-        report(b"\0\1\4\0\0\0\0" + ALERT[:4] + b"\1\1\0", "behind Pad1 and PadN of 4, with PadN of 1 behind it"),
-        report(b"\0\0" + ALERT[:4], "behind two Pad1"),
-        report(b"\1\0" + ALERT[:4], "behind PadN of 0"),
-        report(b"\1\0\1\0\1\0" + ALERT[:4] + b"\1\2\0\0", "behind three PadN of 0, with PadN of 2 behind it"),
+        report(b"\0\1\4\0\0\0\0" + ALERT[:4] + b"\1\1\0", "after Pad1 and PadN of 4, before PadN of 1"),
+        report(b"\0\0" + ALERT[:4], "after two Pad1"),
+        report(b"\1\0" + ALERT[:4], "after PadN of 0"),
+        report(b"\1\0\1\0\1\0" + ALERT[:4] + b"\1\2\0\0", "after three PadN of 0, before PadN of 2"),
         report(ALERT[:4] + b"\1\xff", "before an option that does not fit"),
     ]
     yield case(
@@ -575,28 +575,28 @@ def alerts(case, report, host):
         there,
     )
     lacking = [
-        report(b"\1\xff" + ALERT[:4], "behind an option that does not fit"),
-        report(b"\1\5" + ALERT[:4], "behind an option that is a byte too long"),
-        report(b"\1\1\0" + ALERT[:3], "cut by the header's end"),
-        report(b"\0\1\3\0\0\0", "no such option: PadN ends with the header"),
+        report(b"\1\xff" + ALERT[:4], "after an option that does not fit"),
+        report(b"\1\5" + ALERT[:4], "after an option that is a byte too long"),
+        report(b"\1\1\0" + ALERT[:3], "truncated by the header's end"),
+        report(b"\0\1\3\0\0\0", "absent: PadN ends with the header"),
         report(b"\5\3\0\0\0\0", "another length"),
         report(b"\5\2\0\1\1\0", "another value"),
         report(b"\6\2\0\0\1\0", "another type"),
     ]
     yield case(
         "alert-not-there",
-        "Router Alert is not among the options",
+        "options without Router Alert",
         [f"{at * 1000} receive {at + 1} {host} dropped 7" for at in range(len(lacking))],
         lacking,
     )
 
 
 def family_case(b, other, good, host):
-    """A message of the other family is passed over."""
+    """A message of the other family is skipped."""
     it = Bench(FAMILIES[other])
     return Case(
         "other-family",
-        "a message of the other family is passed over",
+        "a message of the other family is skipped",
         ("no section", "no section"),
         [(0, it.older()), (1000, good)],
         own="the word `other`",

@@ -60,8 +60,7 @@ class Group:
         return set(self.sources) - self.running()
 
     def forwarded(self):
-        """What is forwarded of it, as a line has it: what these sources send, or all but that (RFC 3376 section 6.3, RFC 3810
-        section 7.3)."""
+        """The forwarded filter as a line has it: some sources, or all except some (RFC 3376 section 6.3, RFC 3810 section 7.3)."""
         if self.until is not None:
             return " ".join(["exclude", *(f"!{text_of(it)}" for it in sorted(self.stopped()))])
         return " ".join(["include", *(text_of(it) for it in sorted(self.running()))]) if self.running() else "none"
@@ -75,7 +74,7 @@ class Group:
         return [it for it in found if it is not None] + ([self.asked[1]] if self.asked else [])
 
     def sizes(self):
-        """What it is of the groups, of their sources and of the schedules."""
+        """Its share of the groups, of the sources and of the schedules."""
         return int(self.is_held()), len(self.sources), (self.asked is not None) + (self.due is not None)
 
     def settle(self):
@@ -99,8 +98,10 @@ class Group:
 
 
 def table(old, kind, named, new_timer):
-    """A record's row in the tables of RFC 3376 sections 6.4.1 and 6.4.2 (RFC 3810 sections 7.4.1 and 7.4.2): the new group, the
-    sources to ask for, and whether to ask for the group. `new_timer` is when an interval that begins now ends."""
+    """A record's row in the tables of RFC 3376 sections 6.4.1 and 6.4.2 (RFC 3810 sections 7.4.1 and 7.4.2).
+
+    It returns the new group, the sources to query, and whether to query the group. `new_timer` is the end of an interval that
+    begins now."""
     x, y, fresh, as_group, asked = old.running(), old.stopped(), set(), set(), set()
     is_exclude = old.until is not None
     until = old.until
@@ -129,12 +130,12 @@ def table(old, kind, named, new_timer):
 
 
 def is_source_specific(group):
-    """Whether a group is of 232.0.0.0/8 or ff3x::/32 (RFC 4604 section 1)."""
+    """Returns whether a group is in 232.0.0.0/8 or ff3x::/32 (RFC 4604 section 1)."""
     return group[0] == 232 if len(group) == 4 else group[0] == 0xFF and group[1] >> 4 == 3 and not any(group[2:4])
 
 
 class Querier:
-    """A link. What it sends goes to `lines`."""
+    """A link. Its queries go to `lines`."""
 
     def __init__(self, family, options):
         self.family, self.it, self.lines = family, options, []
@@ -143,7 +144,7 @@ class Querier:
         self.groups, self.now, self.sent = {}, 0, 0
         self.other, self.general, self.startup = None, 0, options.rv
         self.received, self.dropped, self.counts = 0, 0, [0, 0, 0]
-        # What each group was seen to be, after each step of an event.
+        # The states of each group, after each step of an event.
         self.seen = []
 
     def asking_time(self):
@@ -157,7 +158,7 @@ class Querier:
         election = self.general if self.other is None else self.other
         return min([election] + [moment for group in self.groups.values() for moment in group.moments()])
 
-    # What is sent.
+    # Queries.
 
     def send(self, group, sources, s, response):
         unit, bits = (100, 8) if self.family is IGMP else (1, 16)
@@ -197,7 +198,7 @@ class Querier:
         if late:
             group.due = self.now
 
-    # What happens.
+    # Events.
 
     def tick(self, moment):
         """Timers that end, the end of the other querier, the general query, and what is due for the groups."""
@@ -221,8 +222,7 @@ class Querier:
         return {it: group.forwarded() for it, group in self.groups.items()}
 
     def changes(self):
-        """The lines of the groups that the last event changed: of which another filter is forwarded after one of its steps than
-        before it."""
+        """The lines of the groups that the last event changed: their filter differs before and after one of its steps."""
         if not self.it.changes:
             return []
         steps = list(zip(self.seen, self.seen[1:]))
@@ -230,7 +230,7 @@ class Querier:
         return [f"{self.now} change {text_of(it)} {self.seen[-1].get(it, 'none')}" for it in sorted(groups)]
 
     def receive(self, packet, moment):
-        """What is done with a packet: how many of its records are applied, ignored and refused, or why it is dropped."""
+        """The result of a packet: counts of its applied, ignored and refused records, or why it is dropped."""
         self.tick(moment)
         self.received += 1
         try:
@@ -276,7 +276,7 @@ class Querier:
         return group[0] == 0xFF and group[1] & 15 > 1 and group != self.family.everyone
 
     def is_muted(self, kind, group, message, hosts):
-        """Whether a record is ignored for an older host or the source-specific range (RFC 3376 section 7.3.2, RFC 3810
+        """Returns whether a record is ignored because of an older host or the source-specific range (RFC 3376 section 7.3.2, RFC 3810
         section 8.3.2, RFC 4604 sections 3.1, 3.5 and 3.7)."""
         if self.it.ssm and is_source_specific(group) and (message.what != "report" or kind in (IS_EX, TO_EX)):
             return True
@@ -313,7 +313,7 @@ class Querier:
         return 0
 
     def fits(self, old, new):
-        """Whether the limits allow a group to change so."""
+        """Returns whether the limits allow a change of a group."""
         most = [self.it.groups, self.it.sources, self.it.scheduled]
         self.totals = [total - was + will for total, was, will in zip(self.totals, old.sizes(), new.sizes())]
         is_well = len(new.sources) <= self.most and all(total <= limit for total, limit in zip(self.totals, most))

@@ -21,7 +21,7 @@ MAGICS = {
 
 @dataclasses.dataclass(frozen=True)
 class Family:
-    """What the two families differ in."""
+    """The differences between the two families."""
 
     name: str
     size: int
@@ -43,7 +43,7 @@ FAMILIES = {"igmp": IGMP, "mld": MLD}
 
 
 class Fault(Exception):
-    """What is wrong with a message, and for 1 where."""
+    """The fault of a message, and its place for fault 1."""
 
     def __init__(self, number, at=0):
         super().__init__(number, at)
@@ -146,7 +146,7 @@ class Fields:
 
 
 def read(family, body, source=b"", to=b""):
-    """The message that a body spells, or its fault."""
+    """Parses a body: its message or its fault."""
     if len(body) < 4:
         raise Fault(1, min(len(body), 2))
     total = summed(pseudo_header(family, source, to, len(body)) + body)
@@ -381,7 +381,7 @@ def moments(records):
 
 
 def listing(data):
-    """What `show` writes of a capture, and the fault that ends it."""
+    """The text of `show` for a capture, and the fault that ends it."""
     said = []
     try:
         link, records = opened(data)

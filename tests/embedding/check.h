@@ -1,4 +1,4 @@
-/* What the programs of this folder share: facts that are counted. */
+/* Counted checks, shared by the programs of this folder. */
 #ifndef CHECK_H
 #define CHECK_H
 
@@ -10,30 +10,32 @@
 static int passed, failed;
 
 static void check(bool holds, const char *what, int line) {
-  if (holds) {
-    passed++;
-  } else {
-    failed++;
-    printf("line %d: %s\n", line, what);
-  }
+    if (holds) {
+        passed++;
+    } else {
+        failed++;
+        printf("line %d: %s\n", line, what);
+    }
 }
 
 #define CHECK(fact) check((fact), #fact, __LINE__)
 
-/* Whether these bytes are those of a text of hexadecimal digits. */
+/* Returns whether these bytes are those of a text of hexadecimal digits. */
 static inline bool are_bytes(const uint8_t *bytes, size_t length, const char *text) {
-  if (strlen(text) != 2 * length) return false;
-  for (size_t i = 0; i < length; i++) {
-    char digits[3];
-    snprintf(digits, sizeof digits, "%02x", bytes[i]);
-    if (memcmp(digits, text + 2 * i, 2)) return false;
-  }
-  return true;
+    if (strlen(text) != 2 * length)
+        return false;
+    for (size_t i = 0; i < length; i++) {
+        char digits[3];
+        snprintf(digits, sizeof digits, "%02x", bytes[i]);
+        if (memcmp(digits, text + 2 * i, 2))
+            return false;
+    }
+    return true;
 }
 
 static int told(void) {
-  printf("%d passed, %d failed\n", passed, failed);
-  return failed || !passed;
+    printf("%d passed, %d failed\n", passed, failed);
+    return failed || !passed;
 }
 
 #endif

@@ -1,0 +1,312 @@
+"""Queriers that do something wrong, and queriers that do everything right, for checks. Each has its capture, and the findings
+of the check, written by hand from the standards. `tools/queriers` compares the program and the model with them.
+
+A querier here has the default variables: Query Interval 125 s, Query Response Interval 10 s, Robustness Variable 2, Last Member
+Query Interval 1 s. It starts at 0, so its first interval may be that of a start, 31250 ms. What it has to do:
+
+| At (ms) | A host sends | The querier sends |
+|---|---|---|
+| 0 | | a General Query |
+| 5000 | TO_EX of the group A | |
+| 7000 | ALLOW of the sources S and T of the group B | |
+| 31250 | | a General Query |
+| 40000 | TO_IN of A, that is a leave | Q(A), and again at 41000 |
+| 50000 | BLOCK of S of B | Q(B,S), and again at 51000 |
+| 156250 | | a General Query |
+"""
+
+import dataclasses
+import functools
+
+import wire
+from wire import IGMP
+
+TO_IN, TO_EX, ALLOW, BLOCK = 3, 4, 5, 6
+GENERAL, LEFT, BLOCKED = "general", "left", "blocked"
+WITHIN, AGAIN = 100, 1000
+ROUTER_ALERT = b"\x94\x04\0\0"
+
+
+@dataclasses.dataclass(frozen=True)
+class Query:
+    """A query that a querier sends. `group` is None for all groups; `to` is None for the usual destination."""
+
+    at: int
+    why: str
+    group: bytes | None = None
+    sources: tuple = ()
+    s: bool = False
+    response: int = 1000
+    qrv: int = 2
+    seconds: int = 125
+    to: bytes | None = None
+    is_older: bool = False
+
+
+@dataclasses.dataclass(frozen=True)
+class Case:
+    """A querier, and what is found of it. `but` makes its queries of the right ones."""
+
+    what: str
+    but: object
+    found: tuple = ()
+    hosts: tuple = ()
+    words: tuple = ()
+    general: int = 3
+    specific: int = 4
+    form: object = None
+
+
+class Bench:
+    """The addresses of a family, and its frames."""
+
+    def __init__(self, family):
+        self.family = family
+        igmp = "10.0.0.1 10.0.0.0 10.0.0.7 10.0.0.50 239.1.1.1 232.1.1.1 239.1.1.2 10.9.0.1 10.9.0.2"
+        mld = "fe80::a fe80::1 fe80::e fe80::50 ff1e::1 ff3e::1 ff1e::2 2001:db8::1 2001:db8::2"
+        name = igmp if family is IGMP else mld
+        self.querier, self.lower, self.higher, self.host, self.A, self.B, self.C, self.S, self.T = map(wire.address, name.split())
+        self.zero, self.everyone = family.zero(), family.everyone
+        self.routers = wire.address("224.0.0.2" if family is IGMP else "ff02::2")
+
+    def code(self, milliseconds):
+        return wire.code_of(milliseconds // 100, 8) if self.family is IGMP else wire.code_of(milliseconds, 16)
+
+    def framed(self, body, source, to):
+        body = wire.with_checksum(self.family, body, source, to)
+        packet = wire.in_ipv4(body, source, to, ROUTER_ALERT) if self.family is IGMP else wire.in_ipv6(body, source, to)
+        return wire.in_ethernet(packet, to)
+
+    def query(self, it, source=None):
+        group = it.group or self.zero
+        to = it.to or it.group or self.everyone
+        if it.is_older:
+            kind = self.family.query
+            body = wire.older(self.family, kind, group, self.code(it.response))
+        else:
+            body = wire.query(self.family, group, it.sources, it.s, self.code(it.response), it.qrv, wire.code_of(it.seconds, 8))
+        return self.framed(body, source or self.querier, to)
+
+    def report(self, *records):
+        to = wire.address("224.0.0.22" if self.family is IGMP else "ff02::16")
+        return self.framed(wire.report(self.family, records), self.host, to)
+
+    def general(self, at):
+        return Query(at, GENERAL, response=10000)
+
+    def right(self):
+        """The queries of a querier that does everything right."""
+        left = [Query(at, LEFT, self.A) for at in (40000, 41000)]
+        blocked = [Query(at, BLOCKED, self.B, (self.S,)) for at in (50000, 51000)]
+        return [self.general(0), self.general(31250), *left, *blocked, self.general(156250)]
+
+    def events(self):
+        """What the host sends."""
+        return [
+            (5000, self.report((TO_EX, self.A, ()))),
+            (7000, self.report((ALLOW, self.B, (self.S, self.T)))),
+            (40000, self.report((TO_IN, self.A, ()))),
+            (50000, self.report((BLOCK, self.B, (self.S,)))),
+        ]
+
+    def capture(self, case):
+        """A case's capture. A query comes behind what a host sends at its moment."""
+        queries = case.but(self.right())
+        frames = [(at, 0, frame) for at, frame in [*self.events(), *case.hosts]] + [(it.at, 1, self.query(it)) for it in queries]
+        frames = [(at, frame) for at, _, frame in sorted(frames, key=lambda it: it[:2])]
+        return case.form(frames) if case.form else wire.capture(frames)
+
+
+# What changes the queries.
+
+
+def each(why, later=0, **fields):
+    """The queries that are sent for a reason with other fields, and so many milliseconds later."""
+    return lambda queries: [dataclasses.replace(it, at=it.at + later, **fields) if it.why == why else it for it in queries]
+
+
+def without(*moments):
+    return lambda queries: [it for it in queries if it.at not in moments]
+
+
+def having(*more):
+    return lambda queries: [*queries, *more]
+
+
+def moved(**moments):
+    """Queries at other moments: `m40000=40101`."""
+    to = {int(name[1:]): at for name, at in moments.items()}
+    return lambda queries: [dataclasses.replace(it, at=to.get(it.at, it.at)) for it in queries]
+
+
+def both(*changes):
+    return lambda queries: functools.reduce(lambda made, change: change(made), changes, queries)
+
+
+def as_it_is(queries):
+    return queries
+
+
+def differing(moments, what, *fields):
+    return tuple(f"{at} differs {what}: {field}" for at in moments for field in fields)
+
+
+def wrong(b):
+    """The queriers that do something wrong."""
+    igmp = b.family is IGMP
+    text = wire.text_of
+    a, s, t, other = text(b.A), f"{text(b.B)} {text(b.S)}", f"{text(b.B)} {text(b.T)}", text(b.C)
+    everyone, version = text(b.everyone), 3 if igmp else 2
+    zero = text(b.zero)
+    left, blocked, general = (40000, 41000), (50000, 51000), (0, 31250, 156250)
+    # For a leave.
+    yield Case("doesn't ask at a leave at once", without(40000), (f"40000 missing {a}",), specific=3)
+    yield Case("doesn't ask again at a leave", without(41000), (f"41000 missing {a}",), specific=3)
+    yield Case("doesn't ask at a leave", without(*left), (f"40000 missing {a}", f"41000 missing {a}"), specific=2)
+    yield Case("asks three times at a leave", having(Query(42000, LEFT, b.A)), (f"42000 extra {a}",), specific=5)
+    yield Case("asks twice at each moment", having(Query(40000, LEFT, b.A), Query(41000, LEFT, b.A)), (f"40000 extra {a}", f"41000 extra {a}"), specific=6)
+    yield Case("asks a millisecond too late at a leave", moved(m40000=40101), (f"40000 missing {a}", f"40101 extra {a}"))
+    yield Case("asks again a millisecond too late", moved(m41000=41101), (f"41000 missing {a}", f"41101 extra {a}"))
+    yield Case("asks again half a second too early", moved(m41000=40500), (f"40500 extra {a}", f"41000 missing {a}"))
+    yield Case("asks before the leave", moved(m40000=39899), (f"39899 extra {a}", f"40000 missing {a}"))
+    yield Case("sets S in queries for a group", each(LEFT, s=True), differing(left, a, "s 1, wanted 0"))
+    yield Case("says the Query Response Interval in queries for a group", each(LEFT, response=10000), differing(left, a, "response 10000, wanted 1000"))
+    yield Case("says another QRV in queries for a group", each(LEFT, qrv=3), differing(left, a, "qrv 3, wanted 2"))
+    yield Case("says no QRV in queries for a group", each(LEFT, qrv=0), differing(left, a, "qrv 0, wanted 2"))
+    yield Case("says another Query Interval in queries for a group", each(LEFT, seconds=60), differing(left, a, "interval 60, wanted 125"))
+    yield Case("sends queries for a group to all hosts", each(LEFT, to=b.everyone), differing(left, a, f"to {everyone}, wanted {a}"))
+    yield Case("sends queries for a group to another one", each(LEFT, to=b.C), differing(left, a, f"to {other}, wanted {a}"))
+    yield Case("sends older queries for a group", each(LEFT, is_older=True), differing(left, a, f"version {version - 1}, wanted {version}"))
+    two = tuple(f"{at} {what} {which}" for at in left for what, which in (("missing", a), ("extra", other)))
+    yield Case("asks for another group", each(LEFT, group=b.C), two)
+    yield Case("sets S and says another QRV", each(LEFT, s=True, qrv=1), differing(left, a, "s 1, wanted 0", "qrv 1, wanted 2"))
+    yield Case(
+        "asks all groups at a leave",
+        both(without(*left), having(b.general(40000), b.general(41000))),
+        (
+            f"40000 missing {a}", "40000 general after 8750, wanted 125000", f"41000 missing {a}",
+            "41000 general after 1000, wanted 125000", "156250 general after 115250, wanted 125000",
+        ),
+        general=5,
+        specific=2,
+    )
+    # For a source that is blocked.
+    yield Case("doesn't ask for a blocked source at once", without(50000), (f"50000 missing {s}",), specific=3)
+    yield Case("doesn't ask again for a blocked source", without(51000), (f"51000 missing {s}",), specific=3)
+    yield Case("doesn't ask for a blocked source", without(*blocked), (f"50000 missing {s}", f"51000 missing {s}"), specific=2)
+    yield Case("asks for all sources of the group", each(BLOCKED, sources=(b.S, b.T)), (f"50000 extra {t}", f"51000 extra {t}"))
+    swapped = tuple(f"{at} {what}" for at in blocked for what in (f"missing {s}", f"extra {t}"))
+    yield Case("asks for another source", each(BLOCKED, sources=(b.T,)), swapped)
+    grouped = tuple(f"{at} {what}" for at in blocked for what in (f"missing {s}", f"extra {text(b.B)}"))
+    yield Case("asks for the group of a blocked source", each(BLOCKED, sources=()), grouped)
+    yield Case("names the blocked source twice", each(BLOCKED, sources=(b.S, b.S)), (f"50000 extra {s}", f"51000 extra {s}"))
+    yield Case("sets S in queries for sources", each(BLOCKED, s=True), differing(blocked, s, "s 1, wanted 0"))
+    yield Case("says another response for sources", each(BLOCKED, response=500), differing(blocked, s, "response 500, wanted 1000"))
+    yield Case("sends queries for sources to all hosts", each(BLOCKED, to=b.everyone), differing(blocked, s, f"to {everyone}, wanted {text(b.B)}"))
+    yield Case("asks a third time for a source", having(Query(52000, BLOCKED, b.B, (b.S,))), (f"52000 extra {s}",), specific=5)
+    yield Case("asks for a source a second too late", each(BLOCKED, later=1000), (f"50000 missing {s}", f"52000 extra {s}"))
+    # Where nothing is to be asked.
+    yield Case("asks when a host joins", having(Query(5000, "joined", b.A)), (f"5000 extra {a}",), specific=5)
+    yield Case("asks when a source is allowed", having(Query(7000, "allowed", b.B, (b.S,))), (f"7000 extra {s}",), specific=5)
+    yield Case("asks for a group that nobody reports", having(Query(60000, "nothing", b.C)), (f"60000 extra {other}",), specific=5)
+    # General queries.
+    yield Case("says the wrong response in general queries", each(GENERAL, response=1000), differing(general, zero, "response 1000, wanted 10000"))
+    yield Case("sets S in general queries", each(GENERAL, s=True), differing(general, zero, "s 1, wanted 0"))
+    yield Case("says another QRV in general queries", each(GENERAL, qrv=7), differing(general, zero, "qrv 7, wanted 2"))
+    yield Case("says another Query Interval in general queries", each(GENERAL, seconds=31), differing(general, zero, "interval 31, wanted 125"))
+    yield Case("sends general queries to all routers", each(GENERAL, to=b.routers), differing(general, zero, f"to {text(b.routers)}, wanted {everyone}"))
+    yield Case("sends older general queries", each(GENERAL, is_older=True), differing(general, zero, f"version {version - 1}, wanted {version}"))
+    yield Case(
+        "starts twice as slowly",
+        moved(m31250=62500, m156250=187500),
+        ("62500 general after 62500, wanted 125000",),
+    )
+    yield Case("sends a general query too early", moved(m156250=156149), ("156149 general after 124899, wanted 125000",))
+    yield Case("sends a general query too late", moved(m156250=156351), ("156351 general after 125101, wanted 125000",))
+    yield Case("asks each minute", both(without(156250), having(*map(b.general, (91250, 151250)))), (
+        "91250 general after 60000, wanted 125000", "151250 general after 60000, wanted 125000"), general=4)
+    yield Case("sends no general query any more", without(156250), ("300000 general none for 268750, wanted 125000",), words=("--until", "300000"), general=2)
+    yield Case("sends no general query", without(*general), ("300000 general none for 300000, wanted 125000",), words=("--until", "300000"), general=0)
+    yield Case("sends two general queries at once", having(b.general(31251)), ("31251 general after 1, wanted 125000",), general=4)
+    # The election: another querier with a lower address is heard at 60000, and is gone 255000 later.
+    heard = (60000, b.query(b.general(60000), b.lower))
+    yield Case("goes on beside a lower querier", as_it_is, (f"156250 extra {zero}",), hosts=(heard,), words=("--until", "160000"))
+    late = (70000, b.report((TO_EX, b.A, ()))), (80000, b.report((TO_IN, b.A, ())))
+    yield Case(
+        "answers a leave beside a lower querier",
+        both(without(156250), having(Query(80000, LEFT, b.A), Query(81000, LEFT, b.A))),
+        (f"80000 extra {a}", f"81000 extra {a}"),
+        hosts=(heard, *late),
+        words=("--until", "90000"),
+        general=2,
+        specific=6,
+    )
+    yield Case("doesn't come back when the lower querier is gone", without(156250), (f"315000 missing {zero}",), hosts=(heard,), words=("--until", "320000"), general=2)
+    yield Case("comes back too early", both(without(156250), having(b.general(314000))), (f"314000 extra {zero}", f"315000 missing {zero}"), hosts=(heard,), words=("--until", "320000"))
+    yield Case("gives way to a higher querier", without(156250), ("300000 general none for 268750, wanted 125000",), hosts=((60000, b.query(b.general(60000), b.higher)),), words=("--until", "300000"), general=2)
+
+
+def right(b):
+    """The queriers that do everything right."""
+    heard = (60000, b.query(b.general(60000), b.lower))
+    yield Case("is on time", as_it_is)
+    yield Case("is as late as the tolerance allows", both(*(each(why, later=WITHIN) for why in (GENERAL, LEFT, BLOCKED))))
+    yield Case("answers before the leave is captured", moved(m40000=39900, m41000=40900))
+    yield Case("is late at a leave and early behind it", moved(m40000=40100, m41000=40900))
+    yield Case("sends nothing but its start", without(156250), general=2)
+    yield Case("starts with the capture under way", without(0), general=2)
+    yield Case("is silent for an interval at the start of the capture", moved(m0=125000, m31250=250000, m156250=375000))
+    yield Case("gives way to a lower querier", without(156250), hosts=(heard,), general=2)
+    yield Case("comes back when the lower querier is gone", both(without(156250), having(b.general(315000))), hosts=(heard,), words=("--until", "320000"))
+    yield Case("still asks while another takes the role", both(without(156250), having(b.general(60100))), hosts=(heard,))
+    yield Case("stays beside a higher querier", as_it_is, hosts=((60000, b.query(b.general(60000), b.higher)),))
+    yield Case("hears itself reported to", as_it_is, hosts=((6000, b.report((TO_EX, b.A, ()))), (8000, b.report((ALLOW, b.B, (b.S,))))))
+    yield Case("is captured with nanoseconds", as_it_is, form=lambda frames: wire.capture(frames, nanoseconds=True))
+    yield Case("is captured in the other byte order", as_it_is, form=lambda frames: wire.capture(frames, order=">"))
+    yield Case("is captured behind a tag", as_it_is, form=lambda frames: wire.capture([(at, frame[:12] + b"\x81\0\0\7" + frame[12:]) for at, frame in frames]))
+    yield Case("is captured without Ethernet", as_it_is, form=lambda frames: wire.capture([(at, frame[14:]) for at, frame in frames], 101))
+    yield Case("is captured among other frames", as_it_is, hosts=tuple((at, bytes(12) + b"\x08\x06" + bytes(28)) for at in (10, 40000, 40500, 50500)))
+    yield Case("is captured with frames that are cut", as_it_is, hosts=tuple((at, b.report((TO_EX, b.C, ()))[:30]) for at in (12000, 40500)))
+    yield Case("hears a group of a higher querier asked for", as_it_is, hosts=((20000, b.query(Query(20000, LEFT, b.C), b.higher)),))
+    yield Case("names its interval by --lmqi", both(each(LEFT, response=500), each(BLOCKED, response=500), moved(m41000=40500, m51000=50500)), words=("--lmqi", "500"))
+
+
+def other_readings(b):
+    """Queriers that read a sentence of the standards in the other way (docs/READINGS.md), with what a check finds of them."""
+    a, s, zero = wire.text_of(b.A), f"{wire.text_of(b.B)} {wire.text_of(b.S)}", wire.text_of(b.zero)
+    left_again, blocked_again = (40400, b.report((TO_IN, b.A, ()))), (50400, b.report((BLOCK, b.B, (b.S,))))
+    other_blocked = (50400, b.report((BLOCK, b.B, (b.T,))))
+    ask_group, ask_source = (lambda at: Query(at, LEFT, b.A)), (lambda at, *sources: Query(at, BLOCKED, b.B, sources))
+    # A change that comes again.
+    later = both(without(41000), having(ask_group(40400), ask_group(41400)))
+    yield Case("starts the count of a group anew", later, hosts=(left_again,), specific=5)
+    yield Case("keeps both schedules of a group", both(later, having(ask_group(41000))), (f"41000 extra {a}",), hosts=(left_again,), specific=6)
+    yield Case("asks nothing at a leave that comes again", as_it_is, (f"40400 missing {a}", f"41000 extra {a}", f"41400 missing {a}"), hosts=(left_again,))
+    yield Case("waits with a source that is blocked again", as_it_is, hosts=(blocked_again,))
+    yield Case("asks at once for a source that is blocked again", having(ask_source(50400, b.S)), (f"50400 extra {s}",), hosts=(blocked_again,), specific=5)
+    # A source that waits, beside a new one.
+    together = both(without(51000), having(ask_source(50400, b.S, b.T), ask_source(51400, b.T)))
+    yield Case("names a source that waits in the new sending", together, hosts=(other_blocked,), specific=5)
+    apart = having(ask_source(50400, b.T), ask_source(51400, b.T))
+    yield Case("asks for each source at its own moments", apart, (f"50400 missing {s}", f"51000 extra {s}"), hosts=(other_blocked,), specific=6)
+    # A query for sources with S set, beside one for their group.
+    excluded = (55000, b.report((TO_EX, b.C, ()))), (56000, b.report((ALLOW, b.C, (b.S,))))
+    gone = (*excluded, (60000, b.report((TO_IN, b.C, ()))), (60500, b.report((ALLOW, b.C, (b.S,)))))
+    asked = [Query(at, LEFT, b.C) for at in (60000, 61000)] + [Query(60000, LEFT, b.C, (b.S,))]
+    half = Query(61000, LEFT, b.C, (b.S,), s=True)
+    yield Case("sends the half with S set", having(*asked, half), hosts=gone, specific=8)
+    yield Case("leaves out the half with S set", having(*asked), hosts=gone, specific=7)
+    clear = f"61000 differs {wire.text_of(b.C)} {wire.text_of(b.S)}: s 0, wanted 1"
+    yield Case("sends the half with S clear", having(*asked, dataclasses.replace(half, s=False)), (clear,), hosts=gone, specific=8)
+    yield Case("leaves out a half with S clear", having(asked[0], asked[1], half), (f"60000 missing {wire.text_of(b.C)} {wire.text_of(b.S)}",), hosts=gone, specific=7)
+    # A retransmission behind a late query.
+    yield Case("counts a retransmission from the first moment", moved(m40000=40060, m41000=41060))
+    yield Case("counts a late retransmission from a late query", moved(m40000=40060, m41000=41120), (f"41000 missing {a}", f"41120 extra {a}"))
+    # A group from before the capture.
+    known = (90000, b.report((TO_IN, b.C, ())))
+    held, other = having(Query(90000, LEFT, b.C), Query(91000, LEFT, b.C)), wire.text_of(b.C)
+    yield Case("knows no group from before the capture", as_it_is, hosts=(known,))
+    yield Case("knows a group from before the capture", held, (f"90000 extra {other}", f"91000 extra {other}"), hosts=(known,), specific=6)
+    # The phase of general queries.
+    yield Case("counts an interval from the query before", moved(m31250=31300, m156250=156350))
+    yield Case("counts intervals from the first query", moved(m31250=31350, m156250=156250))
