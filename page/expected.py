@@ -12,7 +12,7 @@ GROUP_SOURCES = {"igmp": 366, "mld": 89}
 def run(program, words, data):
     """What the program writes of a capture, and what it says of a fault."""
     ran = subprocess.run([program, *words], input=data, capture_output=True, check=False)
-    return ran.stdout, "" if ran.returncode in (0, 3) else ran.stderr.decode()
+    return ran.stdout, "" if ran.returncode in (0, 3, 4) else ran.stderr.decode()
 
 
 def converted(program, data):
@@ -53,7 +53,7 @@ def marks(found, family):
         if words[3:4] == [family] and words[4] != "fault":
             count += max(1, line.count("["))
     count += sum(line.split()[1] == "send" for line in found["replay"].decode().splitlines())
-    return count + sum(not line.startswith("checked") for line in found["check"].decode().splitlines())
+    return count + sum(line[0].isdigit() for line in found["check"].decode().splitlines())
 
 
 def bars(found):

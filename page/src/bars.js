@@ -55,7 +55,7 @@ export class Bars {
     else this.states.set(group, after);
   }
 
-  // Sources keep their places in `before` where they are as they were; the others end, and new ones begin.
+  // Unchanged sources keep their places in `before`. The others end, and new ones begin.
   changeSources(time, group, words, line, before, after) {
     for (const word of words) {
       const kept = before.get(word);

@@ -15,7 +15,7 @@ export class Column {
     this.items[this.length++] = value;
   }
 
-  // What was pushed, in memory of its own.
+  // Returns the pushed values, in their own memory.
   taken() {
     return this.items.slice(0, this.length);
   }

@@ -1,4 +1,4 @@
-// What a person does: files that come in, the form, buttons.
+// User input: files, the form, buttons.
 
 export function base64Bytes(base64) {
   return Uint8Array.from(atob(base64), (it) => it.charCodeAt(0));

@@ -1,4 +1,4 @@
-// What a mark or a bar says, in words, and the section of the standard that it stands on.
+// The description of a mark or a bar, and its section of the standard.
 
 import { ZERO } from "./addresses.js";
 import { firstAtLeast } from "./columns.js";

@@ -1,4 +1,4 @@
-// What the text of a check says: its findings, and the line of the totals.
+// The findings in a check's text. The lines behind them have totals, packets and the querier.
 
 import { KIND } from "./kinds.js";
 import { Table } from "./columns.js";

@@ -1,4 +1,4 @@
-// The shapes of marks and bars. A mark is told by its shape and its filling, not by its colour.
+// The shapes of marks and bars. Shape and filling distinguish a mark, not its colour.
 
 // Each draws a path around the origin, and says how it is painted.
 const SHAPES = {
@@ -33,8 +33,8 @@ function strokes(pen, ...lines) {
   }
 }
 
-// The shape in the colour `mark`, with an edge of `ground` that sets it off from what it stands on. One that is dropped is
-// struck through.
+// Draws the shape in the colour `mark`, with an edge of `ground` that separates it from its background. A dropped mark is struck
+// through.
 export function drawGlyph(pen, glyph, x, y, colours, isDropped = false) {
   pen.save();
   pen.translate(x, y);
@@ -76,7 +76,7 @@ function hatch(pen, x, y, width, height, step) {
   pen.restore();
 }
 
-// EXCLUDE is full, INCLUDE hatched; a source that is forwarded full, one that is stopped an empty frame with a line through it.
+// EXCLUDE is full, INCLUDE hatched. A forwarded source is full, a stopped source an empty frame with a line through it.
 const BAR_PAINTERS = {
   EXCLUDE(pen, x, y, width, height, colours) {
     pen.fillStyle = colours.exclude;

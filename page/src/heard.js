@@ -1,4 +1,4 @@
-// What a listing (the text of `show`) says of the messages of one family: marks, and the variables of its first querier.
+// The messages of one family in a listing (the text of `show`): marks, and the variables of its first querier.
 
 import { ZERO } from "./addresses.js";
 import { KIND } from "./kinds.js";
@@ -83,12 +83,12 @@ export class Heard {
     }
   }
 
-  // Whether a querier can have the address.
+  // Returns whether a querier can have the address.
   isQuerier(source) {
     return this.family === "igmp" ? source !== ZERO.igmp : /^fe[89ab]/.test(source);
   }
 
-  // What the first general query says of its querier, as settings; null where there is none.
+  // Returns the settings of the querier in the first general query, or null.
   querier() {
     if (!this.general) return null;
     const { own, rv, qi, response } = this.general;
@@ -97,7 +97,7 @@ export class Heard {
   }
 }
 
-// What is heard of each family in a listing.
+// Returns the messages of each family in a listing.
 export function heardIn(bytes, tell) {
   const heard = { igmp: new Heard("igmp"), mld: new Heard("mld") };
   eachLine(

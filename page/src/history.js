@@ -24,7 +24,7 @@ function pickAll(columns, places) {
   return Object.fromEntries(Object.entries(columns).map(([name, items]) => [name, pick(items, places)]));
 }
 
-// Row 0 is of all groups; behind it each group, ascending, with its sources, ascending, below it.
+// Returns the rows: row 0 for all groups, then each group in ascending order with its sources in ascending order below it.
 function rowsOf(family, groups, bars) {
   const sourcesOf = new Map();
   bars.sources.forEach(({ group, text }, at) => {
@@ -56,7 +56,7 @@ function markColumns(count) {
   };
 }
 
-// What all three kinds of marks have: `kindAt` says which kind the mark at a place of the table is.
+// Adds the common fields of all three kinds of marks. `kindAt` returns the kind of the mark at a place of the table.
 function putMarks(all, first, table, rows, kindAt) {
   for (let at = 0; at < table.length; at++) {
     all.time[first + at] = table.time.items[at];

@@ -1,4 +1,4 @@
-// What marks and bars look like, with their names: those that a history has.
+// The legend: the marks and bars of a history, with their names.
 
 import { drawBar, drawGlyph } from "./glyphs.js";
 import { BARS, KIND, KINDS, LANES } from "./kinds.js";

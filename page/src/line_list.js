@@ -1,4 +1,4 @@
-// A list of lines of which only those in view are in the document. Keys move the current line; screen readers are told of it.
+// A list of lines; only the visible ones are in the document. Keys move the current line, which screen readers announce.
 
 const LINE = 20;
 // Browsers bound how high an element can be; a longer list is scrolled by shares.

@@ -5,7 +5,7 @@ import { Column } from "./columns.js";
 const LINE_FEED = 10;
 const CHUNK = 1 << 16;
 
-// The offsets at which lines begin, and behind them the length of the text.
+// Returns the offsets at which lines begin, followed by the length of the text.
 export function lineStarts(bytes) {
   const starts = new Column(Uint32Array);
   starts.push(0);

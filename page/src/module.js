@@ -1,7 +1,7 @@
-// All calls of the module, which is made of the proved crates. It runs in the Worker.
+// All calls of the module, which consists of the proved crates. It runs in the Worker.
 //
-// The module's memory has addresses of 64 bits. A call is handed addresses and lengths of what it is lent: the capture, the
-// settings, memory for its work, and memory for its text. The answer stands at the address that comes first.
+// The module's memory has addresses of 64 bits. A call receives addresses and lengths: of the capture, the settings, memory for its
+// work, and memory for its text. The first address is that of the result.
 
 import { addressBytes } from "./addresses.js";
 
@@ -14,20 +14,20 @@ const LEAST_TEXT = 1 << 16;
 const LEAST_WORK = 1 << 26;
 const NO_END = 2n ** 64n - 1n;
 
-// The settings as they stand in memory: numbers of 4 bytes, and behind them the end, of 8 bytes.
+// The settings in memory: numbers of 4 bytes, then the end, of 8 bytes.
 const PACKED = ["rv", "qi", "qri", "lmqi", "groups", "group_sources", "sources", "scheduled", "ssm", "changes", "within", "cite"];
 const UNTIL = 4 * PACKED.length;
 const SETTINGS = UNTIL + 8;
 const ANSWER = 3 * 8;
 
-// One call: an instance with a memory of its own, of which parts are lent from its end on.
+// One call: an instance with its own memory, which grows at its end for each argument.
 class Call {
   constructor(compiled) {
     this.exports = new WebAssembly.Instance(compiled, {}).exports;
     this.memory = this.exports.memory;
   }
 
-  // So many bytes that nothing else uses.
+  // Returns `length` unused bytes.
   lend(length) {
     const at = this.memory.buffer.byteLength;
     this.memory.grow(BigInt(Math.ceil(length / PAGE) || 1));
@@ -64,7 +64,7 @@ function settingsBytes(settings) {
   return new Uint8Array(view.buffer);
 }
 
-// What a call of a querier is handed before the capture.
+// Returns the arguments of a querier's call before the capture.
 function querierOf(call, settings) {
   const own = addressBytes(settings.own, settings.family);
   return [call.lendBytes(own).at, call.lendBytes(settingsBytes(settings)).at];
@@ -100,8 +100,7 @@ export class Module {
     return this.run(`page_check_${settings.family}`, bytes, { ...settings, changes: false });
   }
 
-  // Runs an export until its text fits and its memory suffices: each time it is lent twice as much. The work wants room for as
-  // much text again.
+  // Runs an export until its text fits and its memory suffices, each time with twice as much. The work needs room for the text too.
   run(name, bytes, settings = null) {
     for (let room = LEAST_TEXT + 2 * bytes.length, work = LEAST_WORK; ; ) {
       const call = new Call(this.compiled);

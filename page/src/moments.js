@@ -16,7 +16,7 @@ export function stepFor(span, most) {
   return STEPS.find((it) => it >= least) ?? Math.ceil(least / (24 * HOUR)) * 24 * HOUR;
 }
 
-// A moment in seconds, minutes and hours, with milliseconds where they are told.
+// Returns a time in seconds, minutes and hours, with milliseconds if asked.
 export function momentText(milliseconds, withMilliseconds = true) {
   const hours = Math.floor(milliseconds / HOUR);
   const minutes = Math.floor((milliseconds % HOUR) / MINUTE);

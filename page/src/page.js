@@ -36,7 +36,7 @@ function number(count, one, many) {
 }
 
 function showFaults() {
-  // The fault of a capture ends all texts, and is told once.
+  // The fault of a capture ends all texts, and is shown once.
   const sentences = [...new Set(Object.values(state.faults))].filter(Boolean);
   $("faults").replaceChildren(
     ...sentences.map((sentence) => {
@@ -63,7 +63,7 @@ function count(name, words) {
   $(name).parentElement.querySelector(".count").textContent = words;
 }
 
-// Runs some work, of which each failure becomes a sentence. Work that was started later makes this one void.
+// Runs some work. Each failure becomes a sentence. Work that starts later makes this work void.
 async function work(task) {
   const run = ++state.run;
   setState("working");
@@ -90,7 +90,7 @@ function start() {
   });
 }
 
-// Another Worker takes the place of the one that is stopped, which had the capture.
+// Stops the Worker that has the capture, and starts another one.
 function stop() {
   hideResults();
   client.stop();
@@ -145,7 +145,7 @@ function fillInFamily(family) {
   $("origin").textContent = `${from}; ${number(messages, "message", "messages")} of ${name}.`;
 }
 
-// A querier is checked where the capture has one, or a person gave another address than the one that stands for none.
+// Returns whether to check a querier: the capture has one, or the user gave an address other than the default.
 function isChecked(settings) {
   const { querier, settings: first } = state.opened.families[settings.family];
   return querier !== null || settings.own !== first.own;

@@ -1,4 +1,4 @@
-// Mouse, pen and fingers on the picture: a click chooses, one that moves drags, two fingers zoom.
+// Mouse, pen and fingers on the picture: a click selects, a movement drags, two fingers zoom.
 
 const LEAST_DRAG = 4;
 

@@ -1,4 +1,4 @@
-// What the text of a replay with changes says: queries that are sent, what became of each message, and bars.
+// The contents of a replay's text with changes: sent queries, the result of each message, and bars.
 
 import { Bars } from "./bars.js";
 import { Column, Table } from "./columns.js";

@@ -10,7 +10,7 @@ import { TimeWindow } from "./window.js";
 const NARROW = 600;
 const NEAR = 8;
 const ZOOM = 1.5;
-// What stands free below the last row.
+// The free space below the last row.
 const FOOT = 8;
 
 export class Timeline {
@@ -149,7 +149,7 @@ export class Timeline {
     if (hit) this.onSelect(hit);
   }
 
-  // The mark or bar at a place, or null. Of marks at one place each click finds another one.
+  // Returns the mark or bar at a place, or null. If several marks are at one place, each click finds another one.
   hit({ x, y }) {
     const row = this.layout.rowAt(y - AXIS_HEIGHT + this.box.scrollTop);
     if (row < 0 || y < AXIS_HEIGHT || x < this.labelWidth) return null;

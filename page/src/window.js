@@ -19,7 +19,7 @@ export class TimeWindow {
     this.set(this.least, this.most);
   }
 
-  // Moves the window into what there is, and answers whether it is another one.
+  // Moves the window into the capture's time, and returns whether it changed.
   set(from, to) {
     const before = [this.from, this.to];
     const span = Math.min(Math.max(to - from, LEAST), this.most - this.least);

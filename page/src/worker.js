@@ -9,7 +9,7 @@ import { Module, STATUS } from "./module.js";
 import { replayedIn } from "./replayed.js";
 import { defaultsOf } from "./settings.js";
 
-// What a listing comes to where the file may be one to convert.
+// The statuses of a listing whose file may be convertible.
 const MAY_BE_CONVERTED = [STATUS.otherMagic, STATUS.otherLinkType];
 
 const held = { module: null, capture: null, heard: null };
@@ -47,7 +47,7 @@ async function listed(bytes) {
   return { bytes: converted.text, listing: await held.module.show(converted.text), converted };
 }
 
-// What the page is told of a family: how many messages there are, and the settings to begin with.
+// Returns the number of messages of a family, and its initial settings.
 function familyIn(heard) {
   const found = heard.querier();
   const first = heard.general ? heard.general.line : Infinity;
