@@ -18,6 +18,9 @@ ARCHIVE := $(archive_for_$(TARGET))
 # The number is MQ_VERSION of the header.
 SONAME := libmquerier.so.$(VERSION)
 SHARED := $(dir $(ARCHIVE))$(SONAME)
+CAPTURES := lib/libmquerier-captures.so.$(VERSION)
+# The interpreter that makes and tests the package for Python.
+PYTHON ?= /usr/bin/python3
 ifeq ($(ARCHIVE),)
 $(error TARGET=$(TARGET): the library is made for x86_64-unknown-linux-gnu and for aarch64-unknown-linux-gnu)
 endif
@@ -46,7 +49,7 @@ needs-cross:
 needs-gate:
 	@tools/needs rt bash git python3
 needs-test:
-	@tools/needs rt bash git python3 cc c++ nm valgrind
+	@tools/needs rt bash git python3 cc c++ clang-format-14 nm valgrind
 needs-live:
 	@tools/needs rt bash python3 $(CC) ip bridge tc nft setpriv
 needs-conform:
@@ -57,9 +60,9 @@ needs-arm:
 	@tools/needs rt bash python3 nm $(CC) $(CROSS_COMPILE)gcc qemu-aarch64
 
 needs-wheel:
-	@tools/needs git pip3
+	@PYTHON=$(PYTHON) tools/needs git python3-pip python3-setuptools python3-wheel
 needs-bindings:
-	@tools/needs git pip3 pytest-3 scapy cargo rustc cargo-clippy valgrind
+	@PYTHON=$(PYTHON) tools/needs python3-pip python3-pytest python3-scapy cargo rustc cargo-clippy pkg-config valgrind
 
 # Proves the crates that the program stands on, builds it, and runs it once.
 bin/mquerier: $(SOURCES) | needs-build
@@ -90,9 +93,9 @@ $(AARCH64)/libmquerier.a: $(SOURCES) | needs-build
 	@cp crates/mq_c/out/libmq_c.a $@
 	@echo "$@ is built"
 
-# The calls of the header and no other symbol; the link without a number is what a linker looks for.
-SHARING = -shared -nostdlib -Wl,-soname,$(SONAME) -Wl,--version-script=include/libmquerier.map -Wl,-z,defs -Wl,-z,noexecstack \
-    -Wl,--whole-archive $(filter %.a,$^) -Wl,--no-whole-archive -lc -o $@
+# The calls of the map and no other symbol; the link without a number is what a linker looks for.
+SHARING = -shared -nostdlib -Wl,-soname,$(@F) -Wl,--version-script=$(filter %.map,$^) -Wl,-z,defs -Wl,-z,noexecstack \
+    -Wl,--whole-archive $(filter %.a,$^) -Wl,--no-whole-archive -lc -lgcc -o $@
 lib/$(SONAME): lib/libmquerier.a include/libmquerier.map | needs-library
 	@$(CC) $(SHARING)
 	@ln -sf $(SONAME) $(@D)/libmquerier.so
@@ -103,26 +106,21 @@ $(AARCH64)/$(SONAME): $(AARCH64)/libmquerier.a include/libmquerier.map | needs-c
 	@ln -sf $(SONAME) $(@D)/libmquerier.so
 	@echo "$@ is built"
 
-# The package for Python, with the shared library inside and the program, which reads captures. `make wheel CAPTURES=$(CAPTURED)` has
-# the shared library of the page's crate inside instead of the program (bindings/python/README.md).
-PYTHON ?= /usr/bin/python3
-CAPTURES ?= bin/mquerier
-WHEEL := dist/mquerier-$(VERSION)-py3-none-manylinux_2_34_x86_64.whl
+# The package for Python, with both shared libraries inside.
+WHEEL := dist/mquerier-$(VERSION)-py3-none-manylinux2014_x86_64.whl
 wheel: $(WHEEL)
 
-$(WHEEL): lib/$(SONAME) $(CAPTURES) $(wildcard bindings/python/* bindings/python/mquerier/*.py) tools/wheel | needs-wheel
-	@PYTHON=$(PYTHON) tools/wheel lib/$(SONAME) $(CAPTURES)
+$(WHEEL): lib/$(SONAME) $(CAPTURES) $(wildcard bindings/python/*.* bindings/python/mquerier/*.*) tools/wheel | needs-wheel
+	@PYTHON=$(PYTHON) tools/wheel $(filter lib/%,$^)
 	@echo "$@ is built"
 
-# The crate of the page for this processor, as a shared library: its calls over captures.
-CAPTURED := lib/libmquerier-captures.so.$(VERSION)
-lib/libmq_page.a: $(SOURCES) | needs-build
+# The crate of the page for this processor, as a shared library whose calls read captures.
+lib/libmq_page.a: $(SOURCES) | needs-library
 	@tools/build --captures
 	@cp crates/mq_page/out/libmq_page.a $@
 
-$(CAPTURED): lib/libmq_page.a include/libmquerier-captures.map | needs-library
-	@$(CC) -shared -nostdlib -Wl,-soname,$(@F) -Wl,--version-script=include/libmquerier-captures.map -Wl,-z,defs -Wl,-z,noexecstack \
-	    -Wl,--whole-archive $< -Wl,--no-whole-archive -lc -o $@
+$(CAPTURES): lib/libmq_page.a include/libmquerier-captures.map | needs-library
+	@$(CC) $(SHARING)
 	@echo "$@ is built"
 
 # Shows that it holds here: proofs, tests, and runs of the program with refused calls. The last line counts what passed.
@@ -196,8 +194,9 @@ page-test: needs-page page bin/mquerier
 	@page/module-test
 	@page/test
 
-# The packages for Python and Rust, built from a clean folder: their tests, and links of both beside the model.
-bindings-test: needs-bindings $(WHEEL)
+# The packages for Python and Rust, built from a clean folder: their tests, which compare texts with those of the program, and links
+# of both beside the model.
+bindings-test: needs-bindings $(WHEEL) lib/libmquerier.a bin/mquerier
 	@PYTHON=$(PYTHON) bindings/test $(WHEEL)
 
 # Programs of C over the library for aarch64, run by qemu, print what they print here.
@@ -214,14 +213,14 @@ bench: bin/mquerier
 	@bench/spent $(WRITE)
 	@bench/links $(WRITE)
 
-# The program, the library for C as an archive and as a shared library, its header, its entry for pkg-config, the querier of bridges
-# with its service and its file of options, which isn't replaced, and the manual pages.
-install: bin/mquerier lib/libmquerier.a lib/$(SONAME) bin/mquerier-live
+# The program, the library for C as an archive and as a shared library, its header, its entry for pkg-config, the library that reads
+# captures, the querier of bridges with its service and its file of options, which isn't replaced, and the manual pages.
+install: bin/mquerier lib/libmquerier.a lib/$(SONAME) $(CAPTURES) bin/mquerier-live
 	install -d $(DESTDIR)$(PREFIX)/bin $(DESTDIR)$(PREFIX)/include $(DESTDIR)$(PREFIX)/lib/pkgconfig
 	install -d $(DESTDIR)$(PREFIX)/share/man/man1 $(DESTDIR)$(PREFIX)/share/man/man3 $(DESTDIR)$(PREFIX)/share/man/man8
 	install -d $(DESTDIR)$(PREFIX)/sbin $(DESTDIR)$(SYSCONFDIR)/mquerier-live $(DESTDIR)$(UNITDIR)
 	install -m 755 bin/mquerier $(DESTDIR)$(PREFIX)/bin/mquerier
-	install -m 644 lib/libmquerier.a lib/$(SONAME) $(DESTDIR)$(PREFIX)/lib
+	install -m 644 lib/libmquerier.a lib/$(SONAME) $(CAPTURES) $(DESTDIR)$(PREFIX)/lib
 	ln -sf $(SONAME) $(DESTDIR)$(PREFIX)/lib/libmquerier.so
 	install -m 644 include/mquerier.h $(DESTDIR)$(PREFIX)/include/mquerier.h
 	sed 's|@PREFIX@|$(PREFIX)|; s|@VERSION@|$(VERSION)|' include/libmquerier.pc.in > $(DESTDIR)$(PREFIX)/lib/pkgconfig/libmquerier.pc
@@ -233,7 +232,7 @@ install: bin/mquerier lib/libmquerier.a lib/$(SONAME) bin/mquerier-live
 	install -m 644 man/mquerier-live.8 $(DESTDIR)$(PREFIX)/share/man/man8/mquerier-live.8
 
 # The release of this commit: an archive and the wheel, with their sums in dist/mquerier-VERSION.sha256.
-dist: bin/mquerier lib/libmquerier.a lib/$(SONAME) page wheel
+dist: bin/mquerier bin/mquerier-live lib/libmquerier.a lib/$(SONAME) page wheel
 	@tools/dist
 
 clean:

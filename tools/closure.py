@@ -13,8 +13,11 @@ import re
 from items import Terms, all_crates, bare, has, words
 from repository import TOP, said_by, text_of, with_those_below
 
-# What of the tools decides on a verdict.
-TOOLS = "wrong-bodies", "edits.py", "stubs.py", "items.py", "closure.py", "reads.py"
+# The number of the rule by which verdicts are made. Another text of the tools voids no row of tools/passed, since all edits would then
+# have to be tried again. Raise the number where all have to be.
+RULE = 2
+# What stood in the sums before rules had numbers, by the toolchain and the rule.
+EARLIER = {("rattle-kit-13f logic dac8208d650f15bf", 1): "6d4204f509bda9b94ab18d04ddde21dc81918936b69c867f4fa5525e4a7a4695"}
 # A constructor or a field of a type, on a line of its own.
 PARTS = re.compile(r"(?m)^ +(?:pub )?([^\s:(]+) :")
 # A lemma or a definition in an attribute.
@@ -222,8 +225,8 @@ def sum_of_item(item):
 
 
 @functools.lru_cache(maxsize=None)
-def sum_of_tools():
-    return summed(said_by(TOP, "rt", "version")[1].splitlines()[0], *(text_of(f"{TOP}/tools/{it}") for it in TOOLS))
+def version():
+    return said_by(TOP, "rt", "version")[1].splitlines()[0]
 
 
 @functools.lru_cache(maxsize=None)
@@ -233,15 +236,28 @@ def attributes(crate):
     return "\n".join(re.findall(r"(?m)^#!\[.*", all_crates()[crate].sources[roots[0]].whole)) if roots else ""
 
 
-def sum_of(edit):
-    """A sum of all that decides on the verdict of an edit."""
+@functools.lru_cache(maxsize=None)
+def parts_of(edit):
+    """All that decides on the verdict of an edit, beside the toolchain and the rule."""
     function, folder = function_of(edit), f"{TOP}/crates/{edit.crate}"
     closure = closure_of(function)
     own = [function.place(), function.text, function.rest, *(repr(sorted(it.items())) for it in (function.imports, function.uses))]
     proof = [f"{it}\n{text_of(f'{folder}/{it}')}" for it in closure.files]
     read = sorted(sum_of_item(it) for it in closure.with_edit(edit))
-    return summed(sum_of_tools(), attributes(edit.crate), edit.path, text_of(f"{TOP}/{edit.path}"), *own, *proof, *read)
+    return attributes(edit.crate), edit.path, text_of(f"{TOP}/{edit.path}"), *own, *proof, *read
 
 
 def sums(edits):
-    return {it: sum_of(it) for it in edits}
+    """The sums of edits, by the rule of today."""
+    tools = summed(version(), str(RULE))
+    return {it: summed(tools, *parts_of(it)) for it in edits}
+
+
+def earlier_tools():
+    return EARLIER.get((version(), RULE - 1)) or summed(version(), str(RULE - 1))
+
+
+def earlier_sums(edits):
+    """Their sums by the rule before."""
+    tools = earlier_tools()
+    return {it: summed(tools, *parts_of(it)) for it in edits}

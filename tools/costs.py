@@ -1,11 +1,11 @@
-"""What the proof of each crate costs, in seconds of a processor: as it was measured on the machine at hand, or else as tools/costs says."""
+"""The cost of each crate's proof in processor seconds: measured on this machine, or else from tools/costs."""
 
 import os
 
 from repository import TOP, put, text_of
 
 STATED, MEASURED = f"{TOP}/tools/costs", f"{TOP}/bin/costs"
-# Of a crate that was never measured.
+# The cost of a crate that was never measured.
 UNKNOWN = 60.0
 
 

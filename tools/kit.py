@@ -1,9 +1,8 @@
 """The toolchain as the tools call it.
 
-`rt` proves one crate a call, and keeps all crates below it locked meanwhile. The tools call `rattle`, the compiler, with the words
-that `rt` gives it, so that crates are proved side by side; and they take what `rt ci` proved on this machine and kept. What they
-make stands where `rt` looks for it: crates/NAME/out/rlib, with the stamp by which `rt` knows it, and a key that says over which
-libraries it was made.
+`rt` proves one crate a call, and locks all crates below it meanwhile. So the tools call `rattle`, the compiler, with the words of `rt`,
+to prove crates in parallel. They use the proofs that `rt ci` kept on this machine. Their results are where `rt` looks for them, in
+crates/NAME/out/rlib, with the stamp by which `rt` knows them, and a key that names the libraries below.
 """
 
 import contextlib
@@ -50,7 +49,7 @@ def text_of(file):
 
 
 def without(words, *flags):
-    """The words without these flags and the word behind each."""
+    """The words without these flags and the word after each."""
     for flag in flags:
         at = words.index(flag)
         words = [*words[:at], *words[at + 2 :]]
@@ -72,14 +71,14 @@ class Kit:
         self.kept = rt.Kept([*self.crates.values()])
         # Its first call starts a process, which is not safe once threads run.
         self.guard = rt.rtlib.guarded()
-        # What `rattle` took of the processors for each crate, in seconds.
+        # The processor seconds of `rattle` for each crate.
         self.spent = {}
 
     def out(self, name):
         return f"{self.crates[name].folder}/out"
 
     def has_kept_work(self, name):
-        """Whether checks of the crate left work over which the next one goes on."""
+        """True if checks of the crate left work that the next check continues."""
         return bool(os.path.isdir(f"{self.out(name)}/incremental") and os.listdir(f"{self.out(name)}/incremental"))
 
     def key(self, name, target=""):
@@ -94,8 +93,8 @@ class Kit:
             it.write(key)
 
     def is_given(self, name, key):
-        """Whether an earlier `rt ci` on this machine proved the same, or a build of the repository of which this is a copy; then what it made stands in
-        out/. Where an `rt ci` proves it just now, this waits for it."""
+        """True if an earlier `rt ci` on this machine, or a build of the copied repository, proved the same; its results are then in out/.
+        If an `rt ci` proves it just now, this waits for it."""
         crate, built = self.crates[name], f"{TOP}/crates/{name}/out/rlib/{name}.rlib"
         if self.anew:
             return False
@@ -112,7 +111,7 @@ class Kit:
         return self.beside is not None and os.path.isdir(f"/proc/{self.beside}")
 
     def is_given_in_time(self, name, key):
-        """Whether the crate is given, now or while the `rt ci` is at work that this waits for."""
+        """True if the crate is given, now or while this waits for an `rt ci`."""
         while not self.is_given(name, key):
             if not self.is_beside():
                 return self.is_given(name, key)
@@ -120,7 +119,7 @@ class Kit:
         return True
 
     def kept_names(self):
-        """The crates of which `rt ci` has kept a proof of today's files on this machine, with their tests."""
+        """The crates whose current files `rt ci` has proved and kept on this machine, with their tests."""
         return self.names_of(lambda crate, key: crate.has_tests() and self.kept_sums(crate, True, key) is None)
 
     def proved_names(self):
@@ -155,7 +154,7 @@ class Kit:
         return None if text is None else [tuple(it) for it in json.loads(text)["files"]]
 
     def run_in(self, place, words):
-        """Runs `rattle` in a folder, behind all else; its status and what it says."""
+        """Runs `rattle` in a folder with the lowest priority; returns its status and output."""
         how = {"stdin": subprocess.DEVNULL, "stdout": subprocess.PIPE, "stderr": subprocess.STDOUT, "errors": "replace"}
         ran = subprocess.run([*self.guard, "nice", "-n", "10", self.rt.rtlib.RATTLE, *words], cwd=place, text=True, check=False, **how)
         return ran.returncode, ran.stdout
@@ -187,7 +186,7 @@ class Kit:
                 self.made(rlib, key)
         if not status:
             self.kept.is_built(crate)
-            # By this file `rt` knows that the library is built.
+            # This file tells `rt` that the library is built.
             with open(f"{os.path.dirname(rlib)}/stamp", "w", encoding="utf-8") as it:
                 it.write(crate.stamp())
         return status, lines
@@ -241,8 +240,8 @@ class Kit:
         return ran.returncode, ran.stdout.splitlines()
 
     def archive(self, name, target, jobs, told=None, later=False):
-        """Proves a static library and compiles it for a processor into out/libNAME.a, unless that is done. What was proved for one processor
-        serves the next."""
+        """Proves a static library and compiles it for a processor into out/libNAME.a, unless that is done. The next processor uses the same
+        proofs."""
         crate, key = self.crates[name], self.key(name, target)
         file = f"{self.out(name)}/lib{name}.a"
         if self.is_made(file, key):

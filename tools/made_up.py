@@ -1,4 +1,4 @@
-"""What tools/made-up and tools/made-up-captures share: runs with little memory, many of them side by side."""
+"""The shared part of tools/made-up and tools/made-up-captures: many parallel runs with little memory."""
 
 import concurrent.futures
 import os
@@ -7,7 +7,7 @@ import sys
 
 from repository import TOP
 
-# Of a run: seconds, and kilobytes of address space.
+# The limits of a run: seconds, and kilobytes of address space.
 SECONDS, ROOM = 20, 65536
 
 

@@ -1,5 +1,5 @@
-/* Copies standard input to standard output as the program would, with the fault that its first word
- * names, or with none: for `refuse` to tell these apart. */
+/* A copy of standard input to standard output, with the fault that the first word names, or with none. `refuse` has to tell the
+   faults apart. */
 #include <stdlib.h>
 #include <string.h>
 #include <unistd.h>
@@ -11,7 +11,7 @@ static int has(const char *name) {
     return strcmp(fault, name) == 0;
 }
 
-/* Writes all of a text, and answers whether it did. */
+/* Writes a whole text. Returns whether that succeeded. */
 static int put(int file, const char *text, size_t size) {
     while (size > 0) {
         ssize_t moved = write(file, text, size);
@@ -35,6 +35,8 @@ static int tell(const char *line) {
 
 int main(int count, char **words) {
     fault = count > 1 ? words[1] : "";
+    if (has("empty-line"))
+        return tell("\n");
     if (has("words") || has("words-to-files") || has("no-words")) {
         tell("mquerier: fault\n");
         return has("words-to-files") || (has("words") && isatty(2)) ? tell("  in words\n") : 1;

@@ -1,15 +1,14 @@
-/* Preloaded into a program, it refuses one of the calls for memory, reads and writes, or has each read
- * and write move few bytes, and it counts these calls. The environment says which:
- *
- *   REFUSE_ALLOCATION=N   the Nth malloc, calloc, realloc or aligned_alloc answers null
- *   REFUSE_READ=N         the Nth read fails
- *   REFUSE_WRITE=N        the Nth write fails
- *   REFUSE_LATER=1        and so does each later write to its descriptor
- *   REFUSE_EMPTY=1        a refused write takes nothing in place of failing
- *   REFUSE_MOST=N         a read or write moves at most N bytes
- *   REFUSE_COUNTS=FILE    has the counts, four numbers of eight bytes: allocations, reads, writes, and
- *                         one more than the descriptor of the write that failed
- */
+/* Failing calls for the program that this file is preloaded into. One call for memory, one read or one write fails, or reads and
+   writes move few bytes. The calls are counted. The environment has the orders:
+
+   REFUSE_ALLOCATION=N   the Nth malloc, calloc, realloc or aligned_alloc returns null
+   REFUSE_READ=N         the Nth read fails
+   REFUSE_WRITE=N        the Nth write fails
+   REFUSE_LATER=1        each later write to its descriptor fails too
+   REFUSE_EMPTY=1        the write returns 0 instead of failing
+   REFUSE_MOST=N         a read or write moves at most N bytes
+   REFUSE_COUNTS=FILE    FILE has the counts, four numbers of eight bytes: allocations, reads, writes, and one more than the
+                         descriptor of the failed write */
 #define _GNU_SOURCE
 #include <errno.h>
 #include <fcntl.h>
@@ -56,7 +55,7 @@ __attribute__((constructor)) static void begin(void) {
     is_empty = number("REFUSE_EMPTY");
 }
 
-/* Counts a call, and answers whether it is the one to refuse, with the error it then sets. */
+/* Counts a call. Returns whether it is refused, after setting `errno`. */
 static int is_refused(uint64_t *count, uint64_t refused, int error) {
     int is_it = __atomic_add_fetch(count, 1, __ATOMIC_SEQ_CST) == refused;
     if (is_it)

@@ -1,5 +1,4 @@
-"""What the tools share: files and commands, the crates of the repository, how they stand on one another, and what changed since a
-commit."""
+"""The shared part of the tools: files and commands, the crates, their dependencies, and changes since a commit."""
 
 import concurrent.futures
 import glob
@@ -36,7 +35,7 @@ def on_all_cores(work, items):
 
 
 def rows_of(text):
-    """The rows of a crates.txt: each crate with the words behind it, and with what it names."""
+    """The rows of a crates.txt: each crate with the words after it, and the crates that it names."""
     rows = [line.partition("#")[0].partition(":") for line in text.splitlines()]
     return {name.split()[0]: (name.split()[1:], named.split()) for name, colon, named in rows if colon}
 
@@ -77,7 +76,7 @@ def has_tests(name):
 
 
 def git(*words):
-    """What git says, or None where it fails."""
+    """The output of git, or None if it fails."""
     how = {"stdin": subprocess.DEVNULL, "stdout": subprocess.PIPE, "stderr": subprocess.DEVNULL}
     ran = subprocess.run(["git", *words], cwd=TOP, encoding="utf-8", errors="replace", check=False, **how)
     return None if ran.returncode else ran.stdout
@@ -100,12 +99,12 @@ def commit_before():
 
 
 def text_in(commit, file):
-    """The file's text in a commit; none where it has no such file."""
+    """The file's text in a commit; empty without the file."""
     return git("show", f"{commit}:{file}") or ""
 
 
 def crates_changed_since(commit):
-    """The crates of which a source, a definition, a proof or the row in crates.txt is otherwise in the commit."""
+    """The crates with a source, a definition, a proof or a row in crates.txt that differs from the commit."""
     found = {it.split("/")[1] for it in files_changed_since(commit) if re.match(rf"crates/\w+/({'|'.join(PARTS)})/", it)}
     was, rows = rows_of(text_in(commit, "crates.txt")), rows_of(text_of(f"{TOP}/crates.txt"))
     return [name for name in crates() if name in found or was.get(name) != rows[name]]

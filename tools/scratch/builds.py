@@ -60,7 +60,7 @@ def builds_program(top):
 
 
 def takes_what_is_kept(top):
-    """What `rt ci` has kept isn't proved, and neither is what was proved before."""
+    """Crates that `rt ci` has kept, or that were proved before, aren't proved again."""
     emptied(top)
     order = build(top, "--crates", "low")[2]
     key = taken(f"{top}/crates/low/out/rlib/low.rlib.key")

@@ -8,8 +8,9 @@ from scratch import copy_tools, put, run, taken, want
 
 def names_what_is_missing(top):
     want(run(top, f"{top}/tools/needs", "sh", "cat") == (0, ""), "commands that are there", "")
-    status, said = run(top, f"{top}/tools/needs", "sh", "no-such-command", "qemu-no-such")
-    want(status == 1 and len(said.splitlines()) == 2 and said.startswith("`no-such-command` isn't on the PATH."), "commands that are missing", said)
+    status, said = run(top, f"{top}/tools/needs", "sh", "no-such-command", "python3-json", "python3-no_such")
+    wanted = ["`no-such-command` is missing.", "`python3-no_such` is missing. On Debian: apt-get install python3-no_such"]
+    want(status == 1 and [line[: len(it)] for line, it in zip(said.splitlines(), wanted)] == wanted, "commands that are missing", said)
     os.rename(f"{top}/path/rt", f"{top}/rt")
     status, said = run(top, "env", f"PATH={top}/path:/usr/bin:/bin", f"{top}/tools/needs", "rt")
     want(status == 1 and "Rattle toolchain" in said, "the toolchain is missing", said)

@@ -4,7 +4,7 @@ import shutil
 
 from scratch import copy_tools, put, run, want
 
-# Tells an error where a text says so; else how the program ended, where that is told.
+# Prints an error if a text has it; else the end of the program, if a text has that.
 COMPILES = """#!/bin/sh
 top=$(cd ../.. && pwd)
 grep -rn ill "$top"/crates/low/src | sed 's/:\\([0-9]*\\):.*/:\\1:5: error[mismatched-types]: ill/' | grep . && exit 1

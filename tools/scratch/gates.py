@@ -90,7 +90,7 @@ def quick_gate(top, *words):
 
 
 def begin_repository(top):
-    """A repository of which all crates are proved, and all is committed."""
+    """A repository with all crates proved and everything committed."""
     names = names_of_the_gate()
     for command, counts in [*names["FIRST"], *names["RUNS"], ("tools/compiled", True), ("make", False)]:
         stand_in(top, command, counts)
@@ -103,7 +103,7 @@ def begin_repository(top):
 
 
 def quick_gates(top):
-    """What is proved and run where a crate changed on which the program stands, one on which nothing does, and none."""
+    """The proofs and runs after a change of a crate that the program uses, of a crate that nothing uses, and of none."""
     begin_repository(top)
     here = "x86_64-unknown-linux-gnu"
     for name, order in (("left", ["left build", "left check"]), ("beside", ["beside build", "beside check"]), ("right", [f"mq_c build {here}", "right build", "right check"])):

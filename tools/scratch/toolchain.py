@@ -113,7 +113,8 @@ class rtlib:
 
         return [crate(it) for it in known]
 '''
-# The compiler. What it says of a function that is wrong stands in says/, under the function's name and the first name in its answers.
+# The compiler. Its output for a wrong function stands in says/, under the function's name, its
+# answers, and the fields that the last of them names.
 RATTLE = '''#!/usr/bin/env python3
 import json
 import os
@@ -121,6 +122,7 @@ import re
 import sys
 
 TOP, (verb, *words) = "{top}", sys.argv[1:]
+GOALS = "cell-requires a-requires b-requires returns returns-clause-it returns-in-y-clause-it invariant_of-self".split()
 
 
 def after(flag):
@@ -136,16 +138,18 @@ name, to, source = after("--crate-name"), after("-o"), "src/main.rt" if os.path.
 text = open(source).read() if os.path.exists(source) else ""
 functions = re.findall(r"fn (\\w+)", text)
 if "--generated" in words:
-    path = after("--start").split("::")[-1]
-    put(f"{{after('--generated')}}/{{path}}/Goals.antt", "".join(f"abbrev pub {{it}} : Type 2\\n" for it in ("cell-requires", "a-requires", "b-requires", "returns")))
+    for path in [path.split("::")[-1] for flag, path in zip(words, words[1:]) if flag == "--start"]:
+        put(f"{{after('--generated')}}/Rattle-{{name}}-proofs/{{path}}/Goals.antt", "".join(f"abbrev pub {{it}} : Type 2\\n" for it in GOALS))
     sys.exit()
 if "--only" in words:
     asked = [path.split("::")[-1] for flag, path in zip(words, words[1:]) if flag == "--only"]
     for it in asked:
         file = next((f for f in (f"proofs/{{it}}/Answers.antt", f"proofs/+{{it}}/Answers.antt") if os.path.exists(f)), None)
-        first = (open(file).readline().strip() if file else "") or "none"
-        said = f"{{TOP}}/says/{{it}}/{{first}}"
-        if f"{{it}} wrong" in text and os.path.exists(said):
+        answers = open(file).read() if file else ""
+        names, fields = re.findall(r"pub (\\S+)", answers), re.findall(r"c\\.(\\S+)", answers.rpartition("pub ")[2])
+        said = f"{{TOP}}/says/{{it}}/{{':'.join([','.join(names), *fields]) or 'none'}}"
+        said += " alone" * (len(asked) == 1 and os.path.exists(f"{{said}} alone"))
+        if os.path.exists(said) and open(f"{{TOP}}/says/{{it}}/wrong").read() in text:
             print(open(said).read(), end="")
         put(f"out/incremental/one/Rattle-{{name}}-proofs.{{it}}.Answers.oantt", "")
     print(f"only={{len(asked)}} holes=1")

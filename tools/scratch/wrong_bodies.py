@@ -5,40 +5,108 @@ import shutil
 
 from scratch import copy_tools, put, run, taken, want
 
+PATH = "./proofs/{}/Answers.antt:3:1: error: "
 CITES = "./proofs/renamed/Answers.antt:9:5: error: 1 declaration that depends on `cell-requires`, which was rejected, was not checked: returns\n"
-LOST = "./proofs/{}/Answers.antt:3:1: error: `{}`: module `low.renamed.Goals` has no `{}` that can be named\n"
-FALSE = "./proofs/{}/Answers.antt:3:1: error: `{}`: the goal does not follow\n"
-UNPROVED = "note: src/lib.rt:{}:1: it is not proved that it holds (`{}`); `search` gave up\nfn low::{}: not proved\n"
+LOST = PATH + "`{}`: `goal.{}`: module `low.renamed.Goals` has no `{}` that can be named\n"
+FALSE = PATH + "`{}`: the goal does not follow\n"
+FIELD = PATH + "`{}`: record `low.{}.Lts` (nearest: .{}, .other)\n  has no field `{}`\n"
+OPEN = "note: src/lib.rt:{}:1: it is not proved that it holds (`{}`){}\n"
+NOT_PROVED, VALUES = "fn low::{}: not proved\n", "; the facts known there allow values at which this goal is false"
 
 
-def lost(function, line, goals):
+def unproved(function, goals, more="; `search` gave up"):
+    """What a check says of goals that `search` did not prove."""
+    line = 3 * list(FUNCTIONS).index(function) + 2
+    return "".join(OPEN.format(line, it, more) for it in goals) + NOT_PROVED.format(function)
+
+
+def lost(function, goals):
     """What a check says of goals that are new where answers lost their own."""
-    was = "".join(LOST.format(function, it, it) for it in goals)
-    return was + "".join(UNPROVED.format(line, it, function) for it in goals.values())
+    return "".join(LOST.format(function, it, it, it) for it in goals) + unproved(function, goals.values())
 
 
+FUNCTIONS = (
+    "callee caller single mentions right held loop renamed moved turned vanished folded unchecked unwritten uncited untold unsaid bare_name early early_false early_holds early_first "
+    "searched limits stranger fields fields_fit fields_old sits sides sides_false calls calls_false".split()
+)
 CELL, EXCHANGED = {"cell-requires": "slot-requires"}, {"a-requires": "c-requires", "b-requires": "d-requires"}
-# What a check says of functions: of an unproved goal, of one of a caller, of a name in an answer, of an invariant that stands
-# elsewhere, of a name in a loop's invariant; and of goals that are new where answers lost their own: of one that is refused with
-# its answer renamed, of one that isn't, of two whose answers are to be exchanged, and of one with no answer to be renamed; and of
-# a name in an answer, on two lines.
+EARLY, TWO = "returns-then-x-clause-it", "returns-clause-it,returns-in-y-clause-it"
+
+
+def early(function, first, second, more="; `search` gave up"):
+    """What a check says of a return that is new, and where it has the answer of the first other one, or of the second."""
+    return {f"{TWO}:y": unproved(function, [EARLY], more), f"{TWO},{EARLY}": first.format(function), f"{TWO},{EARLY}:x": second.format(function)}
+
+
+UNFIT, REFUSES = FIELD.replace("`{}`", f"`{EARLY}`", 1).replace(".{},", ".up,").replace("field `{}`", "field `cell`").replace("low.{}", "low"), FALSE.replace("`{}`", f"`{EARLY}`")
+# What a check says of a function, by the answers that its proof has, each with the fields that it names.
 SAYS = {
-    "callee": {"none": UNPROVED.format(1, "returns", "callee") + "fn low::caller: no proof: it calls `low::callee`, which is not proved\n"},
+    # An unproved goal, and a function that calls it.
+    "callee": {"none": unproved("callee", ["returns"]) + "fn low::caller: no proof: it calls `low::callee`, which is not proved\n"},
     "caller": {"none": "./proofs/+caller/Answers.antt:3:1: error: `returns`: the goal does not follow\n"},
-    "mentions": {"none": "./proofs/mentions/Answers.antt:3:1: error: `returns`: record `low.mentions.Lts` has no field `cell`\n"},
+    # One that is refused only where it is tried alone.
+    "single": {"none": "", "none alone": PATH.format("single") + "`returns`: the goal does not follow\n"},
+    # Names that the edit took away; nothing at all; an invariant that stands elsewhere; a loop's invariant.
+    "mentions": {"none": PATH.format("mentions") + "`returns`: record `low.mentions.Lts` has no field `cell`\n"},
     "right": {"none": ""},
-    "held": {"none": UNPROVED.format(40, "invariant_of-self", "held")},
-    "loop": {"none": "./proofs/loop/Invariants.antt:3:1: error: record `low.loop.Lts` has no field `cell`\n" + UNPROVED.format(18, "returns", "loop")},
-    "renamed": {"cell-requires": lost("renamed", 21, CELL) + CITES, "slot-requires": FALSE.format("renamed", "slot-requires")},
-    "holds": {"cell-requires": lost("holds", 24, CELL), "slot-requires": ""},
-    "turned": {"a-requires": lost("turned", 27, EXCHANGED), "c-requires": FALSE.format("turned", "c-requires"), "d-requires": ""},
-    "vanished": {"cell-requires": lost("vanished", 30, {"cell-requires": "other-clause-it"})},
-    "folded": {"none": "./proofs/folded/Answers.antt:3:1: error: `returns`: record `low.folded.Lts`\n  has no field `cell`\n"},
+    "held": {"none": OPEN.format(400, "invariant_of-self", "") + NOT_PROVED.format("held")},
+    "loop": {"none": "./proofs/loop/Invariants.antt:3:1: error: `invariant-loop`: it differs\n" + unproved("loop", ["returns"])},
+    # Goals that are new where answers lost their own: one that is refused with its answer renamed, one that isn't, two whose
+    # answers are to be exchanged, and one with no answer to be renamed.
+    "renamed": {"cell-requires": lost("renamed", CELL) + CITES, "slot-requires": FALSE.format("renamed", "slot-requires")},
+    "moved": {"cell-requires": lost("moved", CELL), "slot-requires": ""},
+    "turned": {"a-requires,b-requires": lost("turned", EXCHANGED), "c-requires,d-requires": FALSE.format("turned", "c-requires"), "d-requires,c-requires": ""},
+    "vanished": {"cell-requires": lost("vanished", {"cell-requires": "other-clause-it"})},
+    # A name on two lines; what only cites what was refused; an error of a file.
+    "folded": {"none": PATH.format("folded") + "`returns`: record `low.folded.Lts`\n  has no field `cell`\n"},
+    "unchecked": {"none": PATH.format("unchecked") + "`returns`: `cell-requires` was not admitted\n"},
+    "unwritten": {"none": PATH.format("unwritten") + "`returns`: replace that `_` with the term it stands for\n"},
+    "uncited": {"none": CITES.replace("renamed", "uncited")},
+    # A check that found no verdict on the function, and one that refuses a proof and doesn't say why.
+    "untold": {"none": "fn low::untold: could not tell\n"},
+    "unsaid": {"none": "fn low::unsaid: not proved; it stands on `low.proofs.unsaid.Answers.returns`, which antt refuses\n"},
+    "bare_name": {"none": PATH.format("bare_name") + "unexpected `=`\n"},
+    # A new return, at which the answer of another one doesn't fit, is refused, or holds: the first, or only the second.
+    "early": early("early", UNFIT, UNFIT, VALUES),
+    "early_false": early("early_false", REFUSES, UNFIT),
+    "early_holds": early("early_holds", "", UNFIT),
+    "early_first": early("early_first", REFUSES, ""),
+    # A new return where `search` proved all others, and knows values at which it is false, or none.
+    "searched": {"none": unproved("searched", [EARLY], VALUES)},
+    "limits": {"none": unproved("limits", [EARLY])},
+    # A goal that is new, and no return's.
+    "stranger": {"none": unproved("stranger", ["it-requires"], VALUES)},
+    # A field that has another name: the answer is refused by it, or holds; and one that the answer names already.
+    "fields": {"returns:x-it": FIELD.format("fields", "returns", "fields", "x-now", "x-it"), "returns:x-now": FALSE.format("fields", "returns")},
+    "fields_fit": {"returns:x-it": FIELD.format("fields_fit", "returns", "fields_fit", "x-now", "x-it"), "returns:x-now": ""},
+    "fields_old": {"returns:x-it:x-now": FIELD.format("fields_old", "returns", "fields_old", "x-now", "x-it"), "returns:x-now:x-now": FALSE.format("fields_old", "returns")},
+    # A sum that is turned round, and its answer with it, which holds or doesn't; and two calls that are exchanged.
+    "sides": {"returns:left:right": FALSE.format("sides", "returns"), "returns:right:left": ""},
+    "sides_false": {it: FALSE.format("sides_false", "returns") for it in ("returns:left:right", "returns:right:left")},
+    "calls": {"returns:f:f-2": FALSE.format("calls", "returns"), "returns:f-2:f": ""},
+    "calls_false": {it: FALSE.format("calls_false", "returns") for it in ("returns:f:f-2", "returns:f-2:f")},
+    # An answer that stands on an invariant which was refused.
+    "sits": {"none": PATH.format("sits") + "`returns`: it differs\n  `invariant` stands by its signature alone, since it was refused\n"},
 }
-OF_EDITS = "wrong-bodies", "edits.py", "stubs.py", "items.py", "closure.py", "passing.py"
-ANSWERED = [it for it, said in SAYS.items() if "none" not in said]
-# Those that a contract refuses.
-REFUSED = "callee", "caller", "held", "renamed"
+# The texts of a body and of what an edit makes of it.
+BODIES = {it: (f"{it} body", f"{it} wrong") for it in SAYS} | {
+    "sides": ("sides; x.left + right;", "sides; right + x.left;"),
+    "sides_false": ("sides_false; x.left + right;", "sides_false; right + x.left;"),
+    "calls": ("calls; a b", "calls; b a"),
+    "calls_false": ("calls_false; a b", "calls_false; b a"),
+}
+OF_EDITS = "wrong-bodies", "edits.py", "answers.py", "verdicts.py", "stubs.py", "items.py", "closure.py", "passing.py"
+# Those that a contract refuses, those that it lets through, and those whose answers are renamed or moved first.
+REFUSED = "callee", "caller", "single", "held", "renamed", "early_false", "searched", "fields", "calls_false"
+HOLDS = "right", "moved", "turned", "early_holds", "early_first", "fields_fit", "sides", "calls"
+MOVED = "renamed", "early_false", "fields", "calls_false"
+
+
+def answers(says):
+    """A proof file as what is said first of a function has it: with answers, the last of which names fields."""
+    names, *fields = next(iter(says)).split(":")
+    of = "".join(f"pub {it} : goal.{it}\n{it} g c = refl\n\n" for it in names.split(","))
+    return of.removesuffix("refl\n\n") + " + ".join(["it", *(f"c.{it}" for it in fields)]) + "\n"
 
 
 def wrong_bodies_drawn(top):
@@ -47,11 +115,11 @@ def wrong_bodies_drawn(top):
     for number in range(100):
         shutil.copy(many, many.replace("callee.edit", f"callee_{number}.edit"))
     os.remove(f"{top}/tools/passed")
-    want(tried(top, "--drawn")[0] == (0, "104 passed, 0 failed"), "the edits of a crate that was never tried", "")
+    want(tried(top, "--drawn")[0] == (0, f"{len(REFUSED) + 100} passed, 0 failed"), "the edits of a crate that was never tried", "")
     ended, said = tried(top, "--drawn")
     want(ended[0] == 0 and 0 < said.count("refused by") < 40, "the edits of a crate that didn't change", said)
     want(tried(top, "--left")[0] == (0, "0 passed, 0 failed"), "the edits that are left where nothing changed", "")
-    put(f"{crate}/proofs/caller/Answers.antt", "none\n-- changed\n")
+    put(f"{crate}/proofs/caller/Answers.antt", "-- changed\n")
     ended, said = tried(top, "--left")
     want(ended == (0, "1 passed, 0 failed") and "low/caller" in said, "the edits of a function whose proof changed", said)
     for number in range(100):
@@ -66,14 +134,14 @@ def scratch_edits(top):
     put(f"{top}/tools/reads.py", "def missed(edit, folder):\n    return []\n")
     put(f"{top}/crates.txt", "low:\n")
     crate = f"{top}/crates/low"
-    put(f"{crate}/src/lib.rt", "#[inline]\n" + "".join(f"fn {it}() {{\n    {it} body\n}}\n" for it in SAYS))
+    put(f"{crate}/src/lib.rt", "#[inline]\n" + "".join(f"fn {it}() {{\n    {BODIES[it][0]}\n}}\n" for it in FUNCTIONS))
     for it, says in SAYS.items():
-        for name, text in says.items():
+        for name, text in {**says, "wrong": BODIES[it][1]}.items():
             put(f"{top}/says/{it}/{name}", text)
-        put(f"{crate}/wrong-bodies/{it}.edit", f"file: src/lib.rt\nold: {it} body\nnew: {it} wrong\n")
-    for it in ANSWERED:
-        names = [name for name in EXCHANGED if it == "turned"] or CELL
-        put(f"{crate}/proofs/{it}/Answers.antt", "".join(f"{name}\n" for name in names))
+        put(f"{crate}/wrong-bodies/{it}.edit", "file: src/lib.rt\nold: {}\nnew: {}\n".format(*BODIES[it]))
+    for it, says in SAYS.items():
+        if "none" not in says:
+            put(f"{crate}/proofs/{it}/Answers.antt", answers(says))
     put(f"{crate}/wrong-bodies/absent.edit", "file: src/lib.rt\nold: no such text\nnew:\n")
     return crate
 
@@ -88,16 +156,16 @@ def wrong_bodies(top):
     """Edits of functions, of which goals of some are refused, and one that can't be applied; then right ones."""
     crate = scratch_edits(top)
     ended, said = tried(top)
-    want(ended == (1, "4 passed, 8 failed"), "the sum of wrong bodies", said)
+    want(ended == (1, f"{len(REFUSED)} passed, {len(SAYS) - len(REFUSED) + 1} failed"), "the sum of wrong bodies", said)
     for it in SAYS:
-        how = f"refused by a goal of {it}" if it in REFUSED else "NOT REFUSED"
-        want(f"wrong-bodies low/{it}: {how}{', its answers renamed' * (it == 'renamed')}" in said, f"the edit of {it}", said)
+        how = f"refused by a goal of {it}" if it in REFUSED else "LET THROUGH" if it in HOLDS else "UNDECIDED"
+        want(f"wrong-bodies low/{it}: {how}{', with other answers' * (it in MOVED)}" in said, f"the edit of {it}", said)
     want("wrong-bodies low/absent.edit: BAD EDIT" in said, "an edit that can't be applied", said)
+    want(tried(top, "low/caller", "low/right")[0] == (1, "1 passed, 2 failed"), "edits that are tried by their names", "")
+    for words in (["low/none"], ["--left", "low/caller"], ["none"], ["--fit", "low"], ["--drawn", "low"]):
+        want(tried(top, *words)[0][0] == 2, "words that are none of the tool's", words)
     found = {line.split()[1] for line in taken(f"{top}/tools/passed").splitlines()}
     want(found == {*REFUSED}, "which edits passed", found)
-    put(f"{top}/says/renamed/cell-requires", lost("renamed", 21, {"cell-requires": "returns"}))
-    want("wrong-bodies low/renamed: refused by" in tried(top)[1], "a goal that keeps its name where an answer lost its own", "")
-    put(f"{top}/says/renamed/cell-requires", SAYS["renamed"]["cell-requires"])
     wrong_and_right_bodies(top, crate)
 
 
@@ -108,7 +176,7 @@ def wrong_and_right_bodies(top, crate):
         os.remove(f"{crate}/wrong-bodies/{it}.edit")
     os.remove(f"{crate}/wrong-bodies/absent.edit")
     ended, said = tried(top)
-    want(ended == (0, "11 passed, 0 failed"), "wrong bodies that are refused, and right ones that aren't", said)
+    want(ended == (0, f"{len(SAYS)} passed, 0 failed"), "wrong bodies that are refused, and right ones that aren't", said)
     shutil.copy(f"{crate}/wrong-bodies/callee.edit", f"{crate}/right-bodies/callee.edit")
     ended, said = tried(top)
     want(ended[0] == 1 and "wrong-bodies low/callee: REFUSED, and right" in said, "a right body that is refused", said)
@@ -118,17 +186,17 @@ def wrong_and_right_bodies(top, crate):
 def wrong_bodies_fit(top):
     """Edits that are only held to their files, one that read more than its sum is of, and a crate below that isn't proved."""
     crate = f"{top}/crates/low"
-    want(tried(top, "--fit")[0] == (0, "4 passed, 0 failed"), "edits that fit", "")
+    want(tried(top, "--fit")[0] == (0, f"{len(REFUSED)} passed, 0 failed"), "edits that fit", "")
     before = taken(f"{top}/tools/passed")
     ended, said = tried(top, "--clean")
-    want(ended == (0, "4 passed, 0 failed") and "low/caller as it stands: right" in said, "functions as they stand", said)
+    want(ended == (0, f"{len(REFUSED)} passed, 0 failed") and "low/caller as it stands: right" in said, "functions as they stand", said)
     want(taken(f"{top}/tools/passed") == before, "functions as they stand are written down as edits", "")
     put(f"{crate}/must-fail/absent.edit", "file: src/lib.rt\nold: no such text\nnew:\n")
-    want(tried(top, "--fit")[0] == (1, "4 passed, 1 failed"), "an edit that doesn't fit", "")
+    want(tried(top, "--fit")[0] == (1, f"{len(REFUSED)} passed, 1 failed"), "an edit that doesn't fit", "")
     os.remove(f"{crate}/must-fail/absent.edit")
     put(f"{top}/tools/reads.py", "def missed(edit, folder):\n    return ['Lemmas.secret'] if edit.function == 'caller' else []\n")
     ended, said = tried(top)
-    want(ended == (1, "3 passed, 1 failed") and "low/caller: READ MORE than its sum is of: Lemmas.secret" in said, "a proof that read more", said)
+    want(ended == (1, f"{len(REFUSED) - 1} passed, 1 failed") and "low/caller: READ MORE than its sum is of: Lemmas.secret" in said, "a proof that read more", said)
     put(f"{crate}/src/lib.rt", taken(f"{crate}/src/lib.rt") + "// fails\n")
     ended, said = tried(top)
     want(ended[0] == 1 and "low: NOT PROVED as it stands" in said, "a crate that isn't proved", said)
