@@ -1,4 +1,4 @@
--- What a verdict rests on: the packets of the capture, and who was querier when.
+-- The basis of a verdict: the packets of the capture, and who was querier when.
 use Rattle.std.specs.Prelude.{ℕ, ◌+◌, ◌*◌, ◌==◌, ◌&&◌, nat_lt, nat_le, Bool, true, false, if◌then◌else◌, List, [], ◌∷◌, length, Option, None, Some, Result, Ok, Err}
 use Rattle.std.specs.List.{list_any}
 use Rattle.mq_pcap.specs.declared.link_type.LinkType.{LinkType}
@@ -27,7 +27,7 @@ abbrev pub named : Family → (address : ℕ) → QuerierAddress
 named family.Igmp address = V4 address
 named family.Mld address = V6 address
 
--- no packet yet; the router that is checked is querier from 0
+-- the basis before the first packet, with the checked router as querier from 0
 abbrev pub basis_at_start : (own : QuerierAddress) → Basis
 basis_at_start own = record {
   packets = 0;
@@ -58,8 +58,8 @@ with_cut b = record b { cut = counted_up b.cut }
 abbrev pub with_unread : Basis → Basis
 with_unread b = record b { unread = counted_up b.unread }
 
--- A datagram by what was read of it. One of a type that the family doesn't have is none of its messages: neighbour discovery is
--- ICMPv6 too.
+-- The basis after a datagram was parsed. A datagram of an unknown type is no message of the family: neighbour discovery
+-- is ICMPv6 too.
 abbrev pub with_read : Result (Message ℕ) WireFault → Basis → Basis
 with_read (Ok message) b = with_message b
 with_read (Err (Truncated at)) b = with_malformed b
@@ -71,12 +71,12 @@ abbrev pub with_datagram : Family → Datagram → Basis → Basis
 with_datagram family datagram b =
     with_read (read_of family (pseudo_of family datagram.envelope datagram.body) datagram.body) b
 
--- The types of Ethernet behind which an IP packet may stand that isn't looked into: tags (where they are not the first), MPLS,
--- PPPoE and MACsec; and the one by which `convert` says that it doesn't read a packet's link type.
+-- The types of Ethernet after which an IP packet may follow that isn't parsed: further tags, MPLS, PPPoE and MACsec.
+-- The last is the type that `convert` writes for a packet whose link type it doesn't read.
 abbrev pub wrapping_types : List ℕ
 wrapping_types = 0x8100 ∷ 0x88a8 ∷ 0x9100 ∷ 0x8847 ∷ 0x8848 ∷ 0x8864 ∷ 0x88e5 ∷ 0xffff ∷ []
 
--- the type of a frame, behind one tag (0x8100); 0 where it ends before, and without a link header
+-- the type of a frame, after at most one tag (0x8100); 0 if the frame is too short or has no link header
 abbrev pub type_in : LinkType → (frame : List ℕ) → ℕ
 type_in Ethernet frame =
     if nat_lt (length frame) 14
@@ -89,7 +89,7 @@ type_in RawIp frame = 0
 abbrev pub is_wrapped : (kind : ℕ) → Bool
 is_wrapped kind = list_any (λ wrapping. kind == wrapping) wrapping_types
 
--- a packet without a datagram of the family: its frame is cut, or isn't looked into, or has something else
+-- the basis after a packet without a datagram of the family: a truncated frame, an unread one, or other content
 abbrev pub with_other : LinkType → (frame : List ℕ) → Carried → Basis → Basis
 with_other link frame carried.Cut b = with_cut b
 with_other link frame carried.Fragment b = with_unread b
@@ -97,12 +97,12 @@ with_other link frame carried.Other b = if is_wrapped (type_in link frame) then 
 with_other link frame (carried.Igmp source body) b = b
 with_other link frame (carried.Mld source destination hop_limit alert body) b = b
 
--- one packet more
+-- the basis after one more packet
 abbrev pub with_frame : Family → LinkType → (frame : List ℕ) → Carried → Option Datagram → Basis → Basis
 with_frame family link frame content (Some datagram) b = with_datagram family datagram (with_packet b)
 with_frame family link frame content None b = with_other link frame content (with_packet b)
 
--- The role is lost, or had again.
+-- the basis after a loss or a return of the role
 abbrev pub role_lost : (moment : ℕ) → Basis → Basis
 role_lost moment b = record b { is_querier = false; lost = counted_up b.lost; lost_at = moment }
 
@@ -115,28 +115,28 @@ role_changed moment true false b = role_lost moment b
 role_changed moment false true b = role_returned moment b
 role_changed moment false false b = b
 
--- a tick takes the role from no router
+-- the basis after a tick, which never makes the router lose the role
 abbrev pub role_after_tick : (moment : ℕ) → (was_querier is_querier : Bool) → Basis → Basis
 role_after_tick moment true is_querier b = b
 role_after_tick moment false true b = role_returned moment b
 role_after_tick moment false false b = b
 
--- the router that is querier in place of the one that is checked, if one is
+-- the basis with the other querier, if there is one
 abbrev pub with_other_querier : Family → Role → Basis → Basis
 with_other_querier family (Querier due startup_queries) b = b
 with_other_querier family (Other address deadline) b = record b { other = named family address }
 
--- the same of the code's answer
+-- the basis with the other querier that the code returns, if there is one
 abbrev pub with_other_named : {K : Type 0} → Family → (K → ℕ) → Option (OtherQuerier K) → Basis → Basis
 with_other_named family number None b = b
 with_other_named family number (Some querier) b = record b { other = named family (number querier.address) }
 
--- every second packet or more is cut or wasn't looked into
+-- at least half of the packets are truncated or unread
 abbrev pub is_hardly_understood : Basis → Bool
 is_hardly_understood b = nat_lt 0 (b.cut + b.unread) && nat_le b.packets (2 * (b.cut + b.unread))
 
--- Why a check judged nothing, if it didn't: too much of the capture wasn't understood; or it has no message of the family; or
--- there is no query of the router that is checked, and none is missing.
+-- The reason why a check judged nothing, if there is one. Too much of the capture is truncated or unread, or it has no
+-- message of the family. Or it has no query of the checked router and no finding.
 abbrev pub unjudged_by : Totals → Option Unjudged
 unjudged_by totals =
     if is_hardly_understood totals.basis

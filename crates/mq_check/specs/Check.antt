@@ -1,5 +1,5 @@
--- The check of a capture: the run of a link with the own address of the querier that is checked, in which each query that
--- it sends is wanted; and the queries from that address.
+-- The check of a capture: a run of a link that has the checked querier's address. Each query that the link sends is
+-- wanted, and compared with the queries from this address.
 use Rattle.std.specs.Prelude.{ℕ, ◌+◌, ◌-◌, ◌^◌, ◌==◌, max, min, nat_lt, zero, suc, not, Bool, true, false, if◌then◌else◌, length, List, [], ◌∷◌, ◌++◌, Option, None, Some, Result, Ok, Err, drop, unwrap_or}
 use Rattle.byteorder.specs.Endian.{big_number}
 use Rattle.mq_pcap.specs.declared.fault.PcapFault.{PcapFault}
@@ -30,13 +30,13 @@ use Rattle.mq_check.specs.Checking.{CheckingValue, checking_at_start, told, sett
 use Rattle.mq_check.specs.FindingLines.{finding_lines, last_lines}
 use Rattle.mq_check.specs.Queries.{query_seen}
 
--- A check under way: the link, what was made of the queries, and what a verdict rests on.
+-- A check in progress: the link, its treatment of queries, and the basis of the verdict.
 pub record Checked : Type 0 where
   pub link : LinkState
   pub checking : CheckingValue
   pub basis : Basis
 
--- the link starts at 0, and nothing is wanted or seen
+-- the check whose link starts at 0, without a wanted or a seen query
 abbrev pub at_the_start : Configuration → Checked
 at_the_start config = record {
   link = link_at config 0;
@@ -44,30 +44,30 @@ at_the_start config = record {
   basis = basis_at_start (named config.family config.own);
 }
 
--- What something comes to: the check behind it, and what was found by it.
+-- The outcome of a step: the check after it, and its findings.
 pub record Outcome : Type 0 where
   pub checked : Checked
   pub found : List (Finding ℕ)
 
--- nothing was found
+-- the outcome without findings
 abbrev pub quiet : Checked → Outcome
 quiet r = record { checked = r; found = [] }
 
--- what was found before comes first
+-- the outcome with earlier findings before its own
 abbrev pub behind : List (Finding ℕ) → Outcome → Outcome
 behind found o = record o { found = found ++ o.found }
 
--- what waits no longer at a moment
+-- the check after its expired entries were removed
 abbrev pub settled_at : (within moment : ℕ) → Checked → Checked
 settled_at within moment r = record r { checking = settled within moment r.checking }
 
--- what the link sends in a step at a moment is wanted
+-- the treatment of queries after those of one step of the link became wanted
 abbrev pub wanted_by : Configuration → (moment : ℕ) → Step → Checked → CheckingValue
 wanted_by config moment step r =
     let is_returning = not (is_querier r.link.election.role) in
     with_messages config.family config.own moment is_returning (outgoing_of config step) r.checking
 
--- a tick at a moment, behind which the router may be querier again
+-- the check after a tick, by which the router may become querier again
 unfoldable pub ticked : Configuration → (within moment : ℕ) → Checked → Checked
 ticked config within moment r =
     let step = tick_of config moment r.link in
@@ -80,8 +80,8 @@ ticked config within moment r =
           basis.role_after_tick moment (is_querier r.link.election.role) (is_querier step.state.election.role) r.basis;
     }
 
--- Ticks at the link's next moments, one after the other, as long as these are before a limit; `most` at most. Before each
--- what waits no longer is told.
+-- The ticks at the link's next moments before a limit, in order, at most `most`. Before each tick the expired entries
+-- are reported.
 unfoldable pub ticked_within : (most : ℕ) → Configuration → (within limit : ℕ) → Checked → Outcome
 ticked_within zero config within limit r = quiet r
 ticked_within (suc most) config within limit r =
@@ -93,11 +93,11 @@ ticked_within (suc most) config within limit r =
       | false ↦ quiet r
     ]
 
--- All ticks up to and including a moment. After each the link's next moment is later.
+-- All ticks up to and including a moment. After each, the link's next moment is later.
 abbrev pub ticked_through : Configuration → (within moment : ℕ) → Checked → Outcome
 ticked_through config within moment r = ticked_within (moment + 1) config within (moment + 1) r
 
--- where the IP packet of a frame begins: behind an Ethernet header, and a tag
+-- the IP packet of a frame, after an Ethernet header and at most one tag
 abbrev pub packet_in : LinkType → (frame : List ℕ) → List ℕ
 packet_in Ethernet frame =
     if nat_lt (length frame) 14
@@ -109,12 +109,12 @@ packet_in RawIp frame = frame
 abbrev pub destination4_in : (packet : List ℕ) → ℕ
 destination4_in packet = if nat_lt (length packet) 20 then 0 else big_number 4 (drop 16 packet)
 
--- where a datagram goes that a frame carries
+-- the destination of the datagram that a frame carries
 abbrev pub destination_in : Family → LinkType → (frame : List ℕ) → Envelope → ℕ
 destination_in Igmp link frame envelope = destination4_in (packet_in link frame)
 destination_in Mld link frame envelope = envelope.destination
 
--- a datagram that the link is handed at a moment, by which the role may change
+-- the check after the link received a datagram, by which the role may change
 unfoldable pub received : Configuration → (within moment : ℕ) → Datagram → Checked → Checked
 received config within moment datagram r =
     let step = (receipt_of config datagram.envelope datagram.body moment r.link).step in
@@ -128,17 +128,17 @@ received config within moment datagram r =
           (basis.role_changed moment (is_querier r.link.election.role) (is_querier step.state.election.role) r.basis);
     }
 
--- a query of the querier that is checked was seen at a moment
+-- the check after a query of the checked querier was seen
 unfoldable pub seen_at : Configuration → (within moment to : ℕ) → Query ℕ → Checked → Checked
 seen_at config within moment to query r =
     record r { checking = query_came within config r.link.election.timing moment to query r.checking }
 
--- a query of the querier that is checked was seen, or any other datagram is handed to the link
+-- the check after a datagram: a seen query of the checked querier, or a datagram for the link
 abbrev pub seen_or_received : Configuration → (within moment to : ℕ) → Datagram → Option (Query ℕ) → Checked → Checked
 seen_or_received config within moment to datagram (Some query) r = seen_at config within moment to query r
 seen_or_received config within moment to datagram None r = received config within moment datagram r
 
--- a datagram at a moment: first what waits no longer is told
+-- the outcome of a datagram, after the expired entries are reported
 abbrev pub with_datagram : Configuration → LinkType → (within moment : ℕ) → (frame : List ℕ) → Option Datagram → Checked → Outcome
 with_datagram config link within moment frame None r = quiet r
 with_datagram config link within moment frame (Some datagram) r =
@@ -148,12 +148,12 @@ with_datagram config link within moment frame (Some datagram) r =
       found = told within moment r.checking;
     }
 
--- a packet is counted
+-- the check after a packet was counted
 abbrev pub noted : Configuration → LinkType → (frame : List ℕ) → Option Datagram → Checked → Checked
 noted config link frame datagram r =
     record r { basis = with_frame config.family link frame (carried_in link frame) datagram r.basis }
 
--- a packet at its moment: first what happens up to then
+-- the outcome of a packet, after the ticks up to its moment
 unfoldable pub with_packet : Configuration → LinkType → (within moment : ℕ) → (frame : List ℕ) → Checked → Outcome
 with_packet config link within moment frame r =
     let before = ticked_through config within moment r in
@@ -161,15 +161,15 @@ with_packet config link within moment frame r =
     behind before.found
     (with_datagram config link within moment frame datagram (noted config link frame datagram before.checked))
 
--- What packets come to: the check, what was found, the moment of the last one, and the fault that ended it, if one did.
+-- The outcome of packets: the check, the findings, the moment of the last packet, and the fault that ended it, if any.
 pub record Course : Type 0 where
   pub checked : Checked
   pub found : List (Finding ℕ)
   pub moment : ℕ
   pub fault : Option CheckFault
 
--- packets, one after the other, up to the first gap, or where too much waits: the number of the next, and what its moment
--- is counted from
+-- The outcome of packets in order, up to the first gap or the first packet with too many pending entries. `number` is
+-- that of the next packet, and `first` is the stamp from which its moment is counted.
 unfoldable pub with_packets : Configuration → LinkType → (within : ℕ) → (first : Option ℕ) → (before number : ℕ) → List Captured → Checked → Course
 with_packets config link within first before number [] r =
     record { checked = r; found = []; moment = before; fault = None }
@@ -187,12 +187,12 @@ with_packets config link within first before number (packet ∷ packets) r =
           ]
     ]
 
--- the packets of a capture, numbered from 1
+-- the outcome of the packets of a capture, numbered from 1
 abbrev pub with_all_packets : Configuration → (within : ℕ) → Form → List Captured → Course
 with_all_packets config within form packets =
     with_packets config form.link within None 0 1 packets (at_the_start config)
 
--- How a check is told: its text, and what was counted, or why it ended before.
+-- The verdict of a check: its text, and its totals or the reason why it ended early.
 pub record Verdict : Type 0 where
   pub text : List ℕ
   pub answer : Result Totals CheckFault
@@ -208,14 +208,14 @@ totals_of c basis found = record {
 abbrev pub broken_off : Configuration → (cite : Bool) → CheckFault → List (Finding ℕ) → Verdict
 broken_off config cite fault found = record { text = finding_lines config.family cite found; answer = Err fault }
 
--- the end of a capture
+-- the verdict at the end of a capture
 abbrev pub concluded : Configuration → (cite : Bool) → CheckingValue → Basis → List (Finding ℕ) → Verdict
 concluded config cite c basis found = record {
   text = finding_lines config.family cite found ++ last_lines (totals_of c basis found);
   answer = Ok (totals_of c basis found);
 }
 
--- Up to and including a moment, behind what was found before.
+-- The verdict after a check up to and including a moment, with the earlier findings first.
 unfoldable pub ended_at : Configuration → (within : ℕ) → (cite : Bool) → (moment number : ℕ) → (found : List (Finding ℕ)) → Checked → Verdict
 ended_at config within cite moment number found r =
     let done = ticked_through config within moment r in
@@ -225,12 +225,12 @@ ended_at config within cite moment number found r =
     else concluded config cite checking done.checked.basis
     (found ++ done.found ++ told_at_end within config.timing moment checking)
 
--- the moment at which a check ends: that of the last packet, or the one that is asked for, if that is later
+-- the moment at which a check ends: that of the last packet, or the requested one if that is later
 abbrev pub last_moment : (until : Option ℕ) → Course → ℕ
 last_moment until course = max course.moment (unwrap_or until 0)
 
--- what stands behind the packets: the capture's end or its fault, unless the check has ended before; the number of the
--- next packet
+-- The verdict after the packets: the end of the capture or its fault, unless the check has ended before. `number` is
+-- that of the next packet.
 abbrev pub verdict_behind : Configuration → (within : ℕ) → (until : Option ℕ) → (cite : Bool) → (number : ℕ) → (end : Option PcapFault) → (fault : Option CheckFault) → Course → Verdict
 verdict_behind config within until cite number end (Some fault) course = broken_off config cite fault course.found
 verdict_behind config within until cite number (Some fault) None course =
@@ -241,7 +241,7 @@ verdict_behind config within until cite number None None course =
       | false ↦ ended_at config within cite (last_moment until course) number course.found course.checked
     ]
 
--- The check of a capture: what its header says, its packets, and its end.
+-- The check of a capture: its header, its packets, and its end.
 abbrev pub check_of : Configuration → (within : ℕ) → (until : Option ℕ) → (cite : Bool) → Result Form PcapFault → List Captured → (end : Option PcapFault) → Verdict
 check_of config within until cite (Err fault) packets end = record { text = []; answer = Err (Pcap fault) }
 check_of config within until cite (Ok form) packets end =

@@ -1,4 +1,4 @@
--- What the contract of a check says.
+-- The contract of a check.
 use Rattle.std.specs.Prelude.{◌≡◌, ◌⊎◌, ℕ, ◌≤◌, Bool, true, false, if◌then◌else◌, List, [], length, Option, None, Result, Ok, Err}
 use Rattle.std.specs.Io.KnownBytes.{Appends, IsAtEnd}
 use Rattle.mq_pcap.specs.declared.fault.PcapFault.{PcapFault}
@@ -20,7 +20,7 @@ use Rattle.mq_check.specs.FindingLines.{finding_lines}
 abbrev pub verdict_of : Configuration → CheckTerms → ReadCapture → Verdict
 verdict_of config terms c = check_of config terms.within terms.until terms.cite c.header c.packets c.end
 
--- the lines of what is found by the packets alone, whatever follows them
+-- the lines of the findings up to the last packet, without those of the end
 abbrev pub so_far : Configuration → CheckTerms → Result Form PcapFault → List Captured → List ℕ
 so_far config terms (Err fault) packets = []
 so_far config terms (Ok form) packets =
@@ -29,7 +29,7 @@ so_far config terms (Ok form) packets =
 abbrev pub packets_text : Configuration → CheckTerms → ReadCapture → List ℕ
 packets_text config terms c = so_far config terms c.header c.packets
 
--- whether an answer is a failed write
+-- a result is a failed write
 abbrev pub is_failed_write : {T : Type 0} → Result T CheckFault → Bool
 is_failed_write (Ok x) = false
 is_failed_write (Err (answer.Pcap f)) = false
@@ -38,12 +38,12 @@ is_failed_write (Err (answer.Gap number)) = false
 is_failed_write (Err (answer.Waiting number)) = false
 is_failed_write (Err answer.Memory) = false
 
--- The verdict breaks off at a packet that was read, or at the end of the file.
+-- The verdict ends early at a packet that was read, or at the end of the file.
 abbrev pub IsBrokenOffAt : (number : ℕ) → ReadCapture → InputState → Type 0
 IsBrokenOffAt number c new = (number ≤ length c.packets) ⊎ IsAtEnd new.ahead
 
--- Why the answer is that of the whole file: the bytes that were read end it, or what follows them doesn't matter. That of a
--- read that failed is none of the file.
+-- The bytes that were read determine the result of the whole file: they end it, or the bytes after them don't matter. A
+-- failed read isn't part of the file.
 abbrev pub IsEndedByFault : (is_read : Bool) → Configuration → CheckTerms → ReadCapture → (old new : InputState) → PcapFault → Type 0
 IsEndedByFault true config terms c old new f = new.failed ≡ true
 IsEndedByFault false config terms c old new f =
@@ -60,8 +60,7 @@ IsEndedBy config terms c old new (Err (answer.Waiting number)) =
 IsEndedBy config terms c old new (Err answer.Write) = Unit {0}
 IsEndedBy config terms c old new (Err answer.Memory) = c.bytes ≡ []
 
--- the text that is written where no write fails: that of the verdict, and where a read failed, that of the packets that
--- were read
+-- the text that is written if no write fails: that of the verdict, or that of the read packets if a read failed
 abbrev pub text_by : Configuration → CheckTerms → ReadCapture → Result Totals CheckFault → List ℕ
 text_by config terms c (Ok totals) = (verdict_of config terms c).text
 text_by config terms c (Err (answer.Pcap f)) =
@@ -71,8 +70,8 @@ text_by config terms c (Err (answer.Waiting number)) = (verdict_of config terms 
 text_by config terms c (Err answer.Write) = []
 text_by config terms c (Err answer.Memory) = []
 
--- What was written: that text; or where a write failed a beginning of that of the packets, or, if the file had ended, of
--- that of the verdict.
+-- That text was written. If a write failed, a prefix of the text of the packets was written, or a prefix of the
+-- verdict's if the file had ended.
 abbrev pub IsWrittenBy : (is_failed : Bool) → Configuration → CheckTerms → ReadCapture → InputState → (before after : Option (List ℕ)) → Result Totals CheckFault → Type 0
 IsWrittenBy true config terms c new before after r =
     GrowsByBeginning before after (packets_text config terms c)
@@ -82,8 +81,8 @@ IsWrittenBy false config terms c new before after r = Appends before after (text
 abbrev pub IsWritten : Configuration → CheckTerms → ReadCapture → InputState → (before after : Option (List ℕ)) → Result Totals CheckFault → Type 0
 IsWritten config terms c new before after r = IsWrittenBy (is_failed_write r) config terms c new before after r
 
--- A capture was checked. Some bytes were taken from the input, and what was written and answered is the verdict of the
--- capture that they are, taken as a whole file.
+-- A capture was checked. Some bytes were read from the input. The written text and the result are those of the verdict
+-- on these bytes, taken as a whole file.
 pub record Checks (config : Configuration) (terms : CheckTerms) (old new : InputState) (before after : Option (List ℕ)) (r : Result Totals CheckFault) : Type 0 where
   pub read : ReadCapture
   pub takes : Takes old new read.bytes

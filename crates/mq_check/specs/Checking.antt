@@ -1,6 +1,5 @@
--- What a check does with queries, one after the other. A query that is wanted and one that was seen are partners where
--- they ask about the same and no more than the tolerance lies between; each has one partner at most, and the earlier comes
--- first.
+-- A check's treatment of queries, in order. A wanted query and a seen one are partners if they have the same subject
+-- and lie at most the tolerance apart. Each has at most one partner, and the earlier query is paired first.
 use Rattle.std.specs.Prelude.{ℕ, ◌+◌, ◌-◌, ◌^◌, ◌&&◌, min, not, Bool, true, false, if◌then◌else◌, List, [], ◌∷◌, ◌++◌, Option, None, Some, is_some, flat_map, fold}
 use Rattle.mq_wire.specs.declared.query.Query.{Query}
 use Rattle.mq_wire.specs.Family.{Family}
@@ -24,7 +23,7 @@ use Rattle.mq_check.specs.Queries.{asked_in, is_general, terms_of, general_terms
 use Rattle.mq_check.specs.Waiting.{WaitingValue, nothing, with_entry, with_partner, is_free}
 use Rattle.mq_check.specs.Waiting as waits
 
--- What waits; when the role of querier changed last; the general queries; and how many queries were seen.
+-- The pending entries, the last change of the role, the phase of general queries, and the counts of seen queries.
 pub record CheckingValue : Type 0 where
   pub waiting : WaitingValue
   pub changed : Option ℕ
@@ -43,8 +42,8 @@ checking_at_start timing = record {
   specific = 0;
 }
 
--- What waits no longer at a moment, since more than the tolerance has passed, and what is found of it. Where there was no
--- room for something, nothing more is found.
+-- The findings of the entries that have expired at a moment, and the check after their removal. If an entry had no
+-- room, nothing more is found.
 abbrev pub told : (within now : ℕ) → CheckingValue → List (Finding ℕ)
 told within now c = waits.told within now c.changed c.waiting
 
@@ -55,27 +54,27 @@ settled within now c = record c { waiting = waits.settled within now c.waiting }
 abbrev pub counted_up : ℕ → ℕ
 counted_up n = min (n + 1) (2 ^ 64 - 1)
 
--- whether the router that is checked is querier
+-- the checked router is querier
 abbrev pub is_querier_in : Phase → Bool
 is_querier_in (Starting startup) = true
 is_querier_in (Heard before startup) = true
 is_querier_in Returned = true
 is_querier_in NotQuerier = false
 
--- Something is wanted at a moment: the first query that was seen, asks about it and has no partner is its partner.
+-- The check after a query became wanted. Its partner is the first seen query on the subject that has none.
 unfoldable pub with_wanted : (moment : ℕ) → Terms ℕ → CheckingValue → Asked ℕ → CheckingValue
 with_wanted moment terms c asked =
     let is_optional = may_be_left_out moment asked terms c.waiting.entries in
     let is_found = is_some (first_terms (is_free OfSeen asked) c.waiting.entries) in
     record c { waiting = with_entry (Wanted moment asked terms is_optional is_found) (with_partner OfSeen asked terms c.waiting) }
 
--- Something was seen at a moment: the first query that is wanted, asks about it and has no partner is its partner.
+-- The check after a query was seen. Its partner is the first wanted query on the subject that has none.
 unfoldable pub with_seen : (moment : ℕ) → Terms ℕ → CheckingValue → Asked ℕ → CheckingValue
 with_seen moment terms c asked =
     let partner = first_terms (is_free OfWanted asked) c.waiting.entries in
     record c { waiting = with_entry (Seen moment asked terms partner (is_querier_in c.phase)) (with_partner OfWanted asked terms c.waiting) }
 
--- an interval, or a time without general queries, that isn't what is wanted
+-- the entries with a wrong interval, or with a silence that is too long, if there is one
 abbrev pub with_interval : (configured : Timing) → (moment : ℕ) → Option ℕ → WaitingValue → WaitingValue
 with_interval configured moment None w = w
 with_interval configured moment (Some passed) w =
@@ -85,8 +84,9 @@ abbrev pub with_silence : (configured : Timing) → (moment : ℕ) → Option �
 with_silence configured moment None w = w
 with_silence configured moment (Some passed) w = with_entry (Silence moment passed (query_interval configured)) w
 
--- A general query was seen while the router is querier: it is compared with the one that is wanted, whenever it comes, and
--- its interval is judged. It is also the partner of the one that goes where the router is querier again.
+-- The check after a general query was seen while the router is querier. It is compared with the wanted one at any
+-- moment, and its interval is judged. It is also the partner of the query that is sent when the router becomes querier
+-- again.
 unfoldable pub with_general : (within : ℕ) → (configured : Timing) → (moment : ℕ) → (terms wanted : Terms ℕ) → CheckingValue → CheckingValue
 with_general within configured moment terms wanted c =
     let judged = with_interval configured moment (wrong_interval within configured moment c.phase) c.waiting in
@@ -95,7 +95,7 @@ with_general within configured moment terms wanted c =
       phase = phase_behind within configured moment c.phase;
     }
 
--- A general query was seen. While another router is querier none is wanted.
+-- The check after a general query. While another router is querier, none is wanted.
 abbrev pub general_compared : (within : ℕ) → (configured : Timing) → (moment : ℕ) → (terms wanted : Terms ℕ) → CheckingValue → CheckingValue
 general_compared within configured moment terms wanted c =
     if is_querier_in c.phase
@@ -107,14 +107,13 @@ general_seen within configured moment terms wanted c =
     let compared = general_compared within configured moment terms wanted c in
     record compared { last_general = Some moment; general = counted_up compared.general }
 
--- a query for a group or for sources was seen
+-- the check after a query for a group or for sources was seen
 abbrev pub specific_seen : (moment : ℕ) → Terms ℕ → List (Asked ℕ) → CheckingValue → CheckingValue
 specific_seen moment terms asked c =
     let seen = fold (with_seen moment terms) c asked in
     record seen { specific = counted_up seen.specific }
 
--- A query of the querier that is checked was seen at a moment; a general one is compared with what one says by the timing
--- in force.
+-- The check after a query of the checked querier was seen. A general query is compared with one of the timing in force.
 unfoldable pub query_came : (within : ℕ) → Configuration → (in_force : Timing) → (moment to : ℕ) → Query ℕ → CheckingValue → CheckingValue
 query_came within config in_force moment to query c =
     let terms = terms_of config.family to query in
@@ -122,8 +121,8 @@ query_came within config in_force moment to query c =
     then general_seen within config.timing moment terms (general_terms config in_force) c
     else specific_seen moment terms (asked_in query) c
 
--- A query that the link sends at a moment is wanted. A general one is wanted at its moment only where the router is querier
--- again (RFC 3376 section 6.6.2, RFC 3810 section 7.6.2).
+-- The check after a query that the link sends. A general query is wanted at its moment only if the router becomes
+-- querier again (RFC 3376 section 6.6.2, RFC 3810 section 7.6.2).
 abbrev pub one_wanted : Family → (moment : ℕ) → (is_returning : Bool) → (to : ℕ) → Query ℕ → CheckingValue → CheckingValue
 one_wanted family moment is_returning to query c =
     if is_general query && not is_returning
@@ -134,7 +133,7 @@ abbrev pub query_wanted : Family → (moment : ℕ) → (is_returning : Bool) �
 query_wanted family moment is_returning to None c = c
 query_wanted family moment is_returning to (Some query) c = one_wanted family moment is_returning to query c
 
--- one message that the link with this own address sends, and all of a step
+-- the check after one message of the link with this own address, and after all messages of a step
 unfoldable pub with_message : Family → (own moment : ℕ) → (is_returning : Bool) → CheckingValue → Outgoing → CheckingValue
 with_message family own moment is_returning c message =
     query_wanted family moment is_returning message.to (query_sent family own message) c
@@ -143,7 +142,7 @@ abbrev pub with_messages : Family → (own moment : ℕ) → (is_returning : Boo
 with_messages family own moment is_returning messages c =
     fold (with_message family own moment is_returning) c messages
 
--- The role is lost: no general query is wanted from then on. Or it is had again.
+-- The check after the role was lost, from which no general query is wanted, or after the role returned.
 unfoldable pub role_lost : (within : ℕ) → (configured : Timing) → (moment : ℕ) → CheckingValue → CheckingValue
 role_lost within configured moment c =
     record c {
@@ -161,14 +160,14 @@ role_changed within configured moment true false c = role_lost within configured
 role_changed within configured moment false true c = role_returned within moment c
 role_changed within configured moment false false c = c
 
--- A tick takes the role from no router.
+-- The check after a tick, which never makes the router lose the role.
 abbrev pub role_after_tick : (within : ℕ) → (moment : ℕ) → (was_querier is_querier : Bool) → CheckingValue → CheckingValue
 role_after_tick within moment true is_querier c = c
 role_after_tick within moment false true c = role_returned within moment c
 role_after_tick within moment false false c = c
 
--- What is found at the end of a capture of an entry that still waits. A query without a partner isn't told: it may come
--- later.
+-- The findings of an entry that is pending at the end of a capture. A query without a partner isn't reported: its
+-- partner may come later.
 abbrev pub found_of_last : Entry ℕ → List (Finding ℕ)
 found_of_last (Wanted moment asked terms is_optional is_found) = []
 found_of_last (Seen moment asked terms None is_querier) = []
@@ -181,7 +180,7 @@ silence_found configured moment None = []
 silence_found configured moment (Some passed) =
     finding.Silence moment passed (query_interval configured) ∷ []
 
--- what is found at the end, at a moment: last whether no general query was seen for too long
+-- the findings at the end of a check, in order: expired entries, pending ones, and a silence that is too long
 unfoldable pub told_at_end : (within : ℕ) → (configured : Timing) → (moment : ℕ) → CheckingValue → List (Finding ℕ)
 told_at_end within configured moment c =
     let left = settled within moment c in

@@ -1,4 +1,4 @@
--- What the steps of a check come to in the code.
+-- Outcomes of the steps of a check in the code.
 use Rattle.std.specs.Prelude.{◌≡◌, Result, IfOk}
 use Rattle.mq_wire.specs.Family.{Family}
 use Rattle.mq_link.specs.Link.{LinkValue}
@@ -7,11 +7,11 @@ use Rattle.mq_check.specs.Check.{Checked, Outcome}
 use Rattle.mq_check.specs.Telling.{ToldState, Tells}
 use Rattle.mq_check.specs.Wanting.{WantingValue}
 
--- the check that a link and its outlet are in the midst of
+-- the check of a link and its outlet
 abbrev pub checked_in : LinkValue → WantingValue → Checked
 checked_in link queries = record { link = link.state; checking = queries.checking; basis = queries.basis }
 
--- What was done came to this, and what was found was told; or a write failed.
+-- The step had this outcome and its findings were reported, or a write failed.
 pub record Comes {T E : Type 0} (family : Family) (o : Outcome) (link link' : LinkValue) (queries queries' : WantingValue) (told told' : ToldState) (before after : OutputState)
     (r : Result T E) : Type 0 where
   pub same_config : link'.config ≡ link.config

@@ -1,4 +1,4 @@
--- What the parts of a check come to that go to a writer by way of a buffer.
+-- Outcomes of the parts of a check that go to a writer through a buffer.
 use Rattle.std.specs.Prelude.{◌≡◌, ◌⊎◌, ℕ, max, Bool, true, false, if◌then◌else◌, List, [], ◌++◌, length, flat_map, Option, None, Result, Ok, Err, unwrap_or}
 use Rattle.std.specs.Io.KnownBytes.{IsAtEnd}
 use Rattle.mq_pcap.specs.declared.fault.PcapFault.{PcapFault}
@@ -25,8 +25,8 @@ use Rattle.mq_check.specs.FindingLines.{finding_lines, last_lines}
 use Rattle.mq_check.specs.General.{silence_up_to}
 use Rattle.mq_check.specs.Telling.{counted_times}
 
--- What was put: the text of the answer; or where a write failed, a beginning of that of the packets was written, or, if the
--- file had ended, of that of the verdict.
+-- The text of the result was put. If a write failed, a prefix of the text of the packets was written, or a prefix of
+-- the verdict's if the file had ended.
 abbrev pub IsPutBy : (is_failed : Bool) → Configuration → CheckTerms → ReadCapture → InputState → (before after : Option (List ℕ)) → (held left : List ℕ) → Result Totals CheckFault → Type 0
 IsPutBy true config terms c new before after held left r =
     GrowsByBeginning before after (held ++ packets_text config terms c)
@@ -45,7 +45,7 @@ pub record PutsVerdict (config : Configuration) (terms : CheckTerms) (old new : 
   pub ended : IsEndedBy config terms read old new r
   pub put : IsVerdictPut config terms read new before after held left r
 
--- the verdict of what stands behind a file's header was put
+-- the verdict of the packets after a file's header was put
 pub record PutsPackets (config : Configuration) (terms : CheckTerms) (form : Form) (old new : InputState) (before after : Option (List ℕ)) (held left : List ℕ)
     (r : Result Totals CheckFault) : Type 0 where
   pub bytes : List ℕ
@@ -56,12 +56,12 @@ pub record PutsPackets (config : Configuration) (terms : CheckTerms) (form : For
   pub ended : IsEndedBy config terms (behind_header form bytes packets end) old new r
   pub put : IsVerdictPut config terms (behind_header form bytes packets end) new before after held left r
 
--- what is found at the end behind what no longer waits
+-- the findings at the end, after the expired entries
 abbrev pub last_findings : (within : ℕ) → (configured : Timing) → (moment : ℕ) → CheckingValue → List (Finding ℕ)
 last_findings within configured moment c =
     flat_map found_of_last c.waiting.entries ++ silence_found configured moment (silence_up_to within configured moment c.phase)
 
--- what was counted, where so many findings were told before
+-- the totals, after `count` earlier findings
 abbrev pub counted_behind : (count : ℕ) → CheckingValue → Basis → List (Finding ℕ) → Totals
 counted_behind count c basis found = record {
   general = c.general;
@@ -74,7 +74,7 @@ counted_behind count c basis found = record {
 abbrev pub end_text : Family → (cite : Bool) → List (Finding ℕ) → Totals → List ℕ
 end_text family cite found totals = finding_lines family cite found ++ last_lines totals
 
--- Up to and including a moment, where so many findings were told before: what comes behind these.
+-- The verdict up to and including a moment, after `count` earlier findings.
 abbrev pub end_behind : Family → (cite : Bool) → (count number : ℕ) → CheckingValue → Basis → (found last : List (Finding ℕ)) → Verdict
 end_behind family cite count number c basis found last =
     if c.waiting.is_full
@@ -91,8 +91,8 @@ ended_behind config within cite moment count number r =
     end_behind config.family cite count number left done.checked.basis (done.found ++ told within moment done.checked.checking)
     (last_findings within config.timing moment left)
 
--- What stands behind the packets of a file that has ended, where so many findings were told before: the moment of the last
--- packet, and the number of the next.
+-- The verdict on the time after the packets of a file that has ended, after `count` earlier findings. `last` is the
+-- moment of the last packet, and `number` is that of the next packet.
 abbrev pub rest_behind : Configuration → (within : ℕ) → (until : Option ℕ) → (cite : Bool) → (last count number : ℕ) → Checked → Verdict
 rest_behind config within until cite last count number r =
     let end = max last (unwrap_or until 0) in
@@ -101,7 +101,7 @@ rest_behind config within until cite last count number r =
       | false ↦ ended_behind config within cite end count number r
     ]
 
--- that was put, or a beginning of it was written
+-- the verdict was put, or a prefix of it was written
 abbrev pub IsRestPut : Verdict → (before after : Option (List ℕ)) → (held left : List ℕ) → Result Totals CheckFault → Type 0
 IsRestPut v before after held left (Ok totals) = (v.answer ≡ Ok totals) × Passes before after held left v.text
 IsRestPut v before after held left (Err (answer.Gap number)) =

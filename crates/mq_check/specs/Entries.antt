@@ -1,5 +1,5 @@
--- What waits while its partner may still come: queries that are wanted and queries that were seen, in the order of their
--- moments, and what was found of them.
+-- Pending entries: wanted and seen queries whose partners may still come, and findings, in ascending order of their
+-- moments.
 use Rattle.std.specs.Prelude.{ℕ, ◌+◌, ◌==◌, ◌&&◌, ◌||◌, not, nat_lt, nat_le, Bool, true, false, if◌then◌else◌, List, [], ◌∷◌, ◌++◌, map as list_map, Option, None, Some, is_some}
 use Rattle.std.specs.List.{list_any}
 use Rattle.mq_check.specs.declared.asked.Asked.{Asked}
@@ -20,11 +20,11 @@ moment_of (Seen moment asked terms partner is_querier) = moment
 moment_of (Interval moment after wanted) = moment
 moment_of (Silence moment after wanted) = moment
 
--- two numbers differ by no more than the tolerance
+-- two numbers differ by at most the tolerance
 abbrev pub is_within : (within a b : ℕ) → Bool
 is_within within a b = nat_le a (b + within) && nat_le b (a + within)
 
--- what comes now comes too late to be its partner: more than the tolerance lies between
+-- The entry has expired: more than the tolerance has passed since its moment.
 abbrev pub is_over : (within now : ℕ) → Entry ℕ → Bool
 is_over within now entry = nat_lt (moment_of entry + within) now
 
@@ -35,7 +35,7 @@ is_free_wanted asked (Seen moment asked' terms partner is_querier) = false
 is_free_wanted asked (Interval moment after wanted) = false
 is_free_wanted asked (Silence moment after wanted) = false
 
--- a query that was seen and has no partner yet
+-- a seen query that has no partner yet
 abbrev pub is_free_seen : Asked ℕ → Entry ℕ → Bool
 is_free_seen asked (Wanted moment asked' terms is_optional is_found) = false
 is_free_seen asked (Seen moment asked' terms partner is_querier) = is_same asked asked' && not (is_some partner)
@@ -48,14 +48,14 @@ terms_in (Seen moment asked terms partner is_querier) = Some terms
 terms_in (Interval moment after wanted) = None
 terms_in (Silence moment after wanted) = None
 
--- an entry that has found its partner, of which a query that was seen keeps the terms
+-- the entry with a partner, whose terms a seen query keeps
 abbrev pub joined : Terms ℕ → Entry ℕ → Entry ℕ
 joined other (Wanted moment asked terms is_optional is_found) = Wanted moment asked terms is_optional true
 joined other (Seen moment asked terms partner is_querier) = Seen moment asked terms (Some other) is_querier
 joined other (Interval moment after wanted) = Interval moment after wanted
 joined other (Silence moment after wanted) = Silence moment after wanted
 
--- the terms of the first entry that passes a test, and the entries with that one joined
+-- the terms of the first entry that satisfies a test, and the entries after that one has found its partner
 abbrev pub first_terms : (Entry ℕ → Bool) → List (Entry ℕ) → Option (Terms ℕ)
 first_terms test [] = None
 first_terms test (entry ∷ entries) = if test entry then terms_in entry else first_terms test entries
@@ -72,8 +72,8 @@ is_group_wanted moment group (Seen moment' asked terms partner is_querier) = fal
 is_group_wanted moment group (Interval moment' after wanted) = false
 is_group_wanted moment group (Silence moment' after wanted) = false
 
--- A query for sources with S set may be left out where one for their group goes at the same moment (RFC 3376 section
--- 6.6.3.2, RFC 3810 section 7.6.3.2).
+-- A query for sources with S set may be left out if one for their group is sent at the same moment. RFC 3376 section
+-- 6.6.3.2, RFC 3810 section 7.6.3.2.
 abbrev pub is_suppressed : Option QuerierTerms → Bool
 is_suppressed None = false
 is_suppressed (Some terms) = terms.suppress
@@ -88,7 +88,7 @@ abbrev pub is_unlike : (a b : Bool) → Bool
 is_unlike true b = not b
 is_unlike false b = b
 
--- Each field of a pair that differs. What only one of the two has isn't compared: the version differs then.
+-- Each field of a pair that differs. A field that only one of the two has isn't compared: then the version differs.
 abbrev pub difference_if : Bool → Difference ℕ → List (Difference ℕ)
 difference_if true difference = difference ∷ []
 difference_if false difference = []
@@ -116,25 +116,25 @@ terms_differ seen wanted =
     ++ queriers_differ seen.querier wanted.querier
     ++ difference_if (not (seen.to == wanted.to)) (field.Destination seen.to wanted.to)
 
--- whether the role of querier changed within the tolerance of a moment
+-- the role of querier changed within the tolerance of a moment
 abbrev pub is_near_change : (within moment : ℕ) → (changed : Option ℕ) → Bool
 is_near_change within moment None = false
 is_near_change within moment (Some changed) = is_within within moment changed
 
--- what is found of a pair
+-- the findings of a pair
 abbrev pub differ_at : (moment : ℕ) → Asked ℕ → List (Difference ℕ) → List (Finding ℕ)
 differ_at moment asked differences = list_map (finding.Differs moment asked) differences
 
 abbrev pub differences_found : (moment : ℕ) → Asked ℕ → (seen wanted : Terms ℕ) → List (Finding ℕ)
 differences_found moment asked seen wanted = differ_at moment asked (terms_differ seen wanted)
 
--- A query without a partner is extra, but for one within the tolerance of a change of the role.
+-- The findings of a seen query. Without a partner it is extra, unless the role changed within the tolerance of it.
 abbrev pub findings_of_seen : (within : ℕ) → (changed : Option ℕ) → (moment : ℕ) → Asked ℕ → Terms ℕ → Option (Terms ℕ) → (is_querier : Bool) → List (Finding ℕ)
 findings_of_seen within changed moment asked terms None is_querier =
     if is_near_change within moment changed then [] else finding.Extra moment asked is_querier ∷ []
 findings_of_seen within changed moment asked terms (Some wanted) is_querier = differences_found moment asked terms wanted
 
--- what is found of an entry that is over: the role changed last at `changed`
+-- the findings of an expired entry, if the role changed last at `changed`
 abbrev pub findings_of : (within : ℕ) → (changed : Option ℕ) → Entry ℕ → List (Finding ℕ)
 findings_of within changed (Wanted moment asked terms is_optional is_found) =
     if is_optional || is_found then [] else finding.Missing moment asked ∷ []

@@ -1,5 +1,5 @@
--- What the worked examples begin with: a query for the group 5 of a querier with the default variables, and what becomes of
--- it where it is wanted and where it was seen. What no longer waits was told when the second of the two came.
+-- The data of the worked examples: a query for the group 5 of a querier with the default variables. It is wanted and
+-- seen in either order, and expired entries are removed before the second.
 use Rattle.std.specs.Prelude.{ℕ, false, Some}
 use Rattle.mq_table.specs.declared.timing.Timing.{Timing}
 use Rattle.mq_check.specs.declared.asked.Asked.TheVariants.{Group}
@@ -17,17 +17,17 @@ a_query = record {
   to = 5;
 }
 
--- it is wanted at a moment, and was seen at a later one
+-- the check after the query was wanted at a moment and seen at a later one
 abbrev pub wanted_first : (wanted seen : ℕ) → CheckingValue
 wanted_first wanted seen =
     with_seen seen a_query (settled 100 seen (with_wanted wanted a_query (checking_at_start timing) (Group 5))) (Group 5)
 
--- it was seen at a moment, and is wanted at a later one
+-- the check after the query was seen at a moment and wanted at a later one
 abbrev pub seen_first : (seen wanted : ℕ) → CheckingValue
 seen_first seen wanted =
     with_wanted wanted a_query (settled 100 wanted (with_seen seen a_query (checking_at_start timing) (Group 5))) (Group 5)
 
--- general queries as they are wanted, at two moments
+-- the check after general queries as wanted, at two moments
 abbrev pub two_general : (first second : ℕ) → CheckingValue
 two_general first second =
     with_general 100 timing second a_query a_query

@@ -1,4 +1,4 @@
--- The lines of a check, and the sections of the standards that want what a finding says.
+-- The lines of a check, and the sections of the standards that findings cite.
 use Rattle.std.specs.Prelude.{ℕ, ◌==◌, Bool, true, false, if◌then◌else◌, List, [], ◌++◌, codes}
 use Rattle.std.specs.List.{flat_map}
 use Rattle.std.specs.Fmt.{decimal}
@@ -16,17 +16,17 @@ use Rattle.mq_check.specs.declared.querier_address.QuerierAddress.TheVariants.{V
 use Rattle.mq_check.specs.declared.basis.Basis.{Basis}
 use Rattle.mq_check.specs.declared.totals.Totals.{Totals}
 
--- a group, and of a source its group first; all groups are the group zero
+-- a group, or the group and the source; all groups are the group zero
 abbrev pub asked_text : Family → Asked ℕ → List ℕ
 asked_text family AllGroups = address_text family 0
 asked_text family (Group group) = address_text family group
 asked_text family (Source group source) = address_text family group ++ codes " " ++ address_text family source
 
--- a number as it was seen and as it is wanted, behind a name
+-- a name, then the seen and the wanted number
 abbrev pub numbers_text : (name : List ℕ) → (seen wanted : ℕ) → List ℕ
 numbers_text name seen wanted = name ++ decimal seen ++ codes ", wanted " ++ decimal wanted
 
--- a field by the name that it has in the lines of queries, as it was seen and as it is wanted
+-- a field under its name in the lines of queries, with the seen and the wanted value
 abbrev pub difference_text : Family → Difference ℕ → List ℕ
 difference_text family (Version seen wanted) = numbers_text (codes "version ") seen wanted
 difference_text family (Response seen wanted) = numbers_text (codes "response ") seen wanted
@@ -36,11 +36,11 @@ difference_text family (QueryInterval seen wanted) = numbers_text (codes "interv
 difference_text family (Destination seen wanted) =
     codes "to " ++ address_text family seen ++ codes ", wanted " ++ address_text family wanted
 
--- a moment, and what stands behind it
+-- a moment, and the text after it
 unfoldable pub at_moment : (moment : ℕ) (what : List ℕ) → List ℕ
 at_moment moment what = decimal moment ++ what
 
--- a time, and the one that is wanted
+-- a time, and the wanted one
 unfoldable pub interval_text : (passed wanted : ℕ) → List ℕ
 interval_text passed wanted = decimal passed ++ codes ", wanted " ++ decimal wanted
 
@@ -54,31 +54,32 @@ finding_text family (Interval moment after wanted) =
 finding_text family (Silence moment after wanted) =
     at_moment moment (codes " general none for ") ++ interval_text after wanted
 
--- of IGMP, or of MLD
+-- the value for IGMP, or that for MLD
 abbrev pub of_family : {X : Type 0} → Family → (igmp mld : X) → X
 of_family Igmp igmp mld = igmp
 of_family Mld igmp mld = mld
 
--- how queries for a group and for sources are built and sent (RFC 3376 sections 6.6.3.1 and 6.6.3.2, RFC 3810 sections
--- 7.6.3.1 and 7.6.3.2), and those for all groups behind the end of the other querier (6.6.2; 7.6.2)
+-- The section that says how queries for a group and for sources are built and sent: RFC 3376 sections 6.6.3.1 and
+-- 6.6.3.2, RFC 3810 sections 7.6.3.1 and 7.6.3.2. For all groups it is that of the end of the other querier (6.6.2;
+-- 7.6.2).
 abbrev pub sending_section : Family → Asked ℕ → List ℕ
 sending_section family AllGroups = of_family family (codes "6.6.2") (codes "7.6.2")
 sending_section family (Group group) = of_family family (codes "6.6.3.1") (codes "7.6.3.1")
 sending_section family (Source group source) = of_family family (codes "6.6.3.2") (codes "7.6.3.2")
 
--- one that no change wants, or that another querier's election forbids
+-- the section of an extra query, which no change requires or which another querier's election forbids
 abbrev pub extra_section : Family → (is_querier : Bool) → Asked ℕ → List ℕ
 extra_section family true asked = sending_section family asked
 extra_section family false asked = of_family family (codes "6.6.2") (codes "7.6.2")
 
--- the response of a general query is the query response interval, that of another the last member (last listener) query
--- interval
+-- The section of the response. A general query has the Query Response Interval, any other the Last Member (Last
+-- Listener) Query Interval.
 abbrev pub response_section : Family → Asked ℕ → List ℕ
 response_section family AllGroups = of_family family (codes "8.3") (codes "9.3")
 response_section family (Group group) = of_family family (codes "8.8") (codes "9.8")
 response_section family (Source group source) = of_family family (codes "8.8") (codes "9.8")
 
--- S is set where a query for a group or for sources is built so
+-- the section of S: for a group or for sources it is that of sending the query
 abbrev pub suppress_section : Family → Asked ℕ → List ℕ
 suppress_section family AllGroups = of_family family (codes "4.1.5") (codes "5.1.7")
 suppress_section family (Group group) = sending_section family (Group group)
@@ -92,7 +93,7 @@ field_section family asked (Robustness seen wanted) = of_family family (codes "4
 field_section family asked (QueryInterval seen wanted) = of_family family (codes "4.1.7") (codes "5.1.9")
 field_section family asked (Destination seen wanted) = of_family family (codes "4.1.12") (codes "5.1.15")
 
--- the section of RFC 3376 or RFC 3810 that wants it otherwise than a finding says; intervals are the query interval
+-- the section of RFC 3376 or RFC 3810 that a finding violates; for intervals that of the Query Interval
 abbrev pub section_of : Family → Finding ℕ → List ℕ
 section_of family (Missing moment asked) = sending_section family asked
 section_of family (Extra moment asked is_querier) = extra_section family is_querier asked
@@ -100,7 +101,7 @@ section_of family (Differs moment asked difference) = field_section family asked
 section_of family (Interval moment after wanted) = of_family family (codes "8.2") (codes "9.2")
 section_of family (Silence moment after wanted) = of_family family (codes "8.2") (codes "9.2")
 
--- the standard and its section behind a finding, where they are asked for, and the end of the line
+-- the standard and its section after a finding, if they are requested, and the end of the line
 abbrev pub citation_text : Family → (cite : Bool) → Finding ℕ → List ℕ
 citation_text family false finding = codes "\n"
 citation_text family true finding =
@@ -110,22 +111,21 @@ citation_text family true finding =
 abbrev pub finding_line : Family → (cite : Bool) → Finding ℕ → List ℕ
 finding_line family cite finding = finding_text family finding ++ citation_text family cite finding
 
--- the lines of findings, in their order
+-- the lines of findings, in order
 abbrev pub finding_lines : Family → (cite : Bool) → List (Finding ℕ) → List ℕ
 finding_lines family cite findings = flat_map (finding_line family cite) findings
 
--- a count behind its name
+-- a name and a count
 unfoldable pub count_text : (name : List ℕ) → (count : ℕ) → List ℕ
 count_text name count = name ++ decimal count
 
--- how many queries were seen, general ones and others, and how much was found
+-- the numbers of general queries, of other queries and of findings
 abbrev pub totals_line : Totals → List ℕ
 totals_line totals =
     count_text (codes "checked general ") totals.general ++ count_text (codes " specific ") totals.specific
     ++ count_text (codes ": ") totals.findings ++ codes " findings\n"
 
--- how many packets the capture has, how many of them are messages of the family, how many are faulty ones, how many are cut
--- and weren't looked into
+-- the numbers of packets, of messages of the family, and of malformed, truncated and unread packets
 abbrev pub packets_line : Basis → List ℕ
 packets_line b =
     count_text (codes "packets ") b.packets ++ count_text (codes " messages ") b.messages
@@ -136,7 +136,8 @@ abbrev pub querier_text : QuerierAddress → List ℕ
 querier_text (V4 address) = address_text Igmp address
 querier_text (V6 address) = address_text Mld address
 
--- how often the role was lost, when last, which other router was querier last, and since when the role is had again
+-- The text on losses of the role: their number, the last one's moment, the last other querier, and the moment of the
+-- return.
 abbrev pub again_text : Basis → List ℕ
 again_text b = if b.is_querier then codes ", again at " ++ at_moment b.again_at [] else []
 
@@ -147,7 +148,7 @@ lost_text b =
     else count_text (codes ", lost ") b.lost ++ codes ", last at " ++ at_moment b.lost_at (codes ", other ")
     ++ querier_text b.other ++ again_text b
 
--- which router was checked, and when it was querier
+-- the checked router, and when it was querier
 abbrev pub querier_line : Basis → List ℕ
 querier_line b = codes "querier " ++ querier_text b.own ++ codes " from 0" ++ lost_text b ++ codes "\n"
 

@@ -1,5 +1,5 @@
--- The general queries of the querier that is checked, which has its own phase (RFC 3376 sections 6.6.2, 8.2, 8.6 and 8.7,
--- RFC 3810 sections 7.6.2, 9.2, 9.6 and 9.7).
+-- General queries of the checked querier, which has its own phase. RFC 3376 sections 6.6.2, 8.2, 8.6 and 8.7, RFC 3810
+-- sections 7.6.2, 9.2, 9.6 and 9.7.
 use Rattle.std.specs.Prelude.{ℕ, ◌+◌, ◌-◌, ◌&&◌, ◌||◌, not, nat_lt, nat_le, Bool, true, false, if◌then◌else◌, Option, None, Some}
 use Rattle.mq_table.specs.declared.timing.Timing.{Timing}
 use Rattle.mq_table.specs.Timing.{query_interval, startup_interval, startup_count}
@@ -7,31 +7,31 @@ use Rattle.mq_check.specs.declared.phase.Phase.{Phase}
 use Rattle.mq_check.specs.declared.phase.Phase.TheVariants.{Starting, Heard, Returned, NotQuerier}
 use Rattle.mq_check.specs.Entries.{is_within}
 
--- At the start of a capture, at 0, it isn't known when the querier started. Its first intervals may be those of a start,
--- as many as lie between the queries of a start.
+-- The phase at the start of a capture, at 0. The start of the querier isn't known. So its first intervals may be
+-- startup intervals, one fewer than the startup queries.
 abbrev pub phase_at_start : Timing → Phase
 phase_at_start timing = Starting (startup_count timing - 1)
 
--- more than a query interval has passed
+-- more than a query interval and the tolerance has passed
 abbrev pub is_late : (within : ℕ) → Timing → (passed : ℕ) → Bool
 is_late within timing passed = nat_lt (query_interval timing + within) passed
 
--- whether an interval is one of a start, of which so many may still come
+-- the interval is a startup interval, if `startup` more may still come
 abbrev pub is_of_start : (within : ℕ) → Timing → (startup interval : ℕ) → Bool
 is_of_start within timing startup interval =
     nat_lt 0 startup && is_within within interval (startup_interval timing)
 
--- Of two general queries after one another the interval is the query interval, or one of a start.
+-- the interval between two general queries is the query interval, or a startup interval
 abbrev pub is_interval : (within : ℕ) → Timing → (startup interval : ℕ) → Bool
 is_interval within timing startup interval =
     is_of_start within timing startup interval || is_within within interval (query_interval timing)
 
--- so many intervals of a start may still come: one fewer behind one of them, and none behind any other
+-- the number of startup intervals that may still come: one fewer after a startup interval, and none after any other
 abbrev pub startup_left : (within : ℕ) → Timing → (startup interval : ℕ) → ℕ
 startup_left within timing startup interval =
     if is_of_start within timing startup interval then startup - 1 else 0
 
--- How long before a general query the one before it came, or the capture began, where that isn't what is wanted.
+-- The time between a general query and the one before it, or the start of the capture, if it is wrong.
 abbrev pub unless : Bool → ℕ → Option ℕ
 unless true n = None
 unless false n = Some n
@@ -50,8 +50,8 @@ phase_behind within timing moment (Heard before startup) =
 phase_behind within timing moment Returned = Heard moment 0
 phase_behind within timing moment NotQuerier = NotQuerier
 
--- For how long no general query came up to a moment, at which the role is lost or the capture ends, where that is too
--- long.
+-- The time without general queries up to a moment, if it is too long. At this moment the role is lost or the capture
+-- ends.
 abbrev pub silence_up_to : (within : ℕ) → Timing → (moment : ℕ) → Phase → Option ℕ
 silence_up_to within timing moment (Starting startup) = unless (not (is_late within timing moment)) moment
 silence_up_to within timing moment (Heard before startup) =
@@ -59,7 +59,8 @@ silence_up_to within timing moment (Heard before startup) =
 silence_up_to within timing moment Returned = None
 silence_up_to within timing moment NotQuerier = None
 
--- The router is querier again: the general query that it sends then may have been seen before that, within the tolerance.
+-- The phase after the router becomes querier again. The general query that it sends then may have been seen earlier,
+-- within the tolerance.
 abbrev pub phase_again : (within : ℕ) → (moment : ℕ) → (last : Option ℕ) → Phase
 phase_again within moment None = Returned
 phase_again within moment (Some last) = if nat_le moment (last + within) then Heard last 0 else Returned

@@ -1,4 +1,4 @@
--- What waits and what is found, with its addresses as numbers.
+-- Entries and findings with addresses as numbers.
 use Rattle.std.specs.Prelude.{ℕ, List, [], ◌∷◌, Option, None, Some}
 use Rattle.mq_check.specs.declared.asked.Asked.{Asked}
 use Rattle.mq_check.specs.declared.asked.Asked.TheVariants.{AllGroups, Group, Source}
@@ -45,7 +45,7 @@ numbered_difference number (difference.Robustness seen wanted) = difference.Robu
 numbered_difference number (difference.QueryInterval seen wanted) = difference.QueryInterval seen wanted
 numbered_difference number (difference.Destination seen wanted) = difference.Destination (number seen) (number wanted)
 
--- the difference, if there is one
+-- a list of the difference, if there is one
 abbrev pub difference_list : {K : Type 0} → (K → ℕ) → Option (Difference K) → List (Difference ℕ)
 difference_list number None = []
 difference_list number (Some difference) = numbered_difference number difference ∷ []

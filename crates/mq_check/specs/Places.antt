@@ -1,4 +1,4 @@
--- What the calls say that look for an entry, or take the first one out.
+-- Contracts of the calls that search for an entry or remove the first one.
 use Rattle.std.specs.Prelude.{◌≡◌, ℕ, ◌+◌, ◌<◌, List, [], ◌++◌, length, Option, None, slice_set}
 use Rattle.std.specs.List.{HoldsAt}
 use Rattle.mq_check.specs.declared.asked.Asked.{Asked}
@@ -8,23 +8,23 @@ use Rattle.mq_check.specs.declared.waiting.Side.{Side}
 use Rattle.mq_check.specs.Entries.{moment_of, terms_in, joined, first_terms, first_joined, findings_of}
 use Rattle.mq_check.specs.Waiting.{WaitingValue, is_free, told, settled}
 
--- no entry of the side that asks about this is without a partner
+-- no entry of the side has this subject and no partner
 pub record IsNoneFree (side : Side) (asked : Asked ℕ) (entries : List (Entry ℕ)) : Type 0 where
   pub terms : first_terms (is_free side asked) entries ≡ None
   pub joined : (other : Terms ℕ) → first_joined (is_free side asked) other entries ≡ entries
 
--- the first one stands at a place
+-- the first such entry is at this place
 pub record IsFirstFree (side : Side) (asked : Asked ℕ) (entries : List (Entry ℕ)) (place : ℕ) : Type 0 where
   pub within : place < length entries
   pub terms : HoldsAt (λ entry. first_terms (is_free side asked) entries ≡ terms_in entry) entries place
   pub joined : (other : Terms ℕ) → HoldsAt (λ entry. first_joined (is_free side asked) other entries ≡ slice_set entries place (joined other entry)) entries place
 
--- nothing is over at a moment
+-- no entry has expired at `now`
 pub record IsNoneOver (within now : ℕ) (w : WaitingValue) : Type 0 where
   pub told : (changed : Option ℕ) → told within now changed w ≡ []
   pub settled : settled within now w ≡ w
 
--- the first entry, which is over at a moment, was taken out
+-- the first entry, which has expired at `now`, was removed
 pub record IsFirstOver (within now : ℕ) (old new : WaitingValue) (entry : Entry ℕ) : Type 0 where
   pub is_over : moment_of entry + within < now
   pub told : (changed : Option ℕ) → told within now changed old ≡ findings_of within changed entry ++ told within now changed new

@@ -1,5 +1,5 @@
--- What a query asks about, and what it says besides (RFC 3376 sections 4.1, 4.1.11 and 7.1, RFC 3810 sections 5.1, 5.1.13
--- and 8.1). Addresses are numbers.
+-- Subjects and terms of queries (RFC 3376 sections 4.1, 4.1.11 and 7.1, RFC 3810 sections 5.1, 5.1.13 and 8.1).
+-- Addresses are numbers.
 use Rattle.std.specs.Prelude.{ℕ, ◌==◌, ◌&&◌, Bool, true, false, if◌then◌else◌, List, [], ◌∷◌, map as list_map, Option, None, Some, Result, Ok, Err}
 use Rattle.mq_wire.specs.declared.message.Message.{Message}
 use Rattle.mq_wire.specs.declared.message.Message.TheVariants.{Query as AQuery, OldReport, Leave, Report}
@@ -26,8 +26,8 @@ abbrev pub is_empty : List ℕ → Bool
 is_empty [] = true
 is_empty (x ∷ xs) = false
 
--- What is asked about: all groups, a group, or each of some sources of a group, so that sources in one query are asked
--- about like sources in one query each. A source that stands twice in a query is asked about twice.
+-- The subjects of a query: all groups, a group, or each source of a group. Sources in one query count like sources in
+-- one query each. A source that a query names twice is a subject twice.
 abbrev pub asked_for_group : (group : ℕ) → Asked ℕ
 asked_for_group group = if group == 0 then AllGroups else Group group
 
@@ -38,11 +38,11 @@ asked_by group (source ∷ sources) = list_map (Source group) (source ∷ source
 abbrev pub asked_in : Query ℕ → List (Asked ℕ)
 asked_in query = asked_by query.group (query_sources query.version)
 
--- a general query: neither a group nor sources
+-- a general query, without a group and without sources
 abbrev pub is_general : Query ℕ → Bool
 is_general query = query.group == 0 && is_empty (query_sources query.version)
 
--- whether two ask about the same
+-- two subjects are equal
 abbrev pub is_same : (a b : Asked ℕ) → Bool
 is_same AllGroups AllGroups = true
 is_same AllGroups (Group g) = false
@@ -68,7 +68,7 @@ querier_terms (Current fields) = Some (record {
   interval = fields.interval;
 })
 
--- a query's version and fields, and where it goes
+-- the version, the fields and the destination of a query
 abbrev pub terms_of : Family → (to : ℕ) → Query ℕ → Terms ℕ
 terms_of family to query = record {
   version = query_version family query.version;
@@ -77,9 +77,9 @@ terms_of family to query = record {
   to = to;
 }
 
--- What a general query says: its response is the Query Response Interval, its QRV and QQIC are those in force, each as its
--- code has it, and S is clear (RFC 3376 sections 4.1.1, 4.1.5 to 4.1.7, 4.1.12 and 8.3, RFC 3810 sections 5.1.3, 5.1.7 to
--- 5.1.9, 5.1.15 and 9.3).
+-- The terms of a general query. The response is the Query Response Interval, and QRV and QQIC are those in force, each
+-- rounded by its code. S is clear. RFC 3376 sections 4.1.1, 4.1.5 to 4.1.7, 4.1.12 and 8.3, RFC 3810 sections 5.1.3,
+-- 5.1.7 to 5.1.9, 5.1.15 and 9.3.
 abbrev pub general_terms : Configuration → (in_force : Timing) → Terms ℕ
 general_terms config in_force = record {
   version = current_version config.family;
@@ -92,7 +92,7 @@ general_terms config in_force = record {
   to = general_destination config.family;
 }
 
--- the query that was read, if one was
+-- the query that was read, if there is one
 abbrev pub query_read : Result (Message ℕ) WireFault → Option (Query ℕ)
 query_read (Err fault) = None
 query_read (Ok (AQuery query)) = Some query
@@ -100,21 +100,21 @@ query_read (Ok (OldReport version group)) = None
 query_read (Ok (Leave group)) = None
 query_read (Ok (Report records)) = None
 
--- the query that the bytes of a datagram spell, if they spell one
+-- the query that the bytes of a datagram encode, if there is one
 unfoldable pub query_spelled : Family → Envelope → (bytes : List ℕ) → Option (Query ℕ)
 query_spelled family envelope bytes = query_read (read_of family (pseudo_of family envelope bytes) bytes)
 
--- what is known of a message that the router sends itself; IGMP looks at the source alone
+-- the envelope of a message that the router sends itself; for IGMP only the source matters
 abbrev pub envelope_sent : Family → (own to : ℕ) → Envelope
 envelope_sent Igmp own to = record { source = own; destination = 0; hop_limit = 0; alert = false }
 envelope_sent Mld own to = record { source = own; destination = to; hop_limit = 1; alert = true }
 
--- the query that the link sends by a message
+-- the query in a message that the link sends
 abbrev pub query_sent : Family → (own : ℕ) → Outgoing → Option (Query ℕ)
 query_sent family own message = query_spelled family (envelope_sent family own message.to) message.bytes
 
--- A query of the router at the own address that hosts act on: nothing of its packet or of its bytes has them drop it (RFC
--- 3376 section 4.1.2, RFC 3810 sections 5.1.2, 5.1.14 and 6.2). One that they drop is none.
+-- A query of the router at the own address on which hosts act. A query that hosts drop for its packet or its bytes is
+-- none (RFC 3376 section 4.1.2, RFC 3810 sections 5.1.2, 5.1.14 and 6.2).
 abbrev pub if_acted_on : {X : Type 0} → (is_own : Bool) → (fault : Option X) → Option (Query ℕ) → Option (Query ℕ)
 if_acted_on false fault query = None
 if_acted_on true (Some fault) query = None

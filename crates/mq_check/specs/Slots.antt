@@ -1,5 +1,5 @@
--- The slots by which entries that wait are found. That of an entry is a number made of what it asks about, so that a search
--- looks at few others; what is found doesn't depend on it.
+-- Slots by which pending entries are searched. The slot of an entry is a number computed from its subject, so a search
+-- looks at few other entries. The result doesn't depend on slots.
 use Rattle.std.specs.Prelude.{◌≡◌, ℕ, ◌+◌, ◌*◌, ◌%◌, ◌<◌, ◌≤◌, List, [], ◌∷◌, length, slice_index, slice_index_or, Bool, true, false, Option, None, Some}
 use Rattle.byteorder.specs.Endian.{big_bytes}
 use Rattle.mq_check.specs.declared.asked.Asked.{Asked}
@@ -12,7 +12,7 @@ use Rattle.mq_check.specs.declared.waiting.Side.TheVariants.{OfWanted, OfSeen}
 use Rattle.mq_check.specs.Trails.{TrailsValue, Reaches}
 use Rattle.mq_check.specs.Waiting.{is_free}
 
--- bytes mixed into a number, one after the other
+-- a number into which bytes are mixed, in order
 abbrev pub mixed : (n : ℕ) → (bytes : List ℕ) → ℕ
 mixed n [] = n
 mixed n (byte ∷ bytes) = mixed ((n * 257 + byte) % 65521) bytes
@@ -21,7 +21,7 @@ abbrev pub number_of_side : Side → ℕ
 number_of_side OfWanted = 1
 number_of_side OfSeen = 2
 
--- the slot of what asks about this, with addresses of so many bytes
+-- the number of a subject, with addresses of `width` bytes
 abbrev pub mixed_asked : (width n : ℕ) → Asked ℕ → ℕ
 mixed_asked width n AllGroups = n
 mixed_asked width n (Group group) = mixed n (big_bytes width group)
@@ -30,7 +30,7 @@ mixed_asked width n (Source group source) = mixed (mixed n (big_bytes width grou
 unfoldable pub slot_of : (width : ℕ) → Side → Asked ℕ → ℕ
 slot_of width side asked = mixed_asked width (number_of_side side) asked
 
--- the slot of an entry, which is that of no search where the entry finds no partner
+-- the slot of an entry; entries that can't find a partner have a slot that no search uses
 abbrev pub unused : ℕ
 unused = 65521
 
@@ -48,17 +48,17 @@ slot_in width (Seen moment asked terms partner is_querier) = slot_of_seen width 
 slot_in width (Interval moment after wanted) = unused
 slot_in width (Silence moment after wanted) = unused
 
--- the entry at a place; beyond the last one that finds no partner
+-- the entry at a place; after the last one, an entry that can't find a partner
 abbrev pub entry_at : List (Entry ℕ) → (place : ℕ) → Entry ℕ
 entry_at entries place = slice_index_or entries place (Interval 0 0 0)
 
--- each entry without a partner is in its slot, and a search there comes to it
+-- each entry without a partner is in its slot, and a search of the slot reaches it
 pub record AreMarked (width : ℕ) (entries : List (Entry ℕ)) (t : TrailsValue) : Type 0 where
   pub long : length t.slots ≡ length entries
   pub slot : (place : ℕ) (side : Side) (asked : Asked ℕ) → place < length entries → is_free side asked (entry_at entries place) ≡ true → slice_index t.slots place ≡ slot_of width side asked
   pub reached : (place : ℕ) (side : Side) (asked : Asked ℕ) → place < length entries → is_free side asked (entry_at entries place) ≡ true → Reaches t place
 
--- the slot and the moment of a query that is wanted
+-- the slot and the moment of a wanted query
 abbrev pub wanted_slot : (width : ℕ) → Entry ℕ → ℕ
 wanted_slot width (Wanted moment asked terms is_optional is_found) = slot_of width OfWanted asked
 wanted_slot width (Seen moment asked terms partner is_querier) = unused
@@ -71,6 +71,6 @@ wanted_moment (Seen moment asked terms partner is_querier) = 0
 wanted_moment (Interval moment after wanted) = 0
 wanted_moment (Silence moment after wanted) = 0
 
--- none of the queries of a slot is wanted later than at the moment that is kept for it
+-- no query of a slot is wanted later than the moment that is kept for the slot
 pub record AreBounded (width : ℕ) (entries : List (Entry ℕ)) (latest : List ℕ) : Type 0 where
   pub by : (place : ℕ) → place < length entries → wanted_moment (entry_at entries place) ≤ slice_index latest (wanted_slot width (entry_at entries place))

@@ -1,4 +1,4 @@
--- What a contract sees of findings on their way to a writer.
+-- Buffered output of findings, as contracts see it.
 use Rattle.std.specs.Prelude.{◌≡◌, ℕ, zero, suc, Bool, ◌||◌, List, length, Result, IfOk, is_err}
 use Rattle.mq_wire.specs.Family.{Family}
 use Rattle.mq_text.specs.Printing.{OutputState, Puts}
@@ -6,18 +6,18 @@ use Rattle.mq_check.specs.declared.finding.Finding.{Finding}
 use Rattle.mq_check.specs.Checking.{counted_up}
 use Rattle.mq_check.specs.FindingLines.{finding_lines}
 
--- the text that isn't written yet, whether the sections stand in it, and how many findings were told
+-- the text that isn't written yet, whether findings cite sections, and the number of reported findings
 pub record ToldState : Type 0 where
   pub held : List ℕ
   pub cite : Bool
   pub count : ℕ
 
--- a count that went up so many times
+-- a count after `times` increments
 abbrev pub counted_times : (times count : ℕ) → ℕ
 counted_times zero count = count
 counted_times (suc n) count = counted_up (counted_times n count)
 
--- these findings were told, one after the other, or a write failed
+-- these findings were reported in order, or a write failed
 pub record Tells {T E : Type 0} (family : Family) (findings : List (Finding ℕ)) (old new : ToldState) (before after : OutputState) (r : Result T E) : Type 0 where
   pub cite : new.cite ≡ old.cite
   pub count : IfOk r (λ _. new.count ≡ counted_times (length findings) old.count)

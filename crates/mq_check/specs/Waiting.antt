@@ -1,6 +1,6 @@
--- What waits while its partner may still come, and what is found of it: a query that is wanted and one that was seen are
--- partners where they ask about the same and no more than the tolerance lies between; each has one partner at most, and
--- the earlier comes first.
+-- Pending entries, whose partners may still come, and their findings. A wanted query and a seen one are partners if
+-- they have the same subject and lie at most the tolerance apart. Each has at most one partner, and the earlier query
+-- is paired first.
 use Rattle.std.specs.Prelude.{ℕ, nat_lt, Bool, true, false, if◌then◌else◌, List, [], ◌∷◌, ◌++◌, length, drop, Option, take_while, flat_map}
 use Rattle.std.specs.List.{prefix_len}
 use Rattle.mq_check.specs.declared.asked.Asked.{Asked}
@@ -11,11 +11,11 @@ use Rattle.mq_check.specs.declared.waiting.Side.{Side}
 use Rattle.mq_check.specs.declared.waiting.Side.TheVariants.{OfWanted, OfSeen}
 use Rattle.mq_check.specs.Entries.{is_over, is_free_wanted, is_free_seen, first_joined, findings_of}
 
--- so many entries may wait
+-- the most pending entries
 abbrev pub room : ℕ
 room = 65536
 
--- what waits, in the order of moments, and whether there was no room for something
+-- the pending entries in ascending order of their moments, and whether an entry had no room
 pub record WaitingValue : Type 0 where
   pub entries : List (Entry ℕ)
   pub is_full : Bool
@@ -23,23 +23,24 @@ pub record WaitingValue : Type 0 where
 abbrev pub nothing : WaitingValue
 nothing = record { entries = []; is_full = false }
 
--- an entry behind those that wait, where there is room
+-- the list with an entry appended if there is room
 unfoldable pub with_entry : Entry ℕ → WaitingValue → WaitingValue
 with_entry entry w =
     if nat_lt (length w.entries) room
     then record w { entries = w.entries ++ entry ∷ [] }
     else record w { is_full = true }
 
--- an entry of one side that asks about this and has no partner
+-- an entry of this side with this subject that has no partner
 abbrev pub is_free : Side → Asked ℕ → Entry ℕ → Bool
 is_free OfWanted asked entry = is_free_wanted asked entry
 is_free OfSeen asked entry = is_free_seen asked entry
 
--- the first of these has found its partner, which says this
+-- the list after the first of these entries has found a partner with these terms
 unfoldable pub with_partner : Side → Asked ℕ → Terms ℕ → WaitingValue → WaitingValue
 with_partner side asked other w = record w { entries = first_joined (is_free side asked) other w.entries }
 
--- Where there was no room for something, nothing more is found. Else what is over at a moment no longer waits.
+-- The findings of the entries that have expired at a moment, and the list after their removal. If an entry had no room,
+-- nothing more is found.
 unfoldable pub told : (within now : ℕ) → (changed : Option ℕ) → WaitingValue → List (Finding ℕ)
 told within now changed w =
     if w.is_full then [] else flat_map (findings_of within changed) (take_while (is_over within now) w.entries)

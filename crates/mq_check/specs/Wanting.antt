@@ -1,11 +1,11 @@
--- What an outlet makes of the messages of a link: their queries are wanted.
+-- The outlet through which a link's queries become wanted, as contracts see it.
 use Rattle.std.specs.Prelude.{◌≡◌, ℕ, Bool, true, List}
 use Rattle.mq_wire.specs.Family.{Family}
 use Rattle.mq_check.specs.declared.basis.Basis.{Basis}
 use Rattle.mq_check.specs.Checking.{CheckingValue, with_message}
 
--- the check so far, and what a verdict rests on; the own address of the router that sends, the moment at which it sends, and
--- whether it may be querier again by that
+-- The check so far, the basis of the verdict, and the sender. The sender has its own address, the moment at which it
+-- sends, and a flag that is set if it may become querier again then.
 pub record WantingValue : Type 0 where
   pub checking : CheckingValue
   pub basis : Basis
@@ -13,7 +13,7 @@ pub record WantingValue : Type 0 where
   pub moment : ℕ
   pub is_returning : Bool
 
--- one message was taken
+-- the outlet took one message
 pub record TakesMessage (family : Family) (old : WantingValue) (to : ℕ) (bytes : List ℕ) (sent : Bool) (new : WantingValue) : Type 0 where
   pub sent_is : sent ≡ true
   pub takes : new ≡ record old { checking = with_message family old.own old.moment old.is_returning old.checking (record { to = to; bytes = bytes }) }

@@ -1,4 +1,4 @@
-//! What a query asks about.
+//! Subjects of queries.
 
 ghost use Rattle.std.specs.Prelude.{◌≡◌};
 ghost use Rattle.mq_check.specs.Numbered.{numbered_asked};
@@ -7,18 +7,18 @@ ghost use Rattle.mq_check.specs.Queries as spec;
 use mq_link::Family;
 use mq_wire::WireKey;
 
-/// What a query asks about (RFC 3376 section 4.1.11, RFC 3810 section 5.1.13).
+/// The subject of a query (RFC 3376 section 4.1.11, RFC 3810 section 5.1.13).
 #[derive(Clone, Copy)]
 pub enum Asked<K: WireKey> {
     /// All groups.
     AllGroups,
     /// A group.
     Group(K),
-    /// A source of a group: the group, and the source.
+    /// A source of a group: the group, then the source.
     Source(K, K),
 }
 
-/// Whether two ask about the same.
+/// Returns whether two subjects are equal.
 pub(crate) fn is_same<F: Family>(a: Asked<F::Address>, b: Asked<F::Address>) -> bool
     ensures { result ≡ spec.is_same (numbered_asked F.Address.number a) (numbered_asked F.Address.number b) }
 {

@@ -14,31 +14,31 @@ use mq_wire::WireFault;
 /// The basis of a verdict: the packets of a capture, and who was querier. A count stays at the greatest u64.
 #[derive(Clone, Copy)]
 pub struct Basis {
-    /// How many packets the capture has.
+    /// The number of packets.
     pub packets: u64,
-    /// How many of them are messages of the family.
+    /// The number of packets that are messages of the family.
     pub messages: u64,
-    /// How many have a fault as messages of the family: truncated, a wrong checksum, or a query of no version's length.
+    /// The number of malformed messages: truncated, a wrong checksum, or a query with a length that no version has.
     pub malformed: u64,
-    /// How many frames end before their packets do.
+    /// The number of frames that end before their packets do.
     pub cut: u64,
-    /// How many weren't looked into: fragments, and frames whose type may carry IP in a way that isn't read.
+    /// The number of unread packets: fragments, and frames of a type that may carry IP in a form that isn't parsed.
     pub unread: u64,
-    /// The router that is checked.
+    /// The checked router.
     pub own: QuerierAddress,
-    /// Whether it is querier.
+    /// True if the checked router is querier.
     pub is_querier: bool,
-    /// How often it lost the role.
+    /// The number of times that it lost the role.
     pub lost: u64,
-    /// When it lost the role last.
+    /// The last moment at which it lost the role.
     pub lost_at: Moment,
-    /// The last other querier, where the role was lost.
+    /// The last other querier, if the role was lost.
     pub other: QuerierAddress,
-    /// When it had the role again.
+    /// The last moment at which it became querier again.
     pub again_at: Moment,
 }
 
-/// Returns the type of a frame, behind one tag; 0 if the frame ends before it, or has no link header.
+/// Returns the type of a frame, after at most one tag. Returns 0 if the frame is too short, or has no link header.
 fn type_in(link: LinkType, frame: &[u8]) -> u16
     ensures { result ≡ spec.type_in link frame.now }
 {
@@ -60,7 +60,7 @@ fn type_in(link: LinkType, frame: &[u8]) -> u16
     }
 }
 
-/// Returns whether an IP packet may stand behind a type that isn't looked into.
+/// Returns whether a frame of this type may carry an IP packet that isn't parsed.
 fn is_wrapped(kind: u16) -> bool
     ensures { result ≡ spec.is_wrapped kind }
 {
@@ -71,7 +71,7 @@ fn is_wrapped(kind: u16) -> bool
 }
 
 impl Basis {
-    /// Returns the basis before the first packet. Nothing is known of another querier: it is named as the router itself.
+    /// Returns the basis before the first packet. No other querier is known yet, so `other` is the router itself.
     pub(crate) fn at_start(own: QuerierAddress, other: QuerierAddress, start: Moment) -> Basis
         requires same { other ≡ own }
         requires at_0 { start ≡ 0 }
@@ -125,7 +125,7 @@ impl Basis {
         }
     }
 
-    /// The role was lost.
+    /// Records that the router lost the role.
     pub(crate) fn lose_role(&mut self, moment: Moment)
         ensures { self.new ≡ spec.role_lost moment self.old }
     {
@@ -134,7 +134,7 @@ impl Basis {
         self.lost_at = moment;
     }
 
-    /// The role is had again.
+    /// Records that the router is querier again.
     pub(crate) fn return_role(&mut self, moment: Moment)
         ensures { self.new ≡ spec.role_returned moment self.old }
     {
@@ -142,14 +142,14 @@ impl Basis {
         self.again_at = moment;
     }
 
-    /// Names the router that is querier.
+    /// Sets the other querier.
     pub(crate) fn name_other(&mut self, other: QuerierAddress)
         ensures { self.new ≡ record self.old { other = other } }
     {
         self.other = other;
     }
 
-    /// Returns whether every second packet or more is cut or wasn't looked into.
+    /// Returns whether at least half of the packets are truncated or unread.
     pub(crate) fn is_hardly_understood(&self) -> bool
         ensures { result ≡ spec.is_hardly_understood self.now }
     {
@@ -157,7 +157,7 @@ impl Basis {
         0 < missed && u128::from(self.packets) <= 2 * missed
     }
 
-    /// Returns whether the capture has a message of the family, if a malformed one.
+    /// Returns whether the capture has a message of the family, well-formed or malformed.
     pub(crate) fn has_message(&self) -> bool
         ensures { result ≡ not (self.now.messages + self.now.malformed == 0) }
     {

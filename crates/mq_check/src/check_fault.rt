@@ -1,4 +1,4 @@
-//! Why a capture was not checked to its end.
+//! Reasons why a check ends early.
 
 ghost use Rattle.std.specs.Prelude.{◌≡◌};
 ghost use Rattle.mq_check.specs.CheckedCaptures as spec;
@@ -8,29 +8,29 @@ use mq_pcap::PcapFault;
 use mq_text::LineFault;
 use thiserror::Error;
 
-/// Why a capture was not checked to its end.
+/// The reason why a check ended before the end of its capture.
 #[derive(Clone, Copy, Debug, PartialEq, Eq, Error)]
 pub enum CheckFault {
-    /// The capture has a fault, or a read of it failed.
+    /// A fault of the capture, or a failed read.
     #[error("{0}")]
     Pcap(PcapFault),
-    /// A write failed, or took none of the bytes that it was given.
+    /// A write that failed, or that wrote nothing.
     #[error("write failed")]
     Write,
-    /// A moment lies more than a day behind the one before it.
+    /// A gap of more than a day between two moments.
     #[error("gap before record {number}")]
     Gap {
-        /// The number of the packet behind the gap; or of the one that would follow the last, where the gap is before the
-        /// end of the check.
+        /// The number of the packet after the gap. If the gap is before the end of the check, it is the number after
+        /// the last packet's.
         number: u64,
     },
-    /// More than 65536 queries waited for their partners.
+    /// More than 65536 pending entries.
     #[error("too many queries wait at record {number}")]
     Waiting {
-        /// The number of the packet at which that came to be; or of the one that would follow the last.
+        /// The number of the packet at which the limit was exceeded, or the number after the last packet's.
         number: u64,
     },
-    /// A growth was refused.
+    /// An allocation failure.
     #[error("out of memory")]
     Memory,
 }
@@ -51,7 +51,7 @@ impl From<LineFault> for CheckFault {
     }
 }
 
-/// Whether a check broke off since a write failed.
+/// Returns whether a check ended because a write failed.
 pub(crate) fn is_failed_write<T>(answer: &Result<T, CheckFault>) -> bool
     ensures { result ≡ spec.is_failed_write answer.now }
 {

@@ -1,13 +1,12 @@
-//! How a check is made.
+//! Terms of a check.
 
-/// How a check is made.
+/// The terms of a check.
 #[derive(Clone, Copy)]
 pub struct CheckTerms {
     /// The tolerance in milliseconds.
     pub within: u32,
-    /// The moment up to which the capture was taken, in milliseconds from its first packet, where that is later than its last
-    /// one; at most 2^53.
+    /// The end of the capture if it is later than the last packet, in milliseconds from the first packet; at most 2^53.
     pub until: Option<u64>,
-    /// Whether each finding has the section of the standard behind it.
+    /// True if each finding cites a section of the standard.
     pub cite: bool,
 }

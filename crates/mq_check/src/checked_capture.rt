@@ -29,12 +29,13 @@ use mq_replay::{Stamps, first_moment, is_gap};
 use std::alloc::Allocator;
 use std::io::{Read, Write};
 
-/// Checks the querier of a capture that has the own address of the configuration: the queries that it sent are compared with
-/// those that a link so configured sends that starts at 0 and is handed all other datagrams at their moments. Writes a line
-/// for each finding, and at the end what was counted; and answers that. The end is the moment of the last packet, or `until`,
-/// if that is later. All memory is taken before anything is read or written. Where the capture has a fault or a gap, or more
-/// queries wait for their partners than there is room for, what was found before that is written first. Before a read that
-/// may wait by the stream's `supply`, what was found so far is written.
+/// Checks the querier whose address is the own address of the configuration. A link with this configuration starts at 0
+/// and receives all other datagrams at their moments. The queries that it sends are compared with those in the capture.
+/// Writes a line for each finding and the totals at the end, and returns the totals.
+///
+/// The end is the moment of the last packet, or `until` if that is later. All memory is allocated before anything is
+/// read or written. If the capture has a fault or a gap, or too many entries are pending, the findings before that are
+/// written first. Before a read that may wait by the stream's `supply`, all findings so far are written.
 pub fn check<F: CheckedFamily, A: Allocator + Copy, S: Supply, R: Read, W: Write>(
     alloc: A,
     config: Config<F>,
@@ -76,7 +77,7 @@ where
     )
 }
 
-/// The same on a link that is made, with room for a packet that is lent.
+/// Checks a capture on an existing link, with caller-provided memory for a packet.
 fn check_on<F: CheckedFamily, A: Allocator, S: Supply, R: Read, W: Write>(
     link: &mut Link<F, A>,
     queries: &mut WantedQueries<F, A>,
@@ -110,7 +111,7 @@ where
     answer
 }
 
-/// Tells what is found in a capture.
+/// Checks a capture, from its header to its end.
 fn check_file<F: CheckedFamily, A: Allocator, S: Supply, R: Read, W: Write>(
     link: &mut Link<F, A>,
     queries: &mut WantedQueries<F, A>,
@@ -150,7 +151,7 @@ where
     )
 }
 
-/// Tells what is found in the packets of a capture before its first packet was read, and at the end.
+/// Checks the packets of a capture whose header has been read, and its end.
 fn check_packets<F: CheckedFamily, A: Allocator, S: Supply, R: Read, W: Write>(
     link: &mut Link<F, A>,
     queries: &mut WantedQueries<F, A>,

@@ -1,4 +1,4 @@
-//! The families of messages whose queriers are checked.
+//! Families of messages whose queriers are checked.
 
 ghost use Rattle.std.specs.Prelude.{◌≡◌};
 ghost use Rattle.mq_wire.specs.RoundTrip.{response_lowered};
@@ -19,24 +19,25 @@ pub trait CheckedFamily: CapturedFamily
 where
     Self::Address: LineKey,
 {
-    /// What is known of a message that the router at `own` sends to an address.
+    /// Returns the envelope of a message that the router at `own` sends to an address.
     fn envelope_sent(own: Self::Address, to: Self::Address) -> Self::Envelope
         ensures { Self.envelope_of result ≡ spec.envelope_sent Self.FAMILY (Self.Address.number own) (Self.Address.number to) };
 
-    /// Where the packet of a datagram goes that a frame of a capture carries.
+    /// Returns the destination of the packet that a frame carries.
     fn destination(link: LinkType, frame: &[u8], envelope: &Self::Envelope) -> Self::Address
         ensures { Self.Address.number result ≡ destination_in Self.FAMILY link frame.now (Self.envelope_of envelope.now) };
 
-    /// The address of a router, of either family.
+    /// Returns the address of a querier of this family.
     fn named(address: Self::Address) -> QuerierAddress
         ensures { result ≡ named Self.FAMILY (Self.Address.number address) };
 
-    /// The response in milliseconds that the code for a response has.
+    /// Returns the response in milliseconds after it is rounded by its code.
     fn response_said(response: u32) -> u32
         ensures { result ≡ response_lowered Self.FAMILY response };
 }
 
-/// The IP packet of a frame, behind an Ethernet header and a tag; nothing of a frame that ends before.
+/// Returns the IP packet of a frame, after an Ethernet header and at most one tag. It is empty if the frame is too
+/// short.
 fn packet_in(link: LinkType, frame: &[u8]) -> &[u8]
     ensures { result.now ≡ packet_in link frame.now }
 {

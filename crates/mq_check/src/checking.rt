@@ -1,4 +1,4 @@
-//! What a check makes of the queries, one after the other.
+//! A check's treatment of queries, in order.
 
 ghost use Rattle.std.specs.Prelude.{◌≡◌, ◌≤◌, ◌^◌, [], ◌∷◌, IfOk, flat_map, fold, map as list_map};
 ghost use Rattle.mq_wire.specs.Numbered.{numbered_query, numbered_version};
@@ -32,7 +32,7 @@ use std::alloc::{AllocError, Allocator};
 use std::io::Write;
 use std::marker::Model;
 
-/// What waits; when the role of querier changed last; the general queries; and how many queries were seen.
+/// The pending entries, the last change of the role, the phase of general queries, and the counts of seen queries.
 #[derive(Drop)]
 pub(crate) struct Checking<F: Family, A: Allocator> {
     waiting: Waiting<F, A>,
@@ -54,7 +54,7 @@ impl<F: Family, A: Allocator> Model for Checking<F, A> {
     ghost invariant = { λ c. IfSome c.changed (λ moment. moment ≤ 2 ^ 53) };
 }
 
-/// The sources of a query, none where its version has none.
+/// Returns the sources of a query. A query of an older version has none.
 fn sources_of<'a, K: WireKey>(version: &QueryVersion<'a, K>) -> Sources<'a, K>
     ensures { result ≡ query_sources (numbered_version version.now) }
 {
@@ -64,14 +64,14 @@ fn sources_of<'a, K: WireKey>(version: &QueryVersion<'a, K>) -> Sources<'a, K>
     }
 }
 
-/// Whether a query is a general one.
+/// Returns whether a query is a General Query.
 fn is_general<F: Family>(query: &Query<'_, F::Address>) -> bool
     ensures { result ≡ queries.is_general (numbered_query F.Address.number query.now) }
 {
     F::is_zero(query.group) && sources_of(&query.version).is_empty()
 }
 
-/// What a query without sources asks about.
+/// Returns the subject of a query without sources.
 fn asked_without_sources<F: Family>(group: F::Address) -> Asked<F::Address>
     ensures { numbered_asked F.Address.number result ≡ queries.asked_for_group (F.Address.number group) }
 {
@@ -82,7 +82,7 @@ fn asked_without_sources<F: Family>(group: F::Address) -> Asked<F::Address>
     }
 }
 
-/// Has an interval wait that isn't what is wanted, where there is one.
+/// Queues a finding if the interval is wrong.
 fn put_interval<F: Family, A: Allocator>(
     waiting: &mut Waiting<F, A>,
     configured: Timing,
@@ -96,7 +96,7 @@ fn put_interval<F: Family, A: Allocator>(
     }
 }
 
-/// Has a time without general queries wait that is too long, where there is one.
+/// Queues a finding if there were no general queries for too long.
 fn put_silence<F: Family, A: Allocator>(
     waiting: &mut Waiting<F, A>,
     configured: Timing,
@@ -111,7 +111,7 @@ fn put_silence<F: Family, A: Allocator>(
 }
 
 impl<F: Family, A: Allocator> Checking<F, A> {
-    /// At the start of a capture.
+    /// Returns the check at the start of a capture, with all memory allocated.
     pub(crate) fn new(alloc: A, configured: Timing) -> Result<Checking<F, A>, AllocError>
     where
         A: Copy,
@@ -127,28 +127,28 @@ impl<F: Family, A: Allocator> Checking<F, A> {
         })
     }
 
-    /// Whether there was no room for something that had to wait.
+    /// Returns whether an entry had no room.
     pub(crate) fn is_full(&self) -> bool
         ensures { result ≡ self.now.waiting.is_full }
     {
         self.waiting.is_full()
     }
 
-    /// How many general queries were seen.
+    /// Returns the number of general queries seen.
     pub(crate) fn general(&self) -> u64
         ensures { result ≡ self.now.general }
     {
         self.general
     }
 
-    /// How many other queries were seen.
+    /// Returns the number of other queries seen.
     pub(crate) fn specific(&self) -> u64
         ensures { result ≡ self.now.specific }
     {
         self.specific
     }
 
-    /// Something is wanted at a moment.
+    /// Adds a wanted query, and pairs it with the first seen query on the subject that has no partner.
     fn want(&mut self, moment: Moment, terms: Terms<F::Address>, asked: Asked<F::Address>)
         ensures { self.new ≡ spec.with_wanted moment (numbered_terms F.Address.number terms) self.old (numbered_asked F.Address.number asked) }
     {
@@ -158,7 +158,7 @@ impl<F: Family, A: Allocator> Checking<F, A> {
             .put(Entry::Wanted(moment, asked, terms, is_optional, is_found));
     }
 
-    /// Whether something that is wanted at a moment may be left out.
+    /// Returns whether a wanted query may be left out.
     fn may_be_left_out(
         &self,
         moment: Moment,
@@ -175,7 +175,7 @@ impl<F: Family, A: Allocator> Checking<F, A> {
         }
     }
 
-    /// Something was seen at a moment.
+    /// Adds a seen query, and pairs it with the first wanted query on the subject that has no partner.
     fn see(&mut self, moment: Moment, terms: Terms<F::Address>, asked: Asked<F::Address>)
         ensures { self.new ≡ spec.with_seen moment (numbered_terms F.Address.number terms) self.old (numbered_asked F.Address.number asked) }
     {
@@ -185,7 +185,7 @@ impl<F: Family, A: Allocator> Checking<F, A> {
             .put(Entry::Seen(moment, asked, terms, partner, is_querier));
     }
 
-    /// What a query asks about is wanted at a moment.
+    /// Adds a wanted query for each subject of a query.
     fn want_all(&mut self, moment: Moment, terms: Terms<F::Address>, query: &Query<'_, F::Address>)
         ensures { self.new ≡ fold (spec.with_wanted moment (numbered_terms F.Address.number terms)) self.old (queries.asked_in (numbered_query F.Address.number query.now)) }
     {
@@ -197,7 +197,7 @@ impl<F: Family, A: Allocator> Checking<F, A> {
         self.want_sources(moment, terms, query.group, sources);
     }
 
-    /// Each of some sources of a group is wanted at a moment.
+    /// Adds a wanted query for each of some sources of a group.
     fn want_sources(
         &mut self,
         moment: Moment,
@@ -212,7 +212,7 @@ impl<F: Family, A: Allocator> Checking<F, A> {
         }
     }
 
-    /// What a query asks about was seen at a moment.
+    /// Adds a seen query for each subject of a query.
     fn see_all(&mut self, moment: Moment, terms: Terms<F::Address>, query: &Query<'_, F::Address>)
         ensures { self.new ≡ fold (spec.with_seen moment (numbered_terms F.Address.number terms)) self.old (queries.asked_in (numbered_query F.Address.number query.now)) }
     {
@@ -224,7 +224,7 @@ impl<F: Family, A: Allocator> Checking<F, A> {
         self.see_sources(moment, terms, query.group, sources);
     }
 
-    /// Each of some sources of a group was seen at a moment.
+    /// Adds a seen query for each of some sources of a group.
     fn see_sources(
         &mut self,
         moment: Moment,
@@ -239,7 +239,7 @@ impl<F: Family, A: Allocator> Checking<F, A> {
         }
     }
 
-    /// A general query was seen while the router is querier.
+    /// Judges the interval and the fields of a general query that is seen while the router is querier.
     fn judge_general(
         &mut self,
         within: u32,
@@ -257,7 +257,7 @@ impl<F: Family, A: Allocator> Checking<F, A> {
         self.waiting.put(Entry::Seen(stamp.moment(), Asked::AllGroups, terms, Some(wanted), true));
     }
 
-    /// A general query was seen: what is made of it beside the counts.
+    /// Judges a general query if the router is querier, and adds it as a seen query otherwise.
     fn compare_general(
         &mut self,
         within: u32,
@@ -275,7 +275,7 @@ impl<F: Family, A: Allocator> Checking<F, A> {
         self.see(stamp.moment(), terms, Asked::AllGroups);
     }
 
-    /// A general query was seen.
+    /// Handles a general query that is seen, and counts it.
     fn see_general(
         &mut self,
         within: u32,
@@ -291,7 +291,7 @@ impl<F: Family, A: Allocator> Checking<F, A> {
         self.general = self.general.saturating_add(1);
     }
 
-    /// A query for a group or for sources was seen.
+    /// Handles a query for a group or for sources that is seen, and counts it.
     fn see_specific(
         &mut self,
         moment: Moment,
@@ -304,14 +304,14 @@ impl<F: Family, A: Allocator> Checking<F, A> {
         self.specific = self.specific.saturating_add(1);
     }
 
-    /// How long no general query was seen up to a moment, where that is too long.
+    /// Returns the time without general queries up to a moment, if it is too long.
     pub(crate) fn silence(&self, within: u32, configured: Timing, stamp: Stamp) -> Option<u64>
         ensures { result ≡ silence_up_to within configured stamp self.now.phase }
     {
         self.phase.silence(within, configured, stamp.ms())
     }
 
-    /// The role was lost.
+    /// Handles the loss of the role.
     pub(crate) fn lose_role(&mut self, within: u32, configured: Timing, stamp: Stamp)
         ensures { self.new ≡ spec.role_lost within configured stamp self.old }
     {
@@ -321,7 +321,7 @@ impl<F: Family, A: Allocator> Checking<F, A> {
         self.phase = Phase::NotQuerier;
     }
 
-    /// The role is had again.
+    /// Handles the return of the role.
     pub(crate) fn return_role(&mut self, within: u32, moment: Moment)
         requires in_range { moment ≤ 2 ^ 53 }
         ensures { self.new ≡ spec.role_returned within moment self.old }
@@ -330,7 +330,7 @@ impl<F: Family, A: Allocator> Checking<F, A> {
         self.changed = Some(moment);
     }
 
-    /// How it stands with the general queries where the role is had again.
+    /// Returns the phase of general queries after this router becomes querier again.
     fn phase_again(&self, within: u32, moment: Moment) -> Phase
         ensures { result ≡ phase_again within moment self.now.last_general }
     {
@@ -350,7 +350,7 @@ impl<F: CheckedFamily, A: Allocator> Checking<F, A>
 where
     F::Address: LineKey,
 {
-    /// A query of the router that is checked was seen.
+    /// Handles a query of the checked router that is seen.
     pub(crate) fn query_seen(
         &mut self,
         within: u32,
@@ -373,7 +373,7 @@ where
         self.see_specific(stamp.moment(), terms, query);
     }
 
-    /// A query is wanted that the link sends at a moment; a general one only where the router is querier again.
+    /// Handles a query that the link sends. A general query is wanted only if the router becomes querier again.
     pub(crate) fn query_wanted(
         &mut self,
         moment: Moment,
@@ -389,7 +389,7 @@ where
         self.want_all(moment, terms_of(to, query), query);
     }
 
-    /// Takes out all that still waits at the end of a capture, and tells what is found of it.
+    /// Removes all pending entries at the end of a capture, and reports their findings.
     pub(crate) fn tell_rest<W: Write>(
         &mut self,
         told: &mut Told,
@@ -401,7 +401,7 @@ where
         tell_rest::<F, A, W>(&mut self.waiting, told, writer)
     }
 
-    /// Takes out what is over at a moment, and tells what is found of it.
+    /// Removes the entries that have expired at a moment, and reports their findings.
     pub(crate) fn settle<W: Write>(
         &mut self,
         within: u32,

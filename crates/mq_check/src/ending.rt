@@ -28,7 +28,7 @@ use mq_text::LineFault;
 use std::alloc::Allocator;
 use std::io::Write;
 
-/// The moment at which a check ends: that of the last packet, or the one that is asked for, if that is later.
+/// Returns the end of a check: the moment of the last packet, or the requested one if that is later.
 fn last_moment(until: Option<u64>, last: Stamp) -> Stamp
     requires { IfSome until (λ ms. ms ≤ 2 ^ 53) }
     ensures { result ≡ max last (unwrap_or until 0) }
@@ -39,8 +39,8 @@ fn last_moment(until: Option<u64>, last: Stamp) -> Stamp
     }
 }
 
-/// Checks what stands behind the packets of a capture that has ended, unless there is a gap before the end of the check:
-/// `number` is that of the packet that would follow the last.
+/// Checks the time after the last packet. Fails if there is a gap before the end of the check. `number` is the number
+/// after the last packet's.
 pub(crate) fn check_rest<F: CheckedFamily, A: Allocator, W: Write>(
     link: &mut Link<F, A>,
     queries: &mut WantedQueries<F, A>,
@@ -70,7 +70,7 @@ where
     check_end(link, queries, within, end, number, told, writer)
 }
 
-/// Checks up to and including the end, and tells what was counted.
+/// Checks up to and including the end, and reports the totals.
 fn check_end<F: CheckedFamily, A: Allocator, W: Write>(
     link: &mut Link<F, A>,
     queries: &mut WantedQueries<F, A>,
@@ -101,8 +101,7 @@ where
     Ok(totals)
 }
 
-/// Tells what is found of what still waits at the end, and whether no general query was seen for too long, and then what was
-/// counted.
+/// Reports the findings of the pending entries at the end, then a silence that is too long, then the totals.
 fn tell_end<F: CheckedFamily, A: Allocator, W: Write>(
     queries: &mut WantedQueries<F, A>,
     within: u32,
@@ -139,7 +138,7 @@ where
     Ok(totals)
 }
 
-/// Tells that no general query was seen for so long up to the end, where that was too long.
+/// Reports a silence up to the end, if it is too long.
 fn tell_silence<F: Family, W: Write>(
     configured: Timing,
     end: Stamp,

@@ -1,4 +1,4 @@
-//! What waits for its partner.
+//! Pending entries.
 
 ghost use Rattle.std.specs.Prelude.{◌≡◌};
 ghost use Rattle.mq_check.specs.Entries as spec;
@@ -9,22 +9,22 @@ use crate::terms::Terms;
 use mq_count::Moment;
 use mq_wire::WireKey;
 
-/// What waits until more than the tolerance has passed since its moment.
+/// A pending entry. It expires when more than the tolerance has passed since its moment.
 #[derive(Clone, Copy)]
 pub enum Entry<K: WireKey> {
-    /// A query that is wanted: when, of what, how; whether it may be left out; whether it has a partner.
+    /// A wanted query: its moment, subject and terms, whether it may be left out, and whether it has a partner.
     Wanted(Moment, Asked<K>, Terms<K>, bool, bool),
-    /// A query that was seen: when, of what, how; how its partner is wanted, where it has one; whether the router was
+    /// A seen query: its moment, subject and terms, its partner's terms if it has one, and whether the router was
     /// querier.
     Seen(Moment, Asked<K>, Terms<K>, Option<Terms<K>>, bool),
-    /// A general query came at another interval than is wanted: when, the interval and the one that is wanted.
+    /// A general query at a wrong interval: its moment, the interval, and the wanted one.
     Interval(Moment, u64, u64),
-    /// No general query came for so long: up to when, how long, and the interval that is wanted.
+    /// A time without general queries: its end, its length, and the wanted interval.
     Silence(Moment, u64, u64),
 }
 
 impl<K: WireKey> Entry<K> {
-    /// Its moment.
+    /// Returns its moment.
     pub(crate) fn moment(&self) -> Moment
         ensures { result ≡ spec.moment_of (numbered_entry K.number self.now) }
     {
@@ -36,7 +36,7 @@ impl<K: WireKey> Entry<K> {
         }
     }
 
-    /// What it says, where it is a query.
+    /// Returns its terms, if it is a query.
     pub(crate) fn terms(&self) -> Option<Terms<K>>
         ensures { numbered_terms_if K.number result ≡ spec.terms_in (numbered_entry K.number self.now) }
     {
@@ -46,7 +46,7 @@ impl<K: WireKey> Entry<K> {
         }
     }
 
-    /// The entry with its partner found, which says this.
+    /// Returns the entry with a partner that has these terms.
     pub(crate) fn joined(self, other: Terms<K>) -> Entry<K>
         ensures { numbered_entry K.number result
             ≡ spec.joined (numbered_terms K.number other) (numbered_entry K.number self) }

@@ -1,29 +1,30 @@
-//! What a check finds.
+//! Findings of a check.
 
 use crate::asked::Asked;
 use mq_count::Moment;
 use mq_wire::WireKey;
 
-/// What a check finds: each but `Silence` at the moment of the query of which it speaks.
+/// A finding of a check. Each but `Silence` has the moment of its query.
 #[derive(Clone, Copy)]
 pub enum Finding<K: WireKey> {
-    /// A query is wanted at this moment, and none was seen.
+    /// A missing query: it is wanted at this moment, and none was seen.
     Missing(Moment, Asked<K>),
-    /// A query was seen, and none is wanted; whether the router was querier then.
+    /// An extra query: it was seen, and none is wanted. The flag is set if the router was querier then.
     Extra(Moment, Asked<K>, bool),
-    /// A query was seen that is wanted otherwise.
+    /// A seen query that differs from the wanted one.
     Differs(Moment, Asked<K>, Difference<K>),
-    /// A general query was seen so many milliseconds behind the one before it, or behind the start of the capture. The
-    /// query interval is wanted, in milliseconds.
+    /// A general query this many milliseconds after the one before it, or after the start of the capture. The last
+    /// number is the wanted query interval in milliseconds.
     Interval(Moment, u64, u64),
-    /// Up to this moment, at which the role was lost or the capture ended, no general query was seen for so long.
+    /// A silence of this many milliseconds without a general query, up to this moment. The role was lost then, or the
+    /// capture ended. The last number is the wanted query interval in milliseconds.
     Silence(Moment, u64, u64),
 }
 
-/// A field of a query that differs: as it was seen, and as it is wanted.
+/// A field of a query that differs: the seen value, then the wanted one.
 #[derive(Clone, Copy)]
 pub enum Difference<K: WireKey> {
-    /// The version of the query's form.
+    /// The version of the query.
     Version(u8, u8),
     /// The response in milliseconds.
     Response(u32, u32),

@@ -16,7 +16,7 @@ use mq_lines::LineKey;
 use mq_link::Family;
 use mq_text::{Text, put, put_decimal};
 
-/// Puts a moment at the end, and what stands behind it.
+/// Appends a moment and the text after it.
 #[tactic(auto, unfolding(crate::specs::FindingLines::at_moment))]
 fn put_moment(text: &mut Text, moment: Moment, what: &[u8])
     requires { array_vec_len text.old + 20 + length what.now ≤ 4096 }
@@ -29,7 +29,7 @@ fn put_moment(text: &mut Text, moment: Moment, what: &[u8])
     put(text, what);
 }
 
-/// Puts what a query asks about.
+/// Appends the subject of a query.
 fn put_asked<F: Family>(text: &mut Text, asked: Asked<F::Address>)
 where
     F::Address: LineKey,
@@ -48,7 +48,7 @@ where
     }
 }
 
-/// Puts two numbers behind a name: as it was seen, and as it is wanted.
+/// Appends a name and two numbers: the seen one, then the wanted one.
 fn put_numbers(text: &mut Text, name: &[u8], seen: u64, wanted: u64)
     requires { array_vec_len text.old + 49 + length name.now ≤ 4096 }
     ensures text { text.new.items ≡ text.old.items ++ spec.numbers_text name.now seen wanted }
@@ -60,7 +60,7 @@ fn put_numbers(text: &mut Text, name: &[u8], seen: u64, wanted: u64)
     put_decimal(text, wanted);
 }
 
-/// Puts 0 or 1.
+/// Appends 0 or 1.
 fn put_flag(text: &mut Text, flag: bool)
     requires { array_vec_len text.old + 1 ≤ 4096 }
     ensures text { text.new.items ≡ text.old.items ++ spec.flag_text flag }
@@ -69,7 +69,7 @@ fn put_flag(text: &mut Text, flag: bool)
     put(text, if flag { b"1" } else { b"0" });
 }
 
-/// Puts a field that differs.
+/// Appends a field that differs.
 fn put_difference<K: LineKey>(text: &mut Text, difference: Difference<K>)
     requires { array_vec_len text.old + 92 ≤ 4096 }
     ensures text { text.new.items ≡ text.old.items ++ spec.difference_text K.family (numbered_difference K.number difference) }
@@ -103,7 +103,7 @@ fn put_difference<K: LineKey>(text: &mut Text, difference: Difference<K>)
     }
 }
 
-/// Puts a finding, without the end of its line.
+/// Appends a finding, without the end of its line.
 pub(crate) fn put_finding<F: Family>(text: &mut Text, finding: Finding<F::Address>)
 where
     F::Address: LineKey,
@@ -137,7 +137,7 @@ where
     }
 }
 
-/// Puts a time, and the one that is wanted.
+/// Appends a time, then the wanted one.
 #[tactic(auto, unfolding(crate::specs::FindingLines::interval_text))]
 fn put_interval(text: &mut Text, passed: u64, wanted: u64)
     requires { array_vec_len text.old + 49 ≤ 4096 }
@@ -149,7 +149,7 @@ fn put_interval(text: &mut Text, passed: u64, wanted: u64)
     put_decimal(text, wanted);
 }
 
-/// Puts the section of RFC 3376 or the one of RFC 3810, by the family.
+/// Appends the section of RFC 3376 or that of RFC 3810, by the family.
 fn put_of_family<K: LineKey>(text: &mut Text, igmp: &[u8], mld: &[u8])
     requires { array_vec_len text.old + length igmp.now + length mld.now ≤ 4096 }
     ensures text { text.new.items ≡ text.old.items ++ spec.of_family K.family igmp.now mld.now }
@@ -158,7 +158,7 @@ fn put_of_family<K: LineKey>(text: &mut Text, igmp: &[u8], mld: &[u8])
     put(text, if K::current_version() == 3 { igmp } else { mld });
 }
 
-/// Puts the section about when queries go.
+/// Appends the section that says when queries are sent.
 fn put_sending_section<K: LineKey>(text: &mut Text, asked: Asked<K>)
     requires { array_vec_len text.old + 14 ≤ 4096 }
     ensures text { text.new.items ≡ text.old.items ++ spec.sending_section K.family (numbered_asked K.number asked) }
@@ -171,7 +171,7 @@ fn put_sending_section<K: LineKey>(text: &mut Text, asked: Asked<K>)
     }
 }
 
-/// Puts the section about a response.
+/// Appends the section of the response.
 fn put_response_section<K: LineKey>(text: &mut Text, asked: Asked<K>)
     requires { array_vec_len text.old + 14 ≤ 4096 }
     ensures text { text.new.items ≡ text.old.items ++ spec.response_section K.family (numbered_asked K.number asked) }
@@ -183,7 +183,7 @@ fn put_response_section<K: LineKey>(text: &mut Text, asked: Asked<K>)
     }
 }
 
-/// Puts the section about the S flag.
+/// Appends the section of the S flag.
 fn put_suppress_section<K: LineKey>(text: &mut Text, asked: Asked<K>)
     requires { array_vec_len text.old + 14 ≤ 4096 }
     ensures text { text.new.items ≡ text.old.items ++ spec.suppress_section K.family (numbered_asked K.number asked) }
@@ -195,7 +195,7 @@ fn put_suppress_section<K: LineKey>(text: &mut Text, asked: Asked<K>)
     }
 }
 
-/// Puts the section about a field.
+/// Appends the section of a field.
 fn put_field_section<K: LineKey>(text: &mut Text, asked: Asked<K>, difference: Difference<K>)
     requires { array_vec_len text.old + 14 ≤ 4096 }
     ensures text { text.new.items ≡ text.old.items
@@ -212,7 +212,7 @@ fn put_field_section<K: LineKey>(text: &mut Text, asked: Asked<K>, difference: D
     }
 }
 
-/// Puts the section that wants it otherwise than a finding says.
+/// Appends the section that a finding violates.
 fn put_section<K: LineKey>(text: &mut Text, finding: Finding<K>)
     requires { array_vec_len text.old + 14 ≤ 4096 }
     ensures text { text.new.items ≡ text.old.items ++ spec.section_of K.family (numbered_finding K.number finding) }
@@ -228,7 +228,7 @@ fn put_section<K: LineKey>(text: &mut Text, finding: Finding<K>)
     }
 }
 
-/// Puts the section behind a finding, where it is to stand there, and ends the line.
+/// Appends the section of a finding if it is requested, and ends the line.
 pub(crate) fn put_citation<K: LineKey>(text: &mut Text, cite: bool, finding: Finding<K>)
     requires { array_vec_len text.old + 50 ≤ 4096 }
     ensures text { text.new.items ≡ text.old.items ++ spec.citation_text K.family cite (numbered_finding K.number finding) }
@@ -244,7 +244,7 @@ pub(crate) fn put_citation<K: LineKey>(text: &mut Text, cite: bool, finding: Fin
     put(text, b"\n");
 }
 
-/// Puts the line of what was counted.
+/// Appends the line of the totals.
 pub(crate) fn put_totals(text: &mut Text, totals: &Totals)
     requires { array_vec_len text.old + 120 ≤ 4096 }
     ensures { text.new.items ≡ text.old.items ++ spec.totals_line totals.now }
@@ -255,7 +255,7 @@ pub(crate) fn put_totals(text: &mut Text, totals: &Totals)
     put(text, b" findings\n");
 }
 
-/// Puts a count behind its name.
+/// Appends a name and a count.
 #[tactic(auto, unfolding(crate::specs::FindingLines::count_text))]
 fn put_count(text: &mut Text, name: &[u8], count: u64)
     requires { array_vec_len text.old + 20 + length name.now ≤ 4096 }
@@ -266,7 +266,7 @@ fn put_count(text: &mut Text, name: &[u8], count: u64)
     put_decimal(text, count);
 }
 
-/// Puts the line of the packets.
+/// Appends the line of the packets.
 pub(crate) fn put_packets(text: &mut Text, basis: &Basis)
     requires { array_vec_len text.old + 200 ≤ 4096 }
     ensures { text.new.items ≡ text.old.items ++ spec.packets_line basis.now }
@@ -279,7 +279,7 @@ pub(crate) fn put_packets(text: &mut Text, basis: &Basis)
     put(text, b"; groups held before 0 are unknown\n");
 }
 
-/// Puts the address of a querier.
+/// Appends the address of a querier.
 fn put_querier(text: &mut Text, querier: &QuerierAddress)
     requires { array_vec_len text.old + 40 ≤ 4096 }
     ensures text { text.new.items ≡ text.old.items ++ spec.querier_text querier.now }
@@ -291,7 +291,7 @@ fn put_querier(text: &mut Text, querier: &QuerierAddress)
     }
 }
 
-/// Puts since when the role is had again, if it is.
+/// Appends the moment since which the router is querier again, if it is.
 fn put_again(text: &mut Text, basis: &Basis)
     requires { array_vec_len text.old + 31 ≤ 4096 }
     ensures text { text.new.items ≡ text.old.items ++ spec.again_text basis.now }
@@ -303,7 +303,7 @@ fn put_again(text: &mut Text, basis: &Basis)
     }
 }
 
-/// Puts how often the role was lost, if it was.
+/// Appends the number of times that the role was lost, if it was.
 fn put_lost(text: &mut Text, basis: &Basis)
     requires { array_vec_len text.old + 136 ≤ 4096 }
     ensures text { text.new.items ≡ text.old.items ++ spec.lost_text basis.now }
@@ -319,7 +319,7 @@ fn put_lost(text: &mut Text, basis: &Basis)
     put_again(text, basis);
 }
 
-/// Puts the line of the router that was checked.
+/// Appends the line of the checked router.
 pub(crate) fn put_querier_line(text: &mut Text, basis: &Basis)
     requires { array_vec_len text.old + 200 ≤ 4096 }
     ensures { text.new.items ≡ text.old.items ++ spec.querier_line basis.now }

@@ -1,4 +1,4 @@
-//! The intervals of general queries.
+//! Intervals of general queries.
 
 ghost use Rattle.std.specs.Prelude.{◌≡◌, ◌≤◌};
 ghost use Rattle.mq_table.specs.Timing as span;
@@ -8,14 +8,14 @@ ghost use Rattle.mq_check.specs.General as spec;
 use crate::phase::Phase;
 use mq_table::Timing;
 
-/// The query interval in milliseconds.
+/// Returns the query interval in milliseconds.
 pub(crate) fn query_interval(timing: Timing) -> u64
     ensures { result ≡ span.query_interval timing }
 {
     u64::from(timing.query_seconds()) * 1000
 }
 
-/// Whether two numbers differ by no more than the tolerance.
+/// Returns whether two numbers differ by at most the tolerance.
 fn is_within(within: u32, a: u64, b: u64) -> bool
     ensures { result ≡ entries.is_within within a b }
 {
@@ -23,21 +23,21 @@ fn is_within(within: u32, a: u64, b: u64) -> bool
     a <= b.saturating_add(within) && b <= a.saturating_add(within)
 }
 
-/// Whether more than a query interval has passed.
+/// Returns whether more than a query interval and the tolerance has passed.
 fn is_late(within: u32, timing: Timing, passed: u64) -> bool
     ensures { result ≡ spec.is_late within timing passed }
 {
     query_interval(timing) + u64::from(within) < passed
 }
 
-/// Whether an interval is one of a start, of which so many may still come.
+/// Returns whether an interval is a startup interval, if `startup` more may still come.
 fn is_of_start(within: u32, timing: Timing, startup: u32, interval: u64) -> bool
     ensures { result ≡ spec.is_of_start within timing startup interval }
 {
     0 < startup && is_within(within, interval, query_interval(timing) / 4)
 }
 
-/// Whether an interval between two general queries is one that is wanted.
+/// Returns whether an interval between two general queries is a wanted one.
 fn is_interval(within: u32, timing: Timing, startup: u32, interval: u64) -> bool
     ensures { result ≡ spec.is_interval within timing startup interval }
 {
@@ -45,7 +45,7 @@ fn is_interval(within: u32, timing: Timing, startup: u32, interval: u64) -> bool
         || is_within(within, interval, query_interval(timing))
 }
 
-/// How many intervals of a start may come behind this one.
+/// Returns the number of startup intervals that may come after this interval.
 fn startup_left(within: u32, timing: Timing, startup: u32, interval: u64) -> u32
     ensures { result ≡ spec.startup_left within timing startup interval }
 {
@@ -57,7 +57,7 @@ fn startup_left(within: u32, timing: Timing, startup: u32, interval: u64) -> u32
 }
 
 impl Phase {
-    /// That of the start of a capture.
+    /// Returns the phase at the start of a capture.
     pub(crate) fn at_start(timing: Timing) -> Phase
         ensures { result ≡ spec.phase_at_start timing }
     {
@@ -65,7 +65,7 @@ impl Phase {
         Phase::Starting(timing.startup_count() - 1)
     }
 
-    /// How long before a general query at this moment the one before it came, where that isn't what is wanted.
+    /// Returns the time between a general query at this moment and the one before it, if that interval is wrong.
     pub(crate) fn wrong_interval(self, within: u32, timing: Timing, moment: u64) -> Option<u64>
         ensures { result ≡ spec.wrong_interval within timing moment self }
     {
@@ -83,7 +83,7 @@ impl Phase {
         }
     }
 
-    /// That behind a general query at this moment.
+    /// Returns the phase after a general query at this moment.
     pub(crate) fn behind(self, within: u32, timing: Timing, moment: u64) -> Phase
         ensures { result ≡ spec.phase_behind within timing moment self }
     {
@@ -98,7 +98,7 @@ impl Phase {
         }
     }
 
-    /// For how long no general query came up to this moment, where that is too long.
+    /// Returns the time without general queries up to this moment, if it is too long.
     pub(crate) fn silence(self, within: u32, timing: Timing, moment: u64) -> Option<u64>
         ensures { result ≡ spec.silence_up_to within timing moment self }
     {

@@ -1,4 +1,4 @@
-//! What is found of what no longer waits.
+//! Findings of entries that are no longer pending.
 
 ghost use Rattle.std.specs.Prelude.{◌≡◌, ◌≤◌, ◌^◌, ◌==◌, [], ◌∷◌, IfSome, not};
 ghost use Rattle.mq_text.specs.Printing.{output_of};
@@ -20,7 +20,7 @@ use mq_text::LineFault;
 use mq_wire::WireKey;
 use std::io::Write;
 
-/// Whether the role changed within the tolerance of a moment.
+/// Returns whether the role changed within the tolerance of a moment.
 fn is_near_change(within: Span, moment: Moment, changed: &Option<Moment>) -> bool
     requires in_range { moment ≤ 2 ^ 53 }
     requires changed_in_range { IfSome changed.now (λ at. at ≤ 2 ^ 53) }
@@ -33,7 +33,7 @@ fn is_near_change(within: Span, moment: Moment, changed: &Option<Moment>) -> boo
     meter.reached(moment, changed.after(within)) && meter.reached(changed, moment.after(within))
 }
 
-/// Tells one finding.
+/// Reports one finding.
 pub(crate) fn tell_finding<F: Family, W: Write>(
     finding: Finding<F::Address>,
     told: &mut Told,
@@ -47,7 +47,7 @@ where
     told.tell::<F, W>(finding, writer)
 }
 
-/// Tells what is found of an entry that is over, where the role changed last at `changed`.
+/// Reports the findings of an expired entry. `changed` is the last change of the role.
 pub(crate) fn tell_entry<F: Family, W: Write>(
     entry: &Entry<F::Address>,
     within: Span,
@@ -92,7 +92,7 @@ where
     }
 }
 
-/// Tells what is found at the end of a capture of an entry that still waits.
+/// Reports the findings of an entry that is pending at the end of a capture.
 pub(crate) fn tell_last<F: Family, W: Write>(
     entry: &Entry<F::Address>,
     told: &mut Told,
@@ -120,7 +120,7 @@ where
     }
 }
 
-/// Tells each field that differs of a query that was seen and of what is wanted.
+/// Reports each field of a seen query that differs from the wanted one.
 fn tell_differences<F: Family, W: Write>(
     moment: Moment,
     asked: Asked<F::Address>,
@@ -153,7 +153,7 @@ where
     )
 }
 
-/// Tells each field that differs of what queries of IGMPv3 and MLDv2 alone have.
+/// Reports each field that differs among those that only IGMPv3 and MLDv2 have, if both queries have them.
 fn tell_querier_differences<F: Family, W: Write>(
     moment: Moment,
     asked: Asked<F::Address>,
@@ -176,7 +176,7 @@ where
     }
 }
 
-/// Tells each of these fields that differs, where both queries have them.
+/// Reports each field that differs among S, QRV and QQIC.
 fn tell_fields<F: Family, W: Write>(
     moment: Moment,
     asked: Asked<F::Address>,
@@ -202,7 +202,7 @@ where
     tell_difference::<F, W>(moment, asked, interval_differs(seen, wanted), told, writer)
 }
 
-/// Tells a field that differs, if one does.
+/// Reports a field that differs, if there is one.
 fn tell_difference<F: Family, W: Write>(
     moment: Moment,
     asked: Asked<F::Address>,
@@ -224,7 +224,7 @@ where
     }
 }
 
-/// The versions, where they differ.
+/// Returns the versions if they differ.
 fn version_differs<K: WireKey>(seen: &Terms<K>, wanted: &Terms<K>) -> Option<Difference<K>>
     ensures { difference_list K.number result
         ≡ spec.difference_if (not (seen.now.version == wanted.now.version)) (field.Version seen.now.version wanted.now.version) }
@@ -236,7 +236,7 @@ fn version_differs<K: WireKey>(seen: &Terms<K>, wanted: &Terms<K>) -> Option<Dif
     }
 }
 
-/// The responses, where both are there and differ.
+/// Returns the responses if both queries have one and they differ.
 fn response_differs<K: WireKey>(seen: Option<u32>, wanted: Option<u32>) -> Option<Difference<K>>
     ensures { difference_list K.number result ≡ spec.responses_differ seen wanted }
 {
@@ -250,7 +250,7 @@ fn response_differs<K: WireKey>(seen: Option<u32>, wanted: Option<u32>) -> Optio
     }
 }
 
-/// The S flags, where they differ.
+/// Returns the S flags if they differ.
 fn suppress_differs<K: WireKey>(seen: QuerierTerms, wanted: QuerierTerms) -> Option<Difference<K>>
     ensures { difference_list K.number result
         ≡ spec.difference_if (spec.is_unlike seen.suppress wanted.suppress) (field.Suppress seen.suppress wanted.suppress) }
@@ -262,7 +262,7 @@ fn suppress_differs<K: WireKey>(seen: QuerierTerms, wanted: QuerierTerms) -> Opt
     }
 }
 
-/// QRV of both, where they differ.
+/// Returns the QRV of both queries if they differ.
 fn robustness_differs<K: WireKey>(seen: QuerierTerms, wanted: QuerierTerms) -> Option<Difference<K>>
     ensures { difference_list K.number result
         ≡ spec.difference_if (not (seen.robustness == wanted.robustness)) (field.Robustness seen.robustness wanted.robustness) }
@@ -274,7 +274,7 @@ fn robustness_differs<K: WireKey>(seen: QuerierTerms, wanted: QuerierTerms) -> O
     }
 }
 
-/// The seconds of QQIC of both, where they differ.
+/// Returns the QQIC seconds of both queries if they differ.
 fn interval_differs<K: WireKey>(seen: QuerierTerms, wanted: QuerierTerms) -> Option<Difference<K>>
     ensures { difference_list K.number result
         ≡ spec.difference_if (not (seen.interval == wanted.interval)) (field.QueryInterval seen.interval wanted.interval) }
@@ -286,7 +286,7 @@ fn interval_differs<K: WireKey>(seen: QuerierTerms, wanted: QuerierTerms) -> Opt
     }
 }
 
-/// The destinations, where they differ.
+/// Returns the destinations if they differ.
 fn destination_differs<F: Family>(
     seen: F::Address,
     wanted: F::Address,

@@ -1,15 +1,15 @@
-//! Another querier held to the standards: the queries of a capture that it sent, beside those that a link with its address
-//! sends in its place.
+//! A check of another querier against the standards: its queries in a capture are compared with those of a link that
+//! has its address.
 //!
 //! ```text
 //! let mut input = Watched::new(reader);
 //! let mut output = Watched::new(writer);
-//! check(alloc, config, terms, &mut input, &mut output)     // Ok(totals); or how far it came
+//! check(alloc, config, terms, &mut input, &mut output)     // Ok(totals); or why it ended early
 //! ```
 //!
-//! - The check: `check`, made as `CheckTerms` say; `Totals`, what it counts, with the `Basis` of its verdict, and `CheckFault`,
-//!   which says why one ended early.
-//! - What is found: `Finding`, of what a query asks about: `Asked`. `specs/Check` defines it.
+//! - The check: `check`, with `CheckTerms`. It returns `Totals` with the `Basis` of the verdict, or a `CheckFault` if
+//!   it ends early.
+//! - Findings: `Finding`, on a subject `Asked`. `specs/Check` defines them.
 //! - Worked examples of the definitions: `examples`.
 #![tactic(auto)]
 

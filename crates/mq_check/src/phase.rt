@@ -1,23 +1,23 @@
-//! Which general query comes next.
+//! Phases of general queries.
 
 ghost use Rattle.std.specs.Prelude.{◌≡◌};
 ghost use Rattle.mq_check.specs.Checking.{is_querier_in};
 
-/// How it stands with the general queries of the router that is checked.
+/// The phase of the general queries of the checked router.
 #[derive(Clone, Copy)]
 pub enum Phase {
-    /// None was seen since the start of the capture, at 0; so many intervals of a start may come.
+    /// The phase before the first general query of the capture. This many startup intervals may come.
     Starting(u32),
-    /// One was seen at this moment; so many intervals of a start may still come.
+    /// The phase after a general query at this moment. This many startup intervals may still come.
     Heard(u64, u32),
-    /// The router is querier again, and none was seen since.
+    /// The phase after the router becomes querier again, before its next general query.
     Returned,
-    /// Another router is querier, and none is wanted.
+    /// The phase while another router is querier, and no general query is wanted.
     NotQuerier,
 }
 
 impl Phase {
-    /// Whether the router is querier.
+    /// Returns whether the router is querier.
     pub(crate) fn is_querier(self) -> bool
         ensures { result ≡ is_querier_in self }
     {

@@ -1,4 +1,4 @@
-//! The queries in a capture of the router that is checked.
+//! Queries of the checked router in a capture.
 
 ghost use Rattle.std.specs.Prelude.{◌≡◌};
 ghost use Rattle.mq_check.specs.Queries as spec;
@@ -9,7 +9,7 @@ use mq_link::{Config, Family};
 use mq_replay::{CapturedDatagram, CapturedFamily};
 use mq_wire::{Message, Query};
 
-/// The query that a datagram is, where it comes from the router that is checked and hosts act on it.
+/// Returns the query in a datagram, if it comes from the checked router and hosts act on it.
 pub(crate) fn query_seen<'a, F: CapturedFamily>(
     config: &Config<F>,
     datagram: &CapturedDatagram<'a, F::Envelope>,
@@ -29,7 +29,7 @@ where
     query_spelled::<F>(&datagram.envelope, datagram.body)
 }
 
-/// The query that the bytes of a datagram spell.
+/// Parses the bytes of a datagram. Returns None if they aren't a query.
 #[tactic(auto, unfolding(crate::specs::Queries::query_spelled))]
 pub(crate) fn query_spelled<'a, F: Family>(
     envelope: &F::Envelope,

@@ -1,4 +1,4 @@
-//! The end of waiting.
+//! Removal of pending entries.
 
 ghost use Rattle.std.specs.Prelude.{◌≡◌, ◌≤◌, ◌^◌, IfOk, IfSome};
 ghost use Rattle.std.specs.List.{flat_map};
@@ -17,7 +17,8 @@ use mq_text::LineFault;
 use std::alloc::Allocator;
 use std::io::Write;
 
-/// Takes out what is over at a moment, and tells what is found of it, where the role changed last at `changed`.
+/// Removes the entries that have expired at a moment, and reports their findings. `changed` is the last change of the
+/// role.
 pub(crate) fn settle<F: Family, A: Allocator, W: Write>(
     waiting: &mut Waiting<F, A>,
     within: Span,
@@ -40,7 +41,7 @@ where
     Ok(())
 }
 
-/// Takes out all that still waits at the end of a capture, and tells what is found of it.
+/// Removes all pending entries at the end of a capture, and reports their findings.
 pub(crate) fn tell_rest<F: Family, A: Allocator, W: Write>(
     waiting: &mut Waiting<F, A>,
     told: &mut Told,

@@ -1,4 +1,4 @@
-//! The slots by which entries that wait are found.
+//! Slots by which pending entries are searched.
 
 ghost use Rattle.std.specs.Prelude.{◌≡◌, ◌<◌};
 ghost use Rattle.byteorder.specs.Endian.{big_bytes};
@@ -12,13 +12,13 @@ use crate::waiting::Side;
 use mq_count::Moment;
 use mq_wire::WireKey;
 
-/// So many slots there are.
+/// The number of slots.
 pub(crate) const SLOTS: usize = 65522;
 
-/// The slot of the entries that find no partner, of which no search is.
+/// The slot of the entries that can't find a partner. No search uses it.
 const UNUSED: usize = 65521;
 
-/// A number with the bytes of an address mixed into it.
+/// Returns a number with the bytes of an address mixed into it.
 fn mixed<K: WireKey>(number: u32, address: K) -> u32
     requires { number < 65521 }
     ensures mixed { result ≡ spec.mixed number (big_bytes K.WIDTH (K.number address)) }
@@ -33,7 +33,7 @@ fn mixed<K: WireKey>(number: u32, address: K) -> u32
     slot
 }
 
-/// The number of a side.
+/// Returns the number of a side.
 fn number_of(side: Side) -> u32
     ensures number { result ≡ spec.number_of_side side }
     ensures within { result < 65521 }
@@ -44,7 +44,7 @@ fn number_of(side: Side) -> u32
     }
 }
 
-/// The slot of the entries of a side that ask about this.
+/// Returns the slot of the entries of a side with this subject.
 #[tactic(auto, unfolding(crate::specs::Slots::slot_of))]
 pub(crate) fn slot_of<K: WireKey>(side: Side, asked: Asked<K>) -> usize
     ensures slot { result ≡ spec.slot_of K.WIDTH side (numbered_asked K.number asked) }
@@ -59,7 +59,7 @@ pub(crate) fn slot_of<K: WireKey>(side: Side, asked: Asked<K>) -> usize
     slot as usize
 }
 
-/// The slot of an entry.
+/// Returns the slot of an entry.
 pub(crate) fn slot_in<K: WireKey>(entry: &Entry<K>) -> usize
     ensures slot { result ≡ spec.slot_in K.WIDTH (numbered_entry K.number entry.now) }
     ensures within { result < 65522 }
@@ -71,7 +71,7 @@ pub(crate) fn slot_in<K: WireKey>(entry: &Entry<K>) -> usize
     }
 }
 
-/// The slot of a query that is wanted, whether it has found its partner or not.
+/// Returns the slot of a wanted query, with or without a partner.
 pub(crate) fn wanted_slot<K: WireKey>(entry: &Entry<K>) -> usize
     ensures slot { result ≡ spec.wanted_slot K.WIDTH (numbered_entry K.number entry.now) }
     ensures within { result < 65522 }
@@ -82,7 +82,7 @@ pub(crate) fn wanted_slot<K: WireKey>(entry: &Entry<K>) -> usize
     }
 }
 
-/// When a query is wanted; the start for what is none.
+/// Returns the moment of a wanted query, and 0 for any other entry.
 pub(crate) fn wanted_moment<K: WireKey>(entry: &Entry<K>) -> Moment
     ensures { result ≡ spec.wanted_moment (numbered_entry K.number entry.now) }
 {
@@ -92,7 +92,7 @@ pub(crate) fn wanted_moment<K: WireKey>(entry: &Entry<K>) -> Moment
     }
 }
 
-/// The number of the query for a group that was wanted last, where the entry of a number comes behind that of another.
+/// Returns `number` if the entry is a wanted query for a group, and `last` otherwise.
 pub(crate) fn last_group_by<K: WireKey>(entry: &Entry<K>, number: u64, last: u64) -> u64 {
     match entry {
         Entry::Wanted(_, Asked::Group(_), ..) => number,

@@ -1,11 +1,11 @@
-//! The moments of packets.
+//! Moments of packets.
 
 ghost use Rattle.std.specs.Prelude.{◌≡◌, ◌≤◌, ◌^◌};
 
 use mq_count::Moment;
 use std::marker::Model;
 
-/// A moment in range, as such and in milliseconds. A contract sees it as that number.
+/// A moment in range, together with its milliseconds. A contract sees it as that number.
 #[derive(Clone, Copy)]
 pub(crate) struct Stamp {
     moment: Moment,
@@ -28,7 +28,7 @@ impl Model for Stamp {
 }
 
 impl Stamp {
-    /// The moment of so many milliseconds.
+    /// Returns the moment at this number of milliseconds.
     pub(crate) fn of(ms: u64) -> Stamp
         requires in_range { ms ≤ 2 ^ 53 }
         ensures { result ≡ ms }
@@ -39,7 +39,7 @@ impl Stamp {
         Stamp { moment, ms }
     }
 
-    /// As a moment.
+    /// Returns the moment.
     pub(crate) fn moment(self) -> Moment
         ensures same { result ≡ self }
         ensures in_range { self ≤ 2 ^ 53 }
@@ -47,7 +47,7 @@ impl Stamp {
         self.moment
     }
 
-    /// In milliseconds.
+    /// Returns the milliseconds.
     pub(crate) fn ms(self) -> u64
         ensures { result ≡ self }
     {

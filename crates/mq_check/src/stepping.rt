@@ -1,4 +1,4 @@
-//! The steps of a check: ticks of the link, and datagrams that it is handed.
+//! Steps of a check: ticks of the link, and its datagrams.
 
 ghost use Rattle.std.specs.Prelude.{◌≡◌, ◌<◌, ◌≤◌, ◌^◌, Some};
 ghost use Rattle.mq_link.specs.Tick.{next_of};
@@ -23,7 +23,7 @@ use mq_text::LineFault;
 use std::alloc::Allocator;
 use std::io::Write;
 
-/// Does what is due at a moment: what the link sends is wanted, and it may be querier again.
+/// Ticks the link at a moment. The queries that it sends are wanted, and the router may become querier again.
 pub(crate) fn tick<F: CheckedFamily, A: Allocator>(
     link: &mut Link<F, A>,
     queries: &mut WantedQueries<F, A>,
@@ -52,7 +52,7 @@ where
     queries.return_role(within, now);
 }
 
-/// Hands the link a datagram: what it sends then is wanted, and the role may change.
+/// Gives the link a datagram. The queries that it sends are wanted, and the role may change.
 pub(crate) fn receive<F: CheckedFamily, A: Allocator>(
     link: &mut Link<F, A>,
     queries: &mut WantedQueries<F, A>,
@@ -86,7 +86,7 @@ where
     queries.name_other(link.other_querier());
 }
 
-/// The role was lost, or is had again, or stays.
+/// Records a loss or a return of the role, if it changed.
 fn change_role<F: CheckedFamily, A: Allocator>(
     queries: &mut WantedQueries<F, A>,
     within: u32,
@@ -110,7 +110,8 @@ where
     }
 }
 
-/// Does the ticks of the link at its next moments up to and including this one; before each, what is over then is told.
+/// Ticks the link at its next moments up to and including this one. The entries that have expired are settled before
+/// each tick.
 pub(crate) fn tick_through<F: CheckedFamily, A: Allocator, W: Write>(
     link: &mut Link<F, A>,
     queries: &mut WantedQueries<F, A>,
@@ -139,7 +140,7 @@ where
     Ok(())
 }
 
-/// Checks one packet: first what happens up to its moment.
+/// Checks one packet, after the ticks up to its moment.
 pub(crate) fn check_packet<F: CheckedFamily, A: Allocator, W: Write>(
     link: &mut Link<F, A>,
     queries: &mut WantedQueries<F, A>,
@@ -174,7 +175,7 @@ where
     }
 }
 
-/// Checks one datagram: first what is over at its moment is told.
+/// Checks one datagram, after the entries that have expired at its moment are settled.
 fn check_datagram<F: CheckedFamily, A: Allocator, W: Write>(
     link: &mut Link<F, A>,
     queries: &mut WantedQueries<F, A>,

@@ -1,4 +1,4 @@
-//! What a query says besides what it asks about.
+//! Fields of queries other than their subject.
 
 ghost use Rattle.std.specs.Prelude.{◌≡◌};
 ghost use Rattle.mq_wire.specs.Numbered.{numbered_query};
@@ -13,31 +13,31 @@ use mq_link::Config;
 use mq_table::Timing;
 use mq_wire::{OlderVersion, Query, QueryVersion, WireKey};
 
-/// A query's version and fields, and where it goes.
+/// The version, the fields and the destination of a query.
 #[derive(Clone, Copy)]
 pub struct Terms<K: WireKey> {
-    /// 1 to 3 of IGMP, 1 or 2 of MLD.
+    /// The version: 1 to 3 for IGMP, 1 or 2 for MLD.
     pub version: u8,
-    /// The response in milliseconds that its code has; a query of IGMPv1 has none.
+    /// The response in milliseconds, decoded from its code. A query of IGMPv1 has none.
     pub response: Option<u32>,
-    /// What queries of IGMPv3 and MLDv2 have besides.
+    /// The fields that only queries of IGMPv3 and MLDv2 have.
     pub querier: Option<QuerierTerms>,
     /// The destination of its packet.
     pub to: K,
 }
 
-/// What a query of IGMPv3 or MLDv2 says besides (RFC 3376 sections 4.1.5 to 4.1.7, RFC 3810 sections 5.1.7 to 5.1.9).
+/// The further fields of an IGMPv3 or MLDv2 query (RFC 3376 sections 4.1.5 to 4.1.7, RFC 3810 sections 5.1.7 to 5.1.9).
 #[derive(Clone, Copy)]
 pub struct QuerierTerms {
     /// The S flag.
     pub suppress: bool,
     /// QRV, from 0 to 7.
     pub robustness: u8,
-    /// The seconds that QQIC has.
+    /// The interval in seconds, decoded from QQIC.
     pub interval: u32,
 }
 
-/// The number of an older version.
+/// Returns the number of an older version.
 fn number_of(version: OlderVersion) -> u8
     ensures { result ≡ older_version version }
 {
@@ -47,7 +47,7 @@ fn number_of(version: OlderVersion) -> u8
     }
 }
 
-/// What a query says that goes to an address.
+/// Returns the terms of a query to an address.
 pub(crate) fn terms_of<K: LineKey>(to: K, query: &Query<'_, K>) -> Terms<K>
     ensures { numbered_terms K.number result ≡ spec.terms_of K.family (K.number to) (numbered_query K.number query.now) }
 {
@@ -75,7 +75,7 @@ pub(crate) fn terms_of<K: LineKey>(to: K, query: &Query<'_, K>) -> Terms<K>
     }
 }
 
-/// What a general query says where this timing is in force.
+/// Returns the terms of a general query under this timing in force.
 pub(crate) fn general_terms<F: CheckedFamily>(
     config: &Config<F>,
     in_force: Timing,
@@ -98,7 +98,7 @@ where
     }
 }
 
-/// The seconds that QQIC has for an interval.
+/// Returns an interval in seconds after it is rounded by QQIC.
 fn interval_said(seconds: u32) -> u32
     ensures { result ≡ interval_lowered seconds }
 {

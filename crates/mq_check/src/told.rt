@@ -1,4 +1,4 @@
-//! Findings on their way to a writer.
+//! Buffered output of findings.
 
 ghost use Rattle.std.specs.Prelude.{◌≡◌, ◌+◌, ◌-◌, ◌^◌, ◌||◌, [], ◌∷◌, ◌++◌, IfOk, is_err, min};
 ghost use Rattle.mq_count.specs.Streams.{inner_of, has_failed};
@@ -19,7 +19,7 @@ use mq_text::{LineFault, Text, flush, make_room};
 use std::io::Write;
 use std::marker::Model;
 
-/// The text of findings that isn't written yet, whether the sections stand in it, and how many were told.
+/// The text of findings that isn't written yet, whether findings cite sections, and the number of reported findings.
 #[derive(Drop)]
 pub(crate) struct Told {
     buffer: Text,
@@ -36,7 +36,7 @@ impl Model for Told {
 }
 
 impl Told {
-    /// Nothing told.
+    /// Returns a state without text or findings.
     pub(crate) fn new(cite: bool) -> Told
         ensures { result ≡ record { held = []; cite = cite; count = 0 } }
     {
@@ -47,14 +47,14 @@ impl Told {
         }
     }
 
-    /// How many findings were told.
+    /// Returns the number of reported findings.
     pub(crate) fn count(&self) -> u64
         ensures { result ≡ self.now.count }
     {
         self.count
     }
 
-    /// Tells a finding.
+    /// Reports a finding.
     pub(crate) fn tell<F: Family, W: Write>(
         &mut self,
         finding: Finding<F::Address>,
@@ -76,7 +76,7 @@ impl Told {
         Ok(())
     }
 
-    /// Tells what was counted, and what the verdict rests on.
+    /// Reports the totals and the basis of the verdict.
     pub(crate) fn tell_last<W: Write>(
         &mut self,
         totals: &Totals,
@@ -92,7 +92,7 @@ impl Told {
         self.tell_querier(&totals.basis, writer)
     }
 
-    /// Tells what the packets were.
+    /// Reports the counts of packets.
     fn tell_packets<W: Write>(
         &mut self,
         basis: &Basis,
@@ -108,7 +108,7 @@ impl Told {
         Ok(())
     }
 
-    /// Tells which router was checked, and when it was querier.
+    /// Reports the checked router, and when it was querier.
     fn tell_querier<W: Write>(
         &mut self,
         basis: &Basis,
@@ -124,7 +124,7 @@ impl Told {
         Ok(())
     }
 
-    /// Tells what was counted.
+    /// Reports the counts of queries and findings.
     fn tell_totals<W: Write>(
         &mut self,
         totals: &Totals,
@@ -140,7 +140,7 @@ impl Told {
         Ok(())
     }
 
-    /// Writes what isn't written yet if reading the next record may wait.
+    /// Writes the buffered text if reading the next record may wait.
     pub(crate) fn write_before_wait<S: Supply, W: Write>(
         &mut self,
         capture: &PcapReader,
@@ -160,7 +160,7 @@ impl Told {
         Ok(())
     }
 
-    /// Writes what isn't written yet.
+    /// Writes the buffered text.
     pub(crate) fn finish<W: Write>(&mut self, writer: &mut Watched<W>) -> Result<(), LineFault>
         ensures text { Puts
             (W.contents (inner_of writer.old)) (W.contents (inner_of writer.new))

@@ -1,4 +1,4 @@
-//! What a check counts.
+//! Totals of a check.
 
 ghost use Rattle.std.specs.Prelude.{◌≡◌};
 ghost use Rattle.mq_check.specs.Basis as spec;
@@ -6,21 +6,21 @@ ghost use Rattle.mq_check.specs.Basis as spec;
 use crate::basis::Basis;
 use crate::unjudged::Unjudged;
 
-/// What a check counts. A count stays at the greatest u64.
+/// The totals of a check. A count stays at the greatest u64.
 #[derive(Clone, Copy)]
 pub struct Totals {
-    /// How many general queries were seen.
+    /// The number of general queries seen.
     pub general: u64,
-    /// How many queries for groups and for sources were seen.
+    /// The number of queries for groups and for sources seen.
     pub specific: u64,
-    /// How much was found.
+    /// The number of findings.
     pub findings: u64,
-    /// What the verdict rests on.
+    /// The basis of the verdict.
     pub basis: Basis,
 }
 
 impl Totals {
-    /// Returns why the check judged nothing, if it didn't.
+    /// Returns the reason why the check judged nothing, or None if it judged the querier.
     pub fn unjudged(&self) -> Option<Unjudged>
         ensures { result ≡ spec.unjudged_by self.now }
     {

@@ -1,4 +1,4 @@
-//! Where in the list of what waits the next entry of a slot may stand.
+//! Links between the pending entries of a slot.
 
 ghost use Rattle.std.specs.Prelude.{◌≡◌, ℕ, ◌+◌, ◌-◌, ◌<◌, ◌≤◌, [], ◌∷◌, ◌++◌, IfOk, length, slice_index, drop};
 ghost use Rattle.std.specs.VecDeque.{deque_capacity};
@@ -10,20 +10,20 @@ use std::alloc::{AllocError, Allocator};
 use std::collections::VecDeque;
 use std::marker::Model;
 
-/// A number that no entry has which waits.
+/// A number that no pending entry has.
 const OPEN: u64 = u64::MAX;
 
-/// The slot of each entry that waits, in their order, and for each slot the number of an entry before which none of it can
-/// find a partner. Entries are numbered in the order in which they came. All memory is taken as it is made.
+/// The slot of each pending entry in order, and the start of each slot. No entry of a slot before its start can find a
+/// partner. Entries are numbered in the order in which they came. `new` allocates all memory.
 #[derive(Drop)]
 pub(crate) struct Trails<A: Allocator> {
     slots: VecDeque<u32, A>,
-    // For each entry the number of the next one of its slot, or of one before that.
+    // For each entry, the number of the next one of its slot, or a lower number.
     nexts: VecDeque<u64, A>,
     starts: Vec<u64, A>,
-    // For each slot the number of its last entry.
+    // For each slot, the number of its last entry.
     lasts: Vec<u64, A>,
-    // The number of the first entry that waits.
+    // The number of the first pending entry.
     base: u64,
 }
 
@@ -46,7 +46,7 @@ impl<A: Allocator> Model for Trails<A> {
         × (deque_capacity t.nexts ≡ 65536) };
 }
 
-/// The last entry of a slot leads no further than to the next one, where it waits.
+/// Limits the link of the last entry of a slot to the number of the next one, if the last one is pending.
 fn close<A: Allocator>(nexts: &mut VecDeque<u64, A>, last: usize, number: u64)
     ensures closed { IsClosed nexts.old.items nexts.new.items last number }
     ensures capacity { deque_capacity nexts.new ≡ deque_capacity nexts.old }
@@ -58,7 +58,7 @@ fn close<A: Allocator>(nexts: &mut VecDeque<u64, A>, last: usize, number: u64)
 }
 
 impl<A: Allocator> Trails<A> {
-    /// Of nothing that waits.
+    /// Returns the links of an empty list.
     pub(crate) fn new(alloc: A) -> Result<Trails<A>, AllocError>
     where
         A: Copy,
@@ -73,17 +73,17 @@ impl<A: Allocator> Trails<A> {
         })
     }
 
-    /// The number of the entry that comes to a place.
+    /// Returns the number of the entry at a place.
     pub(crate) fn number(&self, place: usize) -> u64 {
         self.base.saturating_add(place as u64)
     }
 
-    /// The place of the entry with a number, or that of the first entry, where that one is gone.
+    /// Returns the place of the entry with a number. If that entry is gone, returns the first place.
     pub(crate) fn place(&self, number: u64) -> usize {
         number.saturating_sub(self.base) as usize
     }
 
-    /// The first place at which an entry of a slot may stand that can find a partner.
+    /// Returns the first place at which an entry of a slot may stand that can find a partner.
     pub(crate) fn start(&self, slot: usize) -> usize
         requires slot { slot < 65522 }
         ensures { result ≡ slice_index self.now.starts slot - self.now.base }
@@ -91,7 +91,7 @@ impl<A: Allocator> Trails<A> {
         self.starts[slot].saturating_sub(self.base) as usize
     }
 
-    /// The next place behind this one at which an entry of a slot may stand.
+    /// Returns the next place after this one at which an entry of a slot may stand.
     pub(crate) fn next(&self, place: usize, slot: usize) -> usize
         requires place { place < length self.now.slots }
         ensures later { place < result }
@@ -104,7 +104,7 @@ impl<A: Allocator> Trails<A> {
         if next <= place { place + 1 } else { next }
     }
 
-    /// An entry of a slot comes behind the others.
+    /// Appends an entry of a slot.
     pub(crate) fn push(&mut self, slot: usize)
         requires slot { slot < 65522 }
         requires room { length self.old.slots < 65536 }
@@ -122,7 +122,7 @@ impl<A: Allocator> Trails<A> {
         self.nexts.push_back_reserved(OPEN);
     }
 
-    /// The entry at a place finds no partner any more.
+    /// Marks that the entry at a place can no longer find a partner.
     pub(crate) fn pass(&mut self, place: usize)
         requires place { place < length self.old.slots }
         ensures slots { self.new.slots ≡ self.old.slots }
@@ -136,7 +136,7 @@ impl<A: Allocator> Trails<A> {
         self.starts[slot] = later;
     }
 
-    /// The first entry is gone.
+    /// Removes the first entry.
     pub(crate) fn pop(&mut self)
         requires some { 0 < length self.old.slots }
         ensures slots { self.new.slots ≡ drop 1 self.old.slots }

@@ -1,12 +1,12 @@
-//! Why a check judged nothing.
+//! Reasons why a check judges nothing.
 
-/// Why a check judged nothing.
+/// The reason why a check judged nothing.
 #[derive(Clone, Copy, Debug, PartialEq, Eq)]
 pub enum Unjudged {
-    /// Every second packet of the capture or more is cut or wasn't looked into.
+    /// A capture with at least half of its packets truncated or unread.
     NotUnderstood,
-    /// The capture has no message of the family.
+    /// A capture without a message of the family.
     NoMessage,
-    /// No query of the router that is checked was seen, and none is missing.
+    /// A capture without a query of the checked router, and without a finding.
     NoQuery,
 }

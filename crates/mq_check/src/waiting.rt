@@ -1,4 +1,4 @@
-//! What waits, in the order of moments.
+//! Pending entries in ascending order of their moments.
 
 ghost use Rattle.std.specs.Prelude.{◌≡◌, ◌<◌, ◌≤◌, ◌+◌, ◌^◌, ◌==◌, [], ◌∷◌, IfOk, IfNone, IfSome, nat_lt};
 ghost use Rattle.std.specs.List.{list_any};
@@ -19,25 +19,25 @@ use std::alloc::{AllocError, Allocator};
 use std::collections::VecDeque;
 use std::marker::Model;
 
-/// So many entries may wait.
+/// The most pending entries.
 pub(crate) const ROOM: usize = 65536;
 
-/// The entries that are looked for: queries that are wanted, or that were seen.
+/// The side of an entry that is searched: wanted queries, or seen ones.
 #[derive(Clone, Copy)]
 pub enum Side {
     OfWanted,
     OfSeen,
 }
 
-/// What waits, the earliest first, and whether there was no room for something. All memory for it is taken as it is made.
-/// Entries are found by their slots, so that a search passes none but a few that ask about something else.
+/// The pending entries, the earliest first, and whether an entry had no room. `new` allocates all memory. Entries are
+/// found by their slots, so a search compares few entries with another subject.
 #[derive(Drop)]
 pub(crate) struct Waiting<F: Family, A: Allocator> {
     entries: VecDeque<Entry<F::Address>, A>,
     trails: Trails<A>,
-    // For each slot a moment that none of its wanted queries is behind.
+    // For each slot, an upper bound of the moments of its wanted queries.
     latest: Vec<Moment, A>,
-    // The number of the query for a group that was wanted last.
+    // The number of the last wanted query for a group.
     last_group: u64,
     is_full: bool,
 }
@@ -59,7 +59,7 @@ impl<F: Family, A: Allocator> Model for Waiting<F, A> {
         × (length w.latest.items ≡ 65522) };
 }
 
-/// Whether two moments are the same.
+/// Returns whether two moments are equal.
 fn is_at(a: Moment, b: Moment) -> bool
     ensures { result ≡ (a == b) }
 {
@@ -67,14 +67,14 @@ fn is_at(a: Moment, b: Moment) -> bool
     meter.reached(a, b) && meter.reached(b, a)
 }
 
-/// Whether a moment is before another.
+/// Returns whether a moment is before another.
 fn is_before(a: Moment, b: Moment) -> bool
     ensures { result ≡ nat_lt a b }
 {
     !Meter::new().reached(b, a)
 }
 
-/// The later of two moments.
+/// Returns the later of two moments.
 fn later_of(a: Moment, b: Moment) -> Moment
     ensures first { a ≤ result }
     ensures second { b ≤ result }
@@ -82,7 +82,7 @@ fn later_of(a: Moment, b: Moment) -> Moment
     if is_before(a, b) { b } else { a }
 }
 
-/// Whether more than the tolerance has passed since a moment.
+/// Returns whether more than the tolerance has passed since a moment.
 fn is_over(within: Span, moment: Moment, now: Moment) -> bool
     requires in_range { now ≤ 2 ^ 53 }
     ensures { result ≡ nat_lt (moment + within) now }
@@ -90,7 +90,7 @@ fn is_over(within: Span, moment: Moment, now: Moment) -> bool
     moment.in_range() && !Meter::new().reached(now, moment.after(within))
 }
 
-/// Whether an entry of one side asks about this and has no partner.
+/// Returns whether an entry is of this side, has this subject, and has no partner.
 fn is_free<F: Family>(side: Side, asked: Asked<F::Address>, entry: &Entry<F::Address>) -> bool
     ensures { result ≡ waits.is_free side (numbered_asked F.Address.number asked) (numbered_entry F.Address.number entry.now) }
 {
@@ -105,7 +105,7 @@ fn is_free<F: Family>(side: Side, asked: Asked<F::Address>, entry: &Entry<F::Add
     }
 }
 
-/// Whether an entry is a query for a group that is wanted at this moment.
+/// Returns whether an entry is a query for this group that is wanted at this moment.
 fn is_group_wanted<F: Family>(moment: Moment, group: F::Address, entry: &Entry<F::Address>) -> bool
     ensures { result ≡ spec.is_group_wanted moment (F.Address.number group) (numbered_entry F.Address.number entry.now) }
 {
@@ -118,7 +118,7 @@ fn is_group_wanted<F: Family>(moment: Moment, group: F::Address, entry: &Entry<F
 }
 
 impl<F: Family, A: Allocator> Waiting<F, A> {
-    /// Nothing, with all memory that is taken for what will wait.
+    /// Returns an empty list, with all memory allocated.
     pub(crate) fn new(alloc: A) -> Result<Waiting<F, A>, AllocError>
     where
         A: Copy,
@@ -133,14 +133,14 @@ impl<F: Family, A: Allocator> Waiting<F, A> {
         })
     }
 
-    /// Whether there was no room for something.
+    /// Returns whether an entry had no room.
     pub(crate) fn is_full(&self) -> bool
         ensures { result ≡ self.now.is_full }
     {
         self.is_full
     }
 
-    /// Has an entry wait behind the others, where there is room.
+    /// Appends an entry if there is room.
     pub(crate) fn put(&mut self, entry: Entry<F::Address>)
         ensures { self.new ≡ waits.with_entry (numbered_entry F.Address.number entry) self.old }
     {
@@ -159,8 +159,7 @@ impl<F: Family, A: Allocator> Waiting<F, A> {
         }
     }
 
-    /// Finds the first entry of a side without a partner that asks about this, and makes the two partners: answers what
-    /// the entry says.
+    /// Pairs the first entry of a side with this subject that has no partner, and returns its terms.
     pub(crate) fn join(
         &mut self,
         side: Side,
@@ -179,7 +178,7 @@ impl<F: Family, A: Allocator> Waiting<F, A> {
         entry.terms()
     }
 
-    /// The place of the first entry of a side without a partner that asks about this.
+    /// Returns the place of the first entry of a side with this subject that has no partner.
     fn place_of(&self, side: Side, asked: Asked<F::Address>) -> Option<usize>
         ensures none { IfNone result (IsNoneFree side (numbered_asked F.Address.number asked) self.now.entries) }
         ensures some { IfSome result (IsFirstFree side (numbered_asked F.Address.number asked) self.now.entries) }
@@ -195,7 +194,7 @@ impl<F: Family, A: Allocator> Waiting<F, A> {
         None
     }
 
-    /// Takes out the first entry where it is over at a moment, unless there was no room for something.
+    /// Removes the first entry if it has expired at a moment, unless an entry had no room.
     pub(crate) fn pop_over(&mut self, within: Span, now: Moment) -> Option<Entry<F::Address>>
         requires in_range { now ≤ 2 ^ 53 }
         ensures none { IfNone result (self.new ≡ self.old) }
@@ -215,7 +214,7 @@ impl<F: Family, A: Allocator> Waiting<F, A> {
         self.entries.pop_front()
     }
 
-    /// Takes out the first entry.
+    /// Removes the first entry.
     pub(crate) fn pop(&mut self) -> Option<Entry<F::Address>>
         ensures none { IfNone result (self.old.entries ≡ []) }
         ensures some { IfSome result (λ entry. self.old.entries ≡ numbered_entry F.Address.number entry ∷ self.new.entries) }
@@ -227,7 +226,7 @@ impl<F: Family, A: Allocator> Waiting<F, A> {
         self.entries.pop_front()
     }
 
-    /// Whether a query for a group is wanted at this moment.
+    /// Returns whether a query for this group is wanted at this moment.
     pub(crate) fn has_group_wanted(&self, moment: Moment, group: F::Address) -> bool
         ensures { result ≡ list_any (spec.is_group_wanted moment (F.Address.number group)) self.now.entries }
     {
@@ -242,7 +241,7 @@ impl<F: Family, A: Allocator> Waiting<F, A> {
         self.is_any_wanted(moment, group)
     }
 
-    /// Whether a query for a group is wanted at this moment, by a look at each entry.
+    /// Returns whether a query for this group is wanted at this moment, after a look at each entry.
     fn is_any_wanted(&self, moment: Moment, group: F::Address) -> bool
         ensures { result ≡ list_any (spec.is_group_wanted moment (F.Address.number group)) self.now.entries }
     {

@@ -1,4 +1,4 @@
-//! The outlet that takes what a link sends as what is wanted.
+//! The outlet through which a link's queries become wanted.
 
 ghost use Rattle.std.specs.Prelude.{◌≡◌, ◌≤◌, ◌^◌, IfOk, flat_map, false};
 ghost use Rattle.mq_pcap.specs.Frame.{carried_of};
@@ -27,7 +27,7 @@ use std::alloc::Allocator;
 use std::io::Write;
 use std::marker::Model;
 
-/// A check under way, to which a link hands what it sends at one moment, and what its verdict rests on.
+/// A check in progress and the basis of its verdict. A link sends its messages of one moment to it.
 #[derive(Drop)]
 pub(crate) struct WantedQueries<F: CheckedFamily, A: Allocator>
 where
@@ -55,7 +55,7 @@ impl<F: CheckedFamily, A: Allocator> WantedQueries<F, A>
 where
     F::Address: LineKey,
 {
-    /// For the queries that the router at `own` sends, which are wanted at the moment that `begin` tells.
+    /// Returns an outlet for the router at `own`. Its queries are wanted at the moment that `begin` sets.
     pub(crate) fn new(
         checking: Checking<F, A>,
         own: F::Address,
@@ -73,7 +73,7 @@ where
         }
     }
 
-    /// The queries that come now are sent at this moment; general ones are wanted where the router may be querier again.
+    /// Sets the moment of the next queries. General queries are wanted if the router may become querier again.
     pub(crate) fn begin(&mut self, moment: Moment, is_returning: bool)
         ensures { self.new ≡ record self.old { moment = moment; is_returning = is_returning } }
     {
@@ -81,21 +81,21 @@ where
         self.is_returning = is_returning;
     }
 
-    /// The check so far.
+    /// Returns the check so far.
     pub(crate) fn checking(&self) -> &Checking<F, A>
         ensures { result.now ≡ self.now.checking }
     {
         &self.checking
     }
 
-    /// What a verdict rests on so far.
+    /// Returns the basis of the verdict so far.
     pub(crate) fn basis(&self) -> &Basis
         ensures { result.now ≡ self.now.basis }
     {
         &self.basis
     }
 
-    /// A packet with a datagram of the family came.
+    /// Counts a packet with a datagram of the family.
     pub(crate) fn note_datagram(&mut self, datagram: &CapturedDatagram<'_, F::Envelope>)
         ensures { self.new ≡ record self.old {
           basis =
@@ -106,7 +106,7 @@ where
         self.basis.note_datagram::<F>(datagram);
     }
 
-    /// A packet without a datagram of the family came.
+    /// Counts a packet without a datagram of the family.
     pub(crate) fn note_other(&mut self, link: LinkType, frame: &[u8], inner: &Inner<'_>)
         ensures { self.new ≡ record self.old {
           basis = basis.with_other link frame.now (carried_of inner.now) (basis.with_packet self.old.basis);
@@ -115,7 +115,7 @@ where
         self.basis.note_other(link, frame, inner);
     }
 
-    /// Another router is querier, or none is.
+    /// Sets the other querier, if there is one.
     pub(crate) fn name_other(&mut self, other: Option<OtherQuerier<F::Address>>)
         ensures { self.new ≡ record self.old { basis = basis.with_other_named F.FAMILY F.Address.number other self.old.basis } }
     {
@@ -124,7 +124,7 @@ where
         }
     }
 
-    /// Takes out what is over at a moment, and tells what is found of it.
+    /// Removes the entries that have expired at a moment, and reports their findings.
     pub(crate) fn settle<W: Write>(
         &mut self,
         within: u32,
@@ -142,7 +142,7 @@ where
         self.checking.settle(within, now, told, writer)
     }
 
-    /// Takes out all that still waits at the end of a capture, and tells what is found of it.
+    /// Removes all pending entries at the end of a capture, and reports their findings.
     pub(crate) fn tell_rest<W: Write>(
         &mut self,
         told: &mut Told,
@@ -154,7 +154,7 @@ where
         self.checking.tell_rest(told, writer)
     }
 
-    /// A tick or a datagram may have changed the role: it is had again.
+    /// Handles the return of the role, by a tick or a datagram.
     pub(crate) fn return_role(&mut self, within: u32, moment: Moment)
         requires in_range { moment ≤ 2 ^ 53 }
         ensures { self.new ≡ record self.old {
@@ -166,7 +166,7 @@ where
         self.basis.return_role(moment);
     }
 
-    /// It was lost.
+    /// Handles the loss of the role.
     pub(crate) fn lose_role(&mut self, within: u32, configured: Timing, stamp: Stamp)
         ensures { self.new ≡ record self.old {
           checking = spec.role_lost within configured stamp self.old.checking;
@@ -177,7 +177,7 @@ where
         self.basis.lose_role(stamp.moment());
     }
 
-    /// A query of the router that is checked was seen.
+    /// Handles a query of the checked router that is seen.
     pub(crate) fn see(
         &mut self,
         within: u32,
@@ -196,7 +196,7 @@ where
             .query_seen(within, config, in_force, stamp, to, query);
     }
 
-    /// A query is wanted that the link sends.
+    /// Handles a query that the link sends.
     fn want(&mut self, to: F::Address, query: &Query<'_, F::Address>)
         ensures { self.new ≡ record self.old {
           checking =
