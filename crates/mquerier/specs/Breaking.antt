@@ -1,4 +1,4 @@
--- Why a capture was not shown or replayed to its end.
+-- Reasons why a listing, a replay or a conversion ends early.
 use Rattle.std.specs.Prelude.{◌≡◌, true, Result, Err}
 use Rattle.mq_convert.specs.declared.fault.ConvertFault.{ConvertFault}
 use Rattle.mq_convert.specs.declared.fault.ConvertFault.TheVariants as conversion
@@ -8,9 +8,9 @@ use Rattle.mquerier.specs.declared.failure.Failure.{Failure}
 use Rattle.mquerier.specs.declared.failure.Failure.TheVariants.{Capture, Conversion, ConversionRead, Gap, Memory, Write}
 use Rattle.mquerier.specs.Changes.{Input, Output}
 
--- What was done of a capture, by its answer, broke off: the capture has a fault, or a gap, and all that is due before
--- that was written; memory ran out, before anything was read or written; or the output failed, behind a beginning of
--- what was to be written or, at the flush behind it, all of that.
+-- The work on a capture ended early, by its result. With a fault of the capture or a gap, all text before it was
+-- written. With an allocation failure nothing was read or written. If the output failed, a prefix was written, or all
+-- text if the flush failed.
 abbrev pub IsBrokenOff : {X : Type 0} → (Does : Result X ReplayFault → Type 0) → Input → Output → Failure → Type 0
 IsBrokenOff Does input output (Capture f) = (output.new.failed ≡ output.old.failed) × Does (Err (answer.Pcap f))
 IsBrokenOff Does input output (Gap number) = (output.new.failed ≡ output.old.failed) × Does (Err (answer.Gap number))
@@ -19,7 +19,7 @@ IsBrokenOff {X} Does input output Write =
     (output.new.failed ≡ true) × (r : Result X ReplayFault) × (r ≡ Err answer.Memory → ⊥) × Does r
 IsBrokenOff Does input output failure = ⊥
 
--- The same of a conversion.
+-- A conversion ended early, for the corresponding reasons.
 abbrev pub IsConversionBroken : {X : Type 0} → (Does : Result X ConvertFault → Type 0) → Input → Output → Failure → Type 0
 IsConversionBroken Does input output (Conversion number f) =
     (output.new.failed ≡ output.old.failed) × Does (Err (conversion.Block number f))

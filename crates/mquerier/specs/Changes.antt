@@ -1,4 +1,4 @@
--- What the program did to a stream: how it stood before and after.
+-- Streams before and after the program's use of them.
 use Rattle.std.specs.Prelude.{◌≡◌, ◌⊎◌, ℕ, true, List, Option}
 use Rattle.std.specs.Io.KnownBytes.{Appends}
 use Rattle.mq_count.specs.declared.streams.Watched.{Watched}
@@ -10,12 +10,12 @@ pub record Input : Type 0 where
   pub old : InputState
   pub new : InputState
 
--- a stream that is written on, before and after
+-- a stream that is written, before and after
 pub record Output : Type 0 where
   pub old : OutputState
   pub new : OutputState
 
--- those of watched streams
+-- the changes of watched streams
 abbrev pub input_by : {R : Type 0} → (remaining : R → Option (List ℕ)) → (old new : Watched R) → Input
 input_by remaining old new = record { old = input_of remaining old; new = input_of remaining new }
 
@@ -26,7 +26,7 @@ output_by contents old new = record { old = output_of contents old; new = output
 abbrev pub Writes : Output → (text : List ℕ) → Type 0
 Writes output text = Appends output.old.held output.new.held text × (output.new.failed ≡ output.old.failed)
 
--- a call failed, and what was written is a beginning of the text or, where the flush behind it failed, all of it
+-- A call failed. A prefix of the text was written, or all of it if the flush failed.
 abbrev pub BreaksOff : Output → (text : List ℕ) → Type 0
 BreaksOff output text =
     (Appends output.old.held output.new.held text ⊎ GrowsByBeginning output.old.held output.new.held text)

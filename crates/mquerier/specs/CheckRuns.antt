@@ -1,4 +1,4 @@
--- The check that the words ask for, and what the program does of it.
+-- The requested check, and the program's runs of it.
 use Rattle.std.specs.Prelude.{◌≡◌, ◌≤◌, ℕ, true, Bool, List, Option, Result, Ok, Err, unwrap_or}
 use Rattle.mq_check.specs.declared.check_fault.CheckFault.{CheckFault}
 use Rattle.mq_check.specs.declared.check_fault.CheckFault.TheVariants as answer
@@ -13,23 +13,23 @@ use Rattle.mquerier.specs.declared.failure.Failure.TheVariants.{Capture, Gap, Wa
 use Rattle.mquerier.specs.Changes.{Input, Output}
 use Rattle.mquerier.specs.Replays.{SpellsAddress, IsAcceptedAt, asked_configuration, family_of}
 
--- the tolerance, the end and the citations that are asked for; the tolerance is 100 milliseconds by default
+-- the requested tolerance, end and citations; the default tolerance is 100 milliseconds
 abbrev pub asked_terms : (within until : Option ℕ) → (cite : Bool) → CheckTerms
 asked_terms within until cite = record { within = unwrap_or within 100; until = until; cite = cite }
 
--- the capture was checked as it is asked for, with this answer
+-- the capture was checked as requested, with this result
 abbrev pub IsCheckedAt : Family → (querier : ℕ) → Settings → CheckTerms → Input → Output → Result Totals CheckFault → Type 0
 IsCheckedAt family querier settings terms input output answer =
     Checks (asked_configuration family querier settings) terms input.old input.new output.old.held output.new.held answer
 
--- it was accepted, and checked to its end, which came to these totals
+-- the request was accepted, and the check reached the end with these totals
 abbrev pub IsCheckDoneAt : Family → (querier : ℕ) → Settings → CheckTerms → Input → Output → Totals → Type 0
 IsCheckDoneAt family querier settings terms input output totals =
     IsAcceptedAt family querier settings terms.until × (output.new.failed ≡ output.old.failed)
     × IsCheckedAt family querier settings terms input output (Ok totals)
 
--- What was done of a capture, by its answer, broke off: the capture has a fault or a gap, or too much waits, and all that was
--- found before was written; memory ran out, before anything was read or written; or the output failed.
+-- The check ended early, by its result. With a fault of the capture, a gap or too many pending entries, all earlier
+-- findings were written. With an allocation failure nothing was read or written. Or the output failed.
 abbrev pub IsCheckBroken : (Does : Result Totals CheckFault → Type 0) → Input → Output → Failure → Type 0
 IsCheckBroken Does input output (Capture f) = (output.new.failed ≡ output.old.failed) × Does (Err (answer.Pcap f))
 IsCheckBroken Does input output (Gap number) = (output.new.failed ≡ output.old.failed) × Does (Err (answer.Gap number))
@@ -39,13 +39,13 @@ IsCheckBroken Does input output Write =
     (output.new.failed ≡ true) × (r : Result Totals CheckFault) × (r ≡ Err answer.Memory → ⊥) × Does r
 IsCheckBroken Does input output failure = ⊥
 
--- it was accepted, and broke off
+-- the request was accepted, and the check ended early
 abbrev pub IsCheckBrokenAt : Family → (querier : ℕ) → Settings → CheckTerms → Input → Output → Failure → Type 0
 IsCheckBrokenAt family querier settings terms input output failure =
     IsAcceptedAt family querier settings terms.until
     × IsCheckBroken (IsCheckedAt family querier settings terms input output) input output failure
 
--- the same for the address that is asked for
+-- the check of the requested address reached the end, or ended early
 abbrev pub WritesVerdict : Protocol → (querier : List ℕ) → Settings → CheckTerms → Input → Output → Totals → Type 0
 WritesVerdict protocol querier settings terms input output totals =
     (address : ℕ) × SpellsAddress protocol querier address

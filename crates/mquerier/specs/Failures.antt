@@ -1,4 +1,4 @@
--- The failures of the program: their statuses, and what standard error is told.
+-- Failures of the program: their statuses, and the lines on standard error.
 use Rattle.std.specs.Prelude.{ℕ, zero, suc, ◌-◌, ◌==◌, Bool, true, false, if◌then◌else◌, List, [], ◌∷◌, ◌++◌, codes, take}
 use Rattle.std.specs.List.{flat_map}
 use Rattle.std.specs.Fmt.{decimal}
@@ -18,7 +18,7 @@ use Rattle.mq_pcap.specs.declared.fault.PcapFault.TheVariants as fault
 use Rattle.mquerier.specs.declared.failure.Failure.{Failure}
 use Rattle.mquerier.specs.declared.failure.Failure.TheVariants.{NoAddresses, NotAnAddress, NotHex, UntilTooLarge, Configuration, Capture, Gap, Waiting, Conversion, ConversionRead, Memory, Write}
 
--- 2 for a fault of the command line or of a configuration, 1 for one of the input, the output or memory
+-- 2 for a fault of the command line or of a configuration, 1 for a fault of the input, the output or memory
 abbrev pub status_of : Failure → ℕ
 status_of NoAddresses = 2
 status_of NotAnAddress = 2
@@ -53,7 +53,7 @@ capture_text (fault.CutData number) = codes "capture fault 6 at record " ++ deci
 capture_text (fault.TooLong number) = codes "capture fault 7 at record " ++ decimal number
 capture_text fault.Endless = codes "capture fault 8"
 
--- a fault of a capture that is converted, by its number, up to that of the block
+-- a fault of a conversion, by its number, up to the number of the block
 abbrev pub conversion_text : BlockFault → List ℕ
 conversion_text block.NoCapture = codes "conversion fault 2 at block "
 conversion_text block.Version = codes "conversion fault 3 at block "
@@ -65,8 +65,8 @@ conversion_text block.Moment = codes "conversion fault 8 at block "
 conversion_text block.Cut = codes "conversion fault 9 at block "
 conversion_text block.Endless = codes "conversion fault 10 at block "
 
--- what standard error is told where packets of link types that aren't read were written: how many they are, how many of each
--- link type that has a row, and how many of the others
+-- The line of packets whose link type isn't read, if some were written: their number, the number for each link type
+-- with a row, and the number of the others.
 abbrev pub link_text : LinkCount → List ℕ
 link_text row = codes "\n  " ++ decimal row.count ++ codes " of link type " ++ decimal row.link
 
@@ -83,8 +83,8 @@ unread_line unread =
     codes "mquerier: " ++ decimal unread.count ++ codes " packets of link types that aren't read"
     ++ flat_map link_text unread.links.items ++ others_text (others unread.count unread.links.items) ++ codes "\n"
 
--- the lines that standard error is told of a conversion: how many packets came again, and how many have a link type that
--- isn't read, each if there are some
+-- The lines after a conversion: the number of repeated packets, and the number of packets whose link type isn't read. A
+-- line with 0 is left out.
 abbrev pub repeated_line : (repeated : ℕ) → List ℕ
 repeated_line zero = []
 repeated_line (suc n) = codes "mquerier: " ++ decimal (suc n) ++ codes " packets that came again are left out\n"
@@ -95,7 +95,7 @@ unread_part unread = if unread.count == 0 then [] else unread_line unread
 abbrev pub counts_lines : ConvertCounts → List ℕ
 counts_lines counts = repeated_line counts.repeated ++ unread_part counts.unread
 
--- what standard error is told of a check that had nothing to judge
+-- the line of a check that had nothing to judge
 abbrev pub unjudged_line : Unjudged → List ℕ
 unjudged_line NotUnderstood =
     codes "mquerier: nothing judged: every second packet or more is cut or isn't read\n"
@@ -117,7 +117,7 @@ failure_text ConversionRead = codes "conversion fault 1"
 failure_text Memory = codes "out of memory"
 failure_text Write = codes "write failed"
 
--- what the number of a fault of a configuration means, and for which of its two intervals, on a line of its own
+-- the explanation of a configuration fault's number, on a line of its own, with the two intervals if they are at fault
 abbrev pub limit_words : LimitName → List ℕ
 limit_words limit.Groups = codes "\n  --groups has to be 1 to 65535"
 limit_words limit.GroupSources = codes "\n  --group-sources has to be 1 to 1024"
@@ -139,7 +139,7 @@ configuration_words (config.Limit which) query_seconds response_interval = limit
 configuration_words config.OwnAddress query_seconds response_interval =
     codes "\n  --own or --querier has to be an address of a router: for igmp not 0.0.0.0 and below 224.0.0.0, for mld in fe80::/10"
 
--- what the number of a fault of a capture means
+-- the explanation of a capture fault's number
 abbrev pub capture_words : PcapFault → List ℕ
 capture_words fault.Read = codes "\n  a read of the capture failed"
 capture_words fault.Magic = codes "\n  it is no classic capture file; mquerier convert makes one of a pcapng file"
@@ -150,7 +150,7 @@ capture_words (fault.CutData number) = codes "\n  the file ends within a packet"
 capture_words (fault.TooLong number) = codes "\n  the packet has more than 262144 bytes"
 capture_words fault.Endless = codes "\n  the file has more than 4294967295 packets"
 
--- what the number of a fault of a capture that is converted means
+-- the explanation of a conversion fault's number
 abbrev pub conversion_words : BlockFault → List ℕ
 conversion_words block.NoCapture = codes "\n  the file is no capture"
 conversion_words block.Version = codes "\n  the version of the file is not 2.4, or of a pcapng file not 1"
@@ -162,7 +162,7 @@ conversion_words block.Moment = codes "\n  the packet is from before 1970 or aft
 conversion_words block.Cut = codes "\n  the file ends within the block"
 conversion_words block.Endless = codes "\n  the file has more than 4294967295 blocks before it"
 
--- the words after the line of a failure that has a number and no words
+-- the explanation after the line of a failure that has a number
 abbrev pub failure_words : Failure → List ℕ
 failure_words (Configuration f query_seconds response_interval) = configuration_words f query_seconds response_interval
 failure_words (Capture f) = capture_words f
@@ -172,16 +172,16 @@ failure_words (Conversion number f) = conversion_words f
 failure_words ConversionRead = codes "\n  a read of the capture failed"
 failure_words failure = []
 
--- the words for a person; a script gets none
+-- the explanation for a person; a script gets none
 abbrev pub wanted_words : (in_words : Bool) → Failure → List ℕ
 wanted_words true failure = failure_words failure
 wanted_words false failure = []
 
--- what standard error is told of a failure: one line, and in words a second one
+-- the line of a failure, and a second line if words are requested
 abbrev pub failure_line : (in_words : Bool) → Failure → List ℕ
 failure_line in_words failure = codes "mquerier: " ++ failure_text failure ++ wanted_words in_words failure ++ codes "\n"
 
--- what standard error is told where a file can't be opened: its name and the system's reason, or their beginnings
+-- the line of a file that can't be opened: its name and the system's reason, or prefixes of them
 abbrev pub unopened_line : (name reason : List ℕ) → List ℕ
 unopened_line name reason = codes "mquerier: the file can't be opened: " ++ take 3000 name ++ codes ": " ++ take 300 reason ++ codes "\n"
 

@@ -1,4 +1,4 @@
--- The replay that the words ask for, and what the program does of it.
+-- The requested replay, and the program's runs of it.
 use Rattle.std.specs.Prelude.{◌≡◌, ℕ, ◌^◌, nat_lt, Bool, true, false, List, Option, Some, Result, Ok, unwrap_or}
 use Rattle.mq_command.specs.declared.Protocol.{Protocol}
 use Rattle.mq_command.specs.declared.Protocol.TheVariants.{Igmp, Mld}
@@ -24,12 +24,12 @@ abbrev pub family_of : Protocol → Family
 family_of Igmp = family.Igmp
 family_of Mld = family.Mld
 
--- a text spells this address of the protocol's family
+-- a text is parsed as this address of the protocol's family
 abbrev pub SpellsAddress : Protocol → (text : List ℕ) → (address : ℕ) → Type 0
 SpellsAddress Igmp text address = SpellsV4 text address
 SpellsAddress Mld text address = SpellsV6 text address
 
--- The configuration that is asked for: what isn't given is what the family has by default.
+-- The requested configuration, with the family's defaults for the settings that aren't given.
 abbrev pub asked_limits : (defaults : Limits) → Settings → Limits
 asked_limits defaults s = record {
   groups = unwrap_or s.groups defaults.groups;
@@ -52,34 +52,34 @@ abbrev pub HasFault : Configuration → ConfigFault → (query_seconds response_
 HasFault asked f query_seconds response_interval =
     (configuration_fault asked ≡ Some f) × (query_seconds ≡ asked.timing.query_seconds) × (response_interval ≡ asked.timing.response_interval)
 
--- the moment up to which a replay is to run is above the greatest moment
+-- the requested end is above the greatest moment
 abbrev pub is_too_large : (until : Option ℕ) → Bool
 is_too_large until = nat_lt (2 ^ 53) (unwrap_or until 0)
 
--- why a replay by a querier of this address is refused: the first of these that holds
+-- the first fault of a request for a replay or a check by a querier of this address
 abbrev pub IsRefusedAt : Family → (own : ℕ) → Settings → (until : Option ℕ) → Failure → Type 0
 IsRefusedAt family own settings until failure.UntilTooLarge = is_too_large until ≡ true
 IsRefusedAt family own settings until (failure.Configuration f query_seconds response_interval) =
     (is_too_large until ≡ false) × HasFault (asked_configuration family own settings) f query_seconds response_interval
 IsRefusedAt family own settings until failure = ⊥
 
--- a request that isn't refused
+-- a request without a fault
 abbrev pub IsAcceptedAt : Family → (own : ℕ) → Settings → (until : Option ℕ) → Type 0
 IsAcceptedAt family own settings until =
     (is_too_large until ≡ false) × IsFaultless (asked_configuration family own settings)
 
--- the capture was replayed as it is asked for, with this answer
+-- the capture was replayed as requested, with this result
 abbrev pub IsReplayedAt : Family → (own : ℕ) → Settings → Asked → Input → Output → Result Counters ReplayFault → Type 0
 IsReplayedAt family own settings asked input output answer =
     Replays (asked_configuration family own settings) asked input.old input.new output.old.held output.new.held answer
 
--- it was accepted, and replayed to its end
+-- the request was accepted, and the replay reached the end
 abbrev pub IsDoneAt : Family → (own : ℕ) → Settings → Asked → Input → Output → (flag : Bool) → Type 0
 IsDoneAt family own settings asked input output flag =
     IsAcceptedAt family own settings asked.until × (flag ≡ true) × (output.new.failed ≡ output.old.failed)
     × (counters : Counters) × IsReplayedAt family own settings asked input output (Ok counters)
 
--- it was accepted, and broke off
+-- the request was accepted, and the replay ended early
 abbrev pub IsBrokenAt : Family → (own : ℕ) → Settings → Asked → Input → Output → Failure → Type 0
 IsBrokenAt family own settings asked input output failure =
     IsAcceptedAt family own settings asked.until

@@ -1,4 +1,4 @@
--- What the program does of what is asked for, and its status.
+-- The program's work on a request, and its status.
 use Rattle.std.specs.Prelude.{◌≡◌, ◌≤◌, ◌+◌, ◌⊎◌, ℕ, Bool, true, false, List, [], ◌++◌, codes, Option, None, Some, Result, Ok, Err, IsErr}
 use Rattle.std.specs.Option.{option_copied}
 use Rattle.clap.specs.Values.{kind_of}
@@ -34,25 +34,25 @@ use Rattle.mquerier.specs.Failures.{counts_lines, failure_line, unjudged_line, v
 use Rattle.mquerier.specs.HexLine.{IsHexLine}
 use Rattle.mquerier.specs.Replays.{SpellsAddress, IsRefusedAt, IsDoneAt, IsBrokenAt, family_of}
 
--- standard error was told: the text was written, or a beginning of it and then a write failed
+-- The text was reported on standard error: it was written, or a write failed after a prefix of it.
 abbrev pub IsTold : (errors : Output) → (text : List ℕ) → Type 0
 IsTold errors text = Writes errors text ⊎ BreaksOff errors text
 
--- of a failure it was told the failure's line, for a person with one in words
+-- the line of the failure was reported so, with an explanation for a person
 abbrev pub Told : (in_words : Bool) → (errors : Output) → Failure → Type 0
 Told in_words errors failure = IsTold errors (failure_line in_words failure)
 
--- a message of MLD lacks an address
+-- an MLD message lacks an address
 abbrev pub AreMissing : Protocol → (from to : Option (List ℕ)) → Type 0
 AreMissing Igmp from to = ⊥
 AreMissing Mld from to = (from ≡ None) ⊎ (to ≡ None)
 
--- a text that is given is no address of the protocol's family
+-- a given text isn't an address of the protocol's family
 abbrev pub IsNoAddress : Protocol → Option (List ℕ) → Type 0
 IsNoAddress protocol None = ⊥
 IsNoAddress protocol (Some text) = (address : ℕ) → SpellsAddress protocol text address → ⊥
 
--- Why a request for a message is refused: the first of these that holds.
+-- The first fault of a request for a message.
 abbrev pub IsRefusedMessage : Protocol → (from to : Option (List ℕ)) → (hex : List ℕ) → Failure → Type 0
 IsRefusedMessage protocol from to hex NoAddresses = AreMissing protocol from to
 IsRefusedMessage protocol from to hex NotAnAddress =
@@ -62,7 +62,7 @@ IsRefusedMessage protocol from to hex NotHex =
     × IsErr (decode_of hex)
 IsRefusedMessage protocol from to hex failure = ⊥
 
--- Why a request for a replay or a check is refused: the first of these that holds.
+-- The first fault of a request for a replay or a check.
 abbrev pub IsRefusedReplay : Protocol → (own : List ℕ) → Settings → (until : Option ℕ) → Failure → Type 0
 IsRefusedReplay protocol own settings until NotAnAddress = IsNoAddress protocol (Some own)
 IsRefusedReplay protocol own settings until failure =
@@ -78,12 +78,12 @@ IsRefused (Replay protocol own settings until changes file) failure = IsRefusedR
 IsRefused (Check protocol querier settings within cite until file) failure =
     IsRefusedReplay protocol querier.now settings until failure
 
--- a text that is given spells this IPv6 address
+-- a given text is parsed as this IPv6 address
 abbrev pub IsAddress : Option (List ℕ) → ℕ → Type 0
 IsAddress None address = ⊥
 IsAddress (Some text) address = SpellsV6 text address
 
--- the line of the message that is asked for, or of its fault, as the flag says
+-- the line of the requested message or of its fault, by the flag
 abbrev pub IsAskedLine : Protocol → (from to : Option (List ℕ)) → (hex : List ℕ) → (flag : Bool) → (line : List ℕ) → Type 0
 IsAskedLine Igmp from to hex flag line =
     (IsNoAddress Igmp from → ⊥) × (IsNoAddress Igmp to → ⊥)
@@ -92,16 +92,16 @@ IsAskedLine Mld from to hex flag line =
     (source : ℕ) × (destination : ℕ) × IsAddress from source × IsAddress to destination
     × IsHexLine family.Mld (pseudo_header source destination) hex flag line
 
--- the line of the message that is asked for was written, and it has this flag
+-- the line of the requested message was written, and it has this flag
 abbrev pub WritesMessage : Protocol → (from to : Option (List ℕ)) → (hex : List ℕ) → Output → (flag : Bool) → Type 0
 WritesMessage protocol from to hex output flag =
     (line : List ℕ) × IsAskedLine protocol from to hex flag line × Writes output line
 
--- a capture was shown, with this answer
+-- a capture was shown, with this result
 abbrev pub WritesListing : Input → Output → Result ℕ ReplayFault → Type 0
 WritesListing input output answer = Shows input.old input.new output.old.held output.new.held answer
 
--- a capture was converted, with this answer; these packets were chosen
+-- a capture was converted with this selection of packets, with this result
 abbrev pub WritesConversion : Choice → Input → Output → Result ConvertCounts ConvertFault → Type 0
 WritesConversion choice input output answer = Converts choice input.old input.new output.old.held output.new.held answer
 
@@ -111,8 +111,8 @@ WritesReport protocol own settings asked input output flag =
     (address : ℕ) × SpellsAddress protocol own address
     × IsDoneAt (family_of protocol) address settings asked input output flag
 
--- What is asked for was done: a line was written, of a message (true) or of its fault (false), or a capture was
--- shown, replayed or checked to its end. (Whether a check found something is said apart.)
+-- The request was done. The line of a message (true) or of its fault (false) was written, or a capture was shown,
+-- converted, replayed or checked to its end. A check may have findings.
 abbrev pub IsDone : Request → Input → Output → (flag : Bool) → Type 0
 IsDone (Message protocol hex from to) input output flag =
     WritesMessage protocol (option_copied from) (option_copied to) hex.now output flag
@@ -127,21 +127,21 @@ IsDone (Check protocol querier settings within cite until file) input output fla
     (flag ≡ true) × (totals : Totals)
     × WritesVerdict protocol querier.now settings (asked_terms within until cite) input output totals
 
--- Why a message's line was not written: memory ran out, before any of it was, or the output failed behind a
--- beginning of it.
+-- The line of a message was not written. Either an allocation failed before any of it, or the output failed after a
+-- prefix.
 abbrev pub IsBrokenMessage : Protocol → (from to : Option (List ℕ)) → (hex : List ℕ) → Output → Failure → Type 0
 IsBrokenMessage protocol from to hex output Memory = output.new ≡ output.old
 IsBrokenMessage protocol from to hex output Write =
     (flag : Bool) × (line : List ℕ) × IsAskedLine protocol from to hex flag line × BreaksOff output line
 IsBrokenMessage protocol from to hex output failure = ⊥
 
--- why a capture was not replayed to its end
+-- the reason why a capture was not replayed to its end
 abbrev pub IsBrokenReplay : Protocol → (own : List ℕ) → Settings → Asked → Input → Output → Failure → Type 0
 IsBrokenReplay protocol own settings asked input output failure =
     (address : ℕ) × SpellsAddress protocol own address
     × IsBrokenAt (family_of protocol) address settings asked input output failure
 
--- why the status is 1, where no message's fault was written
+-- the reason for status 1, other than a faulty message
 abbrev pub IsBroken : Request → Input → Output → Failure → Type 0
 IsBroken (Message protocol hex from to) input output failure =
     IsBrokenMessage protocol (option_copied from) (option_copied to) hex.now output failure
@@ -153,7 +153,7 @@ IsBroken (Replay protocol own settings until changes file) input output failure 
 IsBroken (Check protocol querier settings within cite until file) input output failure =
     IsBrokenCheck protocol querier.now settings (asked_terms within until cite) input output failure
 
--- a message's fault was written and standard error told nothing, or the work broke off and that was told
+-- a message's fault was written without a line on standard error, or the work ended early and its reason was reported
 abbrev pub IsFaulty : Request → (in_words : Bool) → Input → (output errors : Output) → Type 0
 IsFaulty request in_words input output errors =
     (IsDone request input output false × (errors.new ≡ errors.old))
@@ -183,25 +183,25 @@ IsCheck (Show file) = ⊥
 IsCheck (Replay protocol own settings until changes file) = ⊥
 IsCheck (Check protocol querier settings within cite until file) = Unit {0}
 
--- A check was made to its end, and standard error told nothing: this is what was counted.
+-- A check reached its end with these totals, and standard error is unchanged.
 abbrev pub HasChecked : Protocol → (querier : List ℕ) → Settings → (within until : Option ℕ) → (cite : Bool) → Input → (output errors : Output) → Totals → Type 0
 HasChecked protocol querier settings within until cite input output errors totals =
     WritesVerdict protocol querier settings (asked_terms within until cite) input output totals × (errors.new ≡ errors.old)
 
--- standard error was told of packets that came again, if some were left out, and of those whose link type isn't read, if some
--- were written
+-- The counts of a conversion were reported on standard error, if one isn't 0. They are those of repeated packets, and
+-- of packets whose link type isn't read.
 abbrev pub TellsCounts : (errors : Output) → ConvertCounts → Type 0
 TellsCounts errors counts =
     (counts.repeated + counts.unread.count ≡ 0 → errors.new ≡ errors.old)
     × (1 ≤ counts.repeated + counts.unread.count → IsTold errors (counts_lines counts))
 
--- A check had something to judge: more than half of the packets were understood, there was a message of the family, and a query
--- of the querier was seen or one is missing.
+-- A check judged the querier. More than half of the packets were read, and the capture has a message of the family. It
+-- has a query of the querier, or the check has a finding.
 abbrev pub IsJudged : Totals → Type 0
 IsJudged totals = unjudged_by totals ≡ None
 
--- What is asked for was done, and standard error told nothing but, of a conversion, of packets that came again and of those
--- whose link type isn't read.
+-- The request was done. Standard error has only the counts of a conversion: repeated packets, and packets whose link
+-- type isn't read.
 abbrev pub IsDoneTelling : Request → Input → (output errors : Output) → Type 0
 IsDoneTelling (Message protocol hex from to) input output errors =
     IsDone (Message protocol hex from to) input output true × (errors.new ≡ errors.old)
@@ -214,14 +214,14 @@ IsDoneTelling (Replay protocol own settings until changes file) input output err
 IsDoneTelling (Check protocol querier settings within cite until file) input output errors =
     (totals : Totals) × (totals.findings ≡ 0) × IsJudged totals × HasChecked protocol querier.now settings within until cite input output errors totals
 
--- A check was made to its end and had nothing to judge, which standard error was told, and why.
+-- A check reached its end without anything to judge, and the reason was reported.
 abbrev pub HasJudgedNothing : Protocol → (querier : List ℕ) → Settings → (within until : Option ℕ) → (cite : Bool) → Input → (output errors : Output) → Type 0
 HasJudgedNothing protocol querier settings within until cite input output errors =
     (totals : Totals) × (why : Unjudged) × (unjudged_by totals ≡ Some why)
     × WritesVerdict protocol querier settings (asked_terms within until cite) input output totals
     × IsTold errors (unjudged_line why)
 
--- A check found something.
+-- A check has findings.
 abbrev pub IsFinding : Request → Input → (output errors : Output) → Type 0
 IsFinding (Message protocol hex from to) input output errors = ⊥
 IsFinding (Convert interface vlan once file) input output errors = ⊥
@@ -240,19 +240,19 @@ IsUnjudged (Replay protocol own settings until changes file) input output errors
 IsUnjudged (Check protocol querier settings within cite until file) input output errors =
     HasJudgedNothing protocol querier.now settings within until cite input output errors
 
--- What is asked for was done, or not, and this is the status.
+-- The request was performed with this status.
 pub record Performs (request : Request) (in_words : Bool) (input : Input) (output errors : Output) (status : ℕ) : Type 0 where
   pub at_most_four : status ≤ 4
   pub done : status ≡ 0 → IsDoneTelling request input output errors
   pub faulty : status ≡ 1 → IsFaulty request in_words input output errors
-  -- only a faulty request is refused, and that is told
+  -- only a faulty request is refused, and its fault is reported
   pub refused : status ≡ 2 → (input.new ≡ input.old) × (output.new ≡ output.old)
       × (failure : Failure) × IsRefused request failure × Told in_words errors failure
   pub found : status ≡ 3 → IsFinding request input output errors
   pub unjudged : status ≡ 4 → IsUnjudged request input output errors
   pub unread : IsOfMessage request → input.new ≡ input.old
 
--- A conversion was done, or broke off, which was told.
+-- A conversion was done, or ended early with a reported reason.
 pub record PerformsConversion (choice : Choice) (in_words : Bool) (input : Input) (output errors : Output) (status : ℕ) : Type 0 where
   pub at_most_one : status ≤ 1
   pub done : status ≡ 0 → (output.new.failed ≡ output.old.failed) × (counts : ConvertCounts)
@@ -260,7 +260,8 @@ pub record PerformsConversion (choice : Choice) (in_words : Bool) (input : Input
   pub faulty : status ≡ 1 → (failure : Failure)
       × IsConversionBroken (WritesConversion choice input output) input output failure × Told in_words errors failure
 
--- A check was made to its end, and found something or nothing, or had nothing to judge; or it was refused, or broke off, which was told.
+-- A check reached its end, with or without findings, or without anything to judge. Or it was refused or ended early,
+-- with a reported reason.
 pub record PerformsCheck (protocol : Protocol) (querier : List ℕ) (settings : Settings) (within until : Option ℕ) (cite in_words : Bool) (input : Input) (output errors : Output) (status : ℕ) : Type 0 where
   pub at_most_four : status ≤ 4
   pub done : status ≡ 0 → (totals : Totals) × (totals.findings ≡ 0) × IsJudged totals
@@ -273,23 +274,22 @@ pub record PerformsCheck (protocol : Protocol) (querier : List ℕ) (settings : 
       × HasChecked protocol querier settings within until cite input output errors totals
   pub unjudged : status ≡ 4 → HasJudgedNothing protocol querier settings within until cite input output errors
 
--- standard error was told some text, which is a line at least
+-- a text of at least one line was written on standard error
 abbrev pub TellsLines : (errors : Output) → Type 0
 TellsLines errors = (text : List ℕ) × IsTold errors (text ++ codes "\n")
 
--- The words ask for nothing that can be done: standard error was told why, and the status is 2; or there was no memory for
--- that text, and it is 1.
+-- The words are no request. The reason was reported with status 2, or its text could not be allocated, with status 1.
 abbrev pub IsWordless : (in_words : Bool) → (errors : Output) → (status : ℕ) → Type 0
 IsWordless in_words errors status =
     ((status ≡ 2) × TellsLines errors) ⊎ ((status ≡ 1) × Told in_words errors Memory)
 
--- The version was printed, and standard error told nothing; or the output failed, which was told.
+-- The version was printed and standard error is unchanged, or the output failed and that was reported.
 abbrev pub PrintsVersion : (version : List ℕ) → (in_words : Bool) → (output errors : Output) → (status : ℕ) → Type 0
 PrintsVersion version in_words output errors status =
     ((status ≡ 0) × Writes output (version_line version) × (errors.new ≡ errors.old))
     ⊎ ((status ≡ 1) × BreaksOff output (version_line version) × Told in_words errors Write)
 
--- What a run does without a request, by what `clap` says of the words.
+-- A run without a request, by the error of `clap`.
 pub record Refuses (kind : ErrorKind) (version : List ℕ) (in_words : Bool) (input : Input) (output errors : Output) (status : ℕ) : Type 0 where
   pub unread : input.new ≡ input.old
   pub unwritten : (kind ≡ DisplayVersion → ⊥) → output.new ≡ output.old
@@ -297,7 +297,7 @@ pub record Refuses (kind : ErrorKind) (version : List ℕ) (in_words : Bool) (in
   pub version_asked : kind ≡ DisplayVersion → PrintsVersion version in_words output errors status
   pub wordless : (kind ≡ OutOfMemory → ⊥) → (kind ≡ DisplayVersion → ⊥) → IsWordless in_words errors status
 
--- A run performs the request that was read of the words, and no other; where none was read, it says why.
+-- A run performs only the request that was read from the words. Without a request, it reports the reason.
 abbrev pub Runs : Result Request Error → (version : List ℕ) → (in_words : Bool) → Input → (output errors : Output) → (status : ℕ) → Type 0
 Runs (Ok request) version in_words input output errors status = Performs request in_words input output errors status
 Runs (Err error) version in_words input output errors status =

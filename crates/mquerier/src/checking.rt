@@ -1,4 +1,4 @@
-//! The check that is asked for.
+//! The check of a request.
 
 ghost use Rattle.std.specs.Prelude.{◌≡◌};
 ghost use Rattle.mquerier.specs.Changes.{input_by, output_by};
@@ -17,8 +17,8 @@ use mq_text::{read_v4, read_v6};
 use std::alloc::Global;
 use std::io::{Read, Write};
 
-/// Checks the querier with this address and these settings in the capture that the input is. Nothing is read or written
-/// before it is known that the querier can be so, and there is memory.
+/// Checks the querier with this address and these settings in the input capture. Nothing is read or written until the
+/// request is accepted and all memory is allocated.
 pub(crate) fn check_capture<S: Supply, R: Read, W: Write>(
     alloc: Global,
     protocol: Protocol,

@@ -1,4 +1,4 @@
-//! The work of a conversion.
+//! The conversion of a request.
 
 ghost use Rattle.std.specs.Prelude.{◌≡◌};
 ghost use Rattle.mquerier.specs.Changes.{input_by, output_by};
@@ -12,7 +12,7 @@ use mq_pcap::Supply;
 use std::alloc::Global;
 use std::io::{Read, Write};
 
-/// Writes the capture that the input is as a classic one.
+/// Converts the input capture to a classic capture.
 pub(crate) fn convert_capture<S: Supply, R: Read, W: Write>(
     alloc: Global,
     choice: Choice,

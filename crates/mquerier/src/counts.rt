@@ -20,7 +20,7 @@ pub fn counts_lines_of(counts: &ConvertCounts) -> Text
     lines
 }
 
-/// Puts the line of packets that came again, if there are any.
+/// Appends the line of repeated packets, if there are any.
 fn put_repeated(line: &mut Text, count: u64)
     requires { array_vec_len line.old ≡ 0 }
     ensures text { line.new.items ≡ line.old.items ++ repeated_line count }

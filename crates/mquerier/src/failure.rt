@@ -1,4 +1,4 @@
-//! Why the program did not do what it was asked for, and what standard error is told.
+//! Failures of the program, their statuses and their lines on standard error.
 
 ghost use Rattle.std.specs.Prelude.{◌≡◌, ◌≤◌, ◌++◌, codes, length};
 ghost use Rattle.std.specs.Fmt.{decimal};
@@ -21,54 +21,54 @@ pub const FOUND: u8 = 3;
 
 pub const UNJUDGED: u8 = 4;
 
-/// Why the program did not do what it was asked for.
+/// The reason why the program failed.
 #[derive(Clone, Copy, Debug, PartialEq, Eq)]
 pub enum Failure {
-    /// A message of MLD is asked for without the addresses of its packet.
+    /// An MLD message without the addresses of its packet.
     NoAddresses,
-    /// A text isn't an address of the protocol's family.
+    /// A text that isn't an address of the protocol's family.
     NotAnAddress,
-    /// HEX isn't hexadecimal.
+    /// A HEX that isn't hexadecimal.
     NotHex,
-    /// The moment up to which a replay or a check is to run is above 2^53.
+    /// An end of a replay or a check above 2^53.
     UntilTooLarge,
-    /// The querier of a replay or of a check can't be configured so.
+    /// A fault in the configuration of a replay's or a check's querier.
     Configuration {
-        /// Why not.
+        /// The fault.
         fault: ConfigFault,
         /// Its query interval in seconds.
         query_seconds: u32,
         /// Its query response interval in milliseconds.
         response_interval: u32,
     },
-    /// The capture has a fault, or a read of it failed.
+    /// A fault of the capture, or a failed read.
     Capture(PcapFault),
-    /// A replay or a check came to a packet, or to its end, that lies more than a day behind the packet before.
+    /// A gap of more than a day in a replay or a check, before a packet or before the end.
     Gap {
-        /// The number of that packet, or of the one that would follow the last.
+        /// The number of that packet, or the number after the last packet's.
         number: u64,
     },
-    /// In a check more queries waited for those that they go with than there is room for.
+    /// Too many pending entries in a check.
     Waiting {
-        /// The number of the packet at which that came to be, or of the one that would follow the last.
+        /// The number of the packet at which the limit was exceeded, or the number after the last packet's.
         number: u64,
     },
-    /// A block of a capture that is converted has a fault.
+    /// A fault of a block in a conversion.
     Conversion {
-        /// The block's number.
+        /// The number of the block.
         number: u64,
-        /// What is wrong with it.
+        /// The fault.
         fault: BlockFault,
     },
-    /// A read of a capture that is converted failed.
+    /// A failed read in a conversion.
     ConversionRead,
-    /// A growth was refused.
+    /// An allocation failure.
     Memory,
-    /// A write to the output failed, or took nothing.
+    /// A write to the output that failed, or that wrote nothing.
     Write,
 }
 
-/// Returns the line of a failure on standard error, and in words a second line that says what its number means.
+/// Returns the line of a failure on standard error. With `in_words` a second line explains its number.
 pub fn line_of(failure: Failure, in_words: bool) -> Text
     ensures { result.items ≡ failure_line in_words failure }
 {
@@ -80,7 +80,7 @@ pub fn line_of(failure: Failure, in_words: bool) -> Text
     line
 }
 
-/// Puts the second line if words are wanted.
+/// Appends the second line if words are requested.
 fn put_wanted_words(line: &mut Text, failure: Failure, in_words: bool)
     requires { array_vec_len line.old ≤ 60 }
     ensures text { line.new.items ≡ line.old.items ++ wanted_words in_words failure }
@@ -91,7 +91,7 @@ fn put_wanted_words(line: &mut Text, failure: Failure, in_words: bool)
     }
 }
 
-/// Puts what the number of a failure means.
+/// Appends the explanation of a failure's number.
 fn put_words(line: &mut Text, failure: Failure)
     requires { array_vec_len line.old ≤ 60 }
     ensures text { line.new.items ≡ line.old.items ++ failure_words failure }
@@ -147,7 +147,8 @@ fn put_configuration_words(
     }
 }
 
-/// What is wrong with the two intervals of a querier: one isn't below the other, or no code says it.
+/// Returns the explanation of a wrong query response interval: it isn't below the query interval, or its code can't
+/// carry it.
 fn intervals_of(query_seconds: u32, response_interval: u32) -> Text
     ensures text { result.items ≡ interval_words query_seconds response_interval }
     ensures room { array_vec_len result ≤ 200 }
@@ -227,7 +228,7 @@ fn put_conversion_words(line: &mut Text, fault: BlockFault)
     }
 }
 
-/// The status that a failure ends with.
+/// Returns the status after a failure.
 pub fn status_of_failure(failure: Failure) -> u8
     ensures { result ≡ status_of failure }
 {
@@ -300,7 +301,7 @@ fn put_capture(line: &mut Text, fault: PcapFault)
     }
 }
 
-/// Puts what is said of a record, and its number.
+/// Appends a text and the number of a record.
 fn put_record(line: &mut Text, said: &[u8], number: u64)
     requires start { array_vec_len line.old ≡ 10 }
     requires short { length said.now ≤ 30 }

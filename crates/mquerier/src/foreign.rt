@@ -1,4 +1,4 @@
-//! Files of other kinds that are given for a capture.
+//! Files of other kinds in place of a capture.
 
 use crate::source::FIRST;
 use mq_count::Watched;
@@ -11,8 +11,8 @@ const GZIP: &str = "  the file is compressed by gzip: gunzip -c FILE | mquerier 
 
 const ZSTD: &str = "  the file is compressed by zstd: zstd -dc FILE | mquerier ..\n";
 
-/// Says on standard error how a file that begins so is read, if it is no capture for the command. `converts` says whether that
-/// is a conversion, which reads pcapng.
+/// Prints on standard error how to read a file with these first bytes, if it is no capture for the command. `converts`
+/// is set for a conversion, which reads pcapng.
 pub(crate) fn tell_kind<E: Write>(first: [u8; FIRST], converts: bool, errors: &mut Watched<E>) {
     let line = match first {
         [0x0a, 0x0d, 0x0d, 0x0a] if !converts => PCAPNG,

@@ -1,12 +1,12 @@
-//! `mquerier`: shows what hosts and routers say to each other about multicast groups.
+//! `mquerier`: a program that shows the messages of hosts and routers about multicast groups.
 //!
 //! ```text
 //! $ mquerier message igmp 1600f8faef010203
 //! report v2 group 239.1.2.3
 //! ```
 //!
-//! `run` does what the command line asks for, over any streams; `main` runs it on the program's own words
-//! and streams.
+//! `run` performs the request of the command line on any streams. `main` calls it with the words and streams of the
+//! program.
 #![tactic(auto)]
 
 mod checking;
@@ -35,7 +35,7 @@ use std::process::ExitCode;
 use std::{env, io};
 pub use unopened::refuse_file;
 
-/// How many bytes are read at once.
+/// The number of bytes that are read at once.
 const INPUT: usize = 65_536;
 
 fn main(rt: HostRuntime) -> ExitCode {
@@ -50,16 +50,15 @@ fn main(rt: HostRuntime) -> ExitCode {
     ExitCode::from(status)
 }
 
-/// Runs on the program's own words and streams. An error says that a word isn't UTF-8 or that memory
-/// ran out.
+/// Runs on the words and streams of the program. Fails if a word isn't UTF-8 or memory runs out.
 fn run_on_host(rt: &HostRuntime) -> io::Result<u8> {
     let alloc = rt.alloc();
     let mut words = Vec::new(alloc);
-    // A `collect` would go on where its first growth is refused.
+    // `collect` would continue after a first growth that fails.
     for word in env::args(rt)? {
         words.push(word)?;
     }
-    // A person reads what a failure's number means; a script gets one line for each failure.
+    // A person reads the meaning of a failure's number; a script gets one line for each failure.
     let in_words = rt.stderr().is_terminal();
     let mut output = Watched::new(rt.stdout());
     let mut errors = Watched::new(rt.stderr());
@@ -80,7 +79,7 @@ fn run_on_host(rt: &HostRuntime) -> io::Result<u8> {
     }
 }
 
-/// Runs on this input. A person also reads how a file of another kind is read.
+/// Runs on this input. If a file is of another kind, it also tells a person how to read it.
 fn run_on<R: Read + Drop, W: Write, E: Write>(
     alloc: Global,
     asked: Result<Request<'_>, Error>,
@@ -99,7 +98,7 @@ fn run_on<R: Read + Drop, W: Write, E: Write>(
     status
 }
 
-/// The file that is asked for in place of standard input.
+/// Returns the file that the request names in place of standard input.
 fn named_file<'a>(asked: &Result<Request<'a>, Error>) -> Option<&'a str> {
     match asked {
         Ok(request) => request.file(),

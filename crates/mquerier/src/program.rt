@@ -1,4 +1,4 @@
-//! What the program does with its words and streams.
+//! Runs of the program on its words and streams.
 
 ghost use Rattle.std.specs.Prelude.{◌≡◌, ◌≤◌, ◌||◌, ◌++◌, MatchResult, codes, is_err};
 ghost use Rattle.mq_count.specs.Streams.{inner_of, has_failed};
@@ -24,8 +24,10 @@ use mq_text::{LineFault, Text, print, put};
 use std::alloc::Global;
 use std::io::{Read, Write};
 
-/// Performs the request that `request_of` read of the words. Where it read none, the input stays as it was: the text of `clap` goes
-/// to `errors`, as one line or several, with status 2; a question for the version has its line on the output.
+/// Performs the request that `request_of` read from the words.
+///
+/// Without a request the input stays unread. The text of `clap` then goes to `errors`, as one line or several, with
+/// status 2. If the version is requested, its line goes to the output.
 pub fn run<S: Supply, R: Read, W: Write, E: Write>(
     alloc: Global,
     asked: Result<Request<'_>, Error>,
@@ -40,7 +42,7 @@ pub fn run<S: Supply, R: Read, W: Write, E: Write>(
         (output_by W.contents output.old output.new)
         (output_by E.contents errors.old errors.new)
         result }
-    // Status 2 reads and writes nothing, and is told.
+    // With status 2 nothing is read or written to the output, and `errors` has the reason.
     ensures refused { result ≡ 2 → output.new ≡ output.old }
     ensures unread { result ≡ 2 → input.new ≡ input.old }
     ensures told { result ≡ 2 → TellsLines (output_by E.contents errors.old errors.new) }
@@ -55,7 +57,7 @@ pub fn run<S: Supply, R: Read, W: Write, E: Write>(
     }
 }
 
-/// Says on standard error what `clap` says of the words, and returns the status.
+/// Prints the text of `clap` on standard error, and returns the status.
 fn refused<E: Write>(alloc: Global, error: &Error, in_words: bool, errors: &mut Watched<E>) -> u8
     ensures { IsWordless in_words (output_by E.contents errors.old errors.new) result }
 {
@@ -95,7 +97,7 @@ fn version_line_of() -> Text
     line
 }
 
-/// Prints a text, and passes on all that the output holds back.
+/// Prints a text, and flushes the output.
 fn print_whole<W: Write>(text: &[u8], output: &mut Watched<W>) -> Result<(), Failure>
     ensures { MatchResult result
         (λ _. Writes (output_by W.contents output.old output.new) text.now)
@@ -119,10 +121,16 @@ fn print_line<W: Write>(text: &str, writer: &mut Watched<W>) -> Result<(), LineF
     print(b"\n", writer)
 }
 
-/// Does what is asked for, and answers the status: 0 where it is done; 1 where the input is faulty, the
-/// output fails or memory runs out; 2 where the request is faulty; 3 where a check finds something, 4 where it had nothing to
-/// judge. Only a message doesn't read the input. A write to `errors` that fails changes no status. `in_words` says whether a person reads `errors`: then
-/// a second line says what the number of a failure means.
+/// Performs a request, and returns its status.
+///
+/// - 0: it is done.
+/// - 1: the input is faulty, the output fails, or memory runs out.
+/// - 2: the request is faulty.
+/// - 3: a check has findings.
+/// - 4: a check had nothing to judge.
+///
+/// A message doesn't read the input. A write to `errors` that fails changes no status. `in_words` is set if a person
+/// reads `errors`: then a second line explains the number of a failure.
 pub fn perform<S: Supply, R: Read, W: Write, E: Write>(
     alloc: Global,
     request: &Request<'_>,
@@ -137,7 +145,7 @@ pub fn perform<S: Supply, R: Read, W: Write, E: Write>(
         (output_by W.contents output.old output.new)
         (output_by E.contents errors.old errors.new)
         result }
-    // What is refused leaves the output and the input as they were, and a message the input.
+    // With status 2 the input and the output stay unchanged, and a message never reads the input.
     ensures refused { result ≡ 2 → output.new ≡ output.old }
     ensures unasked { result ≡ 2 → input.new ≡ input.old }
     ensures unread { IsOfMessage request.now → input.new ≡ input.old }
@@ -168,7 +176,7 @@ pub fn perform<S: Supply, R: Read, W: Write, E: Write>(
     }
 }
 
-/// The same of what is neither a conversion nor a check.
+/// Performs a request that is neither a conversion nor a check.
 fn perform_work<S: Supply, R: Read, W: Write, E: Write>(
     alloc: Global,
     request: &Request<'_>,
@@ -196,7 +204,7 @@ fn perform_work<S: Supply, R: Read, W: Write, E: Write>(
     }
 }
 
-/// Returns the packets that a conversion is asked for.
+/// Returns the packets that a conversion selects.
 fn choice_of(interface: Option<Interface<'_>>, vlan: Option<u64>, once: bool) -> Choice
     ensures { result ≡ asked_choice interface.entry vlan once }
 {
@@ -212,7 +220,7 @@ fn choice_of(interface: Option<Interface<'_>>, vlan: Option<u64>, once: bool) ->
     }
 }
 
-/// The same of a conversion.
+/// Performs a conversion.
 fn perform_conversion<S: Supply, R: Read, W: Write, E: Write>(
     alloc: Global,
     choice: Choice,
@@ -237,10 +245,10 @@ fn perform_conversion<S: Supply, R: Read, W: Write, E: Write>(
     }
 }
 
-/// How much earlier or later a query may be, in milliseconds, where it isn't said.
+/// The default tolerance of a check in milliseconds.
 const WITHIN: u32 = 100;
 
-/// The same of a check.
+/// Performs a check.
 fn perform_check<S: Supply, R: Read, W: Write, E: Write>(
     alloc: Global,
     protocol: Protocol,
@@ -283,7 +291,7 @@ fn perform_check<S: Supply, R: Read, W: Write, E: Write>(
     }
 }
 
-/// Reports on standard error how many packets came again, and how many have a link type that isn't read.
+/// Reports on standard error the numbers of repeated packets and of packets whose link type isn't read.
 fn tell_counts<E: Write>(counts: &ConvertCounts, errors: &mut Watched<E>)
     ensures { TellsCounts (output_by E.contents errors.old errors.new) counts.now }
 {
@@ -292,7 +300,7 @@ fn tell_counts<E: Write>(counts: &ConvertCounts, errors: &mut Watched<E>)
     }
 }
 
-/// Reports on standard error that a check had nothing to judge, and why.
+/// Reports on standard error why a check had nothing to judge.
 fn tell_unjudged<E: Write>(why: Unjudged, errors: &mut Watched<E>)
     ensures { IsTold (output_by E.contents errors.old errors.new) (unjudged_line why) }
 {
@@ -314,7 +322,7 @@ fn unjudged_line_of(why: Unjudged) -> &'static [u8]
     }
 }
 
-/// Says on standard error what failed, and answers the status.
+/// Reports a failure on standard error, and returns its status.
 fn told<E: Write>(failure: Failure, in_words: bool, errors: &mut Watched<E>) -> u8
     ensures status { result ≡ status_of failure }
     ensures line { Told in_words (output_by E.contents errors.old errors.new) failure }

@@ -1,4 +1,4 @@
-//! The replay that is asked for.
+//! The replay of a request.
 
 ghost use Rattle.std.specs.Prelude.{◌≡◌, true, false, MatchResult};
 ghost use Rattle.mquerier.specs.Changes.{input_by, output_by};
@@ -17,8 +17,8 @@ use mq_text::{read_v4, read_v6};
 use std::alloc::Global;
 use std::io::{Read, Write};
 
-/// Replays the capture that the input is to a querier with this address and these settings. Nothing is read or
-/// written before it is known that the querier can be so, and has its memory.
+/// Replays the input capture to a querier with this address and these settings. Nothing is read or written until the
+/// request is accepted and all memory is allocated.
 pub(crate) fn replay_capture<S: Supply, R: Read, W: Write>(
     alloc: Global,
     protocol: Protocol,
@@ -97,7 +97,7 @@ where
     }
 }
 
-/// The moment of so many milliseconds, where they are given.
+/// Returns the moment at this number of milliseconds, if it is given.
 pub(crate) fn moment_asked(until: Option<u64>) -> Result<Option<Moment>, Failure>
     ensures { MatchResult result
         (λ moment. (moment ≡ until) × (is_too_large until ≡ false))
@@ -112,7 +112,7 @@ pub(crate) fn moment_asked(until: Option<u64>) -> Result<Option<Moment>, Failure
     }
 }
 
-/// The configuration of these settings, with the family's defaults for what isn't given.
+/// Returns the configuration of these settings, with the family's defaults for the others.
 pub(crate) fn configured<F: CapturedFamily>(
     own: F::Address,
     settings: &Settings,
@@ -147,7 +147,7 @@ where
     }
 }
 
-/// The limits of these settings, with these defaults.
+/// Returns the limits of these settings, with these defaults.
 fn limits_asked(settings: &Settings, defaults: &Limits) -> Limits
     ensures { result ≡ asked_limits defaults.now settings.now }
 {

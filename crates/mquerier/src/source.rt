@@ -1,26 +1,27 @@
-//! The stream that the program reads in large pieces.
+//! The input of the program, read in large pieces.
 
 use mq_pcap::Supply;
 use std::cell::RefCell;
 use std::io;
 use std::io::{BufReader, ErrorKind, Read};
 
-/// How many of a stream's first bytes are kept.
+/// The number of first bytes that are kept.
 pub const FIRST: usize = 4;
 
-/// A stream that is read in large pieces. One reference to it reads. Another one asks which bytes are at hand, and which came first.
+/// A stream that is read in large pieces. One reference reads it. Another returns the bytes at hand, and the first
+/// bytes.
 #[derive(Drop)]
 pub struct Source<R>(RefCell<BufReader<R>>);
 
 impl<R: Read> Source<R> {
-    /// Returns the source that reads by way of this buffer.
+    /// Returns the source that reads through this buffer.
     pub fn new(reader: BufReader<R>) -> Source<R> {
         Source(RefCell::new(reader))
     }
 }
 
 impl<R: Read> Source<Beginning<R>> {
-    /// The first four bytes of the stream, with zeros for those that were not read.
+    /// Returns the first four bytes of the stream. Bytes that were not read are 0.
     pub fn first(&self) -> [u8; FIRST] {
         match self.0.try_borrow() {
             Ok(reader) => reader.get_ref().first,
@@ -34,7 +35,7 @@ impl<R: Read> Read for &Source<R> {
     fn read(&mut self, buf: &mut [u8]) -> io::Result<usize> {
         match self.0.try_borrow_mut() {
             Ok(mut reader) => reader.read(buf),
-            // Nobody keeps the reader.
+            // No call keeps the reader, so it is never busy.
             Err(_) => Err(io::Error::from(ErrorKind::ResourceBusy)),
         }
     }
@@ -65,7 +66,7 @@ pub struct Beginning<R> {
 }
 
 impl<R: Read> Beginning<R> {
-    /// Returns the stream that passes on what `inner` reads.
+    /// Returns the stream that reads from `inner`.
     pub fn new(inner: R) -> Beginning<R> {
         Beginning {
             inner,

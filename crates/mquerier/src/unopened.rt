@@ -1,4 +1,4 @@
-//! A file that can't be opened.
+//! Files that can't be opened.
 
 ghost use Rattle.std.specs.Prelude.{◌≡◌, ◌≤◌, length, take};
 ghost use Rattle.mquerier.specs.Changes.{output_by};
@@ -10,13 +10,13 @@ use mq_count::Watched;
 use mq_text::{Text, print, put};
 use std::io::Write;
 
-/// The most bytes that are printed of a file's name.
+/// The most bytes of a file's name that are printed.
 const MOST_OF_NAME: usize = 3000;
 
-/// The most bytes that are printed of a reason.
+/// The most bytes of a reason that are printed.
 const MOST_OF_REASON: usize = 300;
 
-/// Says on standard error that the file of this name can't be opened, and why, and returns the status.
+/// Reports on standard error that a file can't be opened and why, and returns the status.
 pub fn refuse_file<E: Write>(name: &str, reason: &str, errors: &mut Watched<E>) -> u8
     ensures status { result ≡ 1 }
     ensures line { IsTold (output_by E.contents errors.old errors.new) (unopened_line name.now reason.now) }

@@ -1,4 +1,4 @@
-//! What standard error is told of packets whose link type isn't read.
+//! The lines on standard error for packets whose link type isn't read.
 
 ghost use Rattle.std.specs.Prelude.{◌≡◌, ◌≤◌, ◌+◌, ◌++◌, length};
 ghost use Rattle.std.specs.List.{flat_map};
@@ -8,7 +8,7 @@ ghost use Rattle.mquerier.specs.Failures.{link_text, others as left_over, others
 use mq_convert::{LinkCount, Unread};
 use mq_text::{Text, put, put_decimal};
 
-/// Puts the lines of packets whose link type isn't read.
+/// Appends the lines of packets whose link type isn't read.
 pub(crate) fn put_unread(line: &mut Text, unread: &Unread)
     requires { array_vec_len line.old ≤ 100 }
     ensures { line.new.items ≡ line.old.items ++ unread_line unread.now }
@@ -22,7 +22,7 @@ pub(crate) fn put_unread(line: &mut Text, unread: &Unread)
     put(line, b"\n");
 }
 
-/// Puts a line for each link type.
+/// Appends a line for each link type.
 fn put_links(line: &mut Text, rows: &[LinkCount])
     requires start { array_vec_len line.old ≤ 200 }
     requires few { length rows.now ≤ 16 }
@@ -45,7 +45,7 @@ fn put_link(line: &mut Text, row: LinkCount)
     put_decimal(line, u64::from(row.link));
 }
 
-/// How many of so many packets have no row.
+/// Returns the number of packets whose link type has no row.
 fn others(count: u64, rows: &[LinkCount]) -> u64
     ensures { result ≡ left_over count rows.now }
 {
@@ -56,7 +56,7 @@ fn others(count: u64, rows: &[LinkCount]) -> u64
     left
 }
 
-/// Puts a line for the others, if there are some.
+/// Appends a line for the other packets, if there are any.
 fn put_others(line: &mut Text, count: u64)
     requires { array_vec_len line.old ≤ 2000 }
     ensures text { line.new.items ≡ line.old.items ++ others_text count }

@@ -1,4 +1,4 @@
-//! The work that is asked for.
+//! The work on a request.
 
 ghost use Rattle.std.specs.Prelude.{◌≡◌, ◌||◌, true, false, IfErr, MatchResult, is_err};
 ghost use Rattle.std.specs.Option.{option_copied};
@@ -22,8 +22,8 @@ use mq_text::{read_v4, read_v6};
 use std::alloc::Global;
 use std::io::{Read, Write};
 
-/// Does what is asked for, which is neither a conversion nor a check. Of a message it answers whether the line is that of a
-/// message, or of a fault.
+/// Performs a request that is neither a conversion nor a check. For a message it returns whether the line is a
+/// message's or a fault's.
 pub fn work<S: Supply, R: Read, W: Write>(
     alloc: Global,
     request: &Request<'_>,
@@ -48,8 +48,8 @@ pub fn work<S: Supply, R: Read, W: Write>(
             from,
             to,
         } => message(alloc, *protocol, hex, *from, *to, output),
-        // The caller makes conversions itself, since they tell standard error of what they can't read, and checks, which have
-        // a status of their own.
+        // The caller performs conversions, which report counts on standard error, and checks, which have their own
+        // statuses.
         Request::Convert { .. } | Request::Check { .. } => unreachable!(),
         Request::Show { .. } => listing(alloc, supply, input, output),
         Request::Replay {
@@ -85,7 +85,7 @@ fn message<W: Write>(
     }
 }
 
-/// Prints the line of a message of IGMP.
+/// Prints the line of an IGMP message.
 fn igmp_message<W: Write>(
     alloc: Global,
     hex: &str,
@@ -109,7 +109,7 @@ fn igmp_message<W: Write>(
     Ok(is_message)
 }
 
-/// Whether a text is given that is no IPv4 address.
+/// Returns whether a text is given that isn't an IPv4 address.
 fn is_no_v4(text: Option<&str>) -> bool
     ensures yes { result ≡ true → IsNoAddress Igmp (option_copied text.entry) }
     ensures no { result ≡ false → IsNoAddress Igmp (option_copied text.entry) → ⊥ }
@@ -120,7 +120,7 @@ fn is_no_v4(text: Option<&str>) -> bool
     }
 }
 
-/// Prints the line of a message of MLD.
+/// Prints the line of an MLD message.
 fn mld_message<W: Write>(
     alloc: Global,
     hex: &str,
@@ -153,7 +153,7 @@ fn mld_message<W: Write>(
     Ok(is_message)
 }
 
-/// The bytes of a hexadecimal text.
+/// Decodes a hexadecimal text.
 fn decoded(alloc: Global, hex: &str) -> Result<Vec<u8>, Failure>
     ensures { MatchResult result (λ bytes. decode_of hex.now ≡ Ok bytes.items) (IsUndecoded hex.now) }
 {
@@ -164,7 +164,7 @@ fn decoded(alloc: Global, hex: &str) -> Result<Vec<u8>, Failure>
     }
 }
 
-/// Prints the listing of the capture that the input is.
+/// Prints the listing of the input capture.
 fn listing<S: Supply, R: Read, W: Write>(
     alloc: Global,
     supply: &S,
@@ -194,7 +194,7 @@ fn listing<S: Supply, R: Read, W: Write>(
     }
 }
 
-/// Passes on all that the output holds back.
+/// Flushes the output.
 pub(crate) fn flush<W: Write>(output: &mut Watched<W>) -> Result<(), Failure>
     ensures bytes { Keeps (W.contents (inner_of output.old)) (W.contents (inner_of output.new)) }
     ensures failed { has_failed output.new ≡ has_failed output.old || is_err result }
