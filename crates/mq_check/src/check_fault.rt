@@ -20,14 +20,15 @@ pub enum CheckFault {
     /// A gap of more than a day between two moments.
     #[error("gap before record {number}")]
     Gap {
-        /// The number of the packet after the gap. If the gap is before the end of the check, it is the number after
-        /// the last packet's.
+        /// The number of the packet after the gap. If the gap is before the end of the check, it is the packet count
+        /// plus 1.
         number: u64,
     },
     /// More than 65536 pending entries.
     #[error("too many queries wait at record {number}")]
     Waiting {
-        /// The number of the packet at which the limit was exceeded, or the number after the last packet's.
+        /// The number of the packet at which the limit was exceeded. At the end of the check, it is the packet count
+        /// plus 1.
         number: u64,
     },
     /// An allocation failure.

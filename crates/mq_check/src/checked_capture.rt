@@ -29,9 +29,10 @@ use mq_replay::{Stamps, first_moment, is_gap};
 use std::alloc::Allocator;
 use std::io::{Read, Write};
 
-/// Checks the querier whose address is the own address of the configuration. A link with this configuration starts at 0
-/// and receives all other datagrams at their moments. The queries that it sends are compared with those in the capture.
-/// Writes a line for each finding and the totals at the end, and returns the totals.
+/// Checks the querier whose address is the own address of the configuration. A link with this configuration starts at
+/// 0. It receives all datagrams but the querier's own queries, at their moments. The queries that the link sends are
+/// compared with those of the querier. Writes a line for each finding and the totals at the end, and returns the
+/// totals.
 ///
 /// The end is the moment of the last packet, or `until` if that is later. All memory is allocated before anything is
 /// read or written. If the capture has a fault or a gap, or too many entries are pending, the findings before that are

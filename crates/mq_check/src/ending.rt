@@ -39,8 +39,8 @@ fn last_moment(until: Option<u64>, last: Stamp) -> Stamp
     }
 }
 
-/// Checks the time after the last packet. Fails if there is a gap before the end of the check. `number` is the number
-/// after the last packet's.
+/// Checks the time after the last packet. Fails if there is a gap before the end of the check. `number` is the packet
+/// count plus 1.
 pub(crate) fn check_rest<F: CheckedFamily, A: Allocator, W: Write>(
     link: &mut Link<F, A>,
     queries: &mut WantedQueries<F, A>,

@@ -65,7 +65,7 @@ impl Phase {
         Phase::Starting(timing.startup_count() - 1)
     }
 
-    /// Returns the time between a general query at this moment and the one before it, if that interval is wrong.
+    /// Returns the interval before a general query at this moment, if it is wrong.
     pub(crate) fn wrong_interval(self, within: u32, timing: Timing, moment: u64) -> Option<u64>
         ensures { result ≡ spec.wrong_interval within timing moment self }
     {

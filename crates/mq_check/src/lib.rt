@@ -4,7 +4,7 @@
 //! ```text
 //! let mut input = Watched::new(reader);
 //! let mut output = Watched::new(writer);
-//! check(alloc, config, terms, &mut input, &mut output)     // Ok(totals); or why it ended early
+//! check(alloc, config, terms, &supply, &mut input, &mut output)     // Ok(totals); or why it ended early
 //! ```
 //!
 //! - The check: `check`, with `CheckTerms`. It returns `Totals` with the `Basis` of the verdict, or a `CheckFault` if

@@ -45,12 +45,12 @@ pub enum Failure {
     Capture(PcapFault),
     /// A gap of more than a day in a replay or a check, before a packet or before the end.
     Gap {
-        /// The number of that packet, or the number after the last packet's.
+        /// The number of that packet. Before the end, it is the packet count plus 1.
         number: u64,
     },
     /// Too many pending entries in a check.
     Waiting {
-        /// The number of the packet at which the limit was exceeded, or the number after the last packet's.
+        /// The number of the packet at which the limit was exceeded. At the end, it is the packet count plus 1.
         number: u64,
     },
     /// A fault of a block in a conversion.
