@@ -1,11 +1,11 @@
-//! The command `check`: its options, and what it asks for.
+//! The command `check`: its options and its request.
 
 use crate::replay::{settings_in, ssm, until, with_limits, with_variables};
 use crate::{Request, address, family, file, protocol_named};
 use clap::{Arg, ArgAction, ArgMatches, Command, value_parser};
 use std::alloc::{AllocError, Global};
 
-/// What the words of the command ask for.
+/// Returns the request of the command's words.
 pub(crate) fn request_in<'a>(words: &ArgMatches<'a>) -> Option<Request<'a>> {
     Some(Request::Check {
         protocol: protocol_named(words.get_str("FAMILY")),

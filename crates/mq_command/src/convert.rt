@@ -1,10 +1,10 @@
-//! The command `convert`: its options, and what it asks for.
+//! The command `convert`: its options and its request.
 
 use crate::{Interface, Request, file};
 use clap::{Arg, ArgAction, ArgMatches, Command, value_parser};
 use std::alloc::{AllocError, Global};
 
-/// What the words of the command ask for.
+/// Returns the request of the command's words.
 pub(crate) fn request_in<'a>(words: &ArgMatches<'a>) -> Request<'a> {
     Request::Convert {
         interface: interface_in(words),
@@ -14,7 +14,7 @@ pub(crate) fn request_in<'a>(words: &ArgMatches<'a>) -> Request<'a> {
     }
 }
 
-/// The interface that is asked for: a number is no name.
+/// The requested interface. A text that is a number is never read as a name.
 fn interface_in<'a>(words: &ArgMatches<'a>) -> Option<Interface<'a>> {
     let text = words.get_str("interface")?;
     match text.parse::<u64>() {

@@ -1,4 +1,4 @@
-//! The command line of `mquerier`, by `clap`: what it asks for, and its help.
+//! The command line of `mquerier`, parsed by `clap`: its requests and its help.
 #![tactic(auto)]
 
 mod check;
@@ -15,7 +15,7 @@ use std::convert::AsStr;
 /// The version, as `MQ_VERSION_TEXT` of include/mquerier.h has it.
 pub const VERSION: &str = "2";
 
-/// What the command line asks for.
+/// A command of the command line, with its arguments.
 #[derive(Clone, Copy)]
 pub enum Request<'a> {
     /// The line of one message, whose bytes are given in hexadecimal.
@@ -24,18 +24,18 @@ pub enum Request<'a> {
         protocol: Protocol,
         /// The bytes, two digits each.
         hex: &'a str,
-        /// The source of the packet, where it is given.
+        /// The source of the packet, if given.
         from: Option<&'a str>,
-        /// The destination of the packet, where it is given.
+        /// The destination of the packet, if given.
         to: Option<&'a str>,
     },
-    /// The capture as a classic one of Ethernet, as `show` and `replay` read it.
+    /// The conversion of a capture to a classic capture of Ethernet, which `show` and `replay` read.
     Convert {
-        /// The interface whose packets are written, where one is given; else all are.
+        /// The interface whose packets are written. None stands for all interfaces.
         interface: Option<Interface<'a>>,
-        /// The network that the outermost tag of the packets that are written names, where one is given.
+        /// The network that the outermost tag of each written packet names, if given.
         vlan: Option<u64>,
-        /// Whether a packet that comes again soon is left out.
+        /// Leaves out a packet whose frame was already written, at nearly the same time.
         once: bool,
         /// The file that the capture is in.
         file: Option<&'a str>,
@@ -45,7 +45,7 @@ pub enum Request<'a> {
         /// The file that the capture is in.
         file: Option<&'a str>,
     },
-    /// What a querier makes of the capture.
+    /// The replay of a capture by a querier.
     Replay {
         /// The querier's protocol.
         protocol: Protocol,
@@ -53,26 +53,26 @@ pub enum Request<'a> {
         own: &'a str,
         /// Its variables and limits.
         settings: Settings,
-        /// The moment up to which it runs at least, in milliseconds from the first packet, where it is given.
+        /// The time until which it runs at least, in milliseconds after the first packet, if given.
         until: Option<u64>,
-        /// Whether there are lines for the groups that are changed.
+        /// Prints lines for changed groups.
         changes: bool,
         /// The file that the capture is in.
         file: Option<&'a str>,
     },
-    /// What the querier of the capture does otherwise than the standards want.
+    /// The comparison of a capture's querier with the standards.
     Check {
         /// The querier's protocol.
         protocol: Protocol,
         /// Its address.
         querier: &'a str,
-        /// Its variables, and limits of what is kept of it.
+        /// Its variables, and the limits of the querier that it is compared with.
         settings: Settings,
-        /// How much earlier or later a query may be, in milliseconds, where it is given.
+        /// The most milliseconds that a query may be early or late, if given.
         within: Option<u32>,
-        /// Whether the section of the standard stands behind each line.
+        /// Prints the section of the standard after each line.
         cite: bool,
-        /// The moment up to which the capture was taken at least, in milliseconds from the first packet, where it is given.
+        /// The time until which the capture lasts at least, in milliseconds after the first packet, if given.
         until: Option<u64>,
         /// The file that the capture is in.
         file: Option<&'a str>,
@@ -80,7 +80,7 @@ pub enum Request<'a> {
 }
 
 impl<'a> Request<'a> {
-    /// The name of the file that is asked for in place of standard input.
+    /// Returns the name of the input file, or None for standard input.
     pub fn file(&self) -> Option<&'a str> {
         let file = match self {
             Request::Message { .. } => None,
@@ -99,9 +99,9 @@ impl<'a> Request<'a> {
 /// An interface of a capture.
 #[derive(Clone, Copy)]
 pub enum Interface<'a> {
-    /// That of a number.
+    /// The interface with this number.
     Number(u64),
-    /// That of a name.
+    /// The interface with this name.
     Name(&'a str),
 }
 
@@ -112,13 +112,13 @@ pub enum Protocol {
     Mld,
 }
 
-/// What the words ask for, the program's name the first of them, or what `clap` says of them.
+/// Parses a command line, whose first word is the program's name. Its errors are those of `clap`.
 pub fn request_of<'a, S: AsStr>(alloc: Global, words: &'a [S]) -> Result<Request<'a>, Error> {
     let mut command = command(alloc)?;
     asked(&mut command, words)
 }
 
-// (The command and what it matched are locals of two functions: a proof over both takes far longer.)
+// The command and its matches are locals of two functions, since a proof over both takes far longer.
 fn asked<'a, S: AsStr>(command: &mut Command<'a>, words: &'a [S]) -> Result<Request<'a>, Error> {
     let matches = command.try_get_matches_from_mut(words)?;
     match request_in(&matches) {
@@ -127,7 +127,7 @@ fn asked<'a, S: AsStr>(command: &mut Command<'a>, words: &'a [S]) -> Result<Requ
     }
 }
 
-/// What the words that matched ask for. (`clap` lets pass none without a command and the words that it needs.)
+/// Returns the request of matched words. `clap` rejects words without a command or without a required argument.
 fn request_in<'a>(matches: &ArgMatches<'a>) -> Option<Request<'a>> {
     match matches.subcommand()? {
         ("message", words) => message_in(words),
@@ -149,7 +149,7 @@ fn message_in<'a>(words: &ArgMatches<'a>) -> Option<Request<'a>> {
     })
 }
 
-/// The protocol of a name. (`clap` lets pass only those that are listed.)
+/// The protocol of a name. `clap` rejects every name that isn't listed.
 fn protocol_named(name: Option<&str>) -> Protocol {
     match name {
         Some("mld") => Protocol::Mld,

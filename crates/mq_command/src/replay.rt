@@ -1,10 +1,10 @@
-//! The command `replay`: its options, and what it asks for.
+//! The command `replay`: its options and its request.
 
 use crate::{Request, address, family, file, protocol_named};
 use clap::{Arg, ArgAction, ArgMatches, Command, value_parser};
 use std::alloc::{AllocError, Global};
 
-/// The variables and limits of a querier, each where it is given.
+/// The variables and limits of a querier, each if given.
 #[derive(Clone, Copy)]
 pub struct Settings {
     /// The Robustness Variable.
@@ -15,19 +15,19 @@ pub struct Settings {
     pub response_interval: Option<u32>,
     /// The Last Member (Last Listener) Query Interval in milliseconds.
     pub last_member_interval: Option<u32>,
-    /// How many groups it may hold.
+    /// The most groups that it may hold.
     pub groups: Option<u32>,
-    /// How many sources a group may have.
+    /// The most sources of a group.
     pub group_sources: Option<u32>,
-    /// How many sources all groups may have together.
+    /// The most sources of all groups together.
     pub sources: Option<u32>,
-    /// How many schedules of specific queries there may be.
+    /// The most schedules of specific queries.
     pub scheduled: Option<u32>,
-    /// Whether the source-specific range is kept for source-specific multicast.
+    /// Keeps the source-specific range for source-specific multicast.
     pub source_specific: bool,
 }
 
-/// What the words of the command ask for.
+/// Returns the request of the command's words.
 pub(crate) fn request_in<'a>(words: &ArgMatches<'a>) -> Option<Request<'a>> {
     Some(Request::Replay {
         protocol: protocol_named(words.get_str("FAMILY")),
