@@ -18,8 +18,8 @@ use Rattle.mq_convert.specs.Interfaces.{interface_in}
 use Rattle.mq_convert.specs.Moments.{classic_moment, moment_of}
 use Rattle.mq_convert.specs.Sizes.{section_type, form_in, most_seen, order_in, seen_of}
 
--- a packet: the number of its interface among all that the file describes, the interface's name as a number, what its
--- frames begin with, the moment in nanoseconds, how many bytes the packet had, and those that were captured
+-- A packet: the number of its interface among all of the file, the interface's name as a number, and its link type. The
+-- moment is in nanoseconds, `original` is the packet's length, and `bytes` are the captured ones.
 pub record Captured : Type 0 where
   pub interface : ℕ
   pub name : ℕ

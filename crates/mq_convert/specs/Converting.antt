@@ -14,7 +14,7 @@ use Rattle.mq_convert.specs.Reading.{IsKnownThere}
 use Rattle.mq_convert.specs.Records.{packets_of, written_of}
 use Rattle.mq_convert.specs.Sieving.{Counts}
 
--- what the input does, by the answer
+-- the input ended as the result says
 abbrev pub IsEndedBy : Choice → (blocks : List (Option Captured)) → (end : Option BlockFault) → (bytes : List ℕ) → (old new : InputState) → Result ConvertCounts ConvertFault → Type 0
 IsEndedBy choice blocks end bytes old new (Ok counts) =
     (end ≡ None) × IsAtEnd new.ahead × Counts choice (packets_of blocks) counts × (new.failed ≡ old.failed)
@@ -24,15 +24,15 @@ IsEndedBy choice blocks end bytes old new (Err (answer.Block number f)) =
 IsEndedBy choice blocks end bytes old new (Err answer.Write) = Unit {0}
 IsEndedBy choice blocks end bytes old new (Err answer.Memory) = bytes ≡ []
 
--- what was written of the capture: all of it, or where a write failed a beginning; without memory nothing
+-- the capture was written: all of it, a prefix if a write failed, nothing if an allocation failed
 abbrev pub IsWritten : (old new : Option (List ℕ)) → List ℕ → Result ConvertCounts ConvertFault → Type 0
 IsWritten old new text (Err answer.Write) = GrowsByBeginning old new text
 IsWritten old new text (Err answer.Memory) = Appends old new []
 IsWritten old new text r = Appends old new text
 
--- A file was converted. Some bytes were taken from the input, and what was written is the classic capture of the
--- packets in the blocks that they are, taken as a whole file; nothing, if they are no block. They are the whole file, or its
--- beginning up to a fault that what follows doesn't change, unless a read or a write failed.
+-- A file was converted. The bytes that were taken from the input, as a whole file, are a capture of these blocks. The
+-- classic capture of their packets was written, or nothing if there is no block. Unless a read, a write or an
+-- allocation failed, these bytes are the whole file, or a prefix up to a fault that later bytes don't change.
 pub record Converts (choice : Choice) (old new : InputState) (before after : Option (List ℕ)) (r : Result ConvertCounts ConvertFault) : Type 0 where
   pub bytes : List ℕ
   pub blocks : List (Option Captured)

@@ -34,12 +34,12 @@ options_of order bytes = options_within order (length bytes) bytes
 abbrev pub quad_word : Endian → List ℕ → ℕ
 quad_word order bytes = number_in order 8 bytes
 
--- a name as a number: its bytes, filled up with zeros to 16, the highest first; one of more bytes is 0, like none
+-- a name as a number: its bytes in big-endian order, padded with zeros to 16; a longer name is 0, like no name
 unfoldable pub name_of : List ℕ → ℕ
 name_of text = if nat_lt 16 (length text) then 0 else from_be_bytes w128 (text ++ replicate (16 - length text) 0)
 
--- what an option says of an interface: code 2 is its name, code 9 with one byte the unit of its moments, code 14 with
--- eight how many seconds are added to them
+-- The interface with the value of an option. Code 2 is its name, code 9 with one byte the unit of its moments, and code
+-- 14 with eight bytes the seconds that are added to them.
 unfoldable pub with_option : Endian → Interface → DescribedOption → Interface
 with_option order interface option =
     if option.0 == 9 && length option.1 == 1
@@ -48,7 +48,7 @@ with_option order interface option =
     then record interface { offset = quad_word order option.1 }
     else (if option.0 == 2 then record interface { name = name_of option.1 } else interface))
 
--- the interface with all options; a later one goes before an earlier one
+-- the interface with all options; a later option replaces an earlier one
 abbrev pub with_options : Endian → Interface → List DescribedOption → Interface
 with_options order interface [] = interface
 with_options order interface (option ∷ options) = with_options order (with_option order interface option) options

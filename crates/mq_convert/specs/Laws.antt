@@ -65,11 +65,11 @@ WrittenAsItWas =
     → old.ahead ≡ Some bytes → Converts everything old new before after r → TellsOfFile r
     → IsOk r × Appends before after (looked_at bytes ++ drop 24 bytes)
 
--- where packets may go out again, all do
+-- if packets may go out again, all do
 abbrev pub AllGoOut : Type 0
 AllGoOut = (choice : Choice) (packets : List Captured) → choice.once ≡ false → going_out choice [] packets ≡ packets
 
--- of the packets that go out none would be left out
+-- leaving out repeated packets twice has the effect of doing it once
 abbrev pub OnceIsEnough : Type 0
 OnceIsEnough = (choice : Choice) (packets : List Captured) → going_out choice [] (going_out choice [] packets) ≡ going_out choice [] packets
 
@@ -77,7 +77,7 @@ OnceIsEnough = (choice : Choice) (packets : List Captured) → going_out choice 
 abbrev pub as_gone : Captured → Gone
 as_gone packet = record { moment = packet.moment; frame = frame_out packet }
 
--- among these packets one is written that has the frame of this one, at most 5 ms away
+-- one of these packets is written, has the frame of this one, and is at most 5 ms away
 abbrev pub is_written_soon : Choice → List Captured → Captured → Bool
 is_written_soon choice packets packet = list_any (λ kept. is_chosen_packet choice kept && is_again packet.moment (frame_out packet) (as_gone kept)) packets
 

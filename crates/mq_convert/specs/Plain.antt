@@ -1,4 +1,4 @@
--- Classic captures that are written as they were: of Ethernet without tags, in nanoseconds, the lowest byte first.
+-- Classic captures that are written unchanged: of Ethernet without tags, in nanoseconds, the lowest byte first.
 use Rattle.std.specs.Prelude.{◌≡◌, ℕ, ◌+◌, ◌<◌, nat_lt, Bool, true, false, not, ◌||◌, List, [], ◌∷◌, ◌++◌, length, slice_range, take, None}
 use Rattle.mq_pcap.specs.declared.form.Endian.TheVariants.{Big, Little}
 use Rattle.mq_pcap.specs.declared.form.Form.{Form}

@@ -32,15 +32,15 @@ ReadsBlock number old new size block (Err answer.Read) = ⊥
 ReadsBlock number old new size block (Err answer.Write) = ⊥
 ReadsBlock number old new size block (Err answer.Memory) = ⊥
 
--- what is written of what a block holds, where these packets went out before
+-- the records of a block's content, after these packets went out
 abbrev pub records_of : Choice → List Gone → Option Captured → List ℕ
 records_of choice gone held = flat_map (record_of choice) (going_out choice gone (option_to_list held))
 
--- what is written of the block of this number
+-- the text of the block of this number
 abbrev pub block_text : Choice → List Gone → (number : ℕ) → Option Captured → List ℕ
 block_text choice gone number held = start_of number ++ records_of choice gone held
 
--- the capture was put, or where a write failed a beginning of it was written
+-- the capture was put, or a prefix of it was written if a write failed
 abbrev pub IsPut : (old new : Option (List ℕ)) → (held left text : List ℕ) → Result ConvertCounts ConvertFault → Type 0
 IsPut old new held left text (Err answer.Write) = GrowsByBeginning old new (held ++ text)
 IsPut old new held left text r = Passes old new held left text

@@ -14,8 +14,8 @@ abbrev pub file_header : List ℕ
 file_header =
     0x4d ∷ 0x3c ∷ 0xb2 ∷ 0xa1 ∷ 2 ∷ 0 ∷ 4 ∷ 0 ∷ 0 ∷ 0 ∷ 0 ∷ 0 ∷ 0 ∷ 0 ∷ 0 ∷ 0 ∷ 0 ∷ 0 ∷ 4 ∷ 0 ∷ 1 ∷ 0 ∷ 0 ∷ 0 ∷ []
 
--- the original length of a frame that was made of a packet: of what the capture lacks of the packet, the frame
--- lacks as much; as many as 32 bits can say
+-- The original length of a frame that was built from a packet. The frame lacks as many bytes as the capture lacks of
+-- the packet. The length is at most 2^32 - 1.
 abbrev pub original_of : (original captured size : ℕ) → ℕ
 original_of original captured size = min ((original + size) - captured) (2 ^ 32 - 1)
 
@@ -30,7 +30,7 @@ record_with moment original captured frame =
     record_header moment (frame_size frame) (original_of original captured (frame_length frame))
     ++ frame_bytes frame
 
--- the record of a packet, if it is to be written: its frame without tags
+-- the record of a packet, if it is chosen: that of its frame without tags
 unfoldable pub record_of : Choice → Captured → List ℕ
 record_of choice packet =
     if is_chosen_packet choice packet
@@ -41,7 +41,7 @@ record_of choice packet =
 abbrev pub packets_of : List (Option Captured) → List Captured
 packets_of blocks = flat_map option_to_list blocks
 
--- the capture of these packets, of those that go out
+-- the capture of these packets, without those that are left out
 abbrev pub converted : Choice → List Captured → List ℕ
 converted choice packets = file_header ++ flat_map (record_of choice) (going_out choice [] packets)
 
@@ -60,6 +60,6 @@ unfoldable pub unread_link : Choice → Captured → List ℕ
 unread_link choice packet =
     if not (is_read_link packet.link) && is_chosen choice packet.interface packet.name None then packet.link ∷ [] else []
 
--- those of the packets that go out
+-- the unread link types of the packets that go out
 abbrev pub unread_links : Choice → List Gone → List Captured → List ℕ
 unread_links choice gone packets = flat_map (unread_link choice) (going_out choice gone packets)

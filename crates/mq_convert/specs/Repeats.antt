@@ -1,4 +1,4 @@
--- Packets that come again. Where each is to go out once, one that comes again soon is left out.
+-- Repeated packets. If each packet is to go out once, a packet that soon repeats another is left out.
 use Rattle.std.specs.Prelude.{ℕ, ◌+◌, ◌-◌, nat_lt, Bool, false, not, ◌&&◌, ◌==◌, if◌then◌else◌, List, [], ◌∷◌, ◌++◌, length, drop}
 use Rattle.std.specs.Int.{abs_diff}
 use Rattle.std.specs.List.{list_any}
@@ -13,11 +13,11 @@ pub record Gone : Type 0 where
   pub moment : ℕ
   pub frame : Framed
 
--- the longest time between a packet that went out and the same one that comes again, in nanoseconds: 5 ms
+-- the longest time between a packet that went out and its repetition, in nanoseconds: 5 ms
 abbrev pub soon : ℕ
 soon = 5000000
 
--- a packet is compared with so many that went out, the latest ones
+-- the number of packets, the latest that went out, with which a packet is compared
 abbrev pub most_gone : ℕ
 most_gone = 256
 
@@ -25,17 +25,17 @@ most_gone = 256
 abbrev pub most_compared : ℕ
 most_compared = 2048
 
--- The frames have the same bytes. What a cooked header says besides, as the interface and the direction, is in no frame.
+-- The frames have the same bytes. The rest of a cooked header, such as the interface and the direction, is in no frame.
 abbrev pub is_same_frame : Framed → Framed → Bool
 is_same_frame (Whole addresses kind payload) (Whole addresses' kind' payload') =
     bytes_eq addresses addresses' && (kind == kind' && bytes_eq payload payload')
 is_same_frame frame frame' = false
 
--- whether a frame at a moment is this one, which went out, come again
+-- a frame at a moment repeats this packet, which went out
 abbrev pub is_again : (moment : ℕ) → Framed → Gone → Bool
 is_again moment frame gone = not (nat_lt soon (abs_diff moment gone.moment)) && is_same_frame frame gone.frame
 
--- whether a frame is one that is compared: it has a type, and isn't longer than that
+-- a frame is compared: it has a type, and at most `most_compared` bytes
 abbrev pub is_short : Framed → Bool
 is_short (Whole addresses kind payload) = not (nat_lt most_compared (14 + length payload))
 is_short (Cut bytes) = false
@@ -44,34 +44,34 @@ is_short (Cut bytes) = false
 abbrev pub frame_out : Captured → Framed
 frame_out packet = untagged (frame_of packet.link packet.bytes)
 
--- whether a packet is compared: each goes out once, it is chosen, and all its bytes were captured
+-- a packet is compared: each goes out once, it is chosen, and all its bytes were captured
 unfoldable pub is_compared : Choice → Captured → Bool
 is_compared choice packet =
     choice.once && (is_chosen_packet choice packet && (packet.original == length packet.bytes && is_short (frame_out packet)))
 
--- whether a frame at a moment comes again, if it is compared, where these went out before
+-- a frame at a moment is compared, and repeats one of these packets, which went out before
 abbrev pub repeats : (compared : Bool) → List Gone → (moment : ℕ) → Framed → Bool
 repeats compared gone moment frame = compared && list_any (is_again moment frame) gone
 
--- the latest of those that went out
+-- the latest of the packets that went out
 abbrev pub latest : List Gone → List Gone
 latest gone = drop (length gone - most_gone) gone
 
--- those that went out behind it: it is one of them if it is compared and doesn't come again
+-- the packets that went out, with this frame if it is compared and repeats none of them
 abbrev pub gone_with : (compared : Bool) → List Gone → (moment : ℕ) → Framed → List Gone
 gone_with compared gone moment frame =
     if compared && not (list_any (is_again moment frame) gone)
     then latest (gone ++ (record { moment = moment; frame = frame } ∷ []))
     else gone
 
--- the same of a packet
+-- a packet repeats one of these packets, which went out before
 abbrev pub comes_again : Choice → List Gone → Captured → Bool
 comes_again choice gone packet = repeats (is_compared choice packet) gone packet.moment (frame_out packet)
 
 abbrev pub gone_after : Choice → List Gone → Captured → List Gone
 gone_after choice gone packet = gone_with (is_compared choice packet) gone packet.moment (frame_out packet)
 
--- those that went out behind several packets
+-- the packets that went out, after several packets came
 abbrev pub gone_behind : Choice → List Gone → List Captured → List Gone
 gone_behind choice gone [] = gone
 gone_behind choice gone (packet ∷ packets) = gone_behind choice (gone_after choice gone packet) packets
@@ -82,7 +82,7 @@ going_out choice gone [] = []
 going_out choice gone (packet ∷ packets) =
     (if comes_again choice gone packet then [] else packet ∷ []) ++ going_out choice (gone_after choice gone packet) packets
 
--- those that come again
+-- the packets that come again
 abbrev pub left_out : Choice → List Gone → List Captured → List Captured
 left_out choice gone [] = []
 left_out choice gone (packet ∷ packets) =

@@ -1,4 +1,4 @@
-//! What a block holds, and what it changes for those behind it, by its size and what is seen of it.
+//! The content of a block, and its effect on later blocks, by its size and the bytes that are seen.
 
 ghost use Rattle.std.specs.Prelude.{◌≡◌, ◌≤◌, false, length, IfErr};
 ghost use Rattle.mq_convert.specs.Blocks as spec;
@@ -15,7 +15,7 @@ use crate::sizes::{SECTION, form_in, order_in};
 use arrayvec::ArrayVec;
 use mq_pcap::{Endian, Fraction};
 
-/// The types of the blocks that are looked at besides section headers.
+/// The types of the blocks that are read, besides section headers.
 const INTERFACE: u32 = 1;
 
 const OBSOLETE_PACKET: u32 = 2;
@@ -24,7 +24,7 @@ const SIMPLE_PACKET: u32 = 3;
 
 const ENHANCED_PACKET: u32 = 6;
 
-/// Whether a block of this size ends with it, as it begins.
+/// Returns whether the size of a block also stands in its last 4 bytes.
 fn is_closed(order: Endian, size: usize, block: &[u8]) -> bool
     requires { 4 ≤ length block.now }
     ensures { result ≡ spec.is_closed order size block.now }
@@ -33,7 +33,7 @@ fn is_closed(order: Endian, size: usize, block: &[u8]) -> bool
 }
 
 impl Context {
-    /// Reads a block of this size, of which this is seen: the packet in it, if it has one.
+    /// Reads a block of this size by its seen part. Returns its packet, if it has one.
     #[inline(always)]
     #[tactic(auto, unfolding(crate::specs::Blocks::seen_in))]
     pub(crate) fn read(&mut self, size: usize, block: &[u8]) -> Result<Option<Packet>, BlockFault>
@@ -49,7 +49,7 @@ impl Context {
         }
     }
 
-    /// The first block of a file.
+    /// Reads the first block of a file.
     #[tactic(auto, unfolding(crate::specs::Blocks::first_in))]
     fn read_first(&mut self, size: usize, block: &[u8]) -> Result<Option<Packet>, BlockFault>
         requires { 24 ≤ length block.now }
@@ -66,7 +66,7 @@ impl Context {
         }
     }
 
-    /// The header of a classic capture.
+    /// Reads the header of a classic capture.
     #[tactic(auto, unfolding(crate::specs::Blocks::classic_in))]
     fn read_classic(
         &mut self,
@@ -98,7 +98,7 @@ impl Context {
         Ok(None)
     }
 
-    /// A section header.
+    /// Reads a section header.
     #[tactic(auto, unfolding(crate::specs::Blocks::section_in))]
     fn read_section(&mut self, size: usize, block: &[u8]) -> Result<Option<Packet>, BlockFault>
         requires { 12 ≤ length block.now }
@@ -115,7 +115,7 @@ impl Context {
         }
     }
 
-    /// A section header of this byte order.
+    /// Reads a section header of this byte order.
     #[tactic(auto, unfolding(crate::specs::Blocks::opened_in))]
     fn open_section(
         &mut self,
@@ -140,7 +140,7 @@ impl Context {
         Ok(None)
     }
 
-    /// A block behind a section header.
+    /// Reads a block after a section header.
     #[inline(always)]
     #[tactic(auto, unfolding(crate::specs::Blocks::next_in))]
     fn read_next(
@@ -170,7 +170,7 @@ impl Context {
         }
     }
 
-    /// The packet in a packet block of a section.
+    /// Returns the packet in a packet block of a section.
     #[inline(always)]
     #[tactic(auto, unfolding(crate::specs::Blocks::packet_in))]
     fn packet_in(&self, order: Endian, kind: u32, block: &[u8]) -> Result<Packet, BlockFault>
@@ -189,7 +189,7 @@ impl Context {
         }
     }
 
-    /// The description of an interface.
+    /// Reads the description of an interface.
     #[tactic(auto, unfolding(crate::specs::Blocks::described_in))]
     fn read_interface(
         &mut self,

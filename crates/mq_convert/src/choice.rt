@@ -1,32 +1,32 @@
-//! Which packets are written.
+//! The choice of the packets that are written.
 
 ghost use Rattle.std.specs.Prelude.{◌≡◌, ◌≤◌, length};
 ghost use Rattle.mq_convert.specs.Choices as spec;
 ghost use Rattle.mq_convert.specs.Interfaces.{name_of as named};
 
-/// An interface that is asked for.
+/// A requested interface.
 #[derive(Clone, Copy)]
 pub enum Which {
-    /// That of this number: in Linux cooked captures of version 2 the index in the header of each packet, otherwise
-    /// counted from 0 in the order in which the file describes its interfaces.
+    /// The interface with this number. In Linux cooked captures of version 2 it is the index in the header of each
+    /// packet. Otherwise interfaces are counted from 0, in the order in which the file describes them.
     Number(u64),
-    /// That which the file describes by this name, as `name_of` has it.
+    /// The interface that the file describes by this name, as `name_of` returns it.
     Name(u128),
 }
 
-/// Which packets are written; the others are left out.
+/// The packets that are written. The rest is left out.
 #[derive(Clone, Copy)]
 pub struct Choice {
-    /// Those of this interface.
+    /// Only packets of this interface.
     pub interface: Option<Which>,
-    /// Those whose outermost tag names this network.
+    /// Only packets whose outermost tag names this network.
     pub vlan: Option<u64>,
-    /// Those that don't repeat a frame that is written at most 5 ms away.
+    /// Only packets that don't repeat a frame that is written at most 5 ms away.
     pub once: bool,
 }
 
-/// Returns the name of an interface as a number: its bytes, filled up with zeros to 16, the highest first. A longer name is 0,
-/// like none.
+/// Returns the name of an interface as a number: its bytes in big-endian order, padded with zeros to 16. A longer name
+/// is 0, like no name.
 #[tactic(auto, unfolding(crate::specs::Interfaces::name_of))]
 pub fn name_of(text: &[u8]) -> u128
     ensures { result ≡ named text.now }
@@ -39,7 +39,7 @@ pub fn name_of(text: &[u8]) -> u128
     u128::from_be_bytes(bytes)
 }
 
-/// Whether what is asked for, if anything is, was found.
+/// Returns whether the requested number, if any, was found.
 fn is_asked(asked: Option<u64>, found: Option<u64>) -> bool
     ensures { result ≡ spec.is_asked asked found }
 {
@@ -50,7 +50,7 @@ fn is_asked(asked: Option<u64>, found: Option<u64>) -> bool
     }
 }
 
-/// Returns whether an interface with this number and this name is the one that is asked for, if one is.
+/// Returns whether an interface with this number and this name is the requested one, if any.
 fn is_asked_interface(asked: Option<Which>, number: u64, name: u128) -> bool
     ensures { result ≡ spec.is_asked_interface asked number name }
 {

@@ -1,19 +1,19 @@
-//! What was read before a block says how it is read.
+//! The context of a block, from what was read before it.
 
 use arrayvec::ArrayVec;
 use mq_pcap::{Endian, Fraction};
 
-/// How many interfaces a section may describe.
+/// The most interfaces of a section.
 pub const MOST_INTERFACES: usize = 1024;
 
-/// How many bytes of a block are seen at most: of a longer one its first ones and its last four. A record of a classic
-/// capture has no more with its header.
+/// The most bytes of a block that are seen: of a longer block, its first bytes and its last 4. A record of a classic
+/// capture, with its header, is never longer.
 pub const MOST_SEEN: usize = 294_912;
 
-/// What kind of block comes next.
+/// The kind of the next block.
 #[derive(Clone, Copy)]
 pub enum Kind {
-    /// The first of the file: a classic header, or a section's.
+    /// The first block of a file: the header of a classic capture or of a section.
     Start,
     /// A record of a classic capture.
     Classic { order: Endian, fraction: Fraction },
@@ -21,29 +21,29 @@ pub enum Kind {
     Section { order: Endian },
 }
 
-/// An interface as its description says it.
+/// An interface, as the file describes it.
 #[derive(Clone, Copy, Default)]
 pub struct Interface {
-    /// What its frames begin with.
+    /// The link type of its frames.
     pub link: u16,
-    /// The most bytes that are captured of a packet; 0 says that there is no such limit.
+    /// The most bytes that are captured of a packet. 0 is no limit.
     pub limit: u32,
-    /// In which unit its moments are counted: below 128 this power of a tenth of a second, from 128 on the power
-    /// of a half that it is above 128.
+    /// The unit of its moments: below 128 it is this power of a tenth of a second. From 128 on, the excess over 128 is
+    /// the power of a half.
     pub resolution: u8,
-    /// How many seconds are added to its moments, in two's complement.
+    /// The seconds that are added to its moments, in two's complement.
     pub offset: u64,
-    /// Its name as a number: its bytes, filled up with zeros to 16, the highest first. 0 if it has no name or a longer one.
+    /// Its name, as `name_of` returns it, or 0 if it has no name.
     pub name: u128,
 }
 
-/// What was read before a block.
+/// The context of a block: what earlier blocks of the file determine.
 #[derive(Drop)]
 pub struct Context {
     pub(crate) kind: Kind,
-    /// The interfaces that the section has described so far; of a classic capture the one that it has.
+    /// The interfaces that the section has described so far, or the only one of a classic capture.
     pub(crate) interfaces: ArrayVec<Interface, MOST_INTERFACES>,
-    /// How many interfaces earlier sections have described.
+    /// The number of interfaces that earlier sections described.
     pub(crate) earlier: u64,
 }
 
@@ -51,7 +51,7 @@ impl Context {
     ghost use Rattle.std.specs.Prelude.{◌≡◌};
     ghost use Rattle.mq_convert.specs.Contexts.{context_of, at_start};
 
-    /// Before the first block of a file.
+    /// Returns the context of the first block of a file.
     pub fn new() -> Context
         ensures { context_of result ≡ at_start }
     {

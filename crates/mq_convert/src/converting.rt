@@ -29,11 +29,11 @@ use mq_text::{LineFault, Text, flush, make_room, put};
 use std::alloc::Allocator;
 use std::io::{Read, Write};
 
-/// Writes the packets of a file as one classic capture of Ethernet in nanoseconds, those that are chosen, and
-/// returns how many of them have a link type that isn't read, and how many came again and were left out. Memory is allocated
-/// before anything is read or written. Nothing is written before the first block is known to be that of a capture. If the file
-/// has a fault, the packets before it are written first. Before a read that may wait by the stream's `supply`, all packets so
-/// far are written.
+/// Writes the chosen packets of a file as one classic capture of Ethernet, with moments in nanoseconds. Returns the
+/// number of packets whose link type isn't read, and of repeated packets that were left out. It allocates only before
+/// it reads or writes anything. It writes nothing until the first block is known to begin a capture. If the file has a
+/// fault, the packets before it are written first. Before a read that may wait, by the stream's `supply`, all packets
+/// so far are written.
 pub fn convert<A: Allocator + Copy, S: Supply, R: Read, W: Write>(
     alloc: A,
     choice: Choice,
@@ -59,7 +59,7 @@ pub fn convert<A: Allocator + Copy, S: Supply, R: Read, W: Write>(
     convert_by(block.as_mut_slice(), sieve, supply, reader, writer)
 }
 
-/// The same with room for a block that is lent, before the first packet.
+/// Acts like `convert`, with caller-provided room for a block and a sieve that has no packets yet.
 fn convert_by<A: Allocator, S: Supply, R: Read, W: Write>(
     block: &mut [u8],
     sieve: Sieve<A>,
@@ -85,7 +85,7 @@ fn convert_by<A: Allocator, S: Supply, R: Read, W: Write>(
     answer
 }
 
-/// Whether a conversion broke off since a write failed.
+/// Returns whether a conversion ended because a write failed.
 fn is_failed_write(answer: &Result<ConvertCounts, ConvertFault>) -> bool
     ensures { result ≡ spec.is_failed_write answer.now }
 {
@@ -123,7 +123,7 @@ fn put_capture<A: Allocator, S: Supply, R: Read, W: Write>(
     Ok(sieve.into_counts())
 }
 
-/// Reads a block of this number and this size, of which this is seen.
+/// Reads a block with this number and this size by its seen part.
 #[inline(always)]
 fn read_block(
     context: &mut Context,
@@ -140,8 +140,8 @@ fn read_block(
     }
 }
 
-/// Puts the record of the packet in the block of this number, if it has one that isn't left out, and counts it. The header of
-/// the capture stands before what the first block holds.
+/// Puts the record of a block's packet and counts the packet, unless it is left out. The header of the capture comes
+/// before the content of block 0.
 #[inline(always)]
 fn put_held<A: Allocator, W: Write>(
     sieve: &mut Sieve<A>,
@@ -178,7 +178,7 @@ fn put_file_header<W: Write>(buffer: &mut Text, writer: &mut Watched<W>) -> Resu
     Ok(())
 }
 
-/// Puts the record of the packet in a block, if it has one that isn't left out, and counts it.
+/// Puts the record of a block's packet and counts the packet, unless it is left out.
 #[inline(always)]
 fn put_packet<A: Allocator, W: Write>(
     sieve: &mut Sieve<A>,

@@ -5,8 +5,8 @@ use crate::unread::Unread;
 /// The counts of a conversion.
 #[derive(Drop)]
 pub struct ConvertCounts {
-    /// The packets that were written and whose link type isn't read.
+    /// The written packets whose link type isn't read.
     pub unread: Unread,
-    /// How many packets came again and were left out.
+    /// The number of repeated packets that were left out.
     pub repeated: u64,
 }

@@ -1,4 +1,4 @@
-//! Why a capture is not converted to its end.
+//! Faults of blocks, and of conversions.
 
 ghost use Rattle.std.specs.Prelude.{◌≡◌};
 ghost use Rattle.mq_convert.specs.declared.fault.ConvertFault.TheVariants.{Write};
@@ -6,59 +6,58 @@ ghost use Rattle.mq_convert.specs.declared.fault.ConvertFault.TheVariants.{Write
 use mq_text::LineFault;
 use thiserror::Error;
 
-/// Why a block of a capture can't be read. Of several that hold the first is told, in the order in which the
-/// bytes come.
+/// A fault of a block. If a block has several, the first in the order of its bytes is reported.
 #[derive(Clone, Copy, Debug, PartialEq, Eq, Error)]
 pub enum BlockFault {
     /// The file ends within the block.
     #[error("the file ends within it")]
     Cut,
-    /// The first bytes of the file are neither a magic number of the classic form nor a section header's.
+    /// First bytes of a file that are neither a classic magic number nor a section header's type.
     #[error("no capture")]
     NoCapture,
-    /// The version of a classic capture isn't 2.4, or the first number of a section's isn't 1.
+    /// A version other than 2.4 in a classic capture, or a first number other than 1 in a section's version.
     #[error("another version")]
     Version,
-    /// The number by which a section says its byte order is in neither.
+    /// A section whose byte-order number fits neither byte order.
     #[error("a section of no byte order")]
     Order,
-    /// The length is none that such a block can have; or it contradicts the one that is repeated at the block's end, or
-    /// the length of the packet in it. Or a packet ends behind what is seen of its block, `MOST_SEEN` bytes, or the
-    /// description of an interface is longer.
+    /// A length that the block can't have, or that contradicts the length at its end or its packet's length. It is also
+    /// the fault if a packet ends after the seen part of its block, or if the description of an interface exceeds
+    /// `MOST_SEEN` bytes.
     #[error("an impossible length")]
     Length,
-    /// The block has a packet of an interface that wasn't described before.
+    /// A packet of an interface that wasn't described before.
     #[error("a packet of an interface that wasn't described")]
     Interface,
-    /// A section describes more than `MOST_INTERFACES` interfaces.
+    /// A section that describes more than `MOST_INTERFACES` interfaces.
     #[error("too many interfaces")]
     Interfaces,
-    /// The packet's moment is before 1970, or 2^32 seconds or more behind its beginning.
+    /// A packet's moment before 1970, or at least 2^32 seconds after the start of 1970.
     #[error("a moment that has no place in a classic capture")]
     Moment,
-    /// There are more than 4294967295 blocks before it.
+    /// More than 4294967295 blocks before this one.
     #[error("too many blocks")]
     Endless,
 }
 
-/// Why a capture was not converted to its end.
+/// A reason why a capture was not converted to its end.
 #[derive(Clone, Copy, Debug, PartialEq, Eq, Error)]
 pub enum ConvertFault {
     /// A read of the capture failed.
     #[error("a read failed")]
     Read,
-    /// A write failed, or took none of the bytes that it was given.
+    /// A write failed, or wrote nothing.
     #[error("write failed")]
     Write,
-    /// Memory was refused.
+    /// An allocation failed.
     #[error("out of memory")]
     Memory,
-    /// A block has a fault.
+    /// A fault of a block.
     #[error("block {number}: {fault}")]
     Block {
         /// The block's number. The first of the file is 0: a classic capture's header, before its record 1.
         number: u64,
-        /// What is wrong with it.
+        /// The fault of this block.
         fault: BlockFault,
     },
 }

@@ -1,4 +1,4 @@
-//! Filling a part of a buffer from a stream that hands out pieces of any size.
+//! Filling of a part of a buffer, from a stream that returns pieces of any size.
 
 ghost use Rattle.std.specs.Prelude.{◌≡◌, ◌≤◌, length, IfErr};
 ghost use Rattle.mq_pcap.specs.Filling.{input_of};
@@ -8,8 +8,8 @@ use crate::fault::ConvertFault;
 use mq_count::Watched;
 use std::io::Read;
 
-/// Reads behind the first `from` bytes of a buffer until there are `to` or the stream ends, and answers how many
-/// there are then. A read that gives no byte is the end of the stream. A fault is `Read`.
+/// Reads into a buffer from place `from` on, until it has `to` bytes or the stream ends. Returns the number of bytes
+/// that it has then. A read of no bytes is the end of the stream. The only fault is `Read`.
 #[inline(always)]
 pub(crate) fn fill<R: Read>(
     reader: &mut Watched<R>,

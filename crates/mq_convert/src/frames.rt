@@ -1,4 +1,4 @@
-//! Frames of Ethernet, made of what an interface captures.
+//! Ethernet frames, built from the bytes that an interface captures.
 
 ghost use Rattle.std.specs.Prelude.{◌≡◌, ◌≤◌, length};
 ghost use Rattle.mq_convert.specs.Frames as spec;
@@ -9,16 +9,16 @@ use mq_pcap::Endian;
 /// An Ethernet frame.
 #[derive(Clone, Copy)]
 pub(crate) enum Frame<'a> {
-    /// One whose type is known.
+    /// A frame whose type is known.
     Whole {
         /// The addresses of its destination and of its source.
         addresses: [u8; 12],
         /// Its type.
         kind: u16,
-        /// What it carries.
+        /// Its payload.
         payload: &'a [u8],
     },
-    /// One that ends before its type is known: what there is of it.
+    /// The bytes of a frame that ends before its type is known.
     Cut(&'a [u8]),
 }
 
@@ -26,10 +26,10 @@ const IPV4: u16 = 0x0800;
 
 const IPV6: u16 = 0x86dd;
 
-/// A type that says nothing to anyone.
+/// A type that no one reads.
 const UNREAD: u16 = 0xffff;
 
-/// The frame of what an interface of a link type captured.
+/// Returns the frame of the bytes that an interface of this link type captured.
 #[inline(always)]
 #[tactic(auto, unfolding(crate::specs::Frames::frame_of))]
 pub(crate) fn frame_of(link: u16, bytes: &[u8]) -> Frame<'_>
@@ -47,7 +47,7 @@ pub(crate) fn frame_of(link: u16, bytes: &[u8]) -> Frame<'_>
     }
 }
 
-/// Whether packets of a link type are read.
+/// Returns whether packets of this link type are read.
 pub(crate) fn is_read_link(link: u16) -> bool
     ensures { result ≡ spec.is_read_link link }
 {
@@ -81,7 +81,7 @@ fn of_ethernet(bytes: &[u8]) -> Frame<'_>
     }
 }
 
-/// The type of an IP packet.
+/// Returns the type of an IP packet, by its version.
 #[tactic(auto, unfolding(crate::specs::Frames::ip_type))]
 fn ip_type(packet: &[u8]) -> u16
     requires { 1 ≤ length packet.now }
@@ -104,7 +104,7 @@ fn of_raw_ip(packet: &[u8]) -> Frame<'_>
     without_addresses(ip_type(packet), packet)
 }
 
-/// The addresses of a packet of which the sender's is known, where that has 6 bytes.
+/// Returns the addresses of a packet: an unknown one, and the sender's if it has 6 bytes.
 fn sent_by(size: u16, address: &[u8]) -> [u8; 12]
     requires { length address.now ≡ 6 }
     ensures { result ≡ spec.sent_by size address.now }
@@ -144,7 +144,7 @@ fn of_cooked_2(bytes: &[u8]) -> Frame<'_>
     }
 }
 
-/// The type of a packet by its family.
+/// Returns the type of a packet, by its family.
 #[tactic(auto, unfolding(crate::specs::Frames::family_type))]
 fn family_type(family: u32) -> u16
     ensures { result ≡ spec.family_type family }

@@ -8,17 +8,17 @@ use crate::context::Interface;
 use byteorder::{BigEndian, ByteOrder, LittleEndian};
 use mq_pcap::Endian;
 
-/// The options that are looked at: the name, the unit of moments, with one byte, and how they are moved, with eight.
+/// The options that are read: the name, the unit of moments (1 byte), and the offset of moments (8 bytes).
 const NAME: u16 = 2;
 
 const RESOLUTION: u16 = 9;
 
 const OFFSET: u16 = 14;
 
-/// The option that ends a list of them.
+/// The option that ends a list of options.
 const END: u16 = 0;
 
-/// The interface that a block of its own describes; `body` is what stands between the lengths of the block.
+/// Returns the interface that a block describes. `body` is the part between the two lengths of the block.
 pub(crate) fn interface_in(order: Endian, body: &[u8]) -> Interface
     requires { 8 ≤ length body.now }
     ensures { result ≡ spec.interface_in order body.now }
@@ -38,7 +38,7 @@ pub(crate) fn interface_in(order: Endian, body: &[u8]) -> Interface
     interface
 }
 
-/// The interface with what an option says of it.
+/// Returns the interface with the value of an option.
 #[tactic(auto, unfolding(crate::specs::Interfaces::with_option))]
 fn with_option(order: Endian, interface: Interface, code: u16, value: &[u8]) -> Interface
     ensures { result ≡ spec.with_option order interface (code, value.now) }
@@ -56,7 +56,7 @@ fn with_option(order: Endian, interface: Interface, code: u16, value: &[u8]) -> 
     interface
 }
 
-/// The 64 bits of a value.
+/// Returns the 64-bit number of a value.
 fn quad_word(order: Endian, value: &[u8]) -> u64
     requires { length value.now ≡ 8 }
     ensures { result ≡ spec.quad_word order value.now }
@@ -67,8 +67,8 @@ fn quad_word(order: Endian, value: &[u8]) -> u64
     }
 }
 
-/// The code and the bytes of the first option, and what stands behind it; None where none fits, and at the end
-/// of the list.
+/// Returns the code and the bytes of the first option, and the bytes after it. Returns None if no option fits, and at
+/// the end of the list.
 fn first_option(order: Endian, bytes: &[u8]) -> Option<(u16, &[u8], &[u8])>
     ensures option { MatchOption result
         (spec.options_of order bytes.now ≡ [])

@@ -2,7 +2,7 @@
 
 ghost use Rattle.std.specs.Prelude.{◌≤◌};
 
-/// The longest payload of a frame that is compared. The frame has 2048 bytes then.
+/// The longest payload of a compared frame, which has 2048 bytes.
 pub(crate) const MOST_CARRIED: usize = 2034;
 
 /// A packet that went out: its moment and its frame.

@@ -1,43 +1,44 @@
-//! What holds of conversions, whoever makes them. The functions do nothing: each contract is a law.
+//! Laws of conversions. Each contract is a law, and the functions do nothing.
 
 ghost use Rattle.mq_convert.specs.Laws.{AllGoOut, AsItWas, FaultsStay, NothingLost, OnceIsEnough, OneConversion, OneFile, WrittenAsItWas};
 
-/// No file is two captures.
+/// States that a file is one capture.
 pub fn one_file()
     ensures { OneFile }
 {}
 
-/// A fault that isn't the end of the file stays one, whatever follows.
+/// States that later bytes don't change a fault, except that of a truncated block.
 pub fn faults_stay()
     ensures { FaultsStay }
 {}
 
-/// A classic capture of Ethernet in nanoseconds, without tags, is written as it was, but for its header.
+/// States that a classic capture of Ethernet in nanoseconds without tags is written unchanged, but for its header.
 pub fn as_it_was()
     ensures { AsItWas }
 {}
 
-/// Two conversions of a file find the same packets.
+/// States that two conversions of a file find the same packets.
 pub fn one_conversion()
     ensures { OneConversion }
 {}
 
-/// Where packets may go out again, all do.
+/// States that all packets go out if repeated ones may.
 pub fn all_go_out()
     ensures { AllGoOut }
 {}
 
-/// Of the packets that go out none would be left out.
+/// States that leaving out repeated packets twice has the effect of doing it once.
 pub fn once_is_enough()
     ensures { OnceIsEnough }
 {}
 
-/// Each packet that is left out has its frame written, at most 5 ms away.
+/// States that each packet that is left out has its frame written, at most 5 ms away.
 pub fn nothing_lost()
     ensures { NothingLost }
 {}
 
-/// So a conversion of such a capture comes to its end, and writes it so.
+/// States that a conversion of a capture as in `as_it_was` reaches its end and writes it unchanged. Failed reads,
+/// writes and allocations are excepted.
 pub fn written_as_it_was()
     ensures { WrittenAsItWas }
 {}

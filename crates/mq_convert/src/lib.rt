@@ -1,15 +1,14 @@
-//! Captures of the forms that people have, as one classic capture of Ethernet in nanoseconds.
+//! Conversion of captures to one classic capture of Ethernet in nanoseconds.
 //!
 //! ```text
 //! let mut input = Watched::new(reader);
 //! let mut output = Watched::new(writer);
 //! let choice = Choice { interface: None, vlan: None, once: false };  // all packets
-//! convert(alloc, choice, &Ready, &mut input, &mut output)            // Ok: how many have a link type that isn't read
+//! convert(alloc, choice, &Ready, &mut input, &mut output)            // Ok: the counts
 //! ```
 //!
-//! - The conversion of a file: `convert`, of which packets: `Choice`, and `ConvertFault`, which says why one ended early.
-//! - A file is one block after another: `Context` is what was read before a block, and `BlockFault` what is wrong with
-//!   one.
+//! - `convert` converts a file. `Choice` chooses its packets, and `ConvertFault` says why a conversion ended early.
+//! - A file is one block after another. `Context` is the context of a block, and `BlockFault` a fault of one.
 #![tactic(auto)]
 
 mod blocks;

@@ -6,14 +6,13 @@ ghost use Rattle.mq_convert.specs.Moments as spec;
 use crate::context::Interface;
 use mq_pcap::Fraction;
 
-/// Nanoseconds of a second.
+/// The number of nanoseconds of a second.
 pub(crate) const SECOND: u64 = 1_000_000_000;
 
-/// The first moment, in nanoseconds from 1970 on, that has no place in a classic capture: its seconds have 32
-/// bits there.
+/// The first moment that a classic capture can't have, in nanoseconds from 1970 on. Its seconds have 32 bits.
 const END: u64 = 4_294_967_296_000_000_000;
 
-/// The moment of a packet, in nanoseconds from 1970 on, if it has a place in a classic capture.
+/// Returns the moment of a packet, in nanoseconds from 1970 on, if a classic capture can have it.
 #[inline(always)]
 #[tactic(auto, unfolding(crate::specs::Moments::placed))]
 fn placed(nanoseconds: u128) -> Option<u64>
@@ -26,7 +25,7 @@ fn placed(nanoseconds: u128) -> Option<u64>
     None
 }
 
-/// The moment of a record of a classic capture.
+/// Returns the moment of a record of a classic capture.
 #[inline(always)]
 #[tactic(auto, unfolding(crate::specs::Moments::classic_moment))]
 pub(crate) fn classic_moment(fraction: Fraction, seconds: u32, part: u32) -> Option<u64>
@@ -40,7 +39,7 @@ pub(crate) fn classic_moment(fraction: Fraction, seconds: u32, part: u32) -> Opt
     placed(u128::from(u64::from(seconds) * SECOND + u64::from(part) * unit))
 }
 
-/// The moment that an interface counts so.
+/// Returns the moment of a count of an interface's units.
 #[inline(always)]
 #[tactic(auto, unfolding(crate::specs::Moments::moment_of))]
 pub(crate) fn moment_of(interface: Interface, count: u64) -> Option<u64>
@@ -50,7 +49,7 @@ pub(crate) fn moment_of(interface: Interface, count: u64) -> Option<u64>
     placed(moved(interface.offset, nanoseconds(interface.resolution, count))?)
 }
 
-/// Whole nanoseconds of so many units.
+/// Returns the whole nanoseconds of a count of units.
 #[tactic(auto, unfolding(crate::specs::Moments::nanoseconds))]
 fn nanoseconds(resolution: u8, count: u64) -> u128
     ensures value { result ≡ spec.nanoseconds resolution count }
@@ -68,7 +67,7 @@ fn nanoseconds(resolution: u8, count: u64) -> u128
     0
 }
 
-/// The power of two.
+/// Returns the power of two.
 fn halved(power: u8) -> u128
     requires { power < 128 }
     ensures value { result ≡ 2 ^ power }
@@ -77,7 +76,7 @@ fn halved(power: u8) -> u128
     2u128.pow(u32::from(power))
 }
 
-/// A moment that is so many seconds later, or earlier, in two's complement; None before 1970.
+/// Returns a moment moved by `offset` seconds, in two's complement. Returns None before 1970.
 #[tactic(auto, unfolding(crate::specs::Moments::moved))]
 fn moved(offset: u64, nanoseconds: u128) -> Option<u128>
     requires { nanoseconds < 2 ^ 94 }

@@ -17,8 +17,8 @@ use std::io::Read;
 /// The first block number that no capture may have.
 const ENDLESS: u64 = 4_294_967_296;
 
-/// Reads the next block, whose number is this, and answers how many bytes it has; None at the end of the file. What is
-/// seen of the block is then the front of `buffer`.
+/// Reads the next block, which has this number. Returns its size, or None at the end of the file. The seen part of the
+/// block is then the front of `buffer`.
 #[inline(always)]
 pub(crate) fn next_block<R: Read>(
     kind: Kind,
@@ -59,7 +59,7 @@ fn is_start(kind: Kind) -> bool
     matches!(kind, Kind::Start)
 }
 
-/// A fault of a block.
+/// Returns a fault of the block with this number.
 pub(crate) fn faulty(number: u64, fault: BlockFault) -> ConvertFault
     ensures { result ≡ ConvertFault.Block number fault }
 {

@@ -1,4 +1,4 @@
-//! A packet, as a block has it.
+//! Packets, and where their bytes are in their blocks.
 
 ghost use Rattle.std.specs.Prelude.{◌<◌, ◌*◌, ◌^◌};
 
@@ -9,26 +9,26 @@ pub(crate) struct Packet {
     pub(crate) interface: u64,
     /// The interface's name as a number, as its description has it.
     pub(crate) name: u128,
-    /// What the frames of this interface begin with.
+    /// The link type of this interface.
     pub(crate) link: u16,
     /// Its moment, in nanoseconds from 1970 on.
     pub(crate) moment: u64,
-    /// How many bytes it had.
+    /// The number of bytes that it had.
     pub(crate) original: u32,
-    /// Where in the block the captured bytes are.
+    /// The place of the captured bytes in the block.
     pub(crate) place: usize,
-    /// How many they are.
+    /// The number of captured bytes.
     pub(crate) length: usize,
     ghost in_range: { moment < 2 ^ 32 * 1000000000 },
 }
 
-/// What a block says of its packet.
+/// The place and the lengths of a packet, as its block states them.
 #[derive(Clone, Copy)]
 pub(crate) struct Said {
-    /// Where in the block the captured bytes are.
+    /// The place of the captured bytes in the block.
     pub(crate) place: usize,
-    /// How many they are.
+    /// The number of captured bytes.
     pub(crate) captured: u32,
-    /// How many bytes the packet had.
+    /// The number of bytes that the packet had.
     pub(crate) original: u32,
 }

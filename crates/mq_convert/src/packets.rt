@@ -13,7 +13,8 @@ use crate::packet::{Packet, Said};
 use mq_pcap::{Endian, Fraction};
 
 impl Context {
-    /// The packet in an enhanced packet block, or in the obsolete one, which differ in how they say the interface.
+    /// Returns the packet in an enhanced or an obsolete packet block. They differ in the size of the interface's number
+    /// `id`.
     #[inline(always)]
     #[tactic(auto, unfolding(crate::specs::Blocks::timed_in))]
     pub(crate) fn timed(&self, order: Endian, id: usize, block: &[u8]) -> Result<Packet, BlockFault>
@@ -35,7 +36,7 @@ impl Context {
         self.packet(id, *interface, moment_of(*interface, count), said, block)
     }
 
-    /// The packet in a simple packet block.
+    /// Returns the packet in a simple packet block.
     #[tactic(auto, unfolding(crate::specs::Blocks::simple_in))]
     pub(crate) fn simple(&self, order: Endian, block: &[u8]) -> Result<Packet, BlockFault>
         requires { 16 ≤ length block.now }
@@ -60,7 +61,7 @@ impl Context {
         self.packet(0, *interface, Some(0), said, block)
     }
 
-    /// A packet of an interface, if there is room for it in its block.
+    /// Returns a packet of an interface, if its block has room for it.
     #[inline(always)]
     #[tactic(auto, unfolding(crate::specs::Blocks::packet_of))]
     fn packet(
@@ -95,7 +96,7 @@ impl Context {
         })
     }
 
-    /// The packet in a record of a classic capture.
+    /// Returns the packet in a record of a classic capture.
     #[inline(always)]
     #[tactic(auto, unfolding(crate::specs::Blocks::record_in))]
     pub(crate) fn record(

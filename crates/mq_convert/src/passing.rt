@@ -1,4 +1,4 @@
-//! Passing over bytes of a stream that hands out pieces of any size.
+//! Skipping of bytes, in a stream that returns pieces of any size.
 
 ghost use Rattle.std.specs.Prelude.{◌≡◌, ◌≤◌, IfErr};
 ghost use Rattle.mq_pcap.specs.Filling.{input_of};
@@ -8,11 +8,11 @@ use crate::fault::ConvertFault;
 use mq_count::Watched;
 use std::io::Read;
 
-/// How many bytes are read at once at most.
+/// The most bytes of one read.
 const PIECE: usize = 4096;
 
-/// Reads over the bytes of a block from `from` on until there were `to` or the stream ends, and answers how many there
-/// were then. A read that gives no byte is the end of the stream. A fault is `Read`.
+/// Skips the bytes of a block from `from` on, until `to` bytes were read or the stream ends. Returns the number of
+/// bytes that were read by then. A read of no bytes is the end of the stream. The only fault is `Read`.
 pub(crate) fn pass<R: Read>(
     reader: &mut Watched<R>,
     from: usize,

@@ -8,11 +8,11 @@ use mq_count::Watched;
 use mq_text::{LineFault, Text, flush, print, put};
 use std::io::Write;
 
-/// How many bytes a buffer has room for.
+/// The number of bytes that a buffer has room for.
 const ROOM: usize = 4096;
 
-/// Puts bytes into a buffer; where they have no room, what it holds is written first, and what never has room is
-/// written as it is.
+/// Puts bytes into a buffer. If they don't fit, the buffer's content is written first. Bytes that exceed the buffer's
+/// room are written directly.
 pub(crate) fn put_bytes<W: Write>(
     bytes: &[u8],
     buffer: &mut Text,

@@ -23,7 +23,7 @@ use std::io::Write;
 /// The most bytes that a frame carries in a record.
 const GREATEST_PAYLOAD: usize = 262_130;
 
-/// The most bytes that are written of a frame that is cut before the end of its type.
+/// The most bytes that are written of a frame that ends before its type is known.
 const BEFORE_TYPE: usize = 13;
 
 /// The link type of Linux cooked captures of version 2.
@@ -35,7 +35,7 @@ pub(crate) const FILE_HEADER: [u8; 24] = [
     0x4d, 0x3c, 0xb2, 0xa1, 2, 0, 4, 0, 0, 0, 0, 0, 0, 0, 0, 0, 0, 0, 4, 0, 1, 0, 0, 0,
 ];
 
-/// Puts the record of a packet of a block, if it is to be written.
+/// Puts the record of a packet of a block, if the packet is chosen.
 #[inline(always)]
 #[tactic(auto, unfolding(crate::specs::Records::record_of))]
 pub(crate) fn put_record<W: Write>(
@@ -59,7 +59,7 @@ pub(crate) fn put_record<W: Write>(
     put_frame(packet, bytes.len(), untagged(frame), buffer, writer)
 }
 
-/// Returns the number by which the interface of a packet is asked for.
+/// Returns the number by which a choice names the interface of a packet.
 #[inline(always)]
 #[tactic(auto, unfolding(crate::specs::Choices::number_of))]
 pub(crate) fn number_of(packet: Packet, block: &[u8]) -> u64
@@ -73,7 +73,7 @@ pub(crate) fn number_of(packet: Packet, block: &[u8]) -> u64
     packet.interface
 }
 
-/// Puts the record of a frame that was made of so many captured bytes.
+/// Puts the record of a frame that was built from `captured` bytes.
 #[inline(always)]
 fn put_frame<W: Write>(
     packet: Packet,
@@ -111,7 +111,7 @@ fn put_frame<W: Write>(
     }
 }
 
-/// The original length of a frame that was made of a packet.
+/// Returns the original length of a frame that was built from a packet.
 fn original_of(original: u32, captured: usize, size: usize) -> u32
     ensures { result ≡ spec.original_of original captured size }
 {

@@ -1,4 +1,4 @@
-//! What is seen of a block: all of it, or its first bytes and its last ones.
+//! The seen part of a block: all of it, or its first bytes and its last 4.
 
 ghost use Rattle.std.specs.Prelude.{◌≡◌, ◌<◌, ◌≤◌, length, IfErr};
 ghost use Rattle.mq_pcap.specs.Filling.{input_of};
@@ -12,11 +12,11 @@ use crate::passing::pass;
 use mq_count::Watched;
 use std::io::Read;
 
-/// How many first bytes of a longer block are seen; its last four, which are its length, stand behind them.
+/// The number of first bytes that are seen of a longer block. Its last 4, which are its length, follow them.
 const FIRST_SEEN: usize = MOST_SEEN - 4;
 
-/// Reads what is behind the first `from` bytes of a block of this size until all is read or the stream ends, and answers
-/// how many bytes of the block there were then. What is seen of it is the front of the buffer, if these are all.
+/// Reads the bytes of a block of this size from `from` on, until all are read or the stream ends. Returns the number of
+/// the block's bytes that were read by then. If these are all, the seen part of the block is the front of the buffer.
 #[inline(always)]
 pub(crate) fn fill_seen<R: Read>(
     reader: &mut Watched<R>,
@@ -38,7 +38,7 @@ pub(crate) fn fill_seen<R: Read>(
     fill_long(reader, buffer, from, size)
 }
 
-/// The same of a block of which not all is seen.
+/// Acts like `fill_seen`, for a block that isn't seen as a whole.
 fn fill_long<R: Read>(
     reader: &mut Watched<R>,
     buffer: &mut [u8],

@@ -89,7 +89,7 @@ impl<A: Allocator> Sieve<A> {
         self.sift(packet, block)
     }
 
-    /// Does so if each packet is to go out once.
+    /// Acts like `leaves_out`, if each packet is to go out once.
     fn sift(&mut self, packet: Packet, block: &[u8]) -> bool
         requires once { self.old.choice.once ≡ true }
         requires within { packet.place + packet.length ≤ length block.now }
@@ -108,7 +108,7 @@ impl<A: Allocator> Sieve<A> {
         self.sift_frame(packet.moment, untagged(frame))
     }
 
-    /// Does so for the frame without tags of a whole packet that is chosen.
+    /// Acts like `leaves_out`, for the frame without tags of a whole packet that is chosen.
     fn sift_frame(&mut self, moment: u64, frame: Frame<'_>) -> bool
         requires once { self.old.choice.once ≡ true }
         ensures { SiftsFrame self.old self.new (spec.is_short (framed frame.entry)) moment (framed frame.entry) result }

@@ -1,4 +1,4 @@
-//! How many bytes a block has, by its first ones.
+//! The size of a block, by its first bytes.
 
 ghost use Rattle.std.specs.Prelude.{◌≡◌, ◌≤◌, false, length, IfErr, IfOk};
 ghost use Rattle.mq_convert.specs.Faults.{is_cut};
@@ -11,17 +11,17 @@ use mq_pcap::{Endian, Fraction};
 /// The type of a section header, which reads the same in both byte orders.
 pub(crate) const SECTION: u32 = 0x0a0d_0d0a;
 
-/// The number by which a section says its byte order.
+/// The number that shows the byte order of a section.
 const BYTE_ORDER: u32 = 0x1a2b_3c4d;
 
 const MICROSECONDS: u32 = 0xa1b2_c3d4;
 
 const NANOSECONDS: u32 = 0xa1b2_3c4d;
 
-/// The bytes of a classic capture's header.
+/// The size of a classic capture's header.
 const CLASSIC_HEADER: usize = 24;
 
-/// How many bytes are needed to know the size of a block.
+/// Returns the number of bytes that determine the size of a block.
 pub(crate) fn head_size(kind: Kind) -> usize
     ensures size { result ≡ spec.head_size kind }
     ensures least { 12 ≤ result }
@@ -33,7 +33,7 @@ pub(crate) fn head_size(kind: Kind) -> usize
     }
 }
 
-/// The byte order and the unit of a classic capture, by its magic number.
+/// Returns the byte order and the unit of a classic capture, by its magic number.
 #[tactic(auto, unfolding(crate::specs::Sizes::form_in))]
 pub(crate) fn form_in(bytes: &[u8]) -> Option<(Endian, Fraction)>
     requires { 4 ≤ length bytes.now }
@@ -56,7 +56,7 @@ pub(crate) fn form_in(bytes: &[u8]) -> Option<(Endian, Fraction)>
     None
 }
 
-/// The byte order of a section, by its header's first bytes.
+/// Returns the byte order of a section, by its header's first bytes.
 #[tactic(auto, unfolding(crate::specs::Sizes::order_in))]
 pub(crate) fn order_in(bytes: &[u8]) -> Option<Endian>
     requires { 12 ≤ length bytes.now }
@@ -71,7 +71,7 @@ pub(crate) fn order_in(bytes: &[u8]) -> Option<Endian>
     None
 }
 
-/// The size of a block of a section, which has so many bytes at least.
+/// Returns the size of a section's block, which has at least `least` bytes.
 #[tactic(auto, unfolding(crate::specs::Sizes::block_size))]
 fn block_size(order: Endian, least: usize, bytes: &[u8]) -> Result<usize, BlockFault>
     requires { 12 ≤ length bytes.now }
@@ -86,7 +86,7 @@ fn block_size(order: Endian, least: usize, bytes: &[u8]) -> Result<usize, BlockF
     Ok(size)
 }
 
-/// The size of a section header.
+/// Returns the size of a section header.
 #[tactic(auto, unfolding(crate::specs::Sizes::section_size))]
 fn section_size(bytes: &[u8]) -> Result<usize, BlockFault>
     requires { 12 ≤ length bytes.now }
@@ -100,7 +100,7 @@ fn section_size(bytes: &[u8]) -> Result<usize, BlockFault>
     }
 }
 
-/// The size of the first block of a file.
+/// Returns the size of the first block of a file.
 #[tactic(auto, unfolding(crate::specs::Sizes::first_size))]
 fn first_size(bytes: &[u8]) -> Result<usize, BlockFault>
     requires { 12 ≤ length bytes.now }
@@ -117,7 +117,7 @@ fn first_size(bytes: &[u8]) -> Result<usize, BlockFault>
     }
 }
 
-/// The size of a record of a classic capture.
+/// Returns the size of a record of a classic capture.
 #[tactic(auto, unfolding(crate::specs::Sizes::record_size))]
 fn record_size(order: Endian, bytes: &[u8]) -> Result<usize, BlockFault>
     requires { 16 ≤ length bytes.now }
@@ -132,7 +132,7 @@ fn record_size(order: Endian, bytes: &[u8]) -> Result<usize, BlockFault>
     Ok(size)
 }
 
-/// The size of a block behind a section header.
+/// Returns the size of a block after a section header.
 #[tactic(auto, unfolding(crate::specs::Sizes::next_size))]
 fn next_size(order: Endian, bytes: &[u8]) -> Result<usize, BlockFault>
     requires { 12 ≤ length bytes.now }
@@ -146,7 +146,7 @@ fn next_size(order: Endian, bytes: &[u8]) -> Result<usize, BlockFault>
     block_size(order, 12, bytes)
 }
 
-/// The size of a block, by its first bytes.
+/// Returns the size of a block, by its first bytes.
 pub(crate) fn size_in(kind: Kind, bytes: &[u8]) -> Result<usize, BlockFault>
     requires { spec.head_size kind ≤ length bytes.now }
     ensures size { result ≡ spec.size_in kind bytes.now }

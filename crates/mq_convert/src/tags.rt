@@ -7,14 +7,14 @@ ghost use Rattle.mq_convert.specs.Frames.{framed};
 use crate::frames::Frame;
 use mq_pcap::Endian;
 
-/// Whether a type is that of a tag.
+/// Returns whether a type is that of a tag.
 fn is_tag(kind: u16) -> bool
     ensures { result ≡ spec.is_tag kind }
 {
     kind == 0x8100 || kind == 0x88a8 || kind == 0x9100
 }
 
-/// The network that the outermost tag names.
+/// Returns the network that the outermost tag names.
 pub(crate) fn tag_of(frame: &Frame<'_>) -> Option<u64>
     ensures { result ≡ spec.tag_of (framed frame.now) }
 {
@@ -26,7 +26,7 @@ pub(crate) fn tag_of(frame: &Frame<'_>) -> Option<u64>
     }
 }
 
-/// The frame without its tags.
+/// Returns the frame without its tags.
 #[inline(always)]
 pub(crate) fn untagged(frame: Frame<'_>) -> Frame<'_>
     ensures { framed result ≡ spec.untagged (framed frame.entry) }
@@ -41,7 +41,7 @@ pub(crate) fn untagged(frame: Frame<'_>) -> Frame<'_>
     }
 }
 
-/// What stands behind the tags.
+/// Returns the frame that follows the tags.
 fn behind_tags(addresses: [u8; 12], kind: u16, payload: &[u8]) -> Frame<'_>
     ensures { framed result ≡ spec.behind_tags addresses kind payload.now }
 {

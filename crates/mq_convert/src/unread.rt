@@ -12,29 +12,29 @@ use crate::frames::is_read_link;
 use crate::packet::Packet;
 use arrayvec::ArrayVec;
 
-/// How many link types are counted one by one.
+/// The most link types that are counted one by one.
 pub const MOST_LINKS: usize = 16;
 
-/// How many packets have a link type.
+/// The number of packets with a link type.
 #[derive(Clone, Copy, Default, Debug, PartialEq, Eq)]
 pub struct LinkCount {
     /// The link type.
     pub link: u16,
-    /// How many packets of it were written.
+    /// The number of its packets that were written.
     pub count: u64,
 }
 
-/// The packets that were written and whose link type isn't read.
+/// The written packets whose link type isn't read.
 #[derive(Drop)]
 pub struct Unread {
-    /// How many they are.
+    /// The number of these packets.
     pub count: u64,
-    /// How many have each link type, for the first `MOST_LINKS` link types in the order in which they first come.
+    /// Their number for each of the first `MOST_LINKS` link types, in the order in which these first come.
     pub links: ArrayVec<LinkCount, MOST_LINKS>,
 }
 
 impl LinkCount {
-    /// The same behind a packet of this link type.
+    /// Returns the row after a packet of this link type.
     fn raised(self, link: u16) -> LinkCount
         ensures { result ≡ spec.raised link self }
     {
@@ -49,7 +49,7 @@ impl LinkCount {
 }
 
 impl Unread {
-    /// No packets.
+    /// Returns the counts of no packets.
     pub(crate) fn none() -> Unread
         ensures { Tallies [] result }
     {
@@ -87,7 +87,7 @@ impl Unread {
         };
     }
 
-    /// Whether a packet of a link type gets no row of its own: there is one, or no room for one.
+    /// Returns whether a packet of a link type gets no new row: it has one, or there is no room.
     fn is_known(&self, link: u16) -> bool
         ensures { result ≡ spec.is_known link self.now.links.items }
     {
@@ -95,7 +95,7 @@ impl Unread {
     }
 }
 
-/// Whether a row is of this link type.
+/// Returns whether one of the rows has this link type.
 fn has(rows: &[LinkCount], link: u16) -> bool
     ensures { result ≡ list_any (spec.is_of link) rows.now }
 {
@@ -106,7 +106,7 @@ fn has(rows: &[LinkCount], link: u16) -> bool
     found
 }
 
-/// The rows behind a packet of this link type.
+/// Returns the rows after a packet of this link type.
 fn raised(rows: &[LinkCount], link: u16) -> ArrayVec<LinkCount, MOST_LINKS>
     requires { length rows.now ≤ 16 }
     ensures { result.items ≡ map (spec.raised link) rows.now }
