@@ -12,6 +12,7 @@ pub mod ReadSoFar
 pub mod ReplayTexts
 pub mod ReplayedSoFar
 pub mod Replays
+pub mod Rooms
 pub mod Shown
 pub mod Ticking
 pub mod WrittenReplays

@@ -29,7 +29,7 @@ mod waiting;
 pub use asked::Asked;
 pub use captured_family::{CapturedDatagram, CapturedFamily};
 pub use ending::is_gap;
-pub use listing::show;
+pub use listing::{show, show_in};
 pub use replay_fault::ReplayFault;
 pub use replaying::replay;
 pub use stamps::{Stamps, first_moment};

@@ -2,6 +2,7 @@
 
 ghost use Rattle.std.specs.Prelude.{◌≡◌, ◌≤◌, ◌+◌, ◌++◌, ◌||◌, is_err, length};
 ghost use Rattle.arrayvec.specs.ArrayVec.{array_vec_len};
+ghost use Rattle.mq_arena.specs.Vectors.{Takes, bytes_for};
 ghost use Rattle.mq_count.specs.Streams.{inner_of, has_failed};
 ghost use Rattle.mq_pcap.specs.Capture.{most_bytes};
 ghost use Rattle.mq_pcap.specs.Filling.{input_of};
@@ -16,17 +17,18 @@ ghost use Rattle.mq_replay.specs.Putting.{PutsListing, PutsPacket, PutsPackets, 
 use crate::replay_fault::{ReplayFault, is_failed_write};
 use crate::stamps::Stamps;
 use crate::waiting::write_before_wait;
+use mq_arena::{OfAllocator, VectorSource, filled};
 use mq_count::Watched;
 use mq_lines::{LineKey, put_address, put_igmp, put_mld};
 use mq_pcap::{GREATEST_PACKET, Inner, LinkType, PcapReader, Supply, unwrap_frame};
 use mq_text::{LineFault, Text, flush, make_room, put, put_decimal};
-use std::alloc::Allocator;
+use std::alloc::{AllocError, Allocator};
 use std::io::{Read, Write};
 
 /// Writes a line for each packet of a capture, and returns how many there are. Memory for one packet is allocated
 /// before anything is read or written. If the capture has a fault, the lines of all packets before it are written
 /// first. Before a read that may wait by the stream's `supply`, the lines of all packets so far are written.
-pub fn show<A: Allocator, S: Supply, R: Read, W: Write>(
+pub fn show<A: Allocator + Copy, S: Supply, R: Read, W: Write>(
     alloc: A,
     supply: &S,
     reader: &mut Watched<R>,
@@ -39,9 +41,27 @@ pub fn show<A: Allocator, S: Supply, R: Read, W: Write>(
     ensures failed { has_failed writer.new ≡ has_failed writer.old || spec.is_failed_write result }
     ensures memory { result ≡ Err ReplayFault.Memory → (reader.new ≡ reader.old) × (writer.new ≡ writer.old) }
 {
-    let mut packet = match vec![in alloc; 0; GREATEST_PACKET] {
-        Ok(packet) => packet,
-        Err(_) => return Err(ReplayFault::Memory),
+    show_in(&mut OfAllocator(alloc), supply, reader, writer)
+}
+
+/// Acts like `show`, with memory for one packet from `memory`. Fails with `Memory` only if that is refused.
+pub fn show_in<A: Allocator, M: VectorSource<A>, S: Supply, R: Read, W: Write>(
+    memory: &mut M,
+    supply: &S,
+    reader: &mut Watched<R>,
+    writer: &mut Watched<W>,
+) -> Result<u64, ReplayFault>
+    ensures shows { Shows
+        (input_of R.remaining reader.old) (input_of R.remaining reader.new)
+        (W.contents (inner_of writer.old)) (W.contents (inner_of writer.new))
+        result }
+    ensures failed { has_failed writer.new ≡ has_failed writer.old || spec.is_failed_write result }
+    ensures memory { result ≡ Err ReplayFault.Memory → (reader.new ≡ reader.old) × (writer.new ≡ writer.old) }
+    ensures takes { Takes (bytes_for 1 most_bytes) (M.less_than memory.old) (M.less_than memory.new) (spec.is_granted result) }
+{
+    let packet: Result<Vec<u8, A>, AllocError> = filled(memory, 0, GREATEST_PACKET);
+    let Ok(mut packet) = packet else {
+        return Err(ReplayFault::Memory);
     };
     show_by(packet.as_mut_slice(), supply, reader, writer)
 }
