@@ -1,11 +1,13 @@
 -- The size of a block, by its first bytes. The blocks of a classic capture are its header and its records.
 use Rattle.std.specs.Prelude.{◌≡◌, ℕ, ◌+◌, ◌-◌, ◌%◌, nat_lt, Bool, true, false, not, ◌==◌, if◌then◌else◌, List, [], ◌∷◌, ◌++◌, length, take, drop, ◌≤◌, Option, None, Some, Result, Ok, Err}
+use Rattle.mq_arena.specs.Vectors.{bytes_for, item_bytes}
 use Rattle.mq_pcap.specs.declared.form.Endian.{Endian}
 use Rattle.mq_pcap.specs.declared.form.Endian.TheVariants.{Big, Little}
 use Rattle.mq_pcap.specs.declared.form.Fraction.{Fraction}
 use Rattle.mq_pcap.specs.declared.form.Fraction.TheVariants.{Microseconds, Nanoseconds}
 use Rattle.mq_pcap.specs.Capture.{field, magic_of}
 use Rattle.mq_pcap.specs.Tests.{first_that_holds}
+use Rattle.mq_convert.specs.contracts.kept.Kept as kept
 use Rattle.mq_convert.specs.declared.context.Kind.{Kind}
 use Rattle.mq_convert.specs.declared.context.Kind.TheVariants.{Start, Classic, Section}
 use Rattle.mq_convert.specs.declared.fault.BlockFault.{BlockFault}
@@ -99,3 +101,7 @@ size_of kind bytes = size_in kind (take (head_size kind) bytes)
 pub record IsWhole (kind : Kind) (block : List ℕ) : Type 0 where
   pub head : head_size kind ≤ length block
   pub size : size_of kind block ≡ Ok (length block)
+
+-- the bytes of the packets that later ones are compared with; there are none if packets may go out again
+unfoldable pub bytes_of_gone : (once : Bool) → ℕ
+bytes_of_gone once = bytes_for (item_bytes kept.the_row) (if once then 256 else 0)

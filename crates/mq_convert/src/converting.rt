@@ -1,6 +1,7 @@
 //! The conversion of a file.
 
-ghost use Rattle.std.specs.Prelude.{◌≡◌, ◌≤◌, ◌||◌, ◌++◌, List, [], is_err, length, option_to_list, IfOk};
+ghost use Rattle.std.specs.Prelude.{◌≡◌, ◌≤◌, ◌+◌, ◌||◌, ◌++◌, List, [], is_err, length, option_to_list, IfOk};
+ghost use Rattle.mq_arena.specs.Vectors.{Takes, bytes_for};
 ghost use Rattle.mq_count.specs.Streams.{inner_of, has_failed};
 ghost use Rattle.mq_pcap.specs.Filling.{input_of};
 ghost use Rattle.mq_text.specs.Printing.{Puts};
@@ -12,7 +13,7 @@ ghost use Rattle.mq_convert.specs.Faults as spec;
 ghost use Rattle.mq_convert.specs.Putting.{PutsCapture, ReadsBlock, block_text, held_of, records_of};
 ghost use Rattle.mq_convert.specs.Records.{file_header};
 ghost use Rattle.mq_convert.specs.Sieving.{HasSieved};
-ghost use Rattle.mq_convert.specs.Sizes.{least_size, most_seen};
+ghost use Rattle.mq_convert.specs.Sizes.{bytes_of_gone, least_size, most_seen};
 
 use crate::choice::Choice;
 use crate::context::{Context, MOST_SEEN};
@@ -23,10 +24,11 @@ use crate::packet::Packet;
 use crate::records::{FILE_HEADER, put_record};
 use crate::sieve::Sieve;
 use crate::waiting::write_before_wait;
+use mq_arena::{OfAllocator, VectorSource, filled};
 use mq_count::Watched;
 use mq_pcap::Supply;
 use mq_text::{LineFault, Text, flush, make_room, put};
-use std::alloc::Allocator;
+use std::alloc::{AllocError, Allocator};
 use std::io::{Read, Write};
 
 /// Writes the chosen packets of a file as one classic capture of Ethernet, with moments in nanoseconds. Returns the
@@ -48,13 +50,33 @@ pub fn convert<A: Allocator + Copy, S: Supply, R: Read, W: Write>(
     ensures failed { has_failed writer.new ≡ has_failed writer.old || spec.is_failed_write result }
     ensures memory { result ≡ Err ConvertFault.Memory → (reader.new ≡ reader.old) × (writer.new ≡ writer.old) }
 {
-    let mut block = match vec![in alloc; 0; MOST_SEEN] {
-        Ok(block) => block,
-        Err(_) => return Err(ConvertFault::Memory),
+    convert_in(&mut OfAllocator(alloc), choice, supply, reader, writer)
+}
+
+/// Acts like `convert`, with the memory for a block and then that for the packets to compare from `memory`. Fails with
+/// `Memory` only if one of them is refused.
+pub fn convert_in<A: Allocator, M: VectorSource<A>, S: Supply, R: Read, W: Write>(
+    memory: &mut M,
+    choice: Choice,
+    supply: &S,
+    reader: &mut Watched<R>,
+    writer: &mut Watched<W>,
+) -> Result<ConvertCounts, ConvertFault>
+    ensures converts { Converts choice
+        (input_of R.remaining reader.old) (input_of R.remaining reader.new)
+        (W.contents (inner_of writer.old)) (W.contents (inner_of writer.new))
+        result }
+    ensures failed { has_failed writer.new ≡ has_failed writer.old || spec.is_failed_write result }
+    ensures memory { result ≡ Err ConvertFault.Memory → (reader.new ≡ reader.old) × (writer.new ≡ writer.old) }
+    ensures takes { Takes (bytes_for 1 most_seen + bytes_of_gone choice.once)
+        (M.less_than memory.old) (M.less_than memory.new) (spec.is_granted result) }
+{
+    let block: Result<Vec<u8, A>, AllocError> = filled(memory, 0, MOST_SEEN);
+    let Ok(mut block) = block else {
+        return Err(ConvertFault::Memory);
     };
-    let sieve = match Sieve::new(alloc, choice) {
-        Ok(sieve) => sieve,
-        Err(_) => return Err(ConvertFault::Memory),
+    let Ok(sieve) = Sieve::new(memory, choice) else {
+        return Err(ConvertFault::Memory);
     };
     convert_by(block.as_mut_slice(), sieve, supply, reader, writer)
 }

@@ -39,7 +39,7 @@ mod waiting;
 
 pub use choice::{Choice, Which, name_of};
 pub use context::{Context, Interface, Kind, MOST_INTERFACES, MOST_SEEN};
-pub use converting::convert;
+pub use converting::{convert, convert_in};
 pub use counts::ConvertCounts;
 pub use fault::{BlockFault, ConvertFault};
 pub use unread::{LinkCount, MOST_LINKS, Unread};

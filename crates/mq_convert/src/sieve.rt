@@ -1,12 +1,14 @@
 //! The packets that go out, and their counts.
 
-ghost use Rattle.std.specs.Prelude.{◌≡◌, ◌≤◌, ◌+◌, ◌++◌, ◌∷◌, [], ℕ, List, true, IfOk, length};
+ghost use Rattle.std.specs.Prelude.{◌≡◌, ◌≤◌, ◌+◌, ◌++◌, ◌∷◌, [], ℕ, List, true, IfOk, is_ok, length};
 ghost use Rattle.std.specs.List.{list_any};
+ghost use Rattle.mq_arena.specs.Vectors.{Takes};
 ghost use Rattle.mq_convert.specs.Blocks.{captured_of};
 ghost use Rattle.mq_convert.specs.Frames.{framed};
 ghost use Rattle.mq_convert.specs.Records.{unread_link};
 ghost use Rattle.mq_convert.specs.Repeats as spec;
 ghost use Rattle.mq_convert.specs.Sieving.{HasSieved, Sifts, SiftsFrame, gone_of};
+ghost use Rattle.mq_convert.specs.Sizes.{bytes_of_gone};
 ghost use Rattle.mq_convert.specs.Tallies.{Tallies};
 
 use crate::choice::Choice;
@@ -18,6 +20,7 @@ use crate::packet::Packet;
 use crate::records::number_of;
 use crate::tags::{tag_of, untagged};
 use crate::unread::Unread;
+use mq_arena::VectorSource;
 use std::alloc::{AllocError, Allocator};
 use std::collections::VecDeque;
 use std::marker::Model;
@@ -47,14 +50,19 @@ impl<A: Allocator> Model for Sieve<A> {
 }
 
 impl<A: Allocator> Sieve<A> {
-    /// Returns the sieve before the first packet.
-    pub(crate) fn new(alloc: A, choice: Choice) -> Result<Sieve<A>, AllocError>
-        ensures { IfOk result (λ sieve. HasSieved choice [] sieve) }
+    /// Returns the sieve before the first packet, allocated from `memory`.
+    #[tactic(auto, unfolding(crate::specs::Sizes::bytes_of_gone))]
+    pub(crate) fn new<M: VectorSource<A>>(
+        memory: &mut M,
+        choice: Choice,
+    ) -> Result<Sieve<A>, AllocError>
+        ensures sieve { IfOk result (λ sieve. HasSieved choice [] sieve) }
+        ensures memory { Takes (bytes_of_gone choice.once) (M.less_than memory.old) (M.less_than memory.new) (is_ok result) }
     {
         let room = if choice.once { MOST_GONE } else { 0 };
         Ok(Sieve {
             choice,
-            gone: VecDeque::with_capacity(alloc, room)?,
+            gone: VecDeque::from_vec(memory.with_capacity(room)?),
             counts: ConvertCounts {
                 unread: Unread::none(),
                 repeated: 0,
