@@ -31,5 +31,5 @@ pub use captured_family::{CapturedDatagram, CapturedFamily};
 pub use ending::is_gap;
 pub use listing::{show, show_in};
 pub use replay_fault::ReplayFault;
-pub use replaying::replay;
+pub use replaying::{replay, replay_in};
 pub use stamps::{Stamps, first_moment};

@@ -1,7 +1,11 @@
 //! The replay of a capture.
 
 ghost use Rattle.std.specs.Prelude.{◌≡◌, ◌<◌, ◌≤◌, ◌+◌, ◌^◌, ◌||◌, length, IfSome};
+ghost use Rattle.std.specs.contracts.vec.Vec as page;
+ghost use denote.Builtin.{u16};
+ghost use Rattle.mq_arena.specs.Vectors.{Takes, bytes_for};
 ghost use Rattle.mq_count.specs.Streams.{inner_of, has_failed};
+ghost use Rattle.mq_link.specs.Sizes.{bytes_of_link, bytes_of_workspace};
 ghost use Rattle.mq_link.specs.State.{link_at};
 ghost use Rattle.mq_pcap.specs.declared.reader_state.Progress.TheVariants.{Reading};
 ghost use Rattle.mq_pcap.specs.Capture.{endless, most_bytes};
@@ -18,12 +22,13 @@ use crate::one_packet::replay_packet;
 use crate::replay_fault::{ReplayFault, is_failed_write};
 use crate::stamps::{Stamps, first_moment};
 use crate::waiting::write_before_wait;
+use mq_arena::{OfAllocator, VectorSource, filled};
 use mq_count::{Moment, Watched};
 use mq_lines::LineKey;
 use mq_link::{Config, Counts, Link};
 use mq_pcap::{GREATEST_PACKET, PcapReader, Supply, unwrap_frame};
 use mq_text::{Text, flush};
-use std::alloc::Allocator;
+use std::alloc::{AllocError, Allocator};
 use std::io::{Read, Write};
 
 /// Replays a capture on a link with this configuration, and returns its counters.
@@ -54,10 +59,44 @@ where
     ensures failed { has_failed writer.new ≡ has_failed writer.old || spec.is_failed_write result }
     ensures memory { result ≡ Err ReplayFault.Memory → (reader.new ≡ reader.old) × (writer.new ≡ writer.old) }
 {
-    let Ok(mut packet) = vec![in alloc; 0; GREATEST_PACKET] else {
+    replay_in(
+        &mut OfAllocator(alloc),
+        config,
+        asked,
+        supply,
+        reader,
+        writer,
+    )
+}
+
+/// Acts like `replay`, with the memory for one packet and then that of the link from `memory`. Fails with `Memory` only
+/// if one of them is refused.
+pub fn replay_in<F: CapturedFamily, A: Allocator, M: VectorSource<A>, S: Supply, R: Read, W: Write>(
+    memory: &mut M,
+    config: Config<F>,
+    asked: Asked,
+    supply: &S,
+    reader: &mut Watched<R>,
+    writer: &mut Watched<W>,
+) -> Result<Counts, ReplayFault>
+where
+    F::Address: LineKey,
+    requires { IfSome asked.until (λ moment. moment ≤ 2 ^ 53) }
+    ensures replays { Replays config asked
+        (input_of R.remaining reader.old) (input_of R.remaining reader.new)
+        (W.contents (inner_of writer.old)) (W.contents (inner_of writer.new))
+        result }
+    ensures failed { has_failed writer.new ≡ has_failed writer.old || spec.is_failed_write result }
+    ensures memory { result ≡ Err ReplayFault.Memory → (reader.new ≡ reader.old) × (writer.new ≡ writer.old) }
+    ensures takes { Takes
+        (bytes_for 1 most_bytes + (bytes_of_workspace F.Address.row config.limits + bytes_of_link (page.the_row u16 A.row ⟦<A as Allocator>⟧) F.Address.row config.limits))
+        (M.less_than memory.old) (M.less_than memory.new) (spec.is_granted result) }
+{
+    let packet: Result<Vec<u8, A>, AllocError> = filled(memory, 0, GREATEST_PACKET);
+    let Ok(mut packet) = packet else {
         return Err(ReplayFault::Memory);
     };
-    let Ok(mut link) = Link::new(alloc, config, first_moment()) else {
+    let Ok(mut link) = Link::new_in(memory, config, first_moment()) else {
         return Err(ReplayFault::Memory);
     };
     replay_on(
