@@ -1,6 +1,8 @@
 //! The memory of the page for the work of a call.
 
-ghost use Rattle.std.specs.Prelude.{◌≡◌, [], IfSome};
+ghost use Rattle.std.specs.Prelude.{◌≡◌, ◌+◌, ◌*◌, ◌≤◌, ◌↔◌, [], IfSome, IsSome, length, vec_capacity};
+ghost use Rattle.mq_arena.specs.Arenas.{memory_of};
+ghost use Rattle.mq_arena.specs.Blocks.{size_of_block};
 
 use crate::text_room::TextRoom;
 use mq_arena::{Arena, Unused};
@@ -13,12 +15,14 @@ pub(crate) struct WorkRoom {
 }
 
 impl WorkRoom {
-    /// Returns the memory of a call whose text goes to `length` bytes, or None if there isn't room for as much text.
-    pub(crate) fn of(memory: &'static mut [u128], length: usize) -> Option<WorkRoom>
-        ensures { IfSome result (λ room. room.text.bytes.items ≡ []) }
+    /// Returns the memory of a call whose text goes to `size` bytes, or None if there isn't room for as much text.
+    pub(crate) fn of(memory: &'static mut [u128], size: usize) -> Option<WorkRoom>
+        ensures granted { IsSome result ↔ (size ≤ 16 * length memory.old) }
+        ensures text { IfSome result (λ room. (room.text.bytes.items ≡ []) × (vec_capacity room.text.bytes ≡ size)) }
+        ensures rest { IfSome result (λ room. memory_of room.rest + size_of_block size ≡ 16 * length memory.old) }
     {
         let mut unused = Unused::of(memory);
-        let Ok(bytes) = unused.vec_with_capacity(length) else {
+        let Ok(bytes) = unused.vec_with_capacity(size) else {
             return None;
         };
         let left = unused.size();
