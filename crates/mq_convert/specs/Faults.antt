@@ -33,7 +33,7 @@ is_failed_write (Err answer.Write) = true
 is_failed_write (Err answer.Memory) = false
 is_failed_write (Err (answer.Block number f)) = false
 
--- whether the result isn't that memory was refused
+-- the result isn't that memory was refused
 abbrev pub is_granted : {X : Type 0} → Result X ConvertFault → Bool
 is_granted (Ok x) = true
 is_granted (Err answer.Read) = true

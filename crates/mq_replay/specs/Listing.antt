@@ -104,7 +104,7 @@ is_failed_write (Err answer.Write) = true
 is_failed_write (Err (answer.Gap number)) = false
 is_failed_write (Err answer.Memory) = false
 
--- whether the result, of a listing or of a replay, isn't that memory was refused
+-- the result, of a listing or of a replay, isn't that memory was refused
 abbrev pub is_granted : {T : Type 0} → Result T ReplayFault → Bool
 is_granted (Ok x) = true
 is_granted (Err (answer.Pcap f)) = true
