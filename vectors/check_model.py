@@ -188,6 +188,20 @@ class Check:
             return None
         return message if message.what == "query" else None
 
+    def headers(self, moment, number, kind, frame, packet):
+        """Finds the faults of the headers of a packet with a query of the router that is checked, whether hosts act on it or not."""
+        try:
+            is_query = read(self.family, packet.body, packet.source, packet.to).what == "query"
+        except Fault:
+            return
+        if packet.source != self.it.own or not is_query:
+            return
+        ttl, alert = (packet.hops, packet.alert) if packet.to else headers4(ip_in(kind, frame))
+        if ttl != 1:
+            self.find(self.link.next_order(), f"{moment} packet {number} ttl {ttl}, wanted 1")
+        if not alert:
+            self.find(self.link.next_order(), f"{moment} packet {number} alert 0")
+
     def see(self, moment, message, to):
         has_response = message.version > 1 or self.family is not IGMP
         terms = Terms(message.version, message.response if has_response else None, message.fields, to)
@@ -271,12 +285,25 @@ class Check:
         return Verdict([*lines, totals, *self.basis.lines()], lines, unjudged)
 
 
+def ip_in(kind, frame):
+    """The IP packet of a frame."""
+    return frame[0 if kind == 101 else 18 if frame[12:14] == b"\x81\x00" else 14 :]
+
+
 def destination(kind, frame, packet):
     """Where a packet goes."""
-    if packet.to:
-        return packet.to
-    start = 0 if kind == 101 else 18 if frame[12:14] == b"\x81\x00" else 14
-    return frame[start + 16 : start + 20]
+    return packet.to or ip_in(kind, frame)[16:20]
+
+
+def headers4(packet):
+    """The TTL of an IPv4 packet, and whether it has a Router Alert option (type 148)."""
+    at, end = 20, 4 * (packet[0] & 15)
+    while at < end and packet[at] not in (0, 148):
+        if packet[at] != 1 and (at + 1 == end or packet[at + 1] < 2):
+            break
+        at += 1 if packet[at] == 1 else packet[at + 1]
+    # (An option that ends behind the header is none.)
+    return packet[8], at + 1 < end and packet[at] == 148 and 2 <= packet[at + 1] <= end - at
 
 
 def check(data, family, options, within=100):
@@ -293,6 +320,7 @@ def check(data, family, options, within=100):
             it.basis.count(kind, frame, packet)
             if isinstance(packet, str) or packet.family is not family:
                 continue
+            it.headers(moment, number, kind, frame, packet)
             message = it.query_in(packet)
             if message:
                 it.see(moment, message, destination(kind, frame, packet))

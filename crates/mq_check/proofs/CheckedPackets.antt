@@ -10,54 +10,64 @@ use Rattle.mq_link.specs.Link.{LinkValue}
 use Rattle.mq_text.specs.Printing.{OutputState}
 use Rattle.mq_replay.specs.Report.{Datagram, datagram_of}
 use Rattle.mq_check.specs.declared.finding.Finding.{Finding}
-use Rattle.mq_check.specs.Check.{Checked, Outcome, behind, settled_at, destination_in, noted, received, seen_at, seen_or_received, with_datagram, with_packet, ticked_through}
+use Rattle.mq_check.specs.Check.{Checked, Outcome, behind, settled_at, destination_in, faults_in, noted, received, seen_at, seen_or_received, with_datagram, with_faults, with_packet, ticked_through}
 use Rattle.mq_check.specs.Basis.{with_frame}
 use Rattle.mq_check.specs.Basis as basis
-use Rattle.mq_check.specs.Checking.{CheckingValue, query_came, settled}
+use Rattle.mq_check.specs.Checking.{CheckingValue, faults_seen, query_came, settled}
 use Rattle.mq_check.specs.Coming.{Comes, checked_in}
 use Rattle.mq_check.specs.Queries.{query_seen}
 use Rattle.mq_check.specs.Telling.{ToldState}
 use Rattle.mq_check.specs.Wanting.{WantingValue}
 use Rattle.mq_check.proofs.Tellings.{none_told, then_told, told_broken, broken_as}
 
+-- what waits behind the headers of a packet
+abbrev pub headers_checked : Configuration → LinkType → (within moment number : ℕ) → (frame : List ℕ) → Datagram → CheckingValue → CheckingValue
+headers_checked config link within moment number frame datagram c = faults_seen moment number (faults_in config link frame datagram) (settled within moment c)
+
 -- a datagram that the link was handed
-pub datagram_received : (config : Configuration) (link : LinkType) (within moment : ℕ) (frame : List ℕ) (datagram : Datagram) (before after : LinkValue) (queries left new : WantingValue)
-    → left.checking ≡ settled within moment queries.checking → left.basis ≡ queries.basis → checked_in after new ≡ received config within moment datagram (checked_in before left) → None ≡ query_seen config datagram
-    → checked_in after new ≡ (with_datagram config link within moment frame (Some datagram) (checked_in before queries)).checked
-datagram_received config link within moment frame datagram before after queries left new settles kept is none =
+pub datagram_received : (config : Configuration) (link : LinkType) (within moment number : ℕ) (frame : List ℕ) (datagram : Datagram) (before after : LinkValue) (queries left new : WantingValue)
+    → left.checking ≡ headers_checked config link within moment number frame datagram queries.checking → left.basis ≡ queries.basis → checked_in after new ≡ received config within moment datagram (checked_in before left) → None ≡ query_seen config datagram
+    → checked_in after new ≡ (with_datagram config link within moment number frame (Some datagram) (checked_in before queries)).checked
+datagram_received config link within moment number frame datagram before after queries left new settles kept is none =
     let to = destination_in config.family link frame datagram.envelope in
     is ∙ (λ i. received config within moment datagram (record { link = before.state; checking = settles i; basis = kept i }))
-    ∙ ap (λ (q : Option (Query ℕ)). seen_or_received config within moment to datagram q (settled_at within moment (checked_in before queries))) none
+    ∙ ap (λ (q : Option (Query ℕ)). seen_or_received config within moment to datagram q (with_faults moment number (faults_in config link frame datagram) (settled_at within moment (checked_in before queries)))) none
 
 -- a query of the querier that is checked
-pub datagram_seen : (config : Configuration) (link : LinkType) (within moment to : ℕ) (frame : List ℕ) (datagram : Datagram) (query : Query ℕ) (before : LinkValue) (queries left new : WantingValue)
-    → left.checking ≡ settled within moment queries.checking → new.basis ≡ queries.basis → new.checking ≡ query_came within config before.state.election.timing moment to query left.checking
+pub datagram_seen : (config : Configuration) (link : LinkType) (within moment number to : ℕ) (frame : List ℕ) (datagram : Datagram) (query : Query ℕ) (before : LinkValue) (queries left new : WantingValue)
+    → left.checking ≡ headers_checked config link within moment number frame datagram queries.checking → new.basis ≡ queries.basis → new.checking ≡ query_came within config before.state.election.timing moment to query left.checking
     → to ≡ destination_in config.family link frame datagram.envelope → Some query ≡ query_seen config datagram
-    → checked_in before new ≡ (with_datagram config link within moment frame (Some datagram) (checked_in before queries)).checked
+    → checked_in before new ≡ (with_datagram config link within moment number frame (Some datagram) (checked_in before queries)).checked
 unfolding seen_at
-datagram_seen config link within moment to frame datagram query before queries left new settles kept is goes some =
+datagram_seen config link within moment number to frame datagram query before queries left new settles kept is goes some =
     let there = destination_in config.family link frame datagram.envelope in
-    let r = settled_at within moment (checked_in before queries) in
+    let r = with_faults moment number (faults_in config link frame datagram) (settled_at within moment (checked_in before queries)) in
     let here : checked_in before new ≡ seen_at config within moment there query r =
     λ i. record { link = before.state; checking = (is ∙ (λ j. query_came within config before.state.election.timing moment (goes j) query (settles j))) i; basis = kept i } in
     here ∙ ap (λ (q : Option (Query ℕ)). seen_or_received config within moment there datagram q r) some
 
 -- the same in the terms of the code
-pub received_comes : (config config' : Configuration) (link : LinkType) (within moment m : ℕ) (frame : List ℕ) (datagram : Datagram) (before after : LinkValue) (queries left new : WantingValue)
-    → None ≡ query_seen config' datagram → config' ≡ config → m ≡ moment → left.checking ≡ settled within m queries.checking → left.basis ≡ queries.basis → checked_in after new ≡ received config within moment datagram (checked_in before left)
-    → checked_in after new ≡ (with_datagram config link within moment frame (Some datagram) (checked_in before queries)).checked
-received_comes config config' link within moment m frame datagram before after queries left new none is_config is_moment settles kept is =
-    datagram_received config link within moment frame datagram before after queries left new (settles ∙ ap (λ (k : ℕ). settled within k queries.checking) is_moment) kept is (none ∙ ap (λ (k : Configuration). query_seen k datagram) is_config)
+pub received_comes : (config config' : Configuration) (link : LinkType) (within moment m number : ℕ) (frame : List ℕ) (datagram : Datagram) (before after : LinkValue) (queries left new : WantingValue)
+    → None ≡ query_seen config' datagram → config' ≡ config → m ≡ moment → left.checking ≡ headers_checked config' link within m number frame datagram queries.checking → left.basis ≡ queries.basis → checked_in after new ≡ received config within moment datagram (checked_in before left)
+    → checked_in after new ≡ (with_datagram config link within moment number frame (Some datagram) (checked_in before queries)).checked
+received_comes config config' link within moment m number frame datagram before after queries left new none is_config is_moment settles kept is =
+    datagram_received config link within moment number frame datagram before after queries left new (settles ∙ (λ i. headers_checked (is_config i) link within (is_moment i) number frame datagram queries.checking)) kept is (none ∙ ap (λ (k : Configuration). query_seen k datagram) is_config)
 
-pub seen_comes : (config config' config'' : Configuration) (link : LinkType) (within moment m to : ℕ) (frame : List ℕ) (datagram : Datagram) (query : Query ℕ) (family : Family) (in_force : Timing) (before : LinkValue) (queries left new : WantingValue)
-    → Some query ≡ query_seen config' datagram → config' ≡ config → m ≡ moment → left.checking ≡ settled within m queries.checking → new.basis ≡ queries.basis
+pub seen_comes : (config config' config'' : Configuration) (link : LinkType) (within moment m number to : ℕ) (frame : List ℕ) (datagram : Datagram) (query : Query ℕ) (family : Family) (in_force : Timing) (before : LinkValue) (queries left new : WantingValue)
+    → Some query ≡ query_seen config' datagram → config' ≡ config → m ≡ moment → left.checking ≡ headers_checked config' link within m number frame datagram queries.checking → new.basis ≡ queries.basis
     → new.checking ≡ query_came within config'' in_force moment to query left.checking → config'' ≡ config → in_force ≡ before.state.election.timing
     → to ≡ destination_in family link frame datagram.envelope → family ≡ config.family
-    → checked_in before new ≡ (with_datagram config link within moment frame (Some datagram) (checked_in before queries)).checked
-seen_comes config config' config'' link within moment m to frame datagram query family in_force before queries left new some is_config is_moment settles kept is same_config is_timing goes is_family =
-    datagram_seen config link within moment to frame datagram query before queries left new (settles ∙ ap (λ (k : ℕ). settled within k queries.checking) is_moment) kept
+    → checked_in before new ≡ (with_datagram config link within moment number frame (Some datagram) (checked_in before queries)).checked
+seen_comes config config' config'' link within moment m number to frame datagram query family in_force before queries left new some is_config is_moment settles kept is same_config is_timing goes is_family =
+    datagram_seen config link within moment number to frame datagram query before queries left new (settles ∙ (λ i. headers_checked (is_config i) link within (is_moment i) number frame datagram queries.checking)) kept
     (is ∙ (λ i. query_came within (same_config i) (is_timing i) moment to query left.checking)) (goes ∙ ap (λ (f : Family). destination_in f link frame datagram.envelope) is_family)
     (some ∙ ap (λ (k : Configuration). query_seen k datagram) is_config)
+
+-- the headers were looked at behind what was over, by a configuration that the code names otherwise
+pub headers_left : (config config' : Configuration) (link : LinkType) (within m number : ℕ) (frame : List ℕ) (datagram : Datagram) (old mid new : CheckingValue)
+    → config ≡ config' → mid ≡ settled within m old → new ≡ faults_seen m number (faults_in config link frame datagram) mid → new ≡ headers_checked config' link within m number frame datagram old
+headers_left config config' link within m number frame datagram old mid new is_config settles looks =
+    looks ∙ (λ i. faults_seen m number (faults_in (is_config i) link frame datagram) (settles i))
 
 -- one thing came, and then another, or a write failed by then
 pub both_came : {S T E E' : Type 0} (family : Family) (first second : Outcome) (a b c : LinkValue) (p q r : WantingValue) (t u v : ToldState) (x y z : OutputState) (s : S) (answer : Result T E)
@@ -86,30 +96,30 @@ pub counted_in : (family other : Family) (datagram : Datagram) (old new : Wantin
 counted_in family other datagram old new is same = is ∙ ap (λ (f : Family). record old { basis = basis.with_datagram f datagram (basis.with_packet old.basis) }) same
 
 -- a packet, behind the ticks up to its moment
-pub packet_came : {S T E E' : Type 0} (family : Family) (config : Configuration) (link : LinkType) (within moment : ℕ) (frame : List ℕ) (datagram : Option Datagram) (a b c : LinkValue) (p q noting r : WantingValue) (t u v : ToldState) (x y z : OutputState)
+pub packet_came : {S T E E' : Type 0} (family : Family) (config : Configuration) (link : LinkType) (within moment number : ℕ) (frame : List ℕ) (datagram : Option Datagram) (a b c : LinkValue) (p q noting r : WantingValue) (t u v : ToldState) (x y z : OutputState)
     (s : S) (answer : Result T E) → config ≡ a.config → datagram ≡ datagram_of config.family (carried_in link frame)
     → Comes {E = E'} family (ticked_through a.config within moment (checked_in a p)) a b p q t u x y (Ok s)
     → noting ≡ record q { basis = with_frame config.family link frame (carried_in link frame) datagram q.basis }
-    → Comes family (with_datagram b.config link within moment frame datagram (checked_in b noting)) b c noting r u v y z answer
-    → Comes family (with_packet a.config link within moment frame (checked_in a p)) a c p r t v x z answer
+    → Comes family (with_datagram b.config link within moment number frame datagram (checked_in b noting)) b c noting r u v y z answer
+    → Comes family (with_packet a.config link within moment number frame (checked_in a p)) a c p r t v x z answer
 unfolding with_packet
-packet_came {S} {T} {E} family config link within moment frame datagram a b c p q noting r t u v x y z s answer is_config carries one notes other =
+packet_came {S} {T} {E} family config link within moment number frame datagram a b c p q noting r t u v x y z s answer is_config carries one notes other =
     let before = ticked_through a.config within moment (checked_in a p) in
     let counted : WantingValue = record q { basis = with_frame config.family link frame (carried_in link frame) datagram q.basis } in
     let there = carries ∙ ap (λ (k : Configuration). datagram_of k.family (carried_in link frame)) is_config in
     let last = datagram_of a.config.family (carried_in link frame) in
-    let same : with_datagram b.config link within moment frame datagram (checked_in b counted) ≡ with_datagram a.config link within moment frame last (noted a.config link frame last before.checked) =
-    λ i. with_datagram (one.same_config i) link within moment frame (there i) (noted (is_config i) link frame (there i) (one.checked i)) in
-    let second = subst (λ (w : WantingValue). Comes {T = T} {E = E} family (with_datagram b.config link within moment frame datagram (checked_in b w)) b c w r u v y z answer) notes other in
+    let same : with_datagram b.config link within moment number frame datagram (checked_in b counted) ≡ with_datagram a.config link within moment number frame last (noted a.config link frame last before.checked) =
+    λ i. with_datagram (one.same_config i) link within moment number frame (there i) (noted (is_config i) link frame (there i) (one.checked i)) in
+    let second = subst (λ (w : WantingValue). Comes {T = T} {E = E} family (with_datagram b.config link within moment number frame datagram (checked_in b w)) b c w r u v y z answer) notes other in
     let as_it_is = subst (λ (o : Outcome). Comes {T = T} {E = E} family o b c counted r u v y z answer) same second in
     both_came family before _ a b c p q r t u v x y z s answer one
     (record { same_config = as_it_is.same_config; same_own = as_it_is.same_own; checked = as_it_is.checked; tells = as_it_is.tells })
 
-pub packet_broken : {T E E' : Type 0} (family : Family) (link : LinkType) (within moment : ℕ) (frame : List ℕ) (a b : LinkValue) (p q : WantingValue) (t u : ToldState) (x y : OutputState) (e : E) (e' : E')
+pub packet_broken : {T E E' : Type 0} (family : Family) (link : LinkType) (within moment number : ℕ) (frame : List ℕ) (a b : LinkValue) (p q : WantingValue) (t u : ToldState) (x y : OutputState) (e : E) (e' : E')
     → Comes {T = T} family (ticked_through a.config within moment (checked_in a p)) a b p q t u x y (Err e)
-    → Comes {T = T} family (with_packet a.config link within moment frame (checked_in a p)) a b p q t u x y (Err e')
+    → Comes {T = T} family (with_packet a.config link within moment number frame (checked_in a p)) a b p q t u x y (Err e')
 unfolding with_packet
-packet_broken family link within moment frame a b p q t u x y e e' one = first_broken family _ _ _ a b p q t u x y e e' one
+packet_broken family link within moment number frame a b p q t u x y e e' one = first_broken family _ _ _ a b p q t u x y e e' one
 
 -- the ticks up to a moment that the code names otherwise
 pub ticks_at : {T E : Type 0} (family : Family) (within m n : ℕ) (a b : LinkValue) (p q : WantingValue) (t u : ToldState) (x y : OutputState) (answer : Result T E) → m ≡ n
@@ -118,6 +128,6 @@ ticks_at {T} {E} family within m n a b p q t u x y answer same comes =
     subst (λ (k : ℕ). Comes {T = T} {E = E} family (ticked_through a.config within k (checked_in a p)) a b p q t u x y answer) same comes
 
 -- a packet without a datagram of the family
-pub nothing_came : {E : Type 0} (family : Family) (config : Configuration) (link : LinkType) (within moment : ℕ) (frame : List ℕ) (a : LinkValue) (p : WantingValue) (t : ToldState) (x : OutputState)
-    → Comes {T = Unit} {E = E} family (with_datagram config link within moment frame None (checked_in a p)) a a p p t t x x (Ok tt)
-nothing_came family config link within moment frame a p t x = record { same_config = refl; same_own = refl; checked = refl; tells = none_told family t x tt }
+pub nothing_came : {E : Type 0} (family : Family) (config : Configuration) (link : LinkType) (within moment number : ℕ) (frame : List ℕ) (a : LinkValue) (p : WantingValue) (t : ToldState) (x : OutputState)
+    → Comes {T = Unit} {E = E} family (with_datagram config link within moment number frame None (checked_in a p)) a a p p t t x x (Ok tt)
+nothing_came family config link within moment number frame a p t x = record { same_config = refl; same_own = refl; checked = refl; tells = none_told family t x tt }

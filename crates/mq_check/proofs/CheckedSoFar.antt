@@ -50,7 +50,7 @@ behind_packet config within form first number captured more moment after is_full
 abbrev behind_gap : Configuration → (within : ℕ) → Form → (first : Option ℕ) → (before number : ℕ) → Captured → List Captured → Checked → (is_gap : Bool) → Course
 behind_gap config within form first before number captured more r is_gap =
     let moment = moment_of first before captured.stamp in
-    let after = with_packet config form.link within moment captured.bytes r in
+    let after = with_packet config form.link within moment number captured.bytes r in
     elim is_gap [
       | true ↦ record { checked = r; found = []; moment = before; fault = Some (Gap number) }
       | false ↦ behind_packet config within form first number captured more moment after after.checked.checking.waiting.is_full
@@ -71,28 +71,28 @@ no_gap config within form first before number captured more r none = ap (behind_
 -- too much waits behind a packet
 pub full_behind : (config : Configuration) (within : ℕ) (form : Form) (first : Option ℕ) (before number : ℕ) (captured : Captured) (more : List Captured) (r : Checked)
     → is_gap before (moment_of first before captured.stamp) ≡ false
-    → (with_packet config form.link within (moment_of first before captured.stamp) captured.bytes r).checked.checking.waiting.is_full ≡ true
+    → (with_packet config form.link within (moment_of first before captured.stamp) number captured.bytes r).checked.checking.waiting.is_full ≡ true
     → with_packets config form.link within first before number (captured ∷ more) r ≡ record {
-      checked = (with_packet config form.link within (moment_of first before captured.stamp) captured.bytes r).checked;
-      found = (with_packet config form.link within (moment_of first before captured.stamp) captured.bytes r).found;
+      checked = (with_packet config form.link within (moment_of first before captured.stamp) number captured.bytes r).checked;
+      found = (with_packet config form.link within (moment_of first before captured.stamp) number captured.bytes r).found;
       moment = moment_of first before captured.stamp;
       fault = Some (Waiting number);
     }
 full_behind config within form first before number captured more r none full =
     let moment = moment_of first before captured.stamp in
-    let after = with_packet config form.link within moment captured.bytes r in
+    let after = with_packet config form.link within moment number captured.bytes r in
     no_gap config within form first before number captured more r none ∙ ap (behind_packet config within form first number captured more moment after) full
 
 one_more : (config : Configuration) (within : ℕ) (form : Form) (first : Option ℕ) (before number : ℕ) (captured : Captured) (more : List Captured) (r : Checked)
     → is_gap before (moment_of first before captured.stamp) ≡ false
-    → (with_packet config form.link within (moment_of first before captured.stamp) captured.bytes r).checked.checking.waiting.is_full ≡ false
+    → (with_packet config form.link within (moment_of first before captured.stamp) number captured.bytes r).checked.checking.waiting.is_full ≡ false
     → with_packets config form.link within first before number (captured ∷ more) r
-    ≡ course_behind (with_packet config form.link within (moment_of first before captured.stamp) captured.bytes r).found
+    ≡ course_behind (with_packet config form.link within (moment_of first before captured.stamp) number captured.bytes r).found
     (with_packets config form.link within (Some (unwrap_or first captured.stamp)) (moment_of first before captured.stamp) (number + 1) more
-    (with_packet config form.link within (moment_of first before captured.stamp) captured.bytes r).checked)
+    (with_packet config form.link within (moment_of first before captured.stamp) number captured.bytes r).checked)
 one_more config within form first before number captured more r none free =
     let moment = moment_of first before captured.stamp in
-    let after = with_packet config form.link within moment captured.bytes r in
+    let after = with_packet config form.link within moment number captured.bytes r in
     no_gap config within form first before number captured more r none ∙ ap (behind_packet config within form first number captured more moment after) free
 
 pub none_left : (config : Configuration) (within : ℕ) (form : Form) (first : Option ℕ) (before number : ℕ) (r : Checked)
@@ -103,10 +103,10 @@ none_left config within form first before number r = refl
 -- what is found by one packet, whether or not too much waits behind it
 pub found_by_one : (config : Configuration) (within : ℕ) (form : Form) (first : Option ℕ) (before number : ℕ) (captured : Captured) (r : Checked)
     → is_gap before (moment_of first before captured.stamp) ≡ false
-    → (with_packets config form.link within first before number (captured ∷ []) r).found ≡ (with_packet config form.link within (moment_of first before captured.stamp) captured.bytes r).found
+    → (with_packets config form.link within first before number (captured ∷ []) r).found ≡ (with_packet config form.link within (moment_of first before captured.stamp) number captured.bytes r).found
 found_by_one config within form first before number captured r none =
     let moment = moment_of first before captured.stamp in
-    let after = with_packet config form.link within moment captured.bytes r in
+    let after = with_packet config form.link within moment number captured.bytes r in
     ap (λ (c : Course). c.found) (no_gap config within form first before number captured [] r none)
     ∙ by_room moment after after.checked.checking.waiting.is_full
   where
@@ -118,15 +118,15 @@ found_by_one config within form first before number captured r none =
 -- one packet more was read and checked
 pub next_checked : (config : Configuration) (within : ℕ) (form : Form) (old mid new : InputState) (first : Option ℕ) (before number : ℕ) (r : Checked) (found : List (Finding ℕ)) (buffer : List ℕ) (packet : Packet)
     → is_gap before (moment_of first before packet.stamp_ms) ≡ false
-    → (with_packet config form.link within (moment_of first before packet.stamp_ms) (take packet.length buffer) r).checked.checking.waiting.is_full ≡ false
+    → (with_packet config form.link within (moment_of first before packet.stamp_ms) (number + 1) (take packet.length buffer) r).checked.checking.waiting.is_full ≡ false
     → IsCheckedTo config within form old mid first before number r found → Reads form (number + 1) mid new buffer (Ok (Some packet))
     → IsCheckedTo config within form old new (Some (unwrap_or first packet.stamp_ms)) (moment_of first before packet.stamp_ms) (number + 1)
-    (with_packet config form.link within (moment_of first before packet.stamp_ms) (take packet.length buffer) r).checked
-    (found ++ (with_packet config form.link within (moment_of first before packet.stamp_ms) (take packet.length buffer) r).found)
+    (with_packet config form.link within (moment_of first before packet.stamp_ms) (number + 1) (take packet.length buffer) r).checked
+    (found ++ (with_packet config form.link within (moment_of first before packet.stamp_ms) (number + 1) (take packet.length buffer) r).found)
 next_checked config within form old mid new first before number r found buffer packet none free to reads =
     let captured : Captured = record { stamp = packet.stamp_ms; bytes = take packet.length buffer } in
     let moment = moment_of first before packet.stamp_ms in
-    let after = with_packet config form.link within moment captured.bytes r in
+    let after = with_packet config form.link within moment (number + 1) captured.bytes r in
     record {
       bytes = to.bytes ++ reads.bytes;
       packets = to.packets ++ (captured ∷ []);

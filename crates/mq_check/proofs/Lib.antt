@@ -3,6 +3,7 @@ pub mod CheckedPackets
 pub mod CheckedSoFar
 pub mod EndedChecks
 pub mod Entering
+pub mod IpOptions
 pub mod LinkedSlots
 pub mod MarkedEntries
 pub mod OpenedChecks

@@ -9,7 +9,7 @@ use Rattle.std.proofs.lemmas.Grind.{get_or_after_one}
 use Rattle.mq_check.specs.declared.asked.Asked.{Asked}
 use Rattle.mq_check.specs.declared.asked.Asked.TheVariants.{AllGroups, Group, Source}
 use Rattle.mq_check.specs.declared.entry.Entry.{Entry}
-use Rattle.mq_check.specs.declared.entry.Entry.TheVariants.{Wanted, Seen, Interval, Silence}
+use Rattle.mq_check.specs.declared.entry.Entry.TheVariants.{Wanted, Seen, Interval, Silence, Packet}
 use Rattle.mq_check.specs.declared.terms.Terms.{Terms}
 use Rattle.mq_check.specs.declared.waiting.Side.{Side}
 use Rattle.mq_check.specs.declared.waiting.Side.TheVariants.{OfWanted, OfSeen}
@@ -55,11 +55,13 @@ free_slot width OfWanted asked (Wanted moment asked' terms is_optional false) fr
 free_slot width OfWanted asked (Seen moment asked' terms partner is_querier) free = cc
 free_slot width OfWanted asked (Interval moment after wanted) free = cc
 free_slot width OfWanted asked (Silence moment after wanted) free = cc
+free_slot width OfWanted asked (Packet moment number fault) free = cc
 free_slot width OfSeen asked (Wanted moment asked' terms is_optional is_found) free = cc
 free_slot width OfSeen asked (Seen moment asked' terms (Some partner) is_querier) free = let found = both_second (is_same asked asked') true free in cc
 free_slot width OfSeen asked (Seen moment asked' terms None is_querier) free = ap (slot_of width OfSeen) (sym (same_asked asked asked' (both_first _ _ free)))
 free_slot width OfSeen asked (Interval moment after wanted) free = cc
 free_slot width OfSeen asked (Silence moment after wanted) free = cc
+free_slot width OfSeen asked (Packet moment number fault) free = cc
 
 and_false : (a : Bool) → a && false ≡ false
 and_false true = refl
@@ -71,10 +73,12 @@ joined_free OfWanted asked other (Wanted moment asked' terms is_optional is_foun
 joined_free OfWanted asked other (Seen moment asked' terms partner is_querier) = refl
 joined_free OfWanted asked other (Interval moment after wanted) = refl
 joined_free OfWanted asked other (Silence moment after wanted) = refl
+joined_free OfWanted asked other (Packet moment number fault) = refl
 joined_free OfSeen asked other (Wanted moment asked' terms is_optional is_found) = refl
 joined_free OfSeen asked other (Seen moment asked' terms partner is_querier) = and_false (is_same asked asked')
 joined_free OfSeen asked other (Interval moment after wanted) = refl
 joined_free OfSeen asked other (Silence moment after wanted) = refl
+joined_free OfSeen asked other (Packet moment number fault) = refl
 
 pub marked_none : (width : ℕ) (t : TrailsValue) → t.slots ≡ [] → AreMarked width [] t
 marked_none width t none = record {
@@ -225,6 +229,7 @@ joined_bounded width latest other (Wanted moment asked terms is_optional is_foun
 joined_bounded width latest other (Seen moment asked terms partner is_querier) bound = bound
 joined_bounded width latest other (Interval moment after wanted) bound = bound
 joined_bounded width latest other (Silence moment after wanted) bound = bound
+joined_bounded width latest other (Packet moment number fault) bound = bound
 
 pub bounded_joined : (width : ℕ) (entries : List (Entry ℕ)) (at : ℕ) (other : Terms ℕ) (entry : Entry ℕ) (latest : List ℕ) → AreBounded width entries latest → at < length entries → entry ≡ get_or entries at entry
     → AreBounded width (set entries at (joined other entry)) latest
@@ -264,6 +269,7 @@ later_than width moment group latest (Wanted moment' asked terms is_optional is_
 later_than width moment group latest (Seen moment' asked terms partner is_querier) below bound = refl
 later_than width moment group latest (Interval moment' after wanted) below bound = refl
 later_than width moment group latest (Silence moment' after wanted) below bound = refl
+later_than width moment group latest (Packet moment' number fault) below bound = refl
 
 none_of_all : (p : Entry ℕ → Bool) (entries : List (Entry ℕ)) → ((place : ℕ) → place < length entries → p (entry_at entries place) ≡ false) → list_any p entries ≡ false
 none_of_all p [] none = refl

@@ -160,15 +160,15 @@ ended_by_gap config terms form old mid new before after held left first last num
 -- too much waits behind the packet that was read
 pub ended_by_full : (config : Configuration) (terms : CheckTerms) (form : Form) (old mid new : InputState) (before after : Option (List ℕ)) (held left : List ℕ) (first : Option ℕ) (last number : ℕ) (buffer : List ℕ) (packet : Packet) (r : Checked) (found : List (Finding ℕ))
     → is_gap last (moment_of first last packet.stamp_ms) ≡ false
-    → (with_packet config form.link terms.within (moment_of first last packet.stamp_ms) (take packet.length buffer) r).checked.checking.waiting.is_full ≡ true
+    → (with_packet config form.link terms.within (moment_of first last packet.stamp_ms) (number + 1) (take packet.length buffer) r).checked.checking.waiting.is_full ≡ true
     → IsCheckedTo config terms.within form old mid first last number r found
-    → Passes before after held left (finding_lines config.family terms.cite (found ++ (with_packet config form.link terms.within (moment_of first last packet.stamp_ms) (take packet.length buffer) r).found))
+    → Passes before after held left (finding_lines config.family terms.cite (found ++ (with_packet config form.link terms.within (moment_of first last packet.stamp_ms) (number + 1) (take packet.length buffer) r).found))
     → mid.failed ≡ old.failed → Reads form (number + 1) mid new buffer (Ok (Some packet))
     → PutsPackets config terms form old new before after held left (Err (answer.Waiting (number + 1)))
 ended_by_full config terms form old mid new before after held left first last number buffer packet r found none full to passed same reads =
     let captured : Captured = record { stamp = packet.stamp_ms; bytes = take packet.length buffer } in
     let moment = moment_of first last packet.stamp_ms in
-    let next = with_packet config form.link terms.within moment captured.bytes r in
+    let next = with_packet config form.link terms.within moment (number + 1) captured.bytes r in
     let at = broken_at config terms form old mid new first last number buffer packet r next.checked found next.found moment (answer.Waiting (number + 1)) to reads (full_behind config terms.within form first last (number + 1) captured [] r none full) in
     let count = at.count in
     record {
@@ -185,7 +185,7 @@ ended_by_full config terms form old mid new before after held left first last nu
 pub ended_broken : (config : Configuration) (terms : CheckTerms) (form : Form) (old mid new : InputState) (before after : Option (List ℕ)) (held left : List ℕ) (first : Option ℕ) (last number : ℕ) (buffer : List ℕ) (packet : Packet) (r : Checked) (found : List (Finding ℕ))
     → is_gap last (moment_of first last packet.stamp_ms) ≡ false
     → IsCheckedTo config terms.within form old mid first last number r found
-    → GrowsByBeginning before after (held ++ finding_lines config.family terms.cite (found ++ (with_packet config form.link terms.within (moment_of first last packet.stamp_ms) (take packet.length buffer) r).found))
+    → GrowsByBeginning before after (held ++ finding_lines config.family terms.cite (found ++ (with_packet config form.link terms.within (moment_of first last packet.stamp_ms) (number + 1) (take packet.length buffer) r).found))
     → Reads form (number + 1) mid new buffer (Ok (Some packet))
     → PutsPackets config terms form old new before after held left (Err answer.Write)
 ended_broken config terms form old mid new before after held left first last number buffer packet r found none to begun reads =
@@ -354,23 +354,23 @@ lines_broken config terms family found told told' a b e is_family is_cite tells 
     (subst (λ (f : Family). GrowsByBeginning a.held b.held (told.held ++ finding_lines f told.cite found)) is_family tells.text)
 
 -- a packet in the terms of the code
-pub comes_as : {T E : Type 0} (family : Family) (config config' : Configuration) (kind kind' : LinkType) (within m m' : ℕ) (frame : List ℕ) (r : Checked) (link link' : LinkValue) (queries queries' : WantingValue) (told told' : ToldState) (a b : OutputState) (answered : Result T E)
-    → config ≡ config' → kind ≡ kind' → m ≡ m' → Comes family (with_packet config kind within m frame r) link link' queries queries' told told' a b answered
-    → Comes family (with_packet config' kind' within m' frame r) link link' queries queries' told told' a b answered
-comes_as {T} {E} family config config' kind kind' within m m' frame r link link' queries queries' told told' a b answered is_config is_kind is_moment comes =
-    let same : with_packet config kind within m frame r ≡ with_packet config' kind' within m' frame r = λ i. with_packet (is_config i) (is_kind i) within (is_moment i) frame r in
+pub comes_as : {T E : Type 0} (family : Family) (config config' : Configuration) (kind kind' : LinkType) (within m m' number : ℕ) (frame : List ℕ) (r : Checked) (link link' : LinkValue) (queries queries' : WantingValue) (told told' : ToldState) (a b : OutputState) (answered : Result T E)
+    → config ≡ config' → kind ≡ kind' → m ≡ m' → Comes family (with_packet config kind within m number frame r) link link' queries queries' told told' a b answered
+    → Comes family (with_packet config' kind' within m' number frame r) link link' queries queries' told told' a b answered
+comes_as {T} {E} family config config' kind kind' within m m' number frame r link link' queries queries' told told' a b answered is_config is_kind is_moment comes =
+    let same : with_packet config kind within m number frame r ≡ with_packet config' kind' within m' number frame r = λ i. with_packet (is_config i) (is_kind i) within (is_moment i) number frame r in
     subst (λ (o : Outcome). Comes {T = T} {E = E} family o link link' queries queries' told told' a b answered) same comes
 
 -- one packet more was read and checked
 pub next_so_far : (config : Configuration) (within : ℕ) (form : Form) (old mid new : InputState) (first : Option ℕ) (last number : ℕ) (r after : Checked) (found : List (Finding ℕ)) (buffer : List ℕ) (packet : Packet) (stamped : ℕ) (stamps : Stamps)
     → stamps ≡ record { first = Some (unwrap_or first packet.stamp_ms); before = stamped } → stamped ≡ moment_of first last packet.stamp_ms
     → is_gap last (moment_of first last packet.stamp_ms) ≡ false
-    → after ≡ (with_packet config form.link within (moment_of first last packet.stamp_ms) (take packet.length buffer) r).checked → after.checking.waiting.is_full ≡ false
+    → after ≡ (with_packet config form.link within (moment_of first last packet.stamp_ms) (number + 1) (take packet.length buffer) r).checked → after.checking.waiting.is_full ≡ false
     → IsCheckedTo config within form old mid first last number r found → Reads form (number + 1) mid new buffer (Ok (Some packet))
-    → IsCheckedTo config within form old new stamps.first stamps.before (number + 1) after (found ++ (with_packet config form.link within (moment_of first last packet.stamp_ms) (take packet.length buffer) r).found)
+    → IsCheckedTo config within form old new stamps.first stamps.before (number + 1) after (found ++ (with_packet config form.link within (moment_of first last packet.stamp_ms) (number + 1) (take packet.length buffer) r).found)
 next_so_far config within form old mid new first last number r after found buffer packet stamped stamps are is_stamped none is free to reads =
     let moment = moment_of first last packet.stamp_ms in
-    let more = (with_packet config form.link within moment (take packet.length buffer) r).found in
+    let more = (with_packet config form.link within moment (number + 1) (take packet.length buffer) r).found in
     let room = ap (λ (c : Checked). c.checking.waiting.is_full) (sym is) ∙ free in
     let next = next_checked config within form old mid new first last number r found buffer packet none room to reads in
     let same : record { first = Some (unwrap_or first packet.stamp_ms); before = moment } ≡ stamps = (λ i. record { first = Some (unwrap_or first packet.stamp_ms); before = sym is_stamped i }) ∙ sym are in

@@ -23,11 +23,14 @@ use Rattle.mq_check.specs.declared.basis.Basis.{Basis}
 use Rattle.mq_check.specs.declared.check_fault.CheckFault.{CheckFault}
 use Rattle.mq_check.specs.declared.check_fault.CheckFault.TheVariants.{Pcap, Gap, Waiting}
 use Rattle.mq_check.specs.declared.finding.Finding.{Finding}
+use Rattle.mq_check.specs.declared.headers.HeaderFault.{HeaderFault}
+use Rattle.mq_check.specs.declared.headers.Headers.{Headers}
 use Rattle.mq_check.specs.declared.totals.Totals.{Totals}
 use Rattle.mq_check.specs.Basis.{basis_at_start, named, with_frame, with_other_querier}
 use Rattle.mq_check.specs.Basis as basis
-use Rattle.mq_check.specs.Checking.{CheckingValue, checking_at_start, told, settled, with_messages, role_changed, role_after_tick, query_came, told_at_end}
+use Rattle.mq_check.specs.Checking.{CheckingValue, checking_at_start, told, settled, faults_seen, with_messages, role_changed, role_after_tick, query_came, told_at_end}
 use Rattle.mq_check.specs.FindingLines.{finding_lines, last_lines}
+use Rattle.mq_check.specs.Headers.{faults_if, headers4_in, is_own_query}
 use Rattle.mq_check.specs.Queries.{query_seen}
 
 -- A check in progress: the link, its treatment of queries, and the basis of the verdict.
@@ -114,6 +117,16 @@ abbrev pub destination_in : Family → LinkType → (frame : List ℕ) → Envel
 destination_in Igmp link frame envelope = destination4_in (packet_in link frame)
 destination_in Mld link frame envelope = envelope.destination
 
+-- the headers of a packet with a datagram
+abbrev pub headers_in : Family → LinkType → (frame : List ℕ) → Envelope → Headers
+headers_in Igmp link frame envelope = headers4_in (packet_in link frame)
+headers_in Mld link frame envelope = record { ttl = envelope.hop_limit; alert = envelope.alert }
+
+-- their faults, if the datagram is a query of the checked querier
+abbrev pub faults_in : Configuration → LinkType → (frame : List ℕ) → Datagram → List HeaderFault
+faults_in config link frame datagram =
+    faults_if (is_own_query config datagram) (headers_in config.family link frame datagram.envelope)
+
 -- the check after the link received a datagram, by which the role may change
 unfoldable pub received : Configuration → (within moment : ℕ) → Datagram → Checked → Checked
 received config within moment datagram r =
@@ -138,13 +151,18 @@ abbrev pub seen_or_received : Configuration → (within moment to : ℕ) → Dat
 seen_or_received config within moment to datagram (Some query) r = seen_at config within moment to query r
 seen_or_received config within moment to datagram None r = received config within moment datagram r
 
--- the outcome of a datagram, after the expired entries are reported
-abbrev pub with_datagram : Configuration → LinkType → (within moment : ℕ) → (frame : List ℕ) → Option Datagram → Checked → Outcome
-with_datagram config link within moment frame None r = quiet r
-with_datagram config link within moment frame (Some datagram) r =
+-- the check after these faults were seen in the headers of the packet with this number
+abbrev pub with_faults : (moment number : ℕ) → List HeaderFault → Checked → Checked
+with_faults moment number faults r = record r { checking = faults_seen moment number faults r.checking }
+
+-- the outcome of a datagram of the packet with this number, after the expired entries are reported
+abbrev pub with_datagram : Configuration → LinkType → (within moment number : ℕ) → (frame : List ℕ) → Option Datagram → Checked → Outcome
+with_datagram config link within moment number frame None r = quiet r
+with_datagram config link within moment number frame (Some datagram) r =
     let to = destination_in config.family link frame datagram.envelope in
+    let before = with_faults moment number (faults_in config link frame datagram) (settled_at within moment r) in
     record {
-      checked = seen_or_received config within moment to datagram (query_seen config datagram) (settled_at within moment r);
+      checked = seen_or_received config within moment to datagram (query_seen config datagram) before;
       found = told within moment r.checking;
     }
 
@@ -153,13 +171,13 @@ abbrev pub noted : Configuration → LinkType → (frame : List ℕ) → Option 
 noted config link frame datagram r =
     record r { basis = with_frame config.family link frame (carried_in link frame) datagram r.basis }
 
--- the outcome of a packet, after the ticks up to its moment
-unfoldable pub with_packet : Configuration → LinkType → (within moment : ℕ) → (frame : List ℕ) → Checked → Outcome
-with_packet config link within moment frame r =
+-- the outcome of a packet with this number, after the ticks up to its moment
+unfoldable pub with_packet : Configuration → LinkType → (within moment number : ℕ) → (frame : List ℕ) → Checked → Outcome
+with_packet config link within moment number frame r =
     let before = ticked_through config within moment r in
     let datagram = datagram_of config.family (carried_in link frame) in
     behind before.found
-    (with_datagram config link within moment frame datagram (noted config link frame datagram before.checked))
+    (with_datagram config link within moment number frame datagram (noted config link frame datagram before.checked))
 
 -- The outcome of packets: the check, the findings, the moment of the last packet, and the fault that ended it, if any.
 pub record Course : Type 0 where
@@ -175,7 +193,7 @@ with_packets config link within first before number [] r =
     record { checked = r; found = []; moment = before; fault = None }
 with_packets config link within first before number (packet ∷ packets) r =
     let moment = moment_of first before packet.stamp in
-    let after = with_packet config link within moment packet.bytes r in
+    let after = with_packet config link within moment number packet.bytes r in
     elim (is_gap before moment) [
       | true ↦ record { checked = r; found = []; moment = before; fault = Some (Gap number) }
       | false ↦

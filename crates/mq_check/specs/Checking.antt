@@ -8,9 +8,10 @@ use Rattle.mq_table.specs.Timing.{query_interval}
 use Rattle.mq_check.specs.declared.asked.Asked.{Asked}
 use Rattle.mq_check.specs.declared.asked.Asked.TheVariants.{AllGroups}
 use Rattle.mq_check.specs.declared.entry.Entry.{Entry}
-use Rattle.mq_check.specs.declared.entry.Entry.TheVariants.{Wanted, Seen, Interval, Silence}
+use Rattle.mq_check.specs.declared.entry.Entry.TheVariants.{Wanted, Seen, Interval, Silence, Packet}
 use Rattle.mq_check.specs.declared.finding.Finding.{Finding}
 use Rattle.mq_check.specs.declared.finding.Finding.TheVariants as finding
+use Rattle.mq_check.specs.declared.headers.HeaderFault.{HeaderFault}
 use Rattle.mq_check.specs.declared.phase.Phase.{Phase}
 use Rattle.mq_check.specs.declared.phase.Phase.TheVariants.{Starting, Heard, Returned, NotQuerier}
 use Rattle.mq_check.specs.declared.terms.Terms.{Terms}
@@ -113,6 +114,13 @@ specific_seen moment terms asked c =
     let seen = fold (with_seen moment terms) c asked in
     record seen { specific = counted_up seen.specific }
 
+-- faults in the headers of a packet with a query of the querier that is checked, one after the other
+abbrev pub with_fault : (moment number : ℕ) → CheckingValue → HeaderFault → CheckingValue
+with_fault moment number c fault = record c { waiting = with_entry (Packet moment number fault) c.waiting }
+
+abbrev pub faults_seen : (moment number : ℕ) → List HeaderFault → CheckingValue → CheckingValue
+faults_seen moment number faults c = fold (with_fault moment number) c faults
+
 -- The check after a query of the checked querier was seen. A general query is compared with one of the timing in force.
 unfoldable pub query_came : (within : ℕ) → Configuration → (in_force : Timing) → (moment to : ℕ) → Query ℕ → CheckingValue → CheckingValue
 query_came within config in_force moment to query c =
@@ -174,6 +182,7 @@ found_of_last (Seen moment asked terms None is_querier) = []
 found_of_last (Seen moment asked terms (Some wanted) is_querier) = differences_found moment asked terms wanted
 found_of_last (Interval moment after wanted) = finding.Interval moment after wanted ∷ []
 found_of_last (Silence moment after wanted) = finding.Silence moment after wanted ∷ []
+found_of_last (Packet moment number fault) = finding.Packet moment number fault ∷ []
 
 abbrev pub silence_found : (configured : Timing) → (moment : ℕ) → Option ℕ → List (Finding ℕ)
 silence_found configured moment None = []

@@ -5,7 +5,7 @@ use Rattle.std.specs.List.{list_any}
 use Rattle.mq_check.specs.declared.asked.Asked.{Asked}
 use Rattle.mq_check.specs.declared.asked.Asked.TheVariants.{AllGroups, Group, Source}
 use Rattle.mq_check.specs.declared.entry.Entry.{Entry}
-use Rattle.mq_check.specs.declared.entry.Entry.TheVariants.{Wanted, Seen, Interval, Silence}
+use Rattle.mq_check.specs.declared.entry.Entry.TheVariants.{Wanted, Seen, Interval, Silence, Packet}
 use Rattle.mq_check.specs.declared.finding.Difference.{Difference}
 use Rattle.mq_check.specs.declared.finding.Difference.TheVariants as field
 use Rattle.mq_check.specs.declared.finding.Finding.{Finding}
@@ -19,6 +19,7 @@ moment_of (Wanted moment asked terms is_optional is_found) = moment
 moment_of (Seen moment asked terms partner is_querier) = moment
 moment_of (Interval moment after wanted) = moment
 moment_of (Silence moment after wanted) = moment
+moment_of (Packet moment number fault) = moment
 
 -- two numbers differ by at most the tolerance
 abbrev pub is_within : (within a b : ℕ) → Bool
@@ -34,6 +35,7 @@ is_free_wanted asked (Wanted moment asked' terms is_optional is_found) = is_same
 is_free_wanted asked (Seen moment asked' terms partner is_querier) = false
 is_free_wanted asked (Interval moment after wanted) = false
 is_free_wanted asked (Silence moment after wanted) = false
+is_free_wanted asked (Packet moment number fault) = false
 
 -- a seen query that has no partner yet
 abbrev pub is_free_seen : Asked ℕ → Entry ℕ → Bool
@@ -41,12 +43,14 @@ is_free_seen asked (Wanted moment asked' terms is_optional is_found) = false
 is_free_seen asked (Seen moment asked' terms partner is_querier) = is_same asked asked' && not (is_some partner)
 is_free_seen asked (Interval moment after wanted) = false
 is_free_seen asked (Silence moment after wanted) = false
+is_free_seen asked (Packet moment number fault) = false
 
 abbrev pub terms_in : Entry ℕ → Option (Terms ℕ)
 terms_in (Wanted moment asked terms is_optional is_found) = Some terms
 terms_in (Seen moment asked terms partner is_querier) = Some terms
 terms_in (Interval moment after wanted) = None
 terms_in (Silence moment after wanted) = None
+terms_in (Packet moment number fault) = None
 
 -- the entry with a partner, whose terms a seen query keeps
 abbrev pub joined : Terms ℕ → Entry ℕ → Entry ℕ
@@ -54,6 +58,7 @@ joined other (Wanted moment asked terms is_optional is_found) = Wanted moment as
 joined other (Seen moment asked terms partner is_querier) = Seen moment asked terms (Some other) is_querier
 joined other (Interval moment after wanted) = Interval moment after wanted
 joined other (Silence moment after wanted) = Silence moment after wanted
+joined other (Packet moment number fault) = Packet moment number fault
 
 -- the terms of the first entry that satisfies a test, and the entries after that one has found its partner
 abbrev pub first_terms : (Entry ℕ → Bool) → List (Entry ℕ) → Option (Terms ℕ)
@@ -71,6 +76,7 @@ is_group_wanted moment group (Wanted moment' asked terms is_optional is_found) =
 is_group_wanted moment group (Seen moment' asked terms partner is_querier) = false
 is_group_wanted moment group (Interval moment' after wanted) = false
 is_group_wanted moment group (Silence moment' after wanted) = false
+is_group_wanted moment group (Packet moment' number fault) = false
 
 -- A query for sources with S set may be left out if one for their group is sent at the same moment. RFC 3376 section
 -- 6.6.3.2, RFC 3810 section 7.6.3.2.
@@ -142,3 +148,4 @@ findings_of within changed (Seen moment asked terms partner is_querier) =
     findings_of_seen within changed moment asked terms partner is_querier
 findings_of within changed (Interval moment after wanted) = finding.Interval moment after wanted ∷ []
 findings_of within changed (Silence moment after wanted) = finding.Silence moment after wanted ∷ []
+findings_of within changed (Packet moment number fault) = finding.Packet moment number fault ∷ []

@@ -10,7 +10,9 @@ use Rattle.mq_check.specs.declared.asked.Asked.TheVariants.{AllGroups, Group, So
 use Rattle.mq_check.specs.declared.finding.Difference.{Difference}
 use Rattle.mq_check.specs.declared.finding.Difference.TheVariants.{Version, Response, Suppress, Robustness, QueryInterval, Destination}
 use Rattle.mq_check.specs.declared.finding.Finding.{Finding}
-use Rattle.mq_check.specs.declared.finding.Finding.TheVariants.{Missing, Extra, Differs, Interval, Silence}
+use Rattle.mq_check.specs.declared.finding.Finding.TheVariants.{Missing, Extra, Differs, Interval, Silence, Packet}
+use Rattle.mq_check.specs.declared.headers.HeaderFault.{HeaderFault}
+use Rattle.mq_check.specs.declared.headers.HeaderFault.TheVariants.{TimeToLive, NoRouterAlert}
 use Rattle.mq_check.specs.declared.querier_address.QuerierAddress.{QuerierAddress}
 use Rattle.mq_check.specs.declared.querier_address.QuerierAddress.TheVariants.{V4, V6}
 use Rattle.mq_check.specs.declared.basis.Basis.{Basis}
@@ -44,6 +46,11 @@ at_moment moment what = decimal moment ++ what
 unfoldable pub interval_text : (passed wanted : ℕ) → List ℕ
 interval_text passed wanted = decimal passed ++ codes ", wanted " ++ decimal wanted
 
+-- the number of a packet, and what its headers say in place of TTL 1, or hop limit 1, and Router Alert
+unfoldable pub header_fault_text : (number : ℕ) → HeaderFault → List ℕ
+header_fault_text number (TimeToLive ttl) = decimal number ++ codes " ttl " ++ decimal ttl ++ codes ", wanted 1"
+header_fault_text number NoRouterAlert = decimal number ++ codes " alert 0"
+
 abbrev pub finding_text : Family → Finding ℕ → List ℕ
 finding_text family (Missing moment asked) = at_moment moment (codes " missing ") ++ asked_text family asked
 finding_text family (Extra moment asked is_querier) = at_moment moment (codes " extra ") ++ asked_text family asked
@@ -53,6 +60,7 @@ finding_text family (Interval moment after wanted) =
     at_moment moment (codes " general after ") ++ interval_text after wanted
 finding_text family (Silence moment after wanted) =
     at_moment moment (codes " general none for ") ++ interval_text after wanted
+finding_text family (Packet moment number fault) = at_moment moment (codes " packet ") ++ header_fault_text number fault
 
 -- the value for IGMP, or that for MLD
 abbrev pub of_family : {X : Type 0} → Family → (igmp mld : X) → X
@@ -100,6 +108,7 @@ section_of family (Extra moment asked is_querier) = extra_section family is_quer
 section_of family (Differs moment asked difference) = field_section family asked difference
 section_of family (Interval moment after wanted) = of_family family (codes "8.2") (codes "9.2")
 section_of family (Silence moment after wanted) = of_family family (codes "8.2") (codes "9.2")
+section_of family (Packet moment number fault) = of_family family (codes "4") (codes "5")
 
 -- the standard and its section after a finding, if they are requested, and the end of the line
 abbrev pub citation_text : Family → (cite : Bool) → Finding ℕ → List ℕ

@@ -8,6 +8,7 @@ pub mod Entries
 pub mod Examples
 pub mod FindingLines
 pub mod General
+pub mod Headers
 pub mod Numbered
 pub mod Places
 pub mod Queries

@@ -3,7 +3,7 @@ use Rattle.std.specs.Prelude.{ℕ, List, [], ◌∷◌, Option, None, Some}
 use Rattle.mq_check.specs.declared.asked.Asked.{Asked}
 use Rattle.mq_check.specs.declared.asked.Asked.TheVariants.{AllGroups, Group, Source}
 use Rattle.mq_check.specs.declared.entry.Entry.{Entry}
-use Rattle.mq_check.specs.declared.entry.Entry.TheVariants.{Wanted, Seen, Interval, Silence}
+use Rattle.mq_check.specs.declared.entry.Entry.TheVariants.{Wanted, Seen, Interval, Silence, Packet}
 use Rattle.mq_check.specs.declared.finding.Difference.{Difference}
 use Rattle.mq_check.specs.declared.finding.Difference.TheVariants as difference
 use Rattle.mq_check.specs.declared.finding.Finding.{Finding}
@@ -36,6 +36,7 @@ numbered_entry number (Seen moment asked terms partner is_querier) =
     Seen moment (numbered_asked number asked) (numbered_terms number terms) (numbered_terms_if number partner) is_querier
 numbered_entry number (Interval moment after wanted) = Interval moment after wanted
 numbered_entry number (Silence moment after wanted) = Silence moment after wanted
+numbered_entry number (Packet moment packet fault) = Packet moment packet fault
 
 abbrev pub numbered_difference : {K : Type 0} → (K → ℕ) → Difference K → Difference ℕ
 numbered_difference number (difference.Version seen wanted) = difference.Version seen wanted
@@ -58,3 +59,4 @@ numbered_finding number (finding.Differs moment asked difference) =
     finding.Differs moment (numbered_asked number asked) (numbered_difference number difference)
 numbered_finding number (finding.Interval moment after wanted) = finding.Interval moment after wanted
 numbered_finding number (finding.Silence moment after wanted) = finding.Silence moment after wanted
+numbered_finding number (finding.Packet moment packet fault) = finding.Packet moment packet fault

@@ -5,7 +5,7 @@ use Rattle.byteorder.specs.Endian.{big_bytes}
 use Rattle.mq_check.specs.declared.asked.Asked.{Asked}
 use Rattle.mq_check.specs.declared.asked.Asked.TheVariants.{AllGroups, Group, Source}
 use Rattle.mq_check.specs.declared.entry.Entry.{Entry}
-use Rattle.mq_check.specs.declared.entry.Entry.TheVariants.{Wanted, Seen, Interval, Silence}
+use Rattle.mq_check.specs.declared.entry.Entry.TheVariants.{Wanted, Seen, Interval, Silence, Packet}
 use Rattle.mq_check.specs.declared.terms.Terms.{Terms}
 use Rattle.mq_check.specs.declared.waiting.Side.{Side}
 use Rattle.mq_check.specs.declared.waiting.Side.TheVariants.{OfWanted, OfSeen}
@@ -47,6 +47,7 @@ slot_in width (Wanted moment asked terms is_optional is_found) = slot_of_wanted 
 slot_in width (Seen moment asked terms partner is_querier) = slot_of_seen width asked partner
 slot_in width (Interval moment after wanted) = unused
 slot_in width (Silence moment after wanted) = unused
+slot_in width (Packet moment number fault) = unused
 
 -- the entry at a place; after the last one, an entry that can't find a partner
 abbrev pub entry_at : List (Entry ℕ) → (place : ℕ) → Entry ℕ
@@ -64,12 +65,14 @@ wanted_slot width (Wanted moment asked terms is_optional is_found) = slot_of wid
 wanted_slot width (Seen moment asked terms partner is_querier) = unused
 wanted_slot width (Interval moment after wanted) = unused
 wanted_slot width (Silence moment after wanted) = unused
+wanted_slot width (Packet moment number fault) = unused
 
 abbrev pub wanted_moment : Entry ℕ → ℕ
 wanted_moment (Wanted moment asked terms is_optional is_found) = moment
 wanted_moment (Seen moment asked terms partner is_querier) = 0
 wanted_moment (Interval moment after wanted) = 0
 wanted_moment (Silence moment after wanted) = 0
+wanted_moment (Packet moment number fault) = 0
 
 -- no query of a slot is wanted later than the moment that is kept for the slot
 pub record AreBounded (width : ℕ) (entries : List (Entry ℕ)) (latest : List ℕ) : Type 0 where

@@ -199,7 +199,9 @@ where
         last = stamp;
         let kind = capture.link();
         let frame = &packet[..read.length];
-        check_packet(link, queries, within, kind, frame, stamp, told, writer)?;
+        check_packet(
+            link, queries, within, kind, frame, number, stamp, told, writer,
+        )?;
         if queries.checking().is_full() {
             return Err(CheckFault::Waiting { number });
         }

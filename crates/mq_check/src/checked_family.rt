@@ -2,10 +2,11 @@
 
 ghost use Rattle.std.specs.Prelude.{◌≡◌};
 ghost use Rattle.mq_wire.specs.RoundTrip.{response_lowered};
-ghost use Rattle.mq_check.specs.Check.{packet_in, destination4_in, destination_in};
+ghost use Rattle.mq_check.specs.Check.{packet_in, destination4_in, destination_in, headers_in};
 ghost use Rattle.mq_check.specs.Basis.{named};
 ghost use Rattle.mq_check.specs.Queries as spec;
 
+use crate::headers::{Headers, headers4};
 use crate::querier_address::QuerierAddress;
 use mq_count::{Addr4, Addr6};
 use mq_lines::LineKey;
@@ -26,6 +27,10 @@ where
     /// Returns the destination of the packet that a frame carries.
     fn destination(link: LinkType, frame: &[u8], envelope: &Self::Envelope) -> Self::Address
         ensures { Self.Address.number result ≡ destination_in Self.FAMILY link frame.now (Self.envelope_of envelope.now) };
+
+    /// Returns the fields of the headers of a datagram's packet that a frame of a capture carries.
+    fn headers(link: LinkType, frame: &[u8], envelope: &Self::Envelope) -> Headers
+        ensures { result ≡ headers_in Self.FAMILY link frame.now (Self.envelope_of envelope.now) };
 
     /// Returns the address of a querier of this family.
     fn named(address: Self::Address) -> QuerierAddress
@@ -71,6 +76,10 @@ impl CheckedFamily for Igmp {
         Addr4::read(&packet[16..])
     }
 
+    fn headers(link: LinkType, frame: &[u8], _envelope: &IgmpEnvelope) -> Headers {
+        headers4(packet_in(link, frame))
+    }
+
     fn named(address: Addr4) -> QuerierAddress {
         QuerierAddress::V4(address)
     }
@@ -92,6 +101,13 @@ impl CheckedFamily for Mld {
 
     fn destination(_link: LinkType, _frame: &[u8], envelope: &MldEnvelope) -> Addr6 {
         envelope.destination
+    }
+
+    fn headers(_link: LinkType, _frame: &[u8], envelope: &MldEnvelope) -> Headers {
+        Headers {
+            ttl: envelope.hop_limit,
+            alert: envelope.alert,
+        }
     }
 
     fn named(address: Addr6) -> QuerierAddress {

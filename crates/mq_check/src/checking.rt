@@ -8,6 +8,7 @@ ghost use Rattle.mq_check.specs.declared.asked.Asked.TheVariants.{Source};
 ghost use Rattle.mq_check.specs.Checking as spec;
 ghost use Rattle.mq_check.specs.Entries.{may_be_left_out};
 ghost use Rattle.mq_check.specs.General.{phase_again, silence_up_to};
+ghost use Rattle.mq_check.specs.Headers.{faults_of};
 ghost use Rattle.mq_check.specs.Numbered.{numbered_asked, numbered_terms};
 ghost use Rattle.mq_check.specs.Queries as queries;
 ghost use Rattle.mq_check.specs.Telling.{Tells};
@@ -16,6 +17,7 @@ use crate::asked::Asked;
 use crate::checked_family::CheckedFamily;
 use crate::entry::Entry;
 use crate::general::query_interval;
+use crate::headers::{HeaderFault, Headers};
 use crate::phase::Phase;
 use crate::settling::{settle, tell_rest};
 use crate::stamp::Stamp;
@@ -302,6 +304,20 @@ impl<F: Family, A: Allocator> Checking<F, A> {
     {
         self.see_all(moment, terms, query);
         self.specific = self.specific.saturating_add(1);
+    }
+
+    /// The headers of a packet with a query of the router that is checked were seen.
+    pub(crate) fn see_headers(&mut self, moment: Moment, number: u64, headers: Headers)
+        ensures { self.new ≡ spec.faults_seen moment number (faults_of headers) self.old }
+    {
+        if headers.ttl != 1 {
+            let fault = HeaderFault::TimeToLive(headers.ttl);
+            self.waiting.put(Entry::Packet(moment, number, fault));
+        }
+        if !headers.alert {
+            let fault = HeaderFault::NoRouterAlert;
+            self.waiting.put(Entry::Packet(moment, number, fault));
+        }
     }
 
     /// Returns the time without general queries up to a moment, if it is too long.

@@ -5,6 +5,7 @@ ghost use Rattle.mq_check.specs.Entries as spec;
 ghost use Rattle.mq_check.specs.Numbered.{numbered_entry, numbered_terms, numbered_terms_if};
 
 use crate::asked::Asked;
+use crate::headers::HeaderFault;
 use crate::terms::Terms;
 use mq_count::Moment;
 use mq_wire::WireKey;
@@ -21,6 +22,8 @@ pub enum Entry<K: WireKey> {
     Interval(Moment, u64, u64),
     /// A time without general queries: its end, its length, and the wanted interval.
     Silence(Moment, u64, u64),
+    /// The packet of a query has a fault in its headers: when, the number of the packet, the fault.
+    Packet(Moment, u64, HeaderFault),
 }
 
 impl<K: WireKey> Entry<K> {
@@ -32,7 +35,8 @@ impl<K: WireKey> Entry<K> {
             Entry::Wanted(moment, ..)
             | Entry::Seen(moment, ..)
             | Entry::Interval(moment, ..)
-            | Entry::Silence(moment, ..) => *moment,
+            | Entry::Silence(moment, ..)
+            | Entry::Packet(moment, ..) => *moment,
         }
     }
 

@@ -1,6 +1,7 @@
 //! Findings of a check.
 
 use crate::asked::Asked;
+use crate::headers::HeaderFault;
 use mq_count::Moment;
 use mq_wire::WireKey;
 
@@ -19,6 +20,8 @@ pub enum Finding<K: WireKey> {
     /// A silence of this many milliseconds without a general query, up to this moment. The role was lost then, or the
     /// capture ended. The last number is the wanted query interval in milliseconds.
     Silence(Moment, u64, u64),
+    /// The packet of a query has a fault in its headers: the number of the packet, and the fault.
+    Packet(Moment, u64, HeaderFault),
 }
 
 /// A field of a query that differs: the seen value, then the wanted one.

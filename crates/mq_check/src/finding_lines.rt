@@ -9,6 +9,7 @@ ghost use Rattle.mq_check.specs.Numbered.{numbered_asked, numbered_difference, n
 use crate::asked::Asked;
 use crate::basis::Basis;
 use crate::finding::{Difference, Finding};
+use crate::headers::HeaderFault;
 use crate::querier_address::QuerierAddress;
 use crate::totals::Totals;
 use mq_count::Moment;
@@ -134,6 +135,10 @@ where
             put_moment(text, moment, b" general none for ");
             put_interval(text, passed, wanted);
         }
+        Finding::Packet(moment, number, fault) => {
+            put_moment(text, moment, b" packet ");
+            put_header_fault(text, number, fault);
+        }
     }
 }
 
@@ -147,6 +152,24 @@ fn put_interval(text: &mut Text, passed: u64, wanted: u64)
     put_decimal(text, passed);
     put(text, b", wanted ");
     put_decimal(text, wanted);
+}
+
+/// Puts the number of a packet, and the fault of its headers.
+#[tactic(auto, unfolding(crate::specs::FindingLines::header_fault_text))]
+fn put_header_fault(text: &mut Text, number: u64, fault: HeaderFault)
+    requires { array_vec_len text.old + 54 ≤ 4096 }
+    ensures text { text.new.items ≡ text.old.items ++ spec.header_fault_text number fault }
+    ensures room { array_vec_len text.new ≤ array_vec_len text.old + 54 }
+{
+    put_decimal(text, number);
+    match fault {
+        HeaderFault::TimeToLive(ttl) => {
+            put(text, b" ttl ");
+            put_decimal(text, u64::from(ttl));
+            put(text, b", wanted 1");
+        }
+        HeaderFault::NoRouterAlert => put(text, b" alert 0"),
+    }
 }
 
 /// Appends the section of RFC 3376 or that of RFC 3810, by the family.
@@ -225,6 +248,7 @@ fn put_section<K: LineKey>(text: &mut Text, finding: Finding<K>)
         Finding::Extra(_, _, false) => put_of_family::<K>(text, b"6.6.2", b"7.6.2"),
         Finding::Differs(_, asked, difference) => put_field_section(text, asked, difference),
         Finding::Interval(..) | Finding::Silence(..) => put_of_family::<K>(text, b"8.2", b"9.2"),
+        Finding::Packet(..) => put_of_family::<K>(text, b"4", b"5"),
     }
 }
 

@@ -89,6 +89,9 @@ where
         Entry::Silence(moment, passed, wanted) => {
             tell_finding::<F, W>(Finding::Silence(*moment, *passed, *wanted), told, writer)
         }
+        Entry::Packet(moment, number, fault) => {
+            tell_finding::<F, W>(Finding::Packet(*moment, *number, *fault), told, writer)
+        }
     }
 }
 
@@ -116,6 +119,9 @@ where
         }
         Entry::Silence(moment, passed, wanted) => {
             tell_finding::<F, W>(Finding::Silence(*moment, *passed, *wanted), told, writer)
+        }
+        Entry::Packet(moment, number, fault) => {
+            tell_finding::<F, W>(Finding::Packet(*moment, *number, *fault), told, writer)
         }
     }
 }

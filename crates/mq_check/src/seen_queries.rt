@@ -2,6 +2,7 @@
 
 ghost use Rattle.std.specs.Prelude.{◌≡◌};
 ghost use Rattle.mq_check.specs.Queries as spec;
+ghost use Rattle.mq_check.specs.Headers.{is_own_query};
 ghost use Rattle.mq_check.specs.Numbered.{numbered_query_if};
 
 use mq_lines::LineKey;
@@ -27,6 +28,21 @@ where
         return None;
     }
     query_spelled::<F>(&datagram.envelope, datagram.body)
+}
+
+/// Returns whether a datagram is a query of the router that is checked, whether hosts act on it or not.
+pub(crate) fn is_own_query<F: CapturedFamily>(
+    config: &Config<F>,
+    datagram: &CapturedDatagram<'_, F::Envelope>,
+) -> bool
+where
+    F::Address: LineKey,
+    ensures { result
+        ≡ is_own_query config.now (record { envelope = F.envelope_of datagram.now.envelope; body = datagram.now.body.now }) }
+{
+    config.is_faultless();
+    F::is_same(F::source(&datagram.envelope), config.own())
+        && query_spelled::<F>(&datagram.envelope, datagram.body).is_some()
 }
 
 /// Parses the bytes of a datagram. Returns None if they aren't a query.

@@ -5,17 +5,17 @@ ghost use Rattle.mq_link.specs.Tick.{next_of};
 ghost use Rattle.mq_text.specs.Printing.{output_of};
 ghost use Rattle.mq_check.specs.Basis as basis;
 ghost use Rattle.mq_check.specs.Check as spec;
-ghost use Rattle.mq_check.specs.Checking.{role_changed};
+ghost use Rattle.mq_check.specs.Checking.{faults_seen, role_changed};
 ghost use Rattle.mq_check.specs.Coming.{Comes, checked_in};
 
 use crate::checked_family::CheckedFamily;
-use crate::seen_queries::query_seen;
+use crate::seen_queries::{is_own_query, query_seen};
 use crate::stamp::Stamp;
 use crate::told::Told;
 use crate::wanted_queries::WantedQueries;
 use mq_count::{Meter, Moment, Span, Watched};
 use mq_lines::LineKey;
-use mq_link::Link;
+use mq_link::{Config, Link};
 use mq_pcap::{LinkType, unwrap_frame};
 use mq_replay::CapturedDatagram;
 use mq_table::Timing;
@@ -147,6 +147,7 @@ pub(crate) fn check_packet<F: CheckedFamily, A: Allocator, W: Write>(
     within: u32,
     link_type: LinkType,
     frame: &[u8],
+    number: u64,
     stamp: Stamp,
     told: &mut Told,
     writer: &mut Watched<W>,
@@ -154,7 +155,7 @@ pub(crate) fn check_packet<F: CheckedFamily, A: Allocator, W: Write>(
 where
     F::Address: LineKey,
     requires own { queries.old.own ≡ link.old.config.own }
-    ensures { Comes F.Address.family (spec.with_packet link.old.config link_type within stamp frame.now (checked_in link.old queries.old))
+    ensures { Comes F.Address.family (spec.with_packet link.old.config link_type within stamp number frame.now (checked_in link.old queries.old))
         link.old link.new queries.old queries.new told.old told.new
         (output_of W.contents writer.old) (output_of W.contents writer.new) result }
 {
@@ -165,7 +166,7 @@ where
         Some(datagram) => {
             queries.note_datagram(&datagram);
             check_datagram(
-                link, queries, within, link_type, frame, stamp, datagram, told, writer,
+                link, queries, within, link_type, frame, number, stamp, datagram, told, writer,
             )
         }
         None => {
@@ -182,6 +183,7 @@ fn check_datagram<F: CheckedFamily, A: Allocator, W: Write>(
     within: u32,
     link_type: LinkType,
     frame: &[u8],
+    number: u64,
     stamp: Stamp,
     datagram: CapturedDatagram<'_, F::Envelope>,
     told: &mut Told,
@@ -190,7 +192,7 @@ fn check_datagram<F: CheckedFamily, A: Allocator, W: Write>(
 where
     F::Address: LineKey,
     requires own { queries.old.own ≡ link.old.config.own }
-    ensures { Comes F.Address.family (spec.with_datagram link.old.config link_type within stamp frame.now
+    ensures { Comes F.Address.family (spec.with_datagram link.old.config link_type within stamp number frame.now
         (Some (record { envelope = F.envelope_of datagram.entry.envelope; body = datagram.entry.body.now })) (checked_in link.old queries.old))
         link.old link.new queries.old queries.new told.old told.new
         (output_of W.contents writer.old) (output_of W.contents writer.new) result }
@@ -198,6 +200,15 @@ where
     link.config().is_faultless();
     let now = stamp.moment();
     queries.settle(within, now, told, writer)?;
+    see_headers(
+        queries,
+        link.config(),
+        link_type,
+        frame,
+        number,
+        now,
+        &datagram,
+    );
     let Some(query) = query_seen(link.config(), &datagram) else {
         receive(link, queries, within, stamp, &datagram);
         return Ok(());
@@ -206,4 +217,30 @@ where
     let in_force = link.timing();
     queries.see(within, link.config(), in_force, stamp, to, &query);
     Ok(())
+}
+
+/// Looks at the headers of a packet, if it has a query of the router that is checked.
+fn see_headers<F: CheckedFamily, A: Allocator>(
+    queries: &mut WantedQueries<F, A>,
+    config: &Config<F>,
+    link_type: LinkType,
+    frame: &[u8],
+    number: u64,
+    now: Moment,
+    datagram: &CapturedDatagram<'_, F::Envelope>,
+)
+where
+    F::Address: LineKey,
+    ensures { queries.new ≡ record queries.old {
+      checking =
+          faults_seen now number
+          (spec.faults_in config.now link_type frame.now
+          (record { envelope = F.envelope_of datagram.now.envelope; body = datagram.now.body.now })) queries.old.checking;
+    } }
+{
+    config.is_faultless();
+    if is_own_query(config, datagram) {
+        let headers = F::headers(link_type, frame, &datagram.envelope);
+        queries.see_headers(now, number, headers);
+    }
 }

@@ -6,11 +6,13 @@ ghost use Rattle.mq_wire.specs.Numbered.{numbered_query};
 ghost use Rattle.mq_text.specs.Printing.{output_of};
 ghost use Rattle.mq_check.specs.Basis as basis;
 ghost use Rattle.mq_check.specs.Checking as spec;
+ghost use Rattle.mq_check.specs.Headers.{faults_of};
 ghost use Rattle.mq_check.specs.Telling.{Tells};
 
 use crate::basis::Basis;
 use crate::checked_family::CheckedFamily;
 use crate::checking::Checking;
+use crate::headers::Headers;
 use crate::seen_queries::query_spelled;
 use crate::stamp::Stamp;
 use crate::told::Told;
@@ -175,6 +177,13 @@ where
     {
         self.checking.lose_role(within, configured, stamp);
         self.basis.lose_role(stamp.moment());
+    }
+
+    /// The headers of a packet with a query of the router that is checked were seen.
+    pub(crate) fn see_headers(&mut self, moment: Moment, number: u64, headers: Headers)
+        ensures { self.new ≡ record self.old { checking = spec.faults_seen moment number (faults_of headers) self.old.checking } }
+    {
+        self.checking.see_headers(moment, number, headers);
     }
 
     /// Handles a query of the checked router that is seen.

@@ -1,7 +1,7 @@
 -- A moment, and then a time.
 use Rattle.std.proofs.Common.{codes}
 use Rattle.std.proofs.lemmas.List.{append_assoc}
-use Rattle.mq_check.specs.FindingLines.{at_moment, interval_text}
+use Rattle.mq_check.specs.FindingLines.{at_moment, header_fault_text, interval_text}
 use Rattle.mq_check.proofs.finding_lines.put_finding.Goals as goal
 
 pub returns-in-Interval-clause-text : goal.returns-in-Interval-clause-text
@@ -15,3 +15,9 @@ returns-in-Silence-clause-text g c =
     let it = c.in-Silence in
     rw (c.in-Silence.is, c.put_interval-in-Silence.ensures.text, c.put_moment-in-Silence.ensures.text)
     (append_assoc c.args.text.now.items (at_moment it.moment (codes " general none for ")) (interval_text it.passed it.wanted))
+
+pub returns-in-Packet-clause-text : goal.returns-in-Packet-clause-text
+returns-in-Packet-clause-text g c =
+    let it = c.in-Packet in
+    rw (c.in-Packet.is, c.put_header_fault.ensures.text, c.put_moment-in-Packet.ensures.text)
+    (append_assoc c.args.text.now.items (at_moment it.moment (codes " packet ")) (header_fault_text it.number it.fault))
