@@ -6,7 +6,7 @@ import { eachLine } from "./lines.js";
 
 // The group of `T differs G: ..` or `T differs G S: ..`. An address may end with colons too.
 const DIFFERS = /^\d+ differs (\S+?)(?: \S+)?: (?:version|response|s|qrv|interval|to) /;
-const KIND_OF = { missing: KIND.missing, extra: KIND.extra, differs: KIND.differs, general: KIND.general };
+const KIND_OF = { missing: KIND.missing, extra: KIND.extra, differs: KIND.differs, general: KIND.general, packet: KIND.packet };
 
 export function foundIn(bytes, groups, zero, tell) {
   const table = new Table({ time: Float64Array, kind: Uint8Array, group: Uint32Array, line: Uint32Array });
@@ -16,7 +16,7 @@ export function foundIn(bytes, groups, zero, tell) {
       const [time, word, group] = text.split(" ", 3);
       const kind = KIND_OF[word];
       if (kind === undefined || time === "checked") return;
-      const name = word === "general" ? zero : word === "differs" ? text.match(DIFFERS)[1] : group;
+      const name = word === "general" || word === "packet" ? zero : word === "differs" ? text.match(DIFFERS)[1] : group;
       table.push({ time: Number(time), kind, group: groups.number(name), line: number + 1 });
     },
     tell,

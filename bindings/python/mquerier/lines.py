@@ -89,8 +89,8 @@ Event = Union[Sent, Received, Skipped, Change, End, Group, Totals]
 
 @dataclasses.dataclass(frozen=True)
 class Finding:
-    """What a querier does otherwise than is wanted. `kind` is `missing`, `extra`, `differs` or `general`; `detail` has the field or the
-    interval; `section` is None if it was not asked for."""
+    """What a querier does otherwise than is wanted. `kind` is `missing`, `extra`, `differs`, `general` or `packet`; `detail` has the
+    field, the interval, or the packet's number and header; `section` is None if it was not asked for."""
 
     time: int
     kind: str
@@ -128,7 +128,7 @@ FINDING = re.compile(
     r"(?P<time>\d+) (?:"
     r"(?P<kind>missing|extra) (?P<asked>[^ (]+(?: [^ (]+)?)"
     r"|(?P<differs>differs) (?P<of>.+?): (?P<detail>\w.*?)"
-    r"|(?P<general>general) (?P<interval>.*?)"
+    r"|(?P<other>general|packet) (?P<rest>.*?)"
     r")(?: \((?P<section>[^)]*)\))?"
 )
 
@@ -207,5 +207,5 @@ def finding_of(line: str) -> Finding:
     it = found.groupdict()
     asked = [ipaddress.ip_address(word) for word in (it["asked"] or it["of"] or "").split()]
     group, source = [*asked, None, None][:2]
-    kind = it["kind"] or it["differs"] or it["general"]
-    return Finding(int(it["time"]), kind, group, source, it["section"], it["detail"] or it["interval"] or "")
+    kind = it["kind"] or it["differs"] or it["other"]
+    return Finding(int(it["time"]), kind, group, source, it["section"], it["detail"] or it["rest"] or "")

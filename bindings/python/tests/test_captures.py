@@ -126,7 +126,7 @@ def role_line(it):
 
 def line_of(it):
     asked = " ".join(str(part) for part in (it.group, it.source) if part is not None)
-    asked += {"differs": f": {it.detail}", "general": it.detail}.get(it.kind, "")
+    asked += {"differs": f": {it.detail}", "general": it.detail, "packet": it.detail}.get(it.kind, "")
     return f"{it.time} {it.kind} {asked} ({it.section})"
 
 

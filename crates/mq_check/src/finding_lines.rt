@@ -157,9 +157,9 @@ fn put_interval(text: &mut Text, passed: u64, wanted: u64)
 /// Puts the number of a packet, and the fault of its headers.
 #[tactic(auto, unfolding(crate::specs::FindingLines::header_fault_text))]
 fn put_header_fault(text: &mut Text, number: u64, fault: HeaderFault)
-    requires { array_vec_len text.old + 54 ≤ 4096 }
+    requires { array_vec_len text.old + 55 ≤ 4096 }
     ensures text { text.new.items ≡ text.old.items ++ spec.header_fault_text number fault }
-    ensures room { array_vec_len text.new ≤ array_vec_len text.old + 54 }
+    ensures room { array_vec_len text.new ≤ array_vec_len text.old + 55 }
 {
     put_decimal(text, number);
     match fault {

@@ -7,7 +7,7 @@ use Rattle.std.specs.List.{AllByRecursion, prefix_len}
 use Rattle.std.proofs.lemmas.Bool.{le-ltb, ltb-true, ltb-false, or_right}
 use Rattle.mq_check.specs.declared.asked.Asked.{Asked}
 use Rattle.mq_check.specs.declared.entry.Entry.{Entry}
-use Rattle.mq_check.specs.declared.entry.Entry.TheVariants.{Wanted, Seen, Interval, Silence}
+use Rattle.mq_check.specs.declared.entry.Entry.TheVariants.{Wanted, Seen, Interval, Silence, Packet}
 use Rattle.mq_check.specs.declared.finding.Finding.{Finding}
 use Rattle.mq_check.specs.declared.finding.Finding.TheVariants.{Missing, Differs}
 use Rattle.mq_check.specs.declared.terms.Terms.{Terms}
@@ -101,6 +101,7 @@ ahead-holds within moment (Seen m a t None q ∷ es) xs holds ahead = ahead-hold
 ahead-holds within moment (Seen m a t (Some w) q ∷ es) xs holds ahead = ahead-holds within moment es xs holds.1 ahead.1
 ahead-holds within moment (Interval m a w ∷ es) xs holds ahead = absurd holds
 ahead-holds within moment (Silence m a w ∷ es) xs holds ahead = absurd holds
+ahead-holds within moment (Packet m number fault ∷ es) xs holds ahead = absurd holds
 
 ahead-about : (within moment : ℕ) (asked : Asked ℕ) (xs : List Expected) → AllStill within moment xs → AllStill within moment (wanted_about asked xs)
 ahead-about within moment asked [] is = is
@@ -283,3 +284,4 @@ comes within low moment changed (Seen m asked terms (Some partner) is_querier �
     (comes within m moment changed es free wanted seen later_wanted later_seen (plain_out within low moment e es free wanted seen w.holds.1 refl w)))
 comes within low moment changed (Interval m after wanted' ∷ es) free wanted seen later_wanted later_seen w = absurd w.holds
 comes within low moment changed (Silence m after wanted' ∷ es) free wanted seen later_wanted later_seen w = absurd w.holds
+comes within low moment changed (Packet m number fault ∷ es) free wanted seen later_wanted later_seen w = absurd w.holds

@@ -9,13 +9,13 @@ use Rattle.mq_check.specs.declared.finding.Finding.{Finding}
 use Rattle.mq_check.specs.declared.phase.Phase.{Phase}
 use Rattle.mq_check.specs.declared.phase.Phase.TheVariants.{Starting, Heard, Returned, NotQuerier}
 use Rattle.mq_check.specs.declared.terms.Terms.{Terms}
-use Rattle.mq_check.specs.Checking.{CheckingValue, is_querier_in, with_wanted, with_seen, with_general, general_compared, general_seen, specific_seen, role_lost, role_returned, settled, told}
+use Rattle.mq_check.specs.Checking.{CheckingValue, is_querier_in, with_wanted, with_seen, with_general, general_compared, general_seen, specific_seen, role_lost, role_returned, settled, told, with_fault}
 use Rattle.mq_check.specs.Entries.{may_be_left_out, terms_differ}
 use Rattle.mq_check.specs.General.{wrong_interval, phase_again, phase_behind, silence_up_to}
 use Rattle.mq_check.specs.Queries.{is_same}
 use Rattle.mq_check.specs.Waiting.{WaitingValue}
 use Rattle.mq_laws.specs.Pairing.{Ask, Expected, Sent, LeftOut, ask_of, asks_of, missing_of}
-use Rattle.mq_laws.specs.Events.{CheckEvent, Comes, Wants, Sees, SeesGeneral, LosesRole, HasRoleAgain, moment_behind, check_by, told_by, moment_behind_all, check_by_all, told_by_all}
+use Rattle.mq_laws.specs.Events.{CheckEvent, Comes, Wants, Sees, SeesGeneral, LosesRole, HasRoleAgain, SeesFault, moment_behind, check_by, told_by, moment_behind_all, check_by_all, told_by_all}
 use Rattle.mq_laws.specs.WantedAndSeen.{asks_at, wanted_in, seen_in, general_ask, general_returned, all_seen, all_wanted, return_seen, return_wanted, still_due, Returns}
 use Rattle.mq_laws.specs.OnTime.{AreInOrder, AreOnTime, IsAsWantedThen}
 use Rattle.mq_laws.specs.AsWanted.{AreMissed}
@@ -23,7 +23,7 @@ use Rattle.mq_laws.proofs.Held.{ask, IsKept, ascending-to}
 use Rattle.mq_laws.proofs.Same.{same_asked}
 use Rattle.mq_laws.proofs.Steps.{Stands, Stepped, general_one, returns_of, see_one, want_one}
 use Rattle.mq_laws.proofs.Comings.{WantedFrom, SeenFrom, Waits, comes}
-use Rattle.mq_laws.proofs.Rooms.{wanted_part, seen_part, general_part, lost_part, required, told_now, settled_free, settled_full, compared_querier, compared_other, general_free, lost_free, returned_free, returned_part}
+use Rattle.mq_laws.proofs.Rooms.{entered, wanted_part, seen_part, general_part, lost_part, required, told_now, settled_free, settled_full, compared_querier, compared_other, general_free, lost_free, returned_free, returned_part}
 
 -- What waits behind some steps, and the general queries among it.
 pub record StepsTo (within now : ℕ) (entries : List (Entry ℕ)) (before wanted : List Expected) (seen : List Ask) (returns : Returns) : Type 0 where
@@ -148,6 +148,7 @@ all_free within timing now (Sees terms asked ∷ es) c free = sees_free now term
 all_free within timing now (SeesGeneral terms wanted ∷ es) c free = general_free within timing now terms wanted c (all_free within timing now es (general_seen within timing now terms wanted c) free)
 all_free within timing now (LosesRole ∷ es) c free = lost_free within timing now c (all_free within timing now es (role_lost within timing now c) free)
 all_free within timing now (HasRoleAgain ∷ es) c free = returned_free within now c (all_free within timing now es (role_returned within now c) free)
+all_free within timing now (SeesFault number fault ∷ es) c free = (entered _ _ (all_free within timing now es (with_fault now number c fault) free)).was
 
 -- What waits at the end, and that no less is missing than was told and is missing still.
 pub record Ended (within : ℕ) (timing : Timing) (end now : ℕ) (events : List CheckEvent) (c : CheckingValue) (missing : List (Finding ℕ)) : Type 0 where
@@ -174,6 +175,7 @@ wanted-from now (Sees terms asked ∷ es) end order = wanted-from now es end ord
 wanted-from now (SeesGeneral terms wanted ∷ es) end order = wanted-from now es end order
 wanted-from now (LosesRole ∷ es) end order = wanted-from now es end order
 wanted-from now (HasRoleAgain ∷ es) end order = wanted-from now es end order
+wanted-from now (SeesFault number fault ∷ es) end order = wanted-from now es end order
 
 general-from : (is_querier : Bool) (due : List ℕ) (now : ℕ) (terms : Terms ℕ) (rest : List Ask) → SeenFrom now rest → SeenFrom now (general_ask is_querier due now terms ++ rest)
 general-from true [] now terms rest is = is
@@ -188,6 +190,7 @@ seen-from within q r now (Sees terms asked ∷ es) end order = asks-from now ter
 seen-from within q r now (SeesGeneral terms wanted ∷ es) end order = general-from q r.due now terms _ (seen-from within q (general_returned q now r.due r.early) now es end order)
 seen-from within q r now (LosesRole ∷ es) end order = seen-from within false r now es end order
 seen-from within q r now (HasRoleAgain ∷ es) end order = seen-from within true r now es end order
+seen-from within q r now (SeesFault number fault ∷ es) end order = seen-from within q r now es end order
 
 expected-from : (now : ℕ) (expected : List Expected) (asks : List Ask) → asks_of expected ≡ asks → SeenFrom now asks → WantedFrom now expected
 expected-from now [] asks is from = tt
@@ -348,3 +351,4 @@ course within timing end now (HasRoleAgain ∷ es) c free expected asks missed o
     (course within timing end now es next free expected asks missed order
     (time_as within timing (phase_again within now c.last_general) next.phase c.last_general next.last_general now es end part.phase part.last general) room
     (seen_as within now next.waiting.entries free expected true _ r _ es (ap is_querier_in part.phase ∙ querier_again within now c.last_general) (ap (general_returns free) entries) (rw entries st)))
+course within timing end now (SeesFault number fault ∷ es) c free expected asks missed order general room st = absurd general

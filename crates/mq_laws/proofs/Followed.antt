@@ -15,11 +15,12 @@ use Rattle.mq_link.specs.State.{LinkState}
 use Rattle.mq_link.specs.Tick.{tick_of, next_of}
 use Rattle.mq_replay.specs.Report.{Datagram, datagram_of}
 use Rattle.mq_check.specs.declared.finding.Finding.{Finding}
-use Rattle.mq_check.specs.Check.{Checked, Outcome, behind, quiet, settled_at, ticked, ticked_within, ticked_through, received, seen_at, seen_or_received, with_datagram, with_packet, destination_in, noted}
-use Rattle.mq_check.specs.Checking.{CheckingValue, told, settled, with_message, with_messages, query_wanted, role_after_tick, role_changed, query_came}
+use Rattle.mq_check.specs.declared.headers.HeaderFault.{HeaderFault}
+use Rattle.mq_check.specs.Check.{Checked, Outcome, behind, quiet, settled_at, ticked, ticked_within, ticked_through, received, seen_at, seen_or_received, with_datagram, with_faults, with_packet, destination_in, faults_in, noted}
+use Rattle.mq_check.specs.Checking.{CheckingValue, told, settled, faults_seen, with_fault, with_message, with_messages, query_wanted, role_after_tick, role_changed, query_came}
 use Rattle.mq_check.specs.Queries.{is_general, query_sent, query_seen}
 use Rattle.mq_check.proofs.Steppings.{none_within, one_within}
-use Rattle.mq_laws.specs.Captures.{Passage, nothing_happens, happening_behind, wanted_for, wanted_of, wanted_by, role_by_tick, role_by_datagram, tick_passage, ticks_passage, ticks_through, event_of, datagram_passage, frame_passage, packet_passage}
+use Rattle.mq_laws.specs.Captures.{Passage, nothing_happens, happening_behind, wanted_for, wanted_of, wanted_by, role_by_tick, role_by_datagram, tick_passage, ticks_passage, ticks_through, event_of, fault_events, datagram_passage, frame_passage, packet_passage}
 use Rattle.mq_laws.specs.Events.{CheckEvent, Comes, moment_behind, check_by, told_by, moment_behind_all, check_by_all, told_by_all}
 
 -- events one after the other
@@ -86,6 +87,14 @@ still-datagram within timing now true true c = record { check = refl; told = ref
 still-datagram within timing now true false c = record { check = refl; told = refl; moment = refl }
 still-datagram within timing now false true c = record { check = refl; told = refl; moment = refl }
 still-datagram within timing now false false c = record { check = refl; told = refl; moment = refl }
+
+-- faults in the headers of a packet
+still-faults : (within : ℕ) (timing : Timing) (now number : ℕ) (faults : List HeaderFault) (c : CheckingValue)
+    → IsStill within timing now (fault_events number faults) c (faults_seen now number faults c)
+still-faults within timing now number [] c = record { check = refl; told = refl; moment = refl }
+still-faults within timing now number (fault ∷ faults) c =
+    let rest = still-faults within timing now number faults (with_fault now number c fault) in
+    record { check = rest.check; told = rest.told; moment = rest.moment }
 
 -- A check behind a passage: whatever moment came before.
 pub record Follows (within : ℕ) (timing : Timing) (p : Passage) (r : Checked) (o : Outcome) : Type 0 where
@@ -175,37 +184,44 @@ still-came within config in_force moment to query c =
     ] refl
 
 -- any other datagram, or a query of the querier
-follows-datagram : (config : Configuration) (within moment to : ℕ) (datagram : Datagram) (query : Option (Query ℕ)) (r : Checked)
-    → Follows within config.timing (datagram_passage config moment to datagram query r.link) r
-    (record { checked = seen_or_received config within moment to datagram query (settled_at within moment r); found = told within moment r.checking })
+follows-datagram : (config : Configuration) (within moment number to : ℕ) (datagram : Datagram) (query : Option (Query ℕ)) (faults : List HeaderFault) (r : Checked)
+    → Follows within config.timing (datagram_passage config moment to datagram query (fault_events number faults) r.link) r
+    (record { checked = seen_or_received config within moment to datagram query (with_faults moment number faults (settled_at within moment r)); found = told within moment r.checking })
 unfolding received seen_at
-follows-datagram config within moment to datagram (Some query) r =
-    follows-still within config.timing moment r.link (event_of config r.link.election.timing to query ∷ []) r (seen_at config within moment to query (settled_at within moment r)) refl
-    (still-came within config r.link.election.timing moment to query (settled within moment r.checking))
-follows-datagram config within moment to datagram None r =
+follows-datagram config within moment number to datagram (Some query) faults r =
+    let begun = settled within moment r.checking in
+    let c = faults_seen moment number faults begun in
+    let event = event_of config r.link.election.timing to query in
+    follows-still within config.timing moment r.link (fault_events number faults ++ event ∷ []) r (seen_at config within moment to query (with_faults moment number faults (settled_at within moment r))) refl
+    (still-append within config.timing moment (fault_events number faults) (event ∷ []) begun c _ (still-faults within config.timing moment number faults begun)
+    (still-came within config r.link.election.timing moment to query c))
+follows-datagram config within moment number to datagram None faults r =
     let step = (receipt_of config datagram.envelope datagram.body moment r.link).step in
     let was = is_querier r.link.election.role in
-    let c = settled within moment r.checking in
+    let begun = settled within moment r.checking in
+    let c = faults_seen moment number faults begun in
     let wanted = with_messages config.family config.own moment (not was) (outgoing_of config step) c in
-    follows-still within config.timing moment _ (wanted_by config r.link step ++ role_by_datagram was (is_querier step.state.election.role)) r (received config within moment datagram (settled_at within moment r)) refl
+    let rest = wanted_by config r.link step ++ role_by_datagram was (is_querier step.state.election.role) in
+    follows-still within config.timing moment _ (fault_events number faults ++ rest) r (received config within moment datagram (with_faults moment number faults (settled_at within moment r))) refl
+    (still-append within config.timing moment (fault_events number faults) rest begun c _ (still-faults within config.timing moment number faults begun)
     (still-append within config.timing moment (wanted_by config r.link step) (role_by_datagram was (is_querier step.state.election.role)) c wanted _
-    (still-messages within config moment (not was) (outgoing_of config step) c) (still-datagram within config.timing moment was (is_querier step.state.election.role) wanted))
+    (still-messages within config moment (not was) (outgoing_of config step) c) (still-datagram within config.timing moment was (is_querier step.state.election.role) wanted)))
 
-follows-frame : (config : Configuration) (link : LinkType) (within moment : ℕ) (frame : List ℕ) (datagram : Option Datagram) (r : Checked)
-    → Follows within config.timing (frame_passage config link moment frame datagram r.link) r (with_datagram config link within moment frame datagram r)
-follows-frame config link within moment frame None r = follows-nothing within config.timing r
-follows-frame config link within moment frame (Some datagram) r =
-    follows-datagram config within moment (destination_in config.family link frame datagram.envelope) datagram (query_seen config datagram) r
+follows-frame : (config : Configuration) (link : LinkType) (within moment number : ℕ) (frame : List ℕ) (datagram : Option Datagram) (r : Checked)
+    → Follows within config.timing (frame_passage config link moment number frame datagram r.link) r (with_datagram config link within moment number frame datagram r)
+follows-frame config link within moment number frame None r = follows-nothing within config.timing r
+follows-frame config link within moment number frame (Some datagram) r =
+    follows-datagram config within moment number (destination_in config.family link frame datagram.envelope) datagram (query_seen config datagram) (faults_in config link frame datagram) r
 
-pub follows-packet : (config : Configuration) (link : LinkType) (within moment : ℕ) (frame : List ℕ) (r : Checked)
-    → Follows within config.timing (packet_passage config link moment frame r.link) r (with_packet config link within moment frame r)
+pub follows-packet : (config : Configuration) (link : LinkType) (within moment number : ℕ) (frame : List ℕ) (r : Checked)
+    → Follows within config.timing (packet_passage config link moment number frame r.link) r (with_packet config link within moment number frame r)
 unfolding with_packet
-follows-packet config link within moment frame r =
+follows-packet config link within moment number frame r =
     let before = ticked_through config within moment r in
     let ticks = follows-ticks (moment + 1) config within (moment + 1) r in
     let datagram = datagram_of config.family (carried_in link frame) in
     let counted = noted config link frame datagram before.checked in
-    let frame_in = follows-frame config link within moment frame datagram counted in
+    let frame_in = follows-frame config link within moment number frame datagram counted in
     follows-behind within config.timing (ticks_through config moment r.link) _ r before _ ticks
-    (subst (λ (l : LinkState). Follows within config.timing (frame_passage config link moment frame datagram l) before.checked (with_datagram config link within moment frame datagram counted)) ticks.link
+    (subst (λ (l : LinkState). Follows within config.timing (frame_passage config link moment number frame datagram l) before.checked (with_datagram config link within moment number frame datagram counted)) ticks.link
     (record { link = frame_in.link; checking = frame_in.checking; found = frame_in.found }))

@@ -5,7 +5,7 @@ use Rattle.std.specs.List.{AllByRecursion}
 use mathlib.Core.Logic.{inl}
 use Rattle.mq_table.specs.declared.timing.Timing.{Timing}
 use Rattle.mq_check.specs.declared.entry.Entry.{Entry}
-use Rattle.mq_check.specs.declared.entry.Entry.TheVariants.{Wanted, Seen, Interval, Silence}
+use Rattle.mq_check.specs.declared.entry.Entry.TheVariants.{Wanted, Seen, Interval, Silence, Packet}
 use Rattle.mq_check.specs.declared.finding.Finding.{Finding}
 use Rattle.mq_check.specs.declared.finding.Finding.TheVariants.{Missing, Differs}
 use Rattle.mq_check.specs.declared.finding.Finding.TheVariants as finding
@@ -27,6 +27,7 @@ IsBefore within end (finding.Extra moment asked is_querier) = ⊤
 IsBefore within end (finding.Differs moment asked difference) = ⊤
 IsBefore within end (finding.Interval moment after wanted) = ⊤
 IsBefore within end (finding.Silence moment after wanted) = ⊤
+IsBefore within end (finding.Packet moment number fault) = ⊤
 
 all_before : (within end : ℕ) (xs : List Expected) → AreMissed within end xs → AllByRecursion (IsBefore within end) (missing_of xs)
 all_before within end [] missed = tt
@@ -51,6 +52,7 @@ none_left within end (Seen m a t None q ∷ es) xs holds ahead all = none_left w
 none_left within end (Seen m a t (Some w) q ∷ es) xs holds ahead all = none_left within end es xs holds.1 ahead.1 all
 none_left within end (Interval m a w ∷ es) xs holds ahead all = absurd holds
 none_left within end (Silence m a w ∷ es) xs holds ahead all = absurd holds
+none_left within end (Packet m number fault ∷ es) xs holds ahead all = absurd holds
 
 -- nothing is found of what still waits at the end
 none_last : (es : List (Entry ℕ)) (xs : List Expected) → Holds es xs → flat_map found_of_last es ≡ []
@@ -62,6 +64,7 @@ none_last (Seen m a t None q ∷ es) xs holds = none_last es xs holds
 none_last (Seen m a t (Some w) q ∷ es) xs holds = (λ i. list_map (Differs m a) (holds.0 i) ++ none_last es xs holds.1 i)
 none_last (Interval m a w ∷ es) xs holds = absurd holds
 none_last (Silence m a w ∷ es) xs holds = absurd holds
+none_last (Packet m number fault ∷ es) xs holds = absurd holds
 
 -- what is found at the end
 at_end : (within : ℕ) (timing : Timing) (end : ℕ) (c : CheckingValue) (free : List Expected) → c.waiting.is_full ≡ false → silence_up_to within timing end c.phase ≡ None

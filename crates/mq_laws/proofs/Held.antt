@@ -4,7 +4,7 @@ use Rattle.std.specs.Prelude.{None, Some, ⊤}
 use Rattle.std.specs.List.{AllByRecursion}
 use Rattle.mq_check.specs.declared.asked.Asked.{Asked}
 use Rattle.mq_check.specs.declared.entry.Entry.{Entry}
-use Rattle.mq_check.specs.declared.entry.Entry.TheVariants.{Wanted, Seen, Interval, Silence}
+use Rattle.mq_check.specs.declared.entry.Entry.TheVariants.{Wanted, Seen, Interval, Silence, Packet}
 use Rattle.mq_check.specs.declared.terms.Terms.{Terms}
 use Rattle.mq_check.specs.Entries.{moment_of, terms_in, joined, first_terms, first_joined, terms_differ}
 use Rattle.mq_check.specs.Queries.{is_same}
@@ -29,6 +29,7 @@ Holds (Seen moment asked terms None is_querier ∷ es) xs = Holds es xs
 Holds (Seen moment asked terms (Some wanted) is_querier ∷ es) xs = (terms_differ terms wanted ≡ []) × Holds es xs
 Holds (Interval moment after wanted ∷ es) xs = ⊥
 Holds (Silence moment after wanted ∷ es) xs = ⊥
+Holds (Packet moment number fault ∷ es) xs = ⊥
 
 -- the queries among entries that were seen and have no partner
 abbrev pub free_seen : List (Entry ℕ) → List Ask
@@ -38,6 +39,7 @@ free_seen (Seen moment asked terms None is_querier ∷ es) = ask moment asked te
 free_seen (Seen moment asked terms (Some wanted) is_querier ∷ es) = free_seen es
 free_seen (Interval moment after wanted ∷ es) = free_seen es
 free_seen (Silence moment after wanted ∷ es) = free_seen es
+free_seen (Packet moment number fault ∷ es) = free_seen es
 
 -- entries in the order of their moments, up to one
 abbrev pub IsAscending : (low : ℕ) → List (Entry ℕ) → (now : ℕ) → Type 0
@@ -105,6 +107,7 @@ joined_moment other (Wanted moment asked terms is_optional is_found) = refl
 joined_moment other (Seen moment asked terms partner is_querier) = refl
 joined_moment other (Interval moment after wanted) = refl
 joined_moment other (Silence moment after wanted) = refl
+joined_moment other (Packet moment number fault) = refl
 
 -- what the first entry that passes a test comes to
 pub passed_terms : (test : Entry ℕ → Bool) (e : Entry ℕ) (es : List (Entry ℕ)) → test e ≡ false → first_terms test (e ∷ es) ≡ first_terms test es

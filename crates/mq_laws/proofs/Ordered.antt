@@ -19,10 +19,11 @@ use Rattle.mq_link.specs.Tick.{Step, tick_of, next_of}
 use Rattle.mq_link.specs.Tick as tick
 use Rattle.mq_replay.specs.Listing.{moment_of}
 use Rattle.mq_replay.specs.Report.{Datagram, datagram_of, all_sent}
-use Rattle.mq_check.specs.Check.{destination_in}
+use Rattle.mq_check.specs.declared.headers.HeaderFault.{HeaderFault}
+use Rattle.mq_check.specs.Check.{destination_in, faults_in}
 use Rattle.mq_check.specs.Queries.{asked_in, is_general, terms_of, query_sent, query_seen}
-use Rattle.mq_laws.specs.Captures.{Passage, happening_behind, wanted_for, wanted_of, wanted_by, role_by_tick, role_by_datagram, tick_passage, ticks_passage, ticks_through, event_of, datagram_passage, frame_passage, packet_passage, packets_passage, last_of, end_of, events_of}
-use Rattle.mq_laws.specs.Events.{CheckEvent, Comes, Wants, Sees, SeesGeneral, LosesRole, HasRoleAgain}
+use Rattle.mq_laws.specs.Captures.{Passage, happening_behind, wanted_for, wanted_of, wanted_by, role_by_tick, role_by_datagram, tick_passage, ticks_passage, ticks_through, event_of, fault_events, datagram_passage, frame_passage, packet_passage, packets_passage, last_of, end_of, events_of}
+use Rattle.mq_laws.specs.Events.{CheckEvent, Comes, Wants, Sees, SeesGeneral, LosesRole, HasRoleAgain, SeesFault}
 use Rattle.mq_laws.specs.OnTime.{AreInOrder}
 use Rattle.mq_laws.proofs.Followed.{none_passes, one_passes}
 
@@ -47,6 +48,7 @@ order-later now later (Sees terms asked ∷ es) end before order = order-later n
 order-later now later (SeesGeneral terms wanted ∷ es) end before order = order-later now later es end before order
 order-later now later (LosesRole ∷ es) end before order = order-later now later es end before order
 order-later now later (HasRoleAgain ∷ es) end before order = order-later now later es end before order
+order-later now later (SeesFault number fault ∷ es) end before order = order-later now later es end before order
 
 order-append : (now middle : ℕ) (xs ys : List CheckEvent) (end : ℕ) → AreInOrder now xs middle → AreInOrder middle ys end → AreInOrder now (xs ++ ys) end
 order-append now middle [] ys end first second = order-later now middle ys end first second
@@ -56,6 +58,7 @@ order-append now middle (Sees terms asked ∷ es) ys end first second = order-ap
 order-append now middle (SeesGeneral terms wanted ∷ es) ys end first second = order-append now middle es ys end first second
 order-append now middle (LosesRole ∷ es) ys end first second = order-append now middle es ys end first second
 order-append now middle (HasRoleAgain ∷ es) ys end first second = order-append now middle es ys end first second
+order-append now middle (SeesFault number fault ∷ es) ys end first second = order-append now middle es ys end first second
 
 -- what happens at one moment
 order-wanted_for : (now : ℕ) (family : Family) (is_returning : Bool) (to : ℕ) (query : Option (Query ℕ)) → AreInOrder now (wanted_for family is_returning to query) now
@@ -129,6 +132,11 @@ ordered-ticks known (suc most) config now moment link faultless formed before ne
 ordered-through : KnownOfLinks → (config : Configuration) (now moment : ℕ) (link : LinkState) → IsFaultless config → IsWellFormed config link → now ≤ moment → now ≤ next_of link → IsOrdered config now moment (ticks_through config moment link)
 ordered-through known config now moment link faultless formed before next = ordered-ticks known (moment + 1) config now moment link faultless formed before next (omega arith)
 
+-- faults in the headers of a packet
+order-faults : (now number : ℕ) (faults : List HeaderFault) → AreInOrder now (fault_events number faults) now
+order-faults now number [] = omega arith
+order-faults now number (fault ∷ faults) = order-faults now number faults
+
 -- a query of the querier
 order-event : (now : ℕ) (config : Configuration) (in_force : Timing) (to : ℕ) (query : Query ℕ) → AreInOrder now (event_of config in_force to query ∷ []) now
 order-event now config in_force to query = elim (is_general query) as (λ b. is_general query ≡ b → AreInOrder now (event_of config in_force to query ∷ []) now) [
@@ -137,34 +145,42 @@ order-event now config in_force to query = elim (is_general query) as (λ b. is_
 ] refl
 
 -- a datagram, behind all ticks up to its moment
-ordered-datagram : KnownOfLinks → (config : Configuration) (moment to : ℕ) (datagram : Datagram) (query : Option (Query ℕ)) (link : LinkState) → IsFaultless config → IsWellFormed config link → moment < next_of link
-    → IsOrdered config moment moment (datagram_passage config moment to datagram query link)
-ordered-datagram known config moment to datagram (Some query) link faultless formed later =
-    record { order = (omega arith, order-event moment config link.election.timing to query); formed = formed; later = later }
-ordered-datagram known config moment to datagram None link faultless formed later =
+ordered-datagram : KnownOfLinks → (config : Configuration) (moment number to : ℕ) (datagram : Datagram) (query : Option (Query ℕ)) (faults : List HeaderFault) (link : LinkState) → IsFaultless config → IsWellFormed config link → moment < next_of link
+    → IsOrdered config moment moment (datagram_passage config moment to datagram query (fault_events number faults) link)
+ordered-datagram known config moment number to datagram (Some query) faults link faultless formed later =
+    record {
+      order = (
+        omega arith,
+        order-append moment moment (fault_events number faults) (event_of config link.election.timing to query ∷ []) moment (order-faults moment number faults) (order-event moment config link.election.timing to query),
+      );
+      formed = formed;
+      later = later;
+    }
+ordered-datagram known config moment number to datagram None faults link faultless formed later =
     let step = (receipt_of config datagram.envelope datagram.body moment link).step in
     record {
       order = (
         omega arith,
-        order-append moment moment (wanted_by config link step) (role_by_datagram (is_querier link.election.role) (is_querier step.state.election.role)) moment
-            (order-wanted moment config (not (is_querier link.election.role)) (outgoing_of config step)) (order-datagram moment (is_querier link.election.role) (is_querier step.state.election.role)),
+        order-append moment moment (fault_events number faults) (wanted_by config link step ++ role_by_datagram (is_querier link.election.role) (is_querier step.state.election.role)) moment (order-faults moment number faults)
+            (order-append moment moment (wanted_by config link step) (role_by_datagram (is_querier link.election.role) (is_querier step.state.election.role)) moment
+            (order-wanted moment config (not (is_querier link.election.role)) (outgoing_of config step)) (order-datagram moment (is_querier link.election.role) (is_querier step.state.election.role))),
       );
       formed = counted_formed config (all_sent (outgoing_of config step)) step (known.received config datagram.envelope datagram.body moment link faultless formed);
       later = let after = known.later_datagram config datagram.envelope datagram.body moment link faultless formed in omega (arith, after);
     }
 
-ordered-frame : KnownOfLinks → (config : Configuration) (link_type : LinkType) (moment : ℕ) (frame : List ℕ) (datagram : Option Datagram) (link : LinkState) → IsFaultless config → IsWellFormed config link → moment < next_of link
-    → IsOrdered config moment moment (frame_passage config link_type moment frame datagram link)
-ordered-frame known config link_type moment frame None link faultless formed later = record { order = omega arith; formed = formed; later = later }
-ordered-frame known config link_type moment frame (Some datagram) link faultless formed later =
-    ordered-datagram known config moment (destination_in config.family link_type frame datagram.envelope) datagram (query_seen config datagram) link faultless formed later
+ordered-frame : KnownOfLinks → (config : Configuration) (link_type : LinkType) (moment number : ℕ) (frame : List ℕ) (datagram : Option Datagram) (link : LinkState) → IsFaultless config → IsWellFormed config link → moment < next_of link
+    → IsOrdered config moment moment (frame_passage config link_type moment number frame datagram link)
+ordered-frame known config link_type moment number frame None link faultless formed later = record { order = omega arith; formed = formed; later = later }
+ordered-frame known config link_type moment number frame (Some datagram) link faultless formed later =
+    ordered-datagram known config moment number (destination_in config.family link_type frame datagram.envelope) datagram (query_seen config datagram) (faults_in config link_type frame datagram) link faultless formed later
 
-ordered-packet : KnownOfLinks → (config : Configuration) (link_type : LinkType) (now moment : ℕ) (frame : List ℕ) (link : LinkState) → IsFaultless config → IsWellFormed config link → now ≤ moment → now ≤ next_of link
-    → IsOrdered config now moment (packet_passage config link_type moment frame link)
-ordered-packet known config link_type now moment frame link faultless formed before next =
+ordered-packet : KnownOfLinks → (config : Configuration) (link_type : LinkType) (now moment number : ℕ) (frame : List ℕ) (link : LinkState) → IsFaultless config → IsWellFormed config link → now ≤ moment → now ≤ next_of link
+    → IsOrdered config now moment (packet_passage config link_type moment number frame link)
+ordered-packet known config link_type now moment number frame link faultless formed before next =
     let ticks = ordered-through known config now moment link faultless formed before next in
     ordered-behind config now moment moment (ticks_through config moment link) _ ticks.order
-    (ordered-frame known config link_type moment frame (datagram_of config.family (carried_in link_type frame)) (ticks_through config moment link).link faultless ticks.formed ticks.later)
+    (ordered-frame known config link_type moment number frame (datagram_of config.family (carried_in link_type frame)) (ticks_through config moment link).link faultless ticks.formed ticks.later)
 
 -- packets, one after the other
 pub record AreOrdered (config : Configuration) (now moment : ℕ) (p : Passage) : Type 0 where
@@ -172,22 +188,22 @@ pub record AreOrdered (config : Configuration) (now moment : ℕ) (p : Passage) 
   pub formed : IsWellFormed config p.link
   pub next : moment ≤ next_of p.link
 
-ordered-packets : KnownOfLinks → (config : Configuration) (link_type : LinkType) (first : Option ℕ) (before : ℕ) (packets : List Captured) (link : LinkState) → IsFaultless config → IsWellFormed config link → before ≤ next_of link
-    → AreOrdered config before (last_of first before packets) (packets_passage config link_type first before packets link)
+ordered-packets : KnownOfLinks → (config : Configuration) (link_type : LinkType) (first : Option ℕ) (before number : ℕ) (packets : List Captured) (link : LinkState) → IsFaultless config → IsWellFormed config link → before ≤ next_of link
+    → AreOrdered config before (last_of first before packets) (packets_passage config link_type first before number packets link)
 unfolding packets_passage
-ordered-packets known config link_type first before [] link faultless formed next = record { order = omega arith; formed = formed; next = next }
-ordered-packets known config link_type first before (packet ∷ packets) link faultless formed next =
+ordered-packets known config link_type first before number [] link faultless formed next = record { order = omega arith; formed = formed; next = next }
+ordered-packets known config link_type first before number (packet ∷ packets) link faultless formed next =
     let moment = moment_of first before packet.stamp in
-    let this = packet_passage config link_type moment packet.bytes link in
-    let one = ordered-packet known config link_type before moment packet.bytes link faultless formed (omega arith) next in
+    let this = packet_passage config link_type moment number packet.bytes link in
+    let one = ordered-packet known config link_type before moment number packet.bytes link faultless formed (omega arith) next in
     let after = one.later in
-    let more = ordered-packets known config link_type (Some (unwrap_or first packet.stamp)) moment packets this.link faultless one.formed (omega arith) in
+    let more = ordered-packets known config link_type (Some (unwrap_or first packet.stamp)) moment (number + 1) packets this.link faultless one.formed (omega arith) in
     record { order = order-append before moment this.events _ _ one.order more.order; formed = more.formed; next = more.next }
 
 pub events_in_order : KnownOfLinks → (config : Configuration) (until : Option ℕ) (form : Form) (packets : List Captured) → IsFaultless config → AreInOrder 0 (events_of config until form packets) (end_of until packets)
 events_in_order known config until form packets faultless =
     let last = last_of None 0 packets in
-    let all = ordered-packets known config form.link None 0 packets (link_at config 0) faultless (known.start config 0 faultless) (omega arith) in
-    let p = packets_passage config form.link None 0 packets (link_at config 0) in
+    let all = ordered-packets known config form.link None 0 1 packets (link_at config 0) faultless (known.start config 0 faultless) (omega arith) in
+    let p = packets_passage config form.link None 0 1 packets (link_at config 0) in
     let ticks = ordered-through known config last (end_of until packets) p.link faultless all.formed (omega arith) all.next in
     order-append 0 last p.events _ (end_of until packets) all.order ticks.order

@@ -5,7 +5,7 @@ use mathlib.Core.Logic.{inl, inr}
 use Rattle.std.proofs.lemmas.Bool.{and_left, and_right, and_from}
 use Rattle.mq_check.specs.declared.asked.Asked.{Asked}
 use Rattle.mq_check.specs.declared.entry.Entry.{Entry}
-use Rattle.mq_check.specs.declared.entry.Entry.TheVariants.{Wanted, Seen, Interval, Silence}
+use Rattle.mq_check.specs.declared.entry.Entry.TheVariants.{Wanted, Seen, Interval, Silence, Packet}
 use Rattle.mq_check.specs.declared.terms.Terms.{Terms}
 use Rattle.mq_check.specs.declared.waiting.Side.TheVariants.{OfWanted, OfSeen}
 use Rattle.mq_check.specs.Entries.{moment_of, first_terms, first_joined, terms_differ}
@@ -139,6 +139,7 @@ find_wanted within now asked other (Seen moment asked' terms (Some wanted) is_qu
     either_behind within now asked other (Seen moment asked' terms (Some wanted) is_querier) es xs refl (λ ds ys h. (holds.0, h)) (λ ds e. e) (find_wanted within now asked other es xs holds.1 ahead.1)
 find_wanted within now asked other (Interval moment after wanted ∷ es) xs holds ahead = absurd holds
 find_wanted within now asked other (Silence moment after wanted ∷ es) xs holds ahead = absurd holds
+find_wanted within now asked other (Packet moment number fault ∷ es) xs holds ahead = absurd holds
 
 -- no query about this that was seen is without a partner
 pub record NoneSeen (asked : Asked ℕ) (es : List (Entry ℕ)) : Type 0 where
@@ -247,3 +248,4 @@ find_seen low now asked other (Seen moment asked' terms (Some wanted) is_querier
     seen_behind now asked other (Seen moment asked' terms (Some wanted) is_querier) es xs xs (and_right _ _ refl) (λ ds h. (holds.0, h)) (λ ds. refl) (find_seen moment now asked other es xs holds.1 is.1)
 find_seen low now asked other (Interval moment after wanted ∷ es) xs holds is = absurd holds
 find_seen low now asked other (Silence moment after wanted ∷ es) xs holds is = absurd holds
+find_seen low now asked other (Packet moment number fault ∷ es) xs holds is = absurd holds

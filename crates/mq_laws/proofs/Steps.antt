@@ -5,7 +5,7 @@ use mathlib.Core.Logic.{inl, inr}
 use Rattle.mq_check.specs.declared.asked.Asked.{Asked}
 use Rattle.mq_check.specs.declared.asked.Asked.TheVariants.{AllGroups}
 use Rattle.mq_check.specs.declared.entry.Entry.{Entry}
-use Rattle.mq_check.specs.declared.entry.Entry.TheVariants.{Wanted, Seen, Interval, Silence}
+use Rattle.mq_check.specs.declared.entry.Entry.TheVariants.{Wanted, Seen, Interval, Silence, Packet}
 use Rattle.mq_check.specs.declared.terms.Terms.{Terms}
 use Rattle.mq_check.specs.declared.waiting.Side.TheVariants.{OfWanted, OfSeen}
 use Rattle.mq_check.specs.Entries.{moment_of, first_terms, first_joined, terms_differ}
@@ -58,6 +58,7 @@ holds-append (Seen m a t None q ∷ es) ds xs ys holds more = holds-append es ds
 holds-append (Seen m a t (Some w) q ∷ es) ds xs ys holds more = (holds.0, holds-append es ds xs ys holds.1 more)
 holds-append (Interval m a w ∷ es) ds xs ys holds more = absurd holds
 holds-append (Silence m a w ∷ es) ds xs ys holds more = absurd holds
+holds-append (Packet m number fault ∷ es) ds xs ys holds more = absurd holds
 
 -- and one more that keeps nothing
 pub holds-put : (es : List (Entry ℕ)) (xs : List Expected) (e : Entry ℕ) → Holds es xs → Holds (e ∷ []) [] → Holds (es ++ e ∷ []) xs
@@ -71,6 +72,7 @@ free_seen-append (Seen m a t None q ∷ es) ds = ap (λ (l : List Ask). ask m a 
 free_seen-append (Seen m a t (Some w) q ∷ es) ds = free_seen-append es ds
 free_seen-append (Interval m a w ∷ es) ds = free_seen-append es ds
 free_seen-append (Silence m a w ∷ es) ds = free_seen-append es ds
+free_seen-append (Packet m number fault ∷ es) ds = free_seen-append es ds
 
 missing_of-append : (xs ys : List Expected) → missing_of (xs ++ ys) ≡ missing_of xs ++ missing_of ys
 missing_of-append [] ys = refl

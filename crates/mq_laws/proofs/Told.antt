@@ -31,15 +31,15 @@ gap_is config link within first before number packet packets r is = rw (is, with
 
 full_is : (config : Configuration) (link : LinkType) (within : ℕ) (first : Option ℕ) (before number : ℕ) (packet : Captured) (packets : List Captured) (r : Checked)
     → is_gap before (moment_of first before packet.stamp) ≡ false
-    → (with_packet config link within (moment_of first before packet.stamp) packet.bytes r).checked.checking.waiting.is_full ≡ true
+    → (with_packet config link within (moment_of first before packet.stamp) number packet.bytes r).checked.checking.waiting.is_full ≡ true
     → (with_packets config link within first before number (packet ∷ packets) r).fault ≡ Some (Waiting number)
 unfolding with_packets
 full_is config link within first before number packet packets r is full = rw (is, full, with_packets) refl
 
 rest_is : (config : Configuration) (link : LinkType) (within : ℕ) (first : Option ℕ) (before number : ℕ) (packet : Captured) (packets : List Captured) (r : Checked)
     → is_gap before (moment_of first before packet.stamp) ≡ false
-    → (with_packet config link within (moment_of first before packet.stamp) packet.bytes r).checked.checking.waiting.is_full ≡ false
-    → (let after = with_packet config link within (moment_of first before packet.stamp) packet.bytes r in
+    → (with_packet config link within (moment_of first before packet.stamp) number packet.bytes r).checked.checking.waiting.is_full ≡ false
+    → (let after = with_packet config link within (moment_of first before packet.stamp) number packet.bytes r in
     let rest = with_packets config link within (Some (unwrap_or first packet.stamp)) (moment_of first before packet.stamp) (number + 1) packets after.checked in
     with_packets config link within first before number (packet ∷ packets) r ≡ record rest { found = after.found ++ rest.found })
 unfolding with_packets
@@ -52,27 +52,27 @@ record FollowsAll (within : ℕ) (timing : Timing) (p : Passage) (last : ℕ) (r
 
 follows-packets : (config : Configuration) (link : LinkType) (within : ℕ) (first : Option ℕ) (before number : ℕ) (packets : List Captured) (r : Checked)
     → (with_packets config link within first before number packets r).fault ≡ None
-    → FollowsAll within config.timing (packets_passage config link first before packets r.link) (last_of first before packets) r (with_packets config link within first before number packets r)
+    → FollowsAll within config.timing (packets_passage config link first before number packets r.link) (last_of first before packets) r (with_packets config link within first before number packets r)
 unfolding with_packets packets_passage
 follows-packets config link within first before number [] r whole = record { follows = follows-nothing within config.timing r; moment = refl }
 follows-packets config link within first before number (packet ∷ packets) r whole =
     let moment = moment_of first before packet.stamp in
-    let after = with_packet config link within moment packet.bytes r in
+    let after = with_packet config link within moment number packet.bytes r in
     let rest = with_packets config link within (Some (unwrap_or first packet.stamp)) moment (number + 1) packets after.checked in
     elim (is_gap before moment) as (λ b. is_gap before moment ≡ b
-    → FollowsAll within config.timing (packets_passage config link first before (packet ∷ packets) r.link) (last_of first before (packet ∷ packets)) r (with_packets config link within first before number (packet ∷ packets) r)) [
+    → FollowsAll within config.timing (packets_passage config link first before number (packet ∷ packets) r.link) (last_of first before (packet ∷ packets)) r (with_packets config link within first before number (packet ∷ packets) r)) [
       | true ↦ λ gap. absurd (let two : Some (Gap number) ≡ None = sym (gap_is config link within first before number packet packets r gap) ∙ whole in cc)
       | false ↦ λ near.
           elim (after.checked.checking.waiting.is_full) as (λ b. after.checked.checking.waiting.is_full ≡ b
-          → FollowsAll within config.timing (packets_passage config link first before (packet ∷ packets) r.link) (last_of first before (packet ∷ packets)) r (with_packets config link within first before number (packet ∷ packets) r)) [
+          → FollowsAll within config.timing (packets_passage config link first before number (packet ∷ packets) r.link) (last_of first before (packet ∷ packets)) r (with_packets config link within first before number (packet ∷ packets) r)) [
             | true ↦ λ full. absurd (let two : Some (Waiting number) ≡ None = sym (full_is config link within first before number packet packets r near full) ∙ whole in cc)
             | false ↦ λ room.
                 let is = rest_is config link within first before number packet packets r near room in
-                let one = follows-packet config link within moment packet.bytes r in
+                let one = follows-packet config link within moment number packet.bytes r in
                 let more = follows-packets config link within (Some (unwrap_or first packet.stamp)) moment (number + 1) packets after.checked (ap (λ (c : Course). c.fault) (sym is) ∙ whole) in
-                let more_there = subst (λ (l : LinkState). Follows within config.timing (packets_passage config link (Some (unwrap_or first packet.stamp)) moment packets l) after.checked (record { checked = rest.checked; found = rest.found })) one.link more.follows in
+                let more_there = subst (λ (l : LinkState). Follows within config.timing (packets_passage config link (Some (unwrap_or first packet.stamp)) moment (number + 1) packets l) after.checked (record { checked = rest.checked; found = rest.found })) one.link more.follows in
                 rw is (record {
-                  follows = follows-behind within config.timing (packet_passage config link moment packet.bytes r.link) _ r after (record { checked = rest.checked; found = rest.found }) one more_there;
+                  follows = follows-behind within config.timing (packet_passage config link moment number packet.bytes r.link) _ r after (record { checked = rest.checked; found = rest.found }) one more_there;
                   moment = more.moment;
                 })
           ] refl
@@ -146,7 +146,7 @@ tells_what_happened k answered =
     let course = with_all_packets config k.within k.form k.packets in
     let told = behind_packets k course course.fault k.end (length k.packets + 1) refl answered in
     let all = follows-packets config link k.within None 0 1 k.packets start told.0 in
-    let p = packets_passage config link None 0 k.packets (link_at config 0) in
+    let p = packets_passage config link None 0 1 k.packets (link_at config 0) in
     let moment = last_moment k.until course in
     let end = end_of k.until k.packets in
     let at : moment ≡ end = ap (λ (m : ℕ). max m (unwrap_or k.until 0)) all.moment in

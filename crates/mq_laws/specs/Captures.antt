@@ -1,6 +1,6 @@
 -- The events in the check of a capture. A link with the querier's own address runs over it, and each query that it
 -- sends is expected. The queries from that address are seen.
-use Rattle.std.specs.Prelude.{ℕ, zero, suc, ◌+◌, ◌&&◌, max, not, nat_lt, Bool, true, false, if◌then◌else◌, List, [], ◌∷◌, ◌++◌, Option, None, Some, unwrap_or, flat_map}
+use Rattle.std.specs.Prelude.{ℕ, zero, suc, ◌+◌, ◌&&◌, max, not, nat_lt, Bool, true, false, if◌then◌else◌, List, [], ◌∷◌, ◌++◌, Option, None, Some, unwrap_or, flat_map, map as list_map}
 use Rattle.mq_pcap.specs.declared.form.Form.{Form}
 use Rattle.mq_pcap.specs.declared.link_type.LinkType.{LinkType}
 use Rattle.mq_pcap.specs.Capture.{Captured}
@@ -17,9 +17,10 @@ use Rattle.mq_link.specs.State.{LinkState, link_at}
 use Rattle.mq_link.specs.Tick.{Step, tick_of, next_of}
 use Rattle.mq_replay.specs.Listing.{moment_of}
 use Rattle.mq_replay.specs.Report.{Datagram, datagram_of, all_sent}
-use Rattle.mq_check.specs.Check.{destination_in}
+use Rattle.mq_check.specs.declared.headers.HeaderFault.{HeaderFault}
+use Rattle.mq_check.specs.Check.{destination_in, faults_in}
 use Rattle.mq_check.specs.Queries.{asked_in, is_general, terms_of, general_terms, query_sent, query_seen}
-use Rattle.mq_laws.specs.Events.{CheckEvent, Comes, Wants, Sees, SeesGeneral, LosesRole, HasRoleAgain}
+use Rattle.mq_laws.specs.Events.{CheckEvent, Comes, Wants, Sees, SeesGeneral, LosesRole, HasRoleAgain, SeesFault}
 
 -- a link after a part of a capture, and the events of the check
 pub record Passage : Type 0 where
@@ -83,6 +84,10 @@ ticks_passage (suc most) config limit link =
 abbrev pub ticks_through : Configuration → (moment : ℕ) → LinkState → Passage
 ticks_through config moment link = ticks_passage (moment + 1) config (moment + 1) link
 
+-- faults in the headers of a packet with this number
+abbrev pub fault_events : (number : ℕ) → List HeaderFault → List CheckEvent
+fault_events number faults = list_map (SeesFault number) faults
+
 -- a query from the querier's address, or any other datagram, which the link receives
 abbrev pub event_of : Configuration → (in_force : Timing) → (to : ℕ) → Query ℕ → CheckEvent
 event_of config in_force to query =
@@ -90,27 +95,28 @@ event_of config in_force to query =
     then SeesGeneral (terms_of config.family to query) (general_terms config in_force)
     else Sees (terms_of config.family to query) (asked_in query)
 
-abbrev pub datagram_passage : Configuration → (moment to : ℕ) → Datagram → Option (Query ℕ) → LinkState → Passage
-datagram_passage config moment to datagram (Some query) link =
-    record { link = link; events = Comes moment ∷ event_of config link.election.timing to query ∷ [] }
-datagram_passage config moment to datagram None link =
+abbrev pub datagram_passage : Configuration → (moment to : ℕ) → Datagram → Option (Query ℕ) → (faults : List CheckEvent) → LinkState → Passage
+datagram_passage config moment to datagram (Some query) faults link =
+    record { link = link; events = Comes moment ∷ faults ++ event_of config link.election.timing to query ∷ [] }
+datagram_passage config moment to datagram None faults link =
     let step = (receipt_of config datagram.envelope datagram.body moment link).step in
     record {
       link = answered (all_sent (outgoing_of config step)) step;
-      events = Comes moment ∷ wanted_by config link step ++ role_by_datagram (is_querier link.election.role) (is_querier step.state.election.role);
+      events = Comes moment ∷ faults ++ wanted_by config link step ++ role_by_datagram (is_querier link.election.role) (is_querier step.state.election.role);
     }
 
--- a frame, if it carries a datagram
-abbrev pub frame_passage : Configuration → LinkType → (moment : ℕ) → (frame : List ℕ) → Option Datagram → LinkState → Passage
-frame_passage config link_type moment frame None link = nothing_happens link
-frame_passage config link_type moment frame (Some datagram) link =
-    datagram_passage config moment (destination_in config.family link_type frame datagram.envelope) datagram (query_seen config datagram) link
+-- a frame, if it carries a datagram; the faults of the headers of a query come first
+abbrev pub frame_passage : Configuration → LinkType → (moment number : ℕ) → (frame : List ℕ) → Option Datagram → LinkState → Passage
+frame_passage config link_type moment number frame None link = nothing_happens link
+frame_passage config link_type moment number frame (Some datagram) link =
+    datagram_passage config moment (destination_in config.family link_type frame datagram.envelope) datagram (query_seen config datagram)
+    (fault_events number (faults_in config link_type frame datagram)) link
 
 -- a packet at its moment, after the events up to then
-abbrev pub packet_passage : Configuration → LinkType → (moment : ℕ) → (frame : List ℕ) → LinkState → Passage
-packet_passage config link_type moment frame link =
+abbrev pub packet_passage : Configuration → LinkType → (moment number : ℕ) → (frame : List ℕ) → LinkState → Passage
+packet_passage config link_type moment number frame link =
     let before = ticks_through config moment link in
-    happening_behind before.events (frame_passage config link_type moment frame (datagram_of config.family (carried_in link_type frame)) before.link)
+    happening_behind before.events (frame_passage config link_type moment number frame (datagram_of config.family (carried_in link_type frame)) before.link)
 
 -- The moment of the last of some packets. Moments are counted from `first`, and `before` is the last one before these.
 abbrev pub last_of : (first : Option ℕ) (before : ℕ) → List Captured → ℕ
@@ -118,13 +124,13 @@ last_of first before [] = before
 last_of first before (packet ∷ packets) =
     last_of (Some (unwrap_or first packet.stamp)) (moment_of first before packet.stamp) packets
 
--- packets, one after the other
-unfoldable pub packets_passage : Configuration → LinkType → (first : Option ℕ) (before : ℕ) → List Captured → LinkState → Passage
-packets_passage config link_type first before [] link = nothing_happens link
-packets_passage config link_type first before (packet ∷ packets) link =
+-- packets, one after the other: the number of the next
+unfoldable pub packets_passage : Configuration → LinkType → (first : Option ℕ) (before number : ℕ) → List Captured → LinkState → Passage
+packets_passage config link_type first before number [] link = nothing_happens link
+packets_passage config link_type first before number (packet ∷ packets) link =
     let moment = moment_of first before packet.stamp in
-    let this = packet_passage config link_type moment packet.bytes link in
-    happening_behind this.events (packets_passage config link_type (Some (unwrap_or first packet.stamp)) moment packets this.link)
+    let this = packet_passage config link_type moment number packet.bytes link in
+    happening_behind this.events (packets_passage config link_type (Some (unwrap_or first packet.stamp)) moment (number + 1) packets this.link)
 
 -- the end of a capture: the moment of the last packet, or the requested one if it is later
 abbrev pub end_of : (until : Option ℕ) → List Captured → ℕ
@@ -133,5 +139,5 @@ end_of until packets = max (last_of None 0 packets) (unwrap_or until 0)
 -- All events in the check of a capture.
 abbrev pub events_of : Configuration → (until : Option ℕ) → Form → List Captured → List CheckEvent
 events_of config until form packets =
-    let all = packets_passage config form.link None 0 packets (link_at config 0) in
+    let all = packets_passage config form.link None 0 1 packets (link_at config 0) in
     all.events ++ (ticks_through config (end_of until packets) all.link).events

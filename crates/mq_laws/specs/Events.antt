@@ -3,12 +3,13 @@ use Rattle.std.specs.Prelude.{◌≡◌, ℕ, false, List, [], ◌∷◌, ◌++�
 use Rattle.mq_table.specs.declared.timing.Timing.{Timing}
 use Rattle.mq_check.specs.declared.asked.Asked.{Asked}
 use Rattle.mq_check.specs.declared.finding.Finding.{Finding}
+use Rattle.mq_check.specs.declared.headers.HeaderFault.{HeaderFault}
 use Rattle.mq_check.specs.declared.terms.Terms.{Terms}
-use Rattle.mq_check.specs.Checking.{CheckingValue, checking_at_start, told, settled, with_wanted, specific_seen, general_seen, role_lost, role_returned, told_at_end}
+use Rattle.mq_check.specs.Checking.{CheckingValue, checking_at_start, told, settled, with_wanted, specific_seen, general_seen, with_fault, role_lost, role_returned, told_at_end}
 
 -- An event of a check. A moment comes, the link sends a query about these things, which is expected, or a query about
 -- these was seen. A general query was seen, with the expected one. The router loses the role of querier, or is querier
--- again.
+-- again. A query's packet has a fault in its headers.
 pub data CheckEvent : Type 0 where
   Comes : (moment : ℕ) → CheckEvent
   Wants : Terms ℕ → List (Asked ℕ) → CheckEvent
@@ -16,6 +17,7 @@ pub data CheckEvent : Type 0 where
   SeesGeneral : (terms wanted : Terms ℕ) → CheckEvent
   LosesRole : CheckEvent
   HasRoleAgain : CheckEvent
+  SeesFault : (number : ℕ) → HeaderFault → CheckEvent
 
 -- the moment after an event
 abbrev pub moment_behind : (now : ℕ) → CheckEvent → ℕ
@@ -25,6 +27,7 @@ moment_behind now (Sees terms asked) = now
 moment_behind now (SeesGeneral terms wanted) = now
 moment_behind now LosesRole = now
 moment_behind now HasRoleAgain = now
+moment_behind now (SeesFault number fault) = now
 
 -- a check after one event, and the findings by it
 abbrev pub check_by : (within : ℕ) → Timing → (now : ℕ) → CheckEvent → CheckingValue → CheckingValue
@@ -34,6 +37,7 @@ check_by within timing now (Sees terms asked) c = specific_seen now terms asked 
 check_by within timing now (SeesGeneral terms wanted) c = general_seen within timing now terms wanted c
 check_by within timing now LosesRole c = role_lost within timing now c
 check_by within timing now HasRoleAgain c = role_returned within now c
+check_by within timing now (SeesFault number fault) c = with_fault now number c fault
 
 abbrev pub told_by : (within : ℕ) → CheckEvent → CheckingValue → List (Finding ℕ)
 told_by within (Comes moment) c = told within moment c
@@ -42,6 +46,7 @@ told_by within (Sees terms asked) c = []
 told_by within (SeesGeneral terms wanted) c = []
 told_by within LosesRole c = []
 told_by within HasRoleAgain c = []
+told_by within (SeesFault number fault) c = []
 
 -- the moment, the check and the findings after several events
 abbrev pub moment_behind_all : (now : ℕ) → List CheckEvent → ℕ

@@ -8,7 +8,7 @@ use Rattle.mq_check.specs.declared.terms.Terms.{Terms}
 use Rattle.mq_check.specs.Checking.{is_querier_in}
 use Rattle.mq_check.specs.Entries.{terms_differ}
 use Rattle.mq_check.specs.General.{phase_again, phase_at_start, wrong_interval, phase_behind, silence_up_to}
-use Rattle.mq_laws.specs.Events.{CheckEvent, Comes, Wants, Sees, SeesGeneral, LosesRole, HasRoleAgain}
+use Rattle.mq_laws.specs.Events.{CheckEvent, Comes, Wants, Sees, SeesGeneral, LosesRole, HasRoleAgain, SeesFault}
 
 -- moments come in order, up to the end
 abbrev pub AreInOrder : (now : ℕ) → List CheckEvent → (end : ℕ) → Type 0
@@ -19,6 +19,7 @@ AreInOrder now (Sees terms asked ∷ es) end = AreInOrder now es end
 AreInOrder now (SeesGeneral terms wanted ∷ es) end = AreInOrder now es end
 AreInOrder now (LosesRole ∷ es) end = AreInOrder now es end
 AreInOrder now (HasRoleAgain ∷ es) end = AreInOrder now es end
+AreInOrder now (SeesFault number fault ∷ es) end = AreInOrder now es end
 
 -- The fields of a general query are compared with the expected ones while the router is querier. (A query that is seen
 -- before the router is querier again is compared with the query that it then sends.)
@@ -27,7 +28,7 @@ IsAsWantedThen true terms wanted = terms_differ terms wanted ≡ []
 IsAsWantedThen false terms wanted = ⊤
 
 -- General queries come at expected intervals, each with the expected fields, until the role is lost or until the end.
--- `last` is the moment of the last one.
+-- `last` is the moment of the last one. No query's packet has a fault in its headers.
 abbrev pub AreOnTime : (within : ℕ) → Timing → Phase → (last : Option ℕ) → (now : ℕ) → List CheckEvent → (end : ℕ) → Type 0
 AreOnTime within timing phase last now [] end = silence_up_to within timing end phase ≡ None
 AreOnTime within timing phase last now (Comes moment ∷ es) end = AreOnTime within timing phase last moment es end
@@ -39,6 +40,7 @@ AreOnTime within timing phase last now (SeesGeneral terms wanted ∷ es) end =
 AreOnTime within timing phase last now (LosesRole ∷ es) end =
     (silence_up_to within timing now phase ≡ None) × AreOnTime within timing NotQuerier last now es end
 AreOnTime within timing phase last now (HasRoleAgain ∷ es) end = AreOnTime within timing (phase_again within now last) last now es end
+AreOnTime within timing phase last now (SeesFault number fault ∷ es) end = ⊥
 
 abbrev pub IsOnTime : (within : ℕ) → Timing → (end : ℕ) → List CheckEvent → Type 0
 IsOnTime within timing end events = AreOnTime within timing (phase_at_start timing) None 0 events end
