@@ -102,7 +102,9 @@ datagram_passage config moment to datagram None faults link =
     let step = (receipt_of config datagram.envelope datagram.body moment link).step in
     record {
       link = answered (all_sent (outgoing_of config step)) step;
-      events = Comes moment ∷ faults ++ wanted_by config link step ++ role_by_datagram (is_querier link.election.role) (is_querier step.state.election.role);
+      events =
+          Comes moment ∷ faults
+          ++ (wanted_by config link step ++ role_by_datagram (is_querier link.election.role) (is_querier step.state.election.role));
     }
 
 -- a frame, if it carries a datagram; the faults of the headers of a query come first
