@@ -12,7 +12,6 @@ use Rattle.mq_link.specs.Sent.{Outgoing, outgoing_of}
 use Rattle.mq_link.specs.Tick.{Step, tick_of, next_of}
 use Rattle.mq_text.specs.Printing.{OutputState}
 use Rattle.mq_replay.specs.Report.{Datagram, all_sent}
-use Rattle.mq_check.specs.declared.basis.Basis.{Basis}
 use Rattle.mq_check.specs.declared.finding.Finding.{Finding}
 use Rattle.mq_check.specs.Check.{Checked, Outcome, quiet, behind, settled_at, wanted_by, ticked, ticked_within, received}
 use Rattle.mq_check.specs.Basis as basis

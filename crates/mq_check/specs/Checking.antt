@@ -114,7 +114,7 @@ specific_seen moment terms asked c =
     let seen = fold (with_seen moment terms) c asked in
     record seen { specific = counted_up seen.specific }
 
--- faults in the headers of a packet with a query of the querier that is checked, one after the other
+-- the check after these faults were seen in the headers of a packet with a query of the checked querier
 abbrev pub with_fault : (moment number : ℕ) → CheckingValue → HeaderFault → CheckingValue
 with_fault moment number c fault = record c { waiting = with_entry (Packet moment number fault) c.waiting }
 

@@ -58,7 +58,7 @@ alert_faults alert = if alert then [] else NoRouterAlert ∷ []
 abbrev pub faults_of : Headers → List HeaderFault
 faults_of headers = ttl_faults headers.ttl ++ alert_faults headers.alert
 
--- a query of the router at the own address, whether hosts act on it or not
+-- a query of the checked router, even one that hosts drop
 abbrev pub is_own_query : Configuration → Datagram → Bool
 is_own_query config datagram =
     (datagram.envelope.source == config.own) && is_some (query_spelled config.family datagram.envelope datagram.body)

@@ -28,7 +28,7 @@ where
     fn destination(link: LinkType, frame: &[u8], envelope: &Self::Envelope) -> Self::Address
         ensures { Self.Address.number result ≡ destination_in Self.FAMILY link frame.now (Self.envelope_of envelope.now) };
 
-    /// Returns the fields of the headers of a datagram's packet that a frame of a capture carries.
+    /// Returns the TTL, or hop limit, and the presence of Router Alert in the packet of a datagram.
     fn headers(link: LinkType, frame: &[u8], envelope: &Self::Envelope) -> Headers
         ensures { result ≡ headers_in Self.FAMILY link frame.now (Self.envelope_of envelope.now) };
 

@@ -306,7 +306,7 @@ impl<F: Family, A: Allocator> Checking<F, A> {
         self.specific = self.specific.saturating_add(1);
     }
 
-    /// The headers of a packet with a query of the router that is checked were seen.
+    /// Handles the headers of a packet with a query of the checked router.
     pub(crate) fn see_headers(&mut self, moment: Moment, number: u64, headers: Headers)
         ensures { self.new ≡ spec.faults_seen moment number (faults_of headers) self.old }
     {

@@ -22,7 +22,7 @@ pub enum Entry<K: WireKey> {
     Interval(Moment, u64, u64),
     /// A time without general queries: its end, its length, and the wanted interval.
     Silence(Moment, u64, u64),
-    /// The packet of a query has a fault in its headers: when, the number of the packet, the fault.
+    /// A fault in the headers of a query's packet: its moment, the number of the packet, and the fault.
     Packet(Moment, u64, HeaderFault),
 }
 

@@ -20,7 +20,7 @@ pub enum Finding<K: WireKey> {
     /// A silence of this many milliseconds without a general query, up to this moment. The role was lost then, or the
     /// capture ended. The last number is the wanted query interval in milliseconds.
     Silence(Moment, u64, u64),
-    /// The packet of a query has a fault in its headers: the number of the packet, and the fault.
+    /// A fault in the headers of a query's packet: the number of the packet, and the fault.
     Packet(Moment, u64, HeaderFault),
 }
 

@@ -154,7 +154,7 @@ fn put_interval(text: &mut Text, passed: u64, wanted: u64)
     put_decimal(text, wanted);
 }
 
-/// Puts the number of a packet, and the fault of its headers.
+/// Appends the number of a packet and a fault of its headers.
 #[tactic(auto, unfolding(crate::specs::FindingLines::header_fault_text))]
 fn put_header_fault(text: &mut Text, number: u64, fault: HeaderFault)
     requires { array_vec_len text.old + 55 ≤ 4096 }

@@ -30,7 +30,7 @@ where
     query_spelled::<F>(&datagram.envelope, datagram.body)
 }
 
-/// Returns whether a datagram is a query of the router that is checked, whether hosts act on it or not.
+/// Returns whether a datagram is a query of the checked router, even one that hosts drop.
 pub(crate) fn is_own_query<F: CapturedFamily>(
     config: &Config<F>,
     datagram: &CapturedDatagram<'_, F::Envelope>,
@@ -41,7 +41,8 @@ where
         ≡ is_own_query config.now (record { envelope = F.envelope_of datagram.now.envelope; body = datagram.now.body.now }) }
 {
     config.is_faultless();
-    F::is_same(F::source(&datagram.envelope), config.own())
+    let source = F::source(&datagram.envelope);
+    F::is_same(source, config.own())
         && query_spelled::<F>(&datagram.envelope, datagram.body).is_some()
 }
 

@@ -219,7 +219,7 @@ where
     Ok(())
 }
 
-/// Looks at the headers of a packet, if it has a query of the router that is checked.
+/// Handles the headers of a packet if it has a query of the checked router.
 fn see_headers<F: CheckedFamily, A: Allocator>(
     queries: &mut WantedQueries<F, A>,
     config: &Config<F>,

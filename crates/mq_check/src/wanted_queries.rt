@@ -179,7 +179,7 @@ where
         self.basis.lose_role(stamp.moment());
     }
 
-    /// The headers of a packet with a query of the router that is checked were seen.
+    /// Handles the headers of a packet with a query of the checked router.
     pub(crate) fn see_headers(&mut self, moment: Moment, number: u64, headers: Headers)
         ensures { self.new ≡ record self.old { checking = spec.faults_seen moment number (faults_of headers) self.old.checking } }
     {
