@@ -9,9 +9,8 @@ use Rattle.mq_check.specs.declared.headers.HeaderFault.{HeaderFault}
 use Rattle.mq_check.specs.declared.headers.HeaderFault.TheVariants.{TimeToLive, NoRouterAlert}
 use Rattle.mq_check.specs.Queries.{query_spelled}
 
--- The types of the consecutive options in these bytes of an IPv4 header, up to the first that does not fit, and at most
--- `most`. Type 0 ends them, type 1 is a single byte. After every other type stands the number of the option's bytes, with
--- these two.
+-- The types of the options in an IPv4 header, up to the first that does not fit, and at most `most`. Type 0 ends them, and
+-- type 1 is a single byte. After every other type stands the number of the option's bytes, with these two.
 abbrev pub types_within : (most : ℕ) → List ℕ → List ℕ
 types_within zero bytes = []
 types_within (suc most) [] = []
@@ -38,7 +37,7 @@ has_router_alert bytes = list_any (λ kind. kind == 148) (types_of bytes)
 abbrev pub no_headers : Headers
 no_headers = record { ttl = 0; alert = false }
 
--- what an IPv4 header says, if it is whole
+-- the fields of an IPv4 header, if it is whole
 abbrev pub headers4_in : (packet : List ℕ) → Headers
 headers4_in packet =
     if nat_lt (length packet) 20
@@ -58,7 +57,7 @@ alert_faults alert = if alert then [] else NoRouterAlert ∷ []
 abbrev pub faults_of : Headers → List HeaderFault
 faults_of headers = ttl_faults headers.ttl ++ alert_faults headers.alert
 
--- a query of the checked router, even one that hosts drop
+-- a query of the checked router, even if hosts drop it
 abbrev pub is_own_query : Configuration → Datagram → Bool
 is_own_query config datagram =
     (datagram.envelope.source == config.own) && is_some (query_spelled config.family datagram.envelope datagram.body)

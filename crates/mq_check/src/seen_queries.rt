@@ -30,7 +30,7 @@ where
     query_spelled::<F>(&datagram.envelope, datagram.body)
 }
 
-/// Returns whether a datagram is a query of the checked router, even one that hosts drop.
+/// Returns whether a datagram is a query of the checked router, even if hosts drop it.
 pub(crate) fn is_own_query<F: CapturedFamily>(
     config: &Config<F>,
     datagram: &CapturedDatagram<'_, F::Envelope>,

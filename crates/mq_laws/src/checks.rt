@@ -28,8 +28,8 @@ use crate::links::{
 };
 
 /// A lemma: the text of a check that comes to its end follows from its events, and from nothing else of the capture.
-/// The events are the queries that the link with the querier's address sends, those that were seen from there, and the
-/// moments between.
+/// The events are the queries that the link with the querier's address sends, those that were seen from there, faults in
+/// the headers of these, and the moments between.
 pub fn checks_tell_what_happened()
     ensures { (c : CheckedCapture) → CameToItsEnd c → TellsWhatHappened c }
 {}
