@@ -306,11 +306,11 @@ def has_alert(options):
 ALERT = bytes.fromhex("050200000100")
 
 
-def in_ipv4(body, source, to, options=b"", protocol=2, flags=0, total=None):
-    """A packet of IPv4 with time to live 1; by default with the Router Alert option, as hosts send."""
+def in_ipv4(body, source, to, options=b"", protocol=2, flags=0, total=None, hops=1):
+    """A packet of IPv4, by default with time to live 1."""
     header = 20 + len(options)
     length = header + len(body) if total is None else total
-    first = struct.pack(">BBHHHBBH", 0x40 | header // 4, 0xC0, length, 0, flags, 1, protocol, 0) + source + to + options
+    first = struct.pack(">BBHHHBBH", 0x40 | header // 4, 0xC0, length, 0, flags, hops, protocol, 0) + source + to + options
     check = (0xFFFF - summed(first) % 0xFFFF) % 0xFFFF
     return first[:10] + struct.pack(">H", check) + first[12:] + body
 
