@@ -41,6 +41,8 @@ class Query:
     seconds: int = 125
     to: bytes | None = None
     is_older: bool = False
+    hops: int = 1
+    has_alert: bool = True
 
 
 @dataclasses.dataclass(frozen=True)
@@ -72,9 +74,12 @@ class Bench:
     def code(self, milliseconds):
         return wire.code_of(milliseconds // 100, 8) if self.family is IGMP else wire.code_of(milliseconds, 16)
 
-    def framed(self, body, source, to):
+    def framed(self, body, source, to, hops=1, has_alert=True):
         body = wire.with_checksum(self.family, body, source, to)
-        packet = wire.in_ipv4(body, source, to, ROUTER_ALERT) if self.family is IGMP else wire.in_ipv6(body, source, to)
+        if self.family is IGMP:
+            packet = wire.in_ipv4(body, source, to, ROUTER_ALERT if has_alert else b"", hops=hops)
+        else:
+            packet = wire.in_ipv6(body, source, to, wire.ALERT if has_alert else None, hops)
         return wire.in_ethernet(packet, to)
 
     def query(self, it, source=None):
@@ -85,7 +90,7 @@ class Bench:
             body = wire.older(self.family, kind, group, self.code(it.response))
         else:
             body = wire.query(self.family, group, it.sources, it.s, self.code(it.response), it.qrv, wire.code_of(it.seconds, 8))
-        return self.framed(body, source or self.querier, to)
+        return self.framed(body, source or self.querier, to, it.hops, it.has_alert)
 
     def report(self, *records):
         to = wire.address("224.0.0.22" if self.family is IGMP else "ff02::16")
@@ -228,6 +233,11 @@ def wrong(b):
     yield Case("sends no general query any more", without(156250), ("300000 general none for 268750, wanted 125000",), words=("--until", "300000"), general=2)
     yield Case("sends no general query", without(*general), ("300000 general none for 300000, wanted 125000",), words=("--until", "300000"), general=0)
     yield Case("sends two general queries at once", having(b.general(31251)), ("31251 general after 1, wanted 125000",), general=4)
+    # Headers. Hosts drop such a query of MLD, so the one that is wanted before its packet is missing too.
+    for field, fault in (({"hops": 64}, "ttl 64, wanted 1"), ({"has_alert": False}, "alert 0")):
+        faulty = [f"40000 packet 6 {fault}", f"41000 packet 7 {fault}"]
+        dropped = [f"40000 missing {a}", faulty[0], f"41000 missing {a}", faulty[1]]
+        yield Case(f"sends queries for a group with {fault}", each(LEFT, **field), tuple(faulty if igmp else dropped), specific=4 if igmp else 2)
     # The election: another querier with a lower address is heard at 60000, and is gone 255000 later.
     heard = (60000, b.query(b.general(60000), b.lower))
     yield Case("goes on beside a lower querier", as_it_is, (f"156250 extra {zero}",), hosts=(heard,), words=("--until", "160000"))
