@@ -46,6 +46,8 @@ S a source of it:
   T differs G S: FIELD SEEN, wanted W  a field of the query differs; to is its destination, show names the others
   T general after MS, wanted QI        a general query came MS milliseconds after the one before it
   T general none for MS, wanted QI     none came for MS milliseconds, up to the end or another querier
+  T packet N ttl X, wanted 1           packet N has a query with another TTL or hop limit
+  T packet N alert 0                   it has a query without Router Alert
   checked general N specific M: F findings
   packets N messages M malformed F cut C unread U; groups held before 0 are unknown
                                       unread are fragments, second tags, PPPoE and the like
