@@ -1,6 +1,7 @@
-"""Links of the bindings beside the querier in vectors/model.py: over the vectors, and over captures that are made up.
+"""Compares links of the bindings with the querier of vectors/model.py, over the vectors and over made-up captures.
 
-`model.replay` drives a querier: its own one, or the link of a binding in a class that has the same calls. Both have to give one text.
+`model.replay` drives a querier: the one of the model, or a link of a binding in a class with the same calls. Both have to write the
+same text.
 """
 
 import concurrent.futures
@@ -18,7 +19,7 @@ from wire import FAMILIES  # noqa: E402
 
 
 def module_of(file):
-    """A tool of Python whose file has no ending."""
+    """Loads a Python tool whose file name has no suffix."""
     loader = importlib.machinery.SourceFileLoader(os.path.basename(file).replace("-", "_"), file)
     made = importlib.util.module_from_spec(importlib.util.spec_from_loader(loader.name, loader))
     loader.exec_module(made)
@@ -29,7 +30,7 @@ made_up = module_of(f"{TOP}/tools/made-up")
 
 
 def vectors():
-    """Each vector: its name, its capture, its family, its options, and the text that it has."""
+    """Yields each vector: its name, capture, family, options and text."""
     with open(f"{TOP}/vectors/list", encoding="utf-8") as rows:
         for row in rows:
             if not row.startswith("#"):
@@ -39,7 +40,7 @@ def vectors():
 
 
 def vector_wrong(querier):
-    """The names of the vectors over which a querier writes another text."""
+    """Returns the names of the vectors for which a querier writes a different text."""
     return [
         name
         for name, data, family, options, text in vectors()
@@ -48,7 +49,7 @@ def vector_wrong(querier):
 
 
 def sequence_wrong(querier, number):
-    """Where a querier does otherwise than the model over a capture that is made up, or None."""
+    """Returns how a querier differs from the model over a made-up capture, or None."""
     it = made_up.MadeUp(number)
     wanted, got = (model.replay(it.data, it.family, it.options(), its) for its in (model.Querier, querier))
     if wanted == got:
@@ -57,7 +58,7 @@ def sequence_wrong(querier, number):
 
 
 def sequences_wrong(querier, count):
-    """The same of the captures from number 1 on, on all cores."""
+    """Returns the differences over the captures from number 1 on, on all cores."""
     with concurrent.futures.ProcessPoolExecutor() as pool:
         found = pool.map(sequence_wrong, [querier] * count, range(1, count + 1), chunksize=50)
         return [it for it in found if it]

@@ -1,4 +1,4 @@
-"""Holds the table of cases to the model of vectors/: what the table wants to be seen is what the model sends."""
+"""Compares the table of cases with the model of vectors/: the model has to send exactly the queries that the table expects."""
 
 from table import Cast, Site, Variables, cases_of, wire
 import model  # of vectors/, whose folder `table` has named

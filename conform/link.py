@@ -1,4 +1,4 @@
-"""Frames on an interface of Linux: played at their moments, and recorded with the kernel's stamps."""
+"""Plays frames on an interface of Linux at their times, and records frames with the kernel's timestamps."""
 
 import fcntl
 import socket

@@ -1,4 +1,4 @@
-"""The routers to which conform is held here: each is started at an end of a lab's link."""
+"""The routers on which conform is tested. Each is started at one end of a lab's link."""
 
 import os
 import re

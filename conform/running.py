@@ -1,4 +1,4 @@
-"""Plays the cases to a router, stage by stage, and has them judged."""
+"""Plays the cases to a router, stage by stage, and hands each one to the judge."""
 
 import dataclasses
 import os

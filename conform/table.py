@@ -1,4 +1,4 @@
-"""The table of cases, read from the file `cases`: what is said when, by whom, and what has to be seen."""
+"""The table of cases, read from the file `cases`: the packets, their times and senders, and the expected queries."""
 
 import dataclasses
 import os

@@ -1,4 +1,4 @@
-// The findings in a check's text. The lines behind them have totals, packets and the querier.
+// The findings in a check's text. The lines after the findings have totals, packets and the querier.
 
 import { KIND } from "./kinds.js";
 import { Table } from "./columns.js";

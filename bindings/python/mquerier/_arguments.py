@@ -1,4 +1,4 @@
-"""Arguments: each becomes what the library takes, or a fault that names it."""
+"""Converts arguments to those of the library, or raises a fault that names the wrong one."""
 
 from __future__ import annotations
 
@@ -50,7 +50,7 @@ def moment(field: str, value: Any) -> int:
 
 
 def octets(field: str, value: Any) -> bytes:
-    """Returns a copy of anything that has bytes."""
+    """Returns a copy of the bytes of any object with a buffer."""
     try:
         return bytes(memoryview(value))
     except TypeError:
@@ -58,7 +58,8 @@ def octets(field: str, value: Any) -> bytes:
 
 
 def config_of(family: Family, field: str, own: AddressLike, variables: Mapping[str, Any]) -> Any:
-    """Returns the configuration with these variables. The library judges it: it makes no link in no memory, and names the first fault."""
+    """Returns the configuration with these variables. To check it, this makes a link without memory. That call always fails, and its
+    status names the first fault of the configuration, if there is one."""
     config = family.defaults(packed(family, field, own))
     for name, value in variables.items():
         if name not in VARIABLES and name != "source_specific":

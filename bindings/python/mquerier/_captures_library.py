@@ -1,4 +1,4 @@
-"""The shared library that reads captures: the crate `mq_page`, which is proved, for this processor."""
+"""The shared library that reads captures: the proved crate `mq_page`, built for this processor."""
 
 from __future__ import annotations
 
@@ -19,7 +19,7 @@ SETTINGS = (*VARIABLES, "source_specific", "changes", "within", "cite")
 
 
 class Settings(ctypes.Structure):
-    """What is asked of a querier: its variables, its limits, and the options of a replay or a check."""
+    """The settings of a querier: its variables, its limits, and the options of a replay or a check."""
 
     _fields_ = [(name, c_uint32) for name in SETTINGS] + [("until", c_uint64)]
 
@@ -32,7 +32,7 @@ class RawOutcome(ctypes.Structure):
 
 @dataclasses.dataclass(frozen=True)
 class Querier:
-    """A querier that a capture is replayed to, or that is checked."""
+    """The querier of a replay or of a check."""
 
     family: str
     own: bytes
@@ -41,7 +41,7 @@ class Querier:
 
 @dataclasses.dataclass(frozen=True)
 class Outcome:
-    """The text, the sentence of the fault that ended it, and the count that a call returns."""
+    """The text of a call, the message of the fault that ended it, and the count that the call returns."""
 
     text: bytes
     fault: Optional[str]
@@ -60,7 +60,7 @@ def library() -> Any:
 
 
 class Lent:
-    """Zeroed memory of the system, whose pages exist once they are used. It begins at a multiple of 16."""
+    """Zeroed memory of the system at a multiple of 16. The system allocates a page at its first use."""
 
     def __init__(self, size: int) -> None:
         self.pages = mmap.mmap(-1, size)
@@ -68,7 +68,7 @@ class Lent:
 
 
 def run(call: str, data: bytes, querier: Optional[Querier] = None) -> Outcome:
-    """Makes a call, again with twice the memory if that is too little. Its work needs room for the text once more."""
+    """Makes a call, and repeats it with twice the memory if that was too little. The work memory includes room for the text."""
     function = getattr(library(), f"page_{call}_{querier.family}" if querier else f"page_{call}")
     asked = [querier.own, ctypes.byref(querier.settings)] if querier else []
     room, work = LEAST_TEXT + 2 * len(data), LEAST_WORK

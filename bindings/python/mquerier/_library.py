@@ -1,4 +1,4 @@
-"""The shared library: where it is, and its calls as ctypes declares them. include/mquerier.h says what each does."""
+"""The shared library: its place, and its calls as ctypes declares them. include/mquerier.h describes each call."""
 
 from __future__ import annotations
 
@@ -19,7 +19,7 @@ NATIVE = os.path.join(os.path.dirname(os.path.abspath(__file__)), "native")
 
 
 def found(name: str) -> str:
-    """Returns the path of a library: in the folder MQUERIER_LIB, or in the package, or else the name alone, for the system's loader."""
+    """Returns the path of a library in the folder MQUERIER_LIB or in the package, or else its name, for the system's loader."""
     folders = [it for it in (os.environ.get("MQUERIER_LIB"), NATIVE) if it]
     paths = [os.path.join(folder, name) for folder in folders]
     return next((path for path in paths if os.path.exists(path)), name)
@@ -52,7 +52,7 @@ def structure(name: str, fields: List[Tuple[str, Any]]) -> Type[Any]:
 
 
 def signatures(family: Family) -> Dict[str, Tuple[Any, List[Any]]]:
-    """The calls of a family by their names without its prefix, each with its result and its arguments."""
+    """Returns the result and the arguments of each call of a family, by the call's name without the prefix."""
     config, handle, buffer, address = family.Config, POINTER(Handle), c_void_p, c_char_p
     envelope: List[Any] = [address] if family.width == 4 else [address, address, c_uint8, c_bool]
     ends = [] if family.width == 4 else [address, address]
@@ -79,7 +79,7 @@ def signatures(family: Family) -> Dict[str, Tuple[Any, List[Any]]]:
 
 
 class Family:
-    """What the two families differ in: addresses, structs, and calls, which are attributes."""
+    """The addresses, structs and calls of a family. The calls are attributes."""
 
     def __init__(self, library: Any, name: str, width: int, address: Any) -> None:
         self.name, self.width, self.address = name, width, address

@@ -1,4 +1,4 @@
-"""What a link returns."""
+"""The objects that a link returns."""
 
 from __future__ import annotations
 
@@ -11,7 +11,7 @@ Address = Union[IPv4Address, IPv6Address]
 
 
 class Dropped(enum.IntEnum):
-    """Why a datagram was dropped: the lowest reason that holds."""
+    """The reason why a datagram was dropped: the lowest that holds."""
 
     TRUNCATED = 1
     CHECKSUM = 2
@@ -57,8 +57,8 @@ class Query:
 
 @dataclasses.dataclass(frozen=True)
 class Answer:
-    """What a call did: counts of a datagram's records, or why it was dropped; and the queries to be sent, in order. `unsent` counts
-    queries that did not fit, which happens only to a body of more than 65535 bytes."""
+    """The result of a call: counts of a datagram's records or the reason why it was dropped, and the queries to send, in order. `unsent`
+    counts queries that did not fit: only a body of more than 65535 bytes can cause some."""
 
     dropped: Optional[Dropped]
     applied: int
@@ -70,7 +70,7 @@ class Answer:
 
 @dataclasses.dataclass(frozen=True)
 class Source:
-    """A source of a group. `deadline` is None if no timer runs; the source is not forwarded then."""
+    """A source of a group. `deadline` is None if no timer runs. Then the source is not forwarded."""
 
     address: Address
     deadline: Optional[int]
@@ -78,8 +78,8 @@ class Source:
 
 @dataclasses.dataclass(frozen=True)
 class Group:
-    """A group. `deadline` is the end of EXCLUDE mode, or None in INCLUDE mode. Hosts of older versions are assumed until `v1` and
-    `v2`, or None."""
+    """A group. `deadline` is the end of EXCLUDE mode, or None in INCLUDE mode. `v1` and `v2` are the times until which hosts of these
+    versions are assumed, or None."""
 
     address: Address
     deadline: Optional[int]
@@ -90,7 +90,7 @@ class Group:
 
 @dataclasses.dataclass(frozen=True)
 class Counts:
-    """What a link has counted since it was made."""
+    """The counts of a link since it was made."""
 
     received: int
     dropped: int

@@ -41,8 +41,8 @@ class Lines(Sequence[T], Generic[T]):
 
 
 class Findings(Lines[Finding]):
-    """The findings of a check, and what they rest on: how many general and specific queries of the querier were in the capture, the
-    packets (`Basis`), and when it was querier (`Role`). `basis` and `role` are None if the check did not come to its end."""
+    """The findings of a check. `general` and `specific` count the queries of the querier in the capture. `basis` counts the packets, and
+    `role` is the role of the router; both are None if the check did not come to its end."""
 
     def __init__(self, text: str) -> None:
         lines = text.splitlines()
@@ -57,7 +57,7 @@ class Findings(Lines[Finding]):
 
 @dataclasses.dataclass(frozen=True)
 class Converted:
-    """A classic capture of Ethernet, and how many of its packets have a link type that is not read."""
+    """A classic capture of Ethernet, and the number of packets whose link type is not read."""
 
     data: bytes
     unread: int
@@ -77,7 +77,7 @@ def whole(outcome: Outcome, lines: Read) -> Read:
 
 
 def querier_of(field: str, own: AddressLike, until: Optional[int], variables: Any, **asked: int) -> Querier:
-    """The querier at an address, of the family of that address."""
+    """Returns the querier at an address, of the family of that address."""
     address = any_address(field, own)
     family = family_named("igmp" if address.version == 4 else "mld")
     config = config_of(family, field, address, variables)
@@ -112,7 +112,7 @@ def check(
     until: Optional[int] = None,
     **variables: int,
 ) -> Findings:
-    """Holds the querier at an address to the standards: returns what it does otherwise than is wanted, within a tolerance. The
+    """Checks the querier at an address: returns each difference from the standards that exceeds the tolerance in milliseconds. The
     variables are those of a `Link`. Without `cite` no finding has a section."""
     most = within("tolerance", tolerance, 2**32 - 1)
     outcome = run("check", capture, querier_of("querier", querier, until, variables, within=most, cite=bool(cite)))

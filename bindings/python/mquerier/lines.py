@@ -12,8 +12,8 @@ from ._types import Address, Dropped, Group, Source
 
 @dataclasses.dataclass(frozen=True)
 class Packet:
-    """A record of a capture. `message` is the line of its message or of the message's fault; or `other`, `cut` or `fragment`, without
-    a family and a source."""
+    """A record of a capture. `message` is the line of its message or of the message's fault. It can also be `other`, `cut` or
+    `fragment`; then there is no family and no source."""
 
     number: int
     time: int
@@ -33,7 +33,7 @@ class Sent:
 
 @dataclasses.dataclass(frozen=True)
 class Received:
-    """A datagram: how many of its records were applied, ignored and refused, or why it was dropped."""
+    """A datagram: the counts of its applied, ignored and refused records, or the reason why it was dropped."""
 
     time: int
     number: int
@@ -55,7 +55,7 @@ class Skipped:
 
 @dataclasses.dataclass(frozen=True)
 class Change:
-    """A group whose filter changed. `filter` is `none`; `include`: only `sources` are forwarded; or `exclude`: all but `sources`."""
+    """A group whose filter changed. `filter` is `none`, `include` (only `sources` are forwarded) or `exclude` (all but `sources`)."""
 
     time: int
     group: Address
@@ -73,7 +73,7 @@ class End:
 
 @dataclasses.dataclass(frozen=True)
 class Totals:
-    """What the link counted."""
+    """The counts of a link."""
 
     received: int
     dropped: int
@@ -89,8 +89,8 @@ Event = Union[Sent, Received, Skipped, Change, End, Group, Totals]
 
 @dataclasses.dataclass(frozen=True)
 class Finding:
-    """What a querier does otherwise than is wanted. `kind` is `missing`, `extra`, `differs`, `general` or `packet`; `detail` has the
-    field, the interval, or the packet's number and header; `section` is None if it was not asked for."""
+    """A difference between a querier and the standard. `kind` is `missing`, `extra`, `differs`, `general` or `packet`. `detail` has the
+    field, the interval, or the packet's number and header. `section` is None if the check ran without `cite`."""
 
     time: int
     kind: str
@@ -102,8 +102,8 @@ class Finding:
 
 @dataclasses.dataclass(frozen=True)
 class Basis:
-    """The packets of a checked capture: how many there are, how many are messages of the family, how many have a fault as such, how
-    many are cut, and how many were not looked into (fragments, second tags, PPPoE and the like)."""
+    """Counts of the packets of a checked capture: all, messages of the family, malformed messages, cut packets and unread packets.
+    Fragments, second tags, PPPoE and the like are not read."""
 
     packets: int
     messages: int
@@ -114,8 +114,8 @@ class Basis:
 
 @dataclasses.dataclass(frozen=True)
 class Role:
-    """When the checked router was querier: from the start, but for the times that it lost the role. `lost_at` is the last such time,
-    `other` the last other querier, and `again_at` the time from which it has the role again."""
+    """The role of the checked router, which is querier from the start and may lose the role. `lost` counts the losses, and `lost_at` is
+    the time of the last one. `other` is the last other querier, and `again_at` the time from which the router is querier again."""
 
     querier: Address
     lost: int = 0

@@ -1,10 +1,10 @@
-"""A link of the package as `model.replay` drives a querier."""
+"""A link of the package, as a querier that `model.replay` can drive."""
 
 import mquerier
 
 
 def filter_of(group):
-    """What is forwarded of a group, as a line has it."""
+    """Returns the filter of a group, as a line has it."""
     if group is None:
         return "none"
     if group.deadline is not None:

@@ -23,7 +23,7 @@ QUERIERS = ("10.9.0.1", "10.0.0.9", "fe80::9")
 
 
 def is_as_printed(data, words, call, *own, **more):
-    """Whether a call gives the text that the program `mquerier` prints, and a fault where the program has one."""
+    """True if a call returns the text that the program `mquerier` prints, and fails exactly if the program fails."""
     ran = subprocess.run([f"{TOP}/bin/mquerier", *words, *own], input=data, stdout=subprocess.PIPE, stderr=subprocess.PIPE, check=False)
     try:
         text, status = call(data, *own[1:], **more).text, 0
