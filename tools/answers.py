@@ -1,8 +1,10 @@
-"""The answers of a function's proof in other forms, where an edit changed the names of its goals, or gave it new ones.
+"""Rewrites the answers of a function's proof for an edit that changed the names of its goals, or gave it new goals.
 
-An answer that lost its goal is moved to a new goal, in each way to match them. A new goal of a return gets the answers of the other
-returns of its clause. A field that is missing gets the name of a new one in its place. Where an edit turns a sum round, or another
-operator that has no order, the answers turn it round too; where it only moves words, they exchange a first and a second call.
+- An answer that lost its goal moves to a new goal, in each way to match them.
+- A new goal of a return gets the answers of the other returns of its clause.
+- A missing field gets the name of a new field.
+- If an edit swaps the two sides of a symmetric operator, the answers swap them too.
+- If an edit only moves words, the answers exchange a first and a second call.
 """
 
 import itertools
@@ -10,30 +12,30 @@ import re
 
 from verdicts import placed, siblings
 
-# So many places may exchange their names, and so many ways at most are tried of an edit.
+# The most places that exchange their names, and the most ways that are tried for an edit.
 MOST_PLACES, MOST_WAYS = 3, 8
-# A name of a proof, with what stands before it.
+# A name of a proof, with the character before it.
 NAME = re.compile(r"(.?)(?<![^\s(){}\[\],;:←∙.])([^\s(){}\[\],;:←∙.]+)")
 # The answer to a goal, down to the next declaration.
 ANSWER = re.compile(r"(?ms)^pub (\S+) : goal\.\1(?=\s).*?(?=^(?:--|pub |abbrev |[^\s]+ : )|\Z)")
-# A field that a record lacks, and those that it has.
+# A field that a record lacks, and the fields that it has.
 MISSING = re.compile(r"has no field `([^`]+)`")
 NEAREST = re.compile(r"\(nearest: ([^)]*)\)")
 OTHERS = re.compile(r"the fields that can be named here are ([^\n]*)")
 
 
-# What an operator of code without an order stands between, and the same in terms.
+# The sides of a symmetric operator in code and in terms, and these operators.
 SIDE, TERM = r"[\w.]+(?:\[[\w. ]+\])?", r"[^\s(){}\[\],;]*"
 UNORDERED = "+", "*", "==", "!=", "||", "&&"
 
 
 def answers_in(texts):
-    """The answers of some proof files, by their goals."""
+    """Returns the answers of some proof files, by their goals."""
     return {at[1]: at[0] for text in texts.values() for at in ANSWER.finditer(text)}
 
 
 def ways_of(lost, new):
-    """Each way in which the places of goals that lost their answers may be those of goals that are new: maps of places."""
+    """Returns each way to match the places of lost goals with those of new goals: maps of places."""
     was, now = (list(dict.fromkeys(placed(it)[0] for it in goals)) for goals in (lost, new))
     held = {place: {what for at, what in map(placed, [*lost, *new]) if at == place} for place in {*was, *now}}
     if len(was) > MOST_PLACES:
@@ -43,7 +45,7 @@ def ways_of(lost, new):
 
 
 def renamed(text, way):
-    """The text of a proof whose goals, and the fields and places that it names, have other places."""
+    """Returns the text of a proof in which the goals and the named fields have other places."""
     tokens = {}
     for was, now in way.items():
         one, other = was.split("-"), now.split("-")
@@ -60,7 +62,7 @@ def renamed(text, way):
 
 
 def with_fields(texts, fields):
-    """Proof files in which some fields have other names."""
+    """Returns proof files in which some fields have other names."""
 
     def other(at):
         return at[1] + (fields.get(at[2], at[2]) if at[1] == "." else at[2])
@@ -69,7 +71,7 @@ def with_fields(texts, fields):
 
 
 def fields_of(heard, texts):
-    """Fields that answers miss, each with those that may stand for it: new ones of the same call that differ in a local's name."""
+    """Returns the fields that answers lack, each with its candidates: new fields of the same call that differ in a local's name."""
     known, found = {at[2] for text in texts.values() for at in NAME.finditer(text)}, {}
     for note in [it for notes in heard.unfit.values() for it in notes]:
         missing = MISSING.search(note)
@@ -83,7 +85,7 @@ def fields_of(heard, texts):
 
 
 def with_answers(texts, more):
-    """Proof files with more answers: for some goals that of another one, under names of their own."""
+    """Returns proof files with more answers: some goals get a renamed copy of another goal's answer."""
     texts, answers = dict(texts), answers_in(texts)
     for goal, of in more.items():
         file = next(it for it, text in texts.items() if any(at[1] == of for at in ANSWER.finditer(text)))
@@ -92,12 +94,12 @@ def with_answers(texts, more):
 
 
 def without(texts, lost):
-    """Proof files without the answers to some goals."""
+    """Returns proof files without the answers to some goals."""
     return {file: ANSWER.sub(lambda at: "" if at[1] in lost else at[0], text) for file, text in texts.items()}
 
 
 def ways(texts, heard, was):
-    """Proof files to try next, in each way that matches what a check says: for each edit another list of texts by their files."""
+    """Returns the proof files to try next, in each way that matches the output of a check. Each way maps files to texts."""
     fields = fields_of(heard, texts)
     if any(fields.values()):
         most = max(map(len, fields.values()))
@@ -111,7 +113,7 @@ def ways(texts, heard, was):
 
 
 def turned(pairs):
-    """The operator that an edit turns round, with its two sides; None where it does something else."""
+    """Returns the operator whose sides an edit swaps, with the two sides, or None if it does something else."""
     for old, new in pairs if len(pairs) == 1 else []:
         for operator in UNORDERED:
             for at in re.finditer(rf"({SIDE}) {re.escape(operator)} (?=({SIDE}))", old):
@@ -121,14 +123,14 @@ def turned(pairs):
 
 
 def with_turned(texts, operator, left, right):
-    """Proof files in which an operator is turned round wherever it stands between names with these ends."""
+    """Returns proof files in which the sides of an operator are swapped wherever they are names with these ends."""
     left, right = (re.findall(r"\w+", it)[-1] for it in (left, right))
     there = re.compile(rf"(?<![^\s(])({TERM}(?<!\w){left}) {re.escape(operator)} ({TERM}(?<!\w){right})(?![^\s),;\]}}])")
     return {file: there.sub(lambda at: f"{at[2]} {operator} {at[1]}", text) for file, text in texts.items()}
 
 
 def with_calls_exchanged(texts, pairs):
-    """Proof files in which a first and a second call of one name are exchanged, for each that they name, where an edit only moves words."""
+    """Returns, for an edit that only moves words, a way for each called name: proof files that exchange its first and its second call."""
     words = [sorted(re.findall(r"\w+|\S", "\n".join(it))) for it in zip(*pairs)]
     fields = {at[2] for text in texts.values() for at in NAME.finditer(text) if at[1] == "."}
     twice = [it for it in sorted(fields) if f"{it}-2" in fields] if words and words[0] == words[1] else []
@@ -136,6 +138,6 @@ def with_calls_exchanged(texts, pairs):
 
 
 def turns(texts, pairs):
-    """Proof files to try next where an answer is refused, though the edit may only have turned something round."""
+    """Returns the proof files to try next if an answer is refused, though the edit may only have swapped two sides or two calls."""
     operator = turned(pairs)
     return [with_turned(texts, *operator)] if operator else with_calls_exchanged(texts, pairs)

@@ -15,7 +15,7 @@ FUNCTION = re.compile(r"\bfn (\w+)")
 
 
 def first_line(text, head):
-    """The line in which a function begins, with what stands right above it: its attributes and its comment."""
+    """Returns the line in which a function begins. Attributes and comments right above the function belong to it."""
     lines = text[: head.start()].split("\n")
     at = len(lines)
     while at > 1 and lines[at - 2].strip().startswith(("#[", "//")):
@@ -24,14 +24,14 @@ def first_line(text, head):
 
 
 def read_edit(path):
-    """The file that an edit changes, and its pairs of an old text and a new one."""
+    """Returns the file that an edit changes, and its pairs of an old and a new text."""
     lines = text_of(path).splitlines()
     texts = [line.partition(":")[2].removeprefix(" ") for line in lines[1:]]
     return lines[0].removeprefix("file: "), list(zip(texts[::2], texts[1::2]))
 
 
 def once(text, pairs):
-    """The text that each pair finds, with its old text, which has to stand there once."""
+    """Yields the text to which each pair is applied, with its old text, which has to occur there once."""
     for old, new in pairs:
         if text.count(old) != 1:
             raise ValueError(f"{text.count(old)} times, and not once, its file has: {old}")
@@ -40,7 +40,7 @@ def once(text, pairs):
 
 
 class Edit:
-    """An edit of one function: the crate, the file, the texts, and where the function stands."""
+    """An edit of one function: the crate, the file, the texts, and the lines of the function."""
 
     def __init__(self, crate, path):
         self.crate, self.path, self.is_right = crate, os.path.relpath(path, TOP), "/right-bodies/" in path
@@ -58,7 +58,7 @@ class Edit:
         self.begin()
 
     def of_nothing(self):
-        """The edit that leaves the same function as it is: a right one."""
+        """Returns the edit that changes nothing in the same function. It counts as a right body."""
         made = copy.copy(self)
         made.begin()
         made.name, made.pairs, made.is_right = f"{self.crate}/{self.function} as it stands", [], True
@@ -66,26 +66,26 @@ class Edit:
 
     @functools.cached_property
     def function_path(self):
-        """The path that the checker has for the function."""
+        """Returns the path of the function in the checker."""
         return f"{self.crate}::{function_of(self).path}"
 
     def is_of_its_proof(self, file):
-        """Whether a file is of the function's proof. That of one that calls itself stands in a folder with a plus before its name."""
+        """True if a file belongs to the function's proof. If the function calls itself, its folder has a plus before the name."""
         folder, _, name = os.path.dirname(file).rpartition("/")
         return f"{folder}/{name.lstrip('+')}".split("/") == ["proofs", *self.function_path.split("::")[1:]]
 
     def texts(self):
-        """The files of its proof as they are tried."""
+        """Returns the files of its proof, as the next trial uses them."""
         folder = f"{TOP}/crates/{self.crate}"
         files = [os.path.relpath(it, folder) for it in glob.glob(f"{folder}/proofs/**/*.antt", recursive=True)]
         return self.answers or {it: text_of(f"{folder}/{it}") for it in files if self.is_of_its_proof(it)}
 
     def size(self):
-        """About what its trial takes: the lines of the function and of its proof."""
+        """Estimates the cost of a trial: the lines of the function and of its proof."""
         return len(self.lines) + sum(it.count("\n") for it in self.texts().values())
 
     def apply(self, folder):
-        """Edits a copy of the crate, with other answers where these are to be tried."""
+        """Edits a copy of the crate, with other answers if these are to be tried."""
         text = text_of(f"{folder}/{self.file}")
         for old, new in self.pairs:
             text = text.replace(old, new)
@@ -93,17 +93,17 @@ class Edit:
             put(f"{folder}/{file}", its)
 
     def begin(self):
-        """Forgets what was tried: its proof stands as it does, no other answers are to be tried, and there is no verdict."""
+        """Forgets all trials: the next one uses the proof of the repository, and there is no verdict."""
         self.answers, self.ways, self.verdicts, self.why, self.said = None, [], [], "", None
 
     def hear(self, said):
-        """Takes in what a check says. True if the verdict takes the goals that the function has as it stands."""
+        """Reads the output of a check. True if the verdict needs the goals of the unedited function."""
         self.said = Heard(self, said)
         return self.said.is_open()
 
     def judge(self, goals):
-        """The verdict on what was taken in, where the function has these goals as it stands. True if the edit is to be tried once more,
-        with other answers."""
+        """Decides on the output of a check, if the unedited function has these goals. True if the edit is to be tried again, with other
+        answers."""
         texts = self.texts()
         verdict = self.said.verdict(goals, {*answers_in(texts)})
         self.verdicts.append(verdict)
@@ -116,14 +116,14 @@ class Edit:
         return bool(is_left)
 
     def verdict(self):
-        """The verdict of all that was tried: it holds if it did once, and is refused if it was once and held never. What turns round an
-        operator that has no order isn't refused for what it says."""
+        """Returns the verdict of all trials. An edit holds if one trial held. It is refused if one trial was refused and none held. An edit
+        that only swaps the two sides of a symmetric operator is never refused."""
         said = [HOLDS] if turned(self.pairs) else [HOLDS, REFUSED]
         return next((it for it in said if it in self.verdicts), UNDECIDED)
 
 
 def edits_of(name, kinds, bad):
-    """The edits of a crate; of one that doesn't fit, `bad` is told."""
+    """Yields the edits of a crate. It passes the name of an edit that does not fit to `bad`."""
     for path in sorted(it for kind in kinds for it in glob.glob(f"{TOP}/crates/{name}/{kind}/*.edit")):
         try:
             yield Edit(name, path)

@@ -1,8 +1,8 @@
-"""What the proof of a function read in a check, by the files that the check left in its incremental directory, and whether the
-closure of the function has it.
+"""Lists the names that the proof of a function read in a check, and finds those that the closure of the function lacks.
 
-Each module that was checked has a file there: lines that begin with `--@`, among them `--@ reads complete COUNT BYTES`, then a
-body, whose last so many bytes list what the check of the module read, name by name.
+A check leaves a file for each checked module in its incremental directory. The file begins with lines that begin with `--@`, and one
+of them is `--@ reads complete COUNT BYTES`. Then comes a body, whose last BYTES bytes list the COUNT names that the check of the
+module read.
 """
 
 import functools
@@ -15,17 +15,17 @@ from items import all_crates
 
 READS = re.compile(rb"(?m)^--@ reads complete (\d+) (\d+)$")
 FORM = b"ARD2"
-# What of a name was read: what it is in an expression, its type, and what it unfolds to. The other kinds only tell that it is there.
+# The part of a name that was read: its meaning in an expression, its type, or its unfolding. The other kinds only say that it exists.
 USE, TYPE, BODY = range(3)
-# The sum of the body of what can't be unfolded.
+# The sum that stands for the body of a name that can't be unfolded.
 SHUT = "f6c75d6300128fad198df4178fe986f870be29e9b654d7513a72cfde1ed8b8eb"
 # A name or a module of the checker: the crate, the library, and the path.
 PLACE = re.compile(r"Rattle-(\w+)[-.](specs|proofs)\.(.+)")
-# The modules of another function that have nothing of its body.
+# The modules of another function that contain nothing of its body.
 OPEN = {"Key", "Kinds", "Met", "Paired", "Reads", "Statement", "Symbol"}
-# Nothing is proved in these, which tell the routines by which a function's calls run.
+# Modules without proofs, which name the routines of a function's calls.
 LINKS = {"Code", "TheLink"}
-# The checker makes these of no text.
+# Names that the checker makes without a source text.
 MADE = re.compile(r"\bDestruct\+\+none\b")
 
 
@@ -54,7 +54,7 @@ class Reader:
         return [self.take(self.number()).decode() for _ in range(self.number())]
 
     def reads(self):
-        """The names that were read, each with what of it; all of the list."""
+        """Returns all names of the list, each with the part that was read."""
         if self.take(len(FORM)) != FORM:
             raise ValueError("its form isn't known")
         names, found = self.names(), []
@@ -72,7 +72,7 @@ class Reader:
 
 
 def read_by_module(file):
-    """The names that a module read, each with what of it."""
+    """Returns the names that a module read, each with the part that was read."""
     with open(file, "rb") as it:
         data = it.read()
     head = READS.search(data)
@@ -89,7 +89,7 @@ def read_by_module(file):
 
 
 def items_at(name):
-    """The items that a name of the checker comes from; None where that is a library of the toolchain."""
+    """Returns the items from which a name of the checker comes, or None for a library of the toolchain."""
     crate, place = re.match(r"(?:Rattle-(\w+))?", name)[1], PLACE.fullmatch(name)
     if crate not in all_crates():
         return None
@@ -98,7 +98,7 @@ def items_at(name):
 
 @functools.lru_cache(maxsize=None)
 def modules_in(folder, crate):
-    """The files of the modules of a crate's functions in an incremental directory."""
+    """Returns the files of each function of a crate in an incremental directory."""
     found = {}
     for file in sorted(glob.glob(f"{glob.escape(folder)}/*/Rattle-{crate}-*.oantt")):
         for it in items_at(os.path.basename(file).removesuffix(".oantt")) or []:
@@ -108,22 +108,22 @@ def modules_in(folder, crate):
 
 
 def is_in(items, function, module, kind, name):
-    """Whether a name that a module of a function read is of the function, of its closure, or of no text."""
+    """True if a name that a module of a function read belongs to the function, to its closure, or to no text."""
     of = items_at(name)
     steps = name.split(".")
-    # A name that is only in scope is not read; a field is.
+    # A name that is only in scope is not read. A field is read.
     is_in_scope = kind == USE and of and steps[-1] in (of[0].name, "the_data")
     if of is None or function in of or MADE.search(name) or is_in_scope:
         return True
     if of and of[0].kind == "fn" and not OPEN.intersection(steps) and ".contracts." not in name:
-        # Of the body of another function only what links them is read.
+        # A proof reads nothing of the body of another function but the link to it.
         return "Code" in steps and not LINKS.isdisjoint(module.split("."))
     is_hidden = kind == BODY and all(it.kind == "term" and it.rest for it in of)
     return not items.isdisjoint(of) and not is_hidden
 
 
 def missed(edit, folder):
-    """What the proof of an edit's function read in a check that its closure lacks, by the check's incremental directory."""
+    """Returns the names that the proof of an edit's function read and its closure lacks, by the check's incremental directory."""
     function = function_of(edit)
     items, files = closure_of(function).with_edit(edit), modules_in(folder, edit.crate).get(function, [])
     read = {(os.path.basename(file), *it) for file in files for it in read_by_module(file)}

@@ -1,5 +1,5 @@
-"""Proofs that are left out: where edits of some functions are tried, the proof of each other function is a hole, which is taken at
-its word. What the edited functions rest on of it, its contract, stays."""
+"""Leaves out the proofs of functions without edits in a trial. Each of these proofs is a hole, which the check assumes to be proved.
+The contracts stay, and the edited functions need no more of them."""
 
 import os
 
@@ -15,18 +15,18 @@ pub {name}_spec : {{M : Type 1}} → statement M
 
 
 def functions_of(crate):
-    """The functions of a crate that have bodies, by the paths that the checker has for them, and whether each calls itself."""
+    """Returns the functions of a crate that have bodies, by their paths in the checker. The value is True if the function calls itself."""
     return {f"{crate}::{it.path}": it.name in words(it.rest) for it in all_crates()[crate].functions() if it.rest.strip()}
 
 
 def path_of(edit):
-    """The path that the checker has for an edit's function."""
+    """Returns the path of an edit's function in the checker."""
     return f"{edit.crate}::{function_of(edit).path}"
 
 
 def stub(folder, crate, functions, but):
-    """Leaves out the proofs of a crate's functions in a copy of it, but for some. One that calls itself keeps its own, which is of a
-    whole cycle."""
+    """Leaves out the proofs of a crate's functions in a copy of the crate, except those of `but`. A function that calls itself keeps its
+    proof, which covers a whole cycle."""
     for path, calls_itself in functions.items():
         if path in but or calls_itself:
             continue

@@ -1,14 +1,14 @@
-"""The verdict on an edit of a function, by the lines of a check.
+"""Decides on an edit of a function by the output of a check.
 
-An edit is REFUSED only if a goal of its function that has an answer is refused for what it says:
+An edit is REFUSED only if a goal of its function has an answer, and that answer fails for its meaning. There are three ways:
 
-- an answer that is written in the function's proof fails by its mathematics, be it at its own goal or at a new one, to which
-  tools/answers.py moved it
-- `search`, which is the answer of a goal for which none is written, fails at a goal that the function has as it stands
-- `search` finds values at which a new goal of a return is false, and it is the answer of all other returns of that clause
+- An answer that is written in the function's proof fails mathematically. It may stand at its own goal, or at a new goal to which
+  tools/answers.py moved it.
+- `search` fails at a goal of the unedited function. It is the answer of each goal without a written answer.
+- `search` finds values for which a new goal of a return is false, and `search` is the answer of all other returns of that clause.
 
-An edit HOLDS if every goal of its function is proved. All else is UNDECIDED: an answer names what the edit took away, an invariant
-does, or a new goal has no answer. Then the edit is to be tried with other answers, or needs another form.
+An edit HOLDS if every goal of its function is proved. Every other edit is UNDECIDED: an answer or an invariant names a thing that the
+edit removed, or a new goal has no answer. Then the tools try the edit with other answers, or it needs another form.
 """
 
 import re
@@ -16,22 +16,22 @@ import re
 REFUSED, HOLDS, UNDECIDED = "refused", "holds", "undecided"
 NOTE = re.compile(r"(?:note: )?(?:\./)?((?:src|proofs)/\S+?):(\d+):\d+: (.*)")
 UNPROVED = re.compile(r"it is not proved that (?:.*?\(`([^`]+)`)?")
-# The end of what is said of a function: its path, and how it went.
+# The last line about a function: its path and its result.
 TOLD = re.compile(r"fn (\S+): (proved|not proved|no proof|could not tell)(.*)")
-# The declaration that an error is of. Without one, a file has no such form as proofs have.
+# The declaration that has an error. An error without a declaration says that the file is not a proof in form.
 OF = re.compile(r"error: `([^`]+)`: ")
-# An answer that doesn't fit in form: it names what the edit took away, or cites one that does. It says little of the contract.
+# An answer that fails only in form: it names a thing that the edit removed, or cites an answer that does. It says little of the contract.
 UNFIT = re.compile(
     r"has no field|\(nearest: |is not in scope|has no `|projects from a record, but|was not admitted|was rejected, was not checked"
     r"|replace that `_` with the term"
 )
-# One that cites what was refused.
+# An answer that cites a refused answer.
 STANDS = re.compile(r"stands by its signature alone, since it was refused")
-# An answer that finds no goal of its name any more.
+# An answer whose goal no longer exists.
 LOST = re.compile(r"module `[^`]*\.Goals` has no `([^`]+)`")
-# `search` knows values at which a goal is false.
+# `search` knows values for which a goal is false.
 FALSE = "allow values at which this goal is false"
-# A goal's place, and what is to hold there.
+# The place of a goal, and the condition that has to hold there.
 PLACED = re.compile(r"(.*?)-(clause-.*|requires(?:-clause-.*)?)")
 
 
@@ -45,12 +45,12 @@ def is_return(goal):
 
 
 def siblings(goal, goals):
-    """The goals of the same clause at other returns, of a goal that is one of a return."""
+    """Returns the goals of the same clause at the other returns, for a goal of a return."""
     return [it for it in sorted(goals) if it != goal and is_return(it) and is_return(goal) and placed(it)[1] == placed(goal)[1]]
 
 
 def notes_of(said):
-    """The lines of a check that are of a file or a function, each with the indented lines below it."""
+    """Returns the lines of a check about a file or a function, each with the indented lines below it."""
     found = []
     for line in said.splitlines():
         if line.startswith("  ") and found:
@@ -63,11 +63,11 @@ def notes_of(said):
 
 
 class Heard:
-    """What a check says of the function of an edit, and of its answers."""
+    """The result of a check for the function of an edit and for its answers."""
 
     def __init__(self, edit, said):
-        # Goals that `search` did not prove, each with what is said of it; what of the proof doesn't fit, finds no goal, and is
-        # refused for what it says; and whether something of its invariants is refused.
+        # `open`: goals that `search` did not prove, each with its message. `unfit`: answers that fail in form, with their messages.
+        # `lost`: answers without a goal. `refused`: answers that fail for their meaning. The last one: an invariant has an error.
         self.open, self.unfit, self.lost, self.refused, self.is_without_invariants = {}, {}, {}, set(), False
         waiting = {}
         for note in notes_of(said):
@@ -84,12 +84,12 @@ class Heard:
                 self.hear_of_proof(at[1], note)
             elif goal := UNPROVED.match(at[3]):
                 name = goal[1] or ""
-                # That of a struct's invariant may stand elsewhere than in the function.
+                # The goal of a struct's invariant may stand outside the function.
                 waiting |= {name: note} if name.startswith("invariant_of-") else {}
                 self.open |= {name: note} if at[1] == edit.file and int(at[2]) in edit.lines else {}
 
     def hear_of_proof(self, file, note):
-        """Takes in an error of a proof file."""
+        """Adds an error of a proof file."""
         at, of, head = NOTE.match(note), OF.search(note), "\n".join(note.splitlines()[:2])
         self.is_without_invariants |= file.endswith("/Invariants.antt")
         goal = LOST.search(head)
@@ -101,24 +101,24 @@ class Heard:
             self.refused.add(of[1])
 
     def is_anything(self):
-        """Whether anything of the function or its answers is not proved, for whatever reason."""
+        """True if anything of the function or its answers is not proved, for any reason."""
         return bool(self.refused or self.open or self.unfit or self.lost or self.is_without_invariants)
 
     def why(self):
-        """The first of what was said that decides nothing."""
+        """Returns the first message that decides nothing."""
         said = [*sum(self.unfit.values(), []), *(f"{file}: no goal `{goal}`" for goal, file in self.lost.items()), *self.open.values()]
         return next((it.splitlines()[0] for it in said if it), "")
 
     def new(self, was):
-        """The goals without an answer that the function doesn't have as it stands."""
+        """Returns the unproved goals that the unedited function lacks."""
         return sorted(set(self.open) - was)
 
     def is_open(self):
-        """Whether the verdict hangs on goals that `search` did not prove."""
+        """True if the verdict depends on goals that `search` did not prove."""
         return bool(self.open) and not self.refused and not self.is_without_invariants
 
     def verdict(self, was, written):
-        """The verdict, where the function has these goals as it stands, and answers are written for some."""
+        """Returns the verdict. `was` has the goals of the unedited function, and `written` the goals with written answers."""
         if self.is_without_invariants:
             return UNDECIDED
         if self.refused or set(self.open) & was - written:
