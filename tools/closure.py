@@ -1,7 +1,12 @@
-"""What the proof of a function can read, closed over names, and a sum of it for each edit of the function.
+"""The closure of a function: all that its proof can read. The closure gives each edit of the function a sum.
 
-Of a function that is called the proof reads the head and the contract, of a type, a trait, an impl, a constant or a definition the
-text, of a lemma its statement; of these again what they name, in the crate and in all below it.
+The proof reads these parts of the items that the function and its answers name:
+
+- the head and the contract of a called function
+- the text of a type, a trait, an impl, a constant or a definition
+- the statement of a lemma
+
+The same rule holds for the items that these texts name, in the crate and in all crates below it.
 """
 
 import functools
@@ -13,28 +18,28 @@ import re
 from items import Terms, all_crates, bare, has, words
 from repository import TOP, said_by, text_of, with_those_below
 
-# The number of the rule by which verdicts are made. Another text of the tools voids no row of tools/passed, since all edits would then
-# have to be tried again. Raise the number where all have to be.
+# The number of the rule for verdicts. A change of the tools voids no row of tools/passed, since then all edits would have to be tried
+# again. Raise the number if a change requires that.
 RULE = 2
-# What stood in the sums before rules had numbers, by the toolchain and the rule.
+# The part of a sum that earlier tools used in place of the number, by the toolchain and the rule.
 EARLIER = {("rattle-kit-13f logic dac8208d650f15bf", 1): "6d4204f509bda9b94ab18d04ddde21dc81918936b69c867f4fa5525e4a7a4695"}
 # A constructor or a field of a type, on a line of its own.
 PARTS = re.compile(r"(?m)^ +(?:pub )?([^\s:(]+) :")
 # A lemma or a definition in an attribute.
 CITED = re.compile(r"\b(\w+)::(specs|proofs)::([^\s(),\]]+)")
-# A name in the code of a function, with what stands before it; two points are no call of a method.
+# A name in the code of a function, with the words before it. Two points are not a method call.
 CALLED = re.compile(r"(?:(?:\w+::)*(\w+)(?:::<[^()]*>)?(::)|(?<!\.)(\.)\s*)?\b([a-zA-Z_]\w*)\b")
 
 
 class Known:
-    """The items that those of a crate can name: its own, and those of the crates below."""
+    """The items that a crate can name: its own, and those of the crates below."""
 
     def __init__(self, crate):
         self.types, self.impls, self.functions = {}, {}, {}
         of_kind = {"type": self.types, "trait": self.types, "impl": self.impls, "fn": self.functions}
         for it in [it for name in with_those_below([crate]) for it in all_crates()[name].items if it.kind in of_kind]:
             of_kind[it.kind].setdefault(it.name, []).append(it)
-        # An impl for a type that isn't of its crate is found by its trait, which is.
+        # An impl for a type of another crate is listed under its trait, which is of this crate.
         for it in sum(self.impls.values(), []):
             if it.trait in self.types and all(of.crate != it.crate for of in self.types.get(it.name, [])):
                 self.impls.setdefault(it.trait, []).append(it)
@@ -46,7 +51,7 @@ def known_to(crate):
 
 
 class Places:
-    """The items of a crate by the paths that the checker has for them."""
+    """The items of a crate by their paths in the checker."""
 
     def __init__(self, crate):
         self.terms, self.methods, self.free, self.types = {}, {}, {}, {}
@@ -63,7 +68,7 @@ class Places:
                 self.types.setdefault(it.scope or it.name, []).append(it)
 
     def at(self, path):
-        """The items at a path, as `specs.Timed.compared` or `proofs.metering.Meter.reached.Met`; all of a file, where it names that."""
+        """Returns the items at a path, as `specs.Timed.compared` or `proofs.metering.Meter.reached.Met`. A path of a file has all its items."""
         steps = path.split(".")
         module = self.terms.get(".".join(steps[:2]))
         if module is not None:
@@ -75,7 +80,7 @@ class Places:
         if of == ["declared"]:
             return next((self.types[it] for it in steps if it in self.types), [])
         for step in steps:
-            # What drops a value of a type.
+            # A step for the code that drops a value of a type.
             crate, _, name = step.removesuffix("+Destruct").partition("++")
             if step.endswith("+Destruct") and crate in all_crates():
                 return places_of(crate).types.get(name.split("++")[-1], [])
@@ -86,11 +91,11 @@ class Places:
             found = [it for it in self.free.get(step, []) if it.module == ".".join(steps[:number])]
             if found or step in self.types:
                 return found or self.types[step]
-        # What a macro wrote, and what the root passes on.
+        # Else the item is written by a macro, or the root of the crate exports it.
         return next(filter(None, map(self.derived, steps)), self.free.get("".join(steps[:1]), []))
 
     def derived(self, name):
-        """The type for which a macro wrote the impl of a name."""
+        """Returns the type for which a macro wrote the impl with this name."""
         found = [it for of in self.types.values() for it in of if it.kind == "type" and name.startswith(it.name) and "#[derive" in it.text]
         return sorted(found, key=lambda it: len(it.name))[-1:]
 
@@ -101,19 +106,19 @@ def places_of(crate):
 
 
 def at(path):
-    """The items of a path with its crate, as `Rattle.mq_count.specs.Timed.compared`; none of a path of the toolchain's libraries."""
+    """Returns the items of a path with its crate, as `Rattle.mq_count.specs.Timed.compared`. The toolchain's libraries have none."""
     library, _, rest = path.partition(".")
     crate, _, rest = rest.partition(".") if library == "Rattle" else ("", "", "")
     return places_of(crate).at(rest) if crate in all_crates() and rest else []
 
 
 def imported(item, text):
-    """The names of a text that are imported, each with what it stands for."""
+    """Returns the imported names in a text, each with the path of its item."""
     return {name: path for name, path in item.imports.items() if has(text, name)}
 
 
 def named_terms(item, text):
-    """What the imports of an item bring that a text names, and what it names of the item's own file."""
+    """Returns the items that a text names, from the imports of an item and from the item's own file."""
     found = []
     for path, of in imported(item, text).values():
         found += at(f"{path}.{of}") if of else [it for it in at(path) if it.kind != "term" or has(text, it.name)]
@@ -124,7 +129,7 @@ def named_terms(item, text):
 
 
 def seen_by(item, text):
-    """The items that a text names, beside functions."""
+    """Returns the items that a text names, except functions."""
     known, found = known_to(item.crate), named_terms(item, text)
     for crate, part, path in CITED.findall(text):
         found += at(f"Rattle.{item.crate if crate == 'crate' else crate}.{part}.{path.replace('::', '.')}")
@@ -142,12 +147,12 @@ def seen_by(item, text):
 
 @functools.lru_cache(maxsize=None)
 def named(item):
-    """The items that others see of an item when they read it."""
+    """Returns the items that the readable text of an item names."""
     return seen_by(item, item.text)
 
 
 def owners(function, name):
-    """The types and traits that a name before `::` can stand for; None where it is no type of the crates."""
+    """Returns the types and traits for which a name before `::` can stand, or None if it is not a type of the crates."""
     known, of = known_to(function.crate), function.uses.get(name, ("", name))[1]
     if name == "Self":
         return {function.owner, function.trait}
@@ -157,7 +162,7 @@ def owners(function, name):
 
 
 def called(function, code):
-    """The functions that some code in a function's place may call, by their names and by what stands before these."""
+    """Returns the functions that some code may call in a function's place, by their names and the words before the names."""
     known, found = known_to(function.crate), []
     for owner, path, dot, name in CALLED.findall(code):
         for it in known.functions.get(name if path or dot else function.uses.get(name, ("", name))[1], []):
@@ -172,7 +177,7 @@ def called(function, code):
 
 
 def closed(found, todo):
-    """Items, with some more and all that these name."""
+    """Returns the items of `found`, and those of `todo` with all that they name."""
     found, todo = {*found}, [*todo]
     while todo:
         it = todo.pop()
@@ -183,7 +188,7 @@ def closed(found, todo):
 
 
 class Closure:
-    """What the proof of a function can read beside its own texts. `answers` are the items of its proof folder."""
+    """The items that the proof of a function can read outside its own texts."""
 
     def __init__(self, function, files):
         self.function, self.files = function, files
@@ -193,7 +198,7 @@ class Closure:
         self.items = closed([], [*first, *named(function), *seen_by(function, function.rest), *called(function, function.rest)])
 
     def with_edit(self, edit):
-        """The items where an edit is made, which may name others."""
+        """Returns the items after an edit, whose code may name more of them."""
         text = edit.text
         for old, new in edit.pairs:
             text = text.replace(old, new)
@@ -202,7 +207,7 @@ class Closure:
 
 
 def function_of(edit):
-    """The item of an edit's function."""
+    """Returns the item of an edit's function."""
     of = all_crates()[edit.crate].sources[edit.file].items
     return next(it for it in of if it.kind == "fn" and it.name == edit.function and it.line in edit.lines)
 
@@ -231,14 +236,14 @@ def version():
 
 @functools.lru_cache(maxsize=None)
 def attributes(crate):
-    """The attributes of a whole crate, which its root has."""
+    """Returns the attributes of a whole crate, which are in its root."""
     roots = [it for it in ("src/lib.rt", "src/main.rt") if it in all_crates()[crate].sources]
     return "\n".join(re.findall(r"(?m)^#!\[.*", all_crates()[crate].sources[roots[0]].whole)) if roots else ""
 
 
 @functools.lru_cache(maxsize=None)
 def parts_of(edit):
-    """All that decides on the verdict of an edit, beside the toolchain and the rule."""
+    """Returns the texts that decide on the verdict of an edit, without the toolchain and the rule."""
     function, folder = function_of(edit), f"{TOP}/crates/{edit.crate}"
     closure = closure_of(function)
     own = [function.place(), function.text, function.rest, *(repr(sorted(it.items())) for it in (function.imports, function.uses))]
@@ -248,7 +253,7 @@ def parts_of(edit):
 
 
 def sums(edits):
-    """The sums of edits, by the rule of today."""
+    """Returns the sums of edits by the current rule."""
     tools = summed(version(), str(RULE))
     return {it: summed(tools, *parts_of(it)) for it in edits}
 
@@ -258,6 +263,6 @@ def earlier_tools():
 
 
 def earlier_sums(edits):
-    """Their sums by the rule before."""
+    """Returns the sums of edits by the previous rule."""
     tools = earlier_tools()
     return {it: summed(tools, *parts_of(it)) for it in edits}

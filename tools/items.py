@@ -1,5 +1,5 @@
-"""The items of the crates: functions, types, traits, impls, definitions and lemmas. Each has the text that proofs of others can
-read, the rest of its text, and the names by which it imports others."""
+"""The items of the crates: functions, types, traits, impls, definitions and lemmas. Each item has the text that other proofs can read,
+the rest of its text, and the names that it imports."""
 
 import functools
 import glob
@@ -9,9 +9,9 @@ import textwrap
 
 from repository import TOP, crates, text_of
 
-# What a file of src/ is read by: comments, strings, characters, brackets, and ends of items.
+# The tokens of a file of src/: comments, strings, characters, brackets, and ends of items.
 TOKEN = re.compile(r'//[^\n]*|/\*.*?\*/|\br(#*)".*?"\1|"(?:\\.|[^"\\])*"|\'(?:\\[^\']+|[^\'\\])\'|[{}()\[\];]', re.S)
-# Comments and attributes above an item, and what it is.
+# Comments and attributes above an item, and its kind.
 LEAD = re.compile(r'(?:\s+|//[^\n]*|/\*.*?\*/|#!?\[(?:[^\[\]"]|"(?:\\.|[^"\\])*"|\[[^\[\]]*\])*\])*', re.S)
 KIND = re.compile(
     r'(?:pub(?:\([^)]*\))? |unsafe |const (?=fn|unsafe|extern)|extern "C" (?=fn))*'
@@ -20,7 +20,7 @@ KIND = re.compile(
 BRACED = {"fn", "struct", "enum", "union", "trait", "impl", "mod", "macro_rules!", "extern", ""}
 CLAUSE = re.compile(r"(?:\b(?:requires|ensures|decreases)\b\*?(?:\s+\w+)?|\bghost\s+\w+\s*:)\s*\Z")
 IMPORT = re.compile(r"(?:pub |unfoldable )*use ([^\s{]+?)(?:\.\{([^}]*)\}|(?: as (\S+))?)\s*\Z", re.S)
-# Where a definition or a lemma begins, and one without marks.
+# The begin of a definition or a lemma, with and without marks.
 MARKS = re.compile(r"((?:(?:pub|abbrev|unfoldable|pattern|axiom|data|record) )*)(\S+)")
 OPENED = {"abbrev", "unfoldable", "pattern", "data", "record", "axiom"}
 SIGNED = re.compile(r"\S+(?: \{[^}\n]*\})?\s+:(?:\s|\Z)")
@@ -31,23 +31,23 @@ NAME = re.compile(r"[^\s(){}\[\],;:.\"λ⟦⟧]+")
 
 @functools.lru_cache(maxsize=None)
 def words(text):
-    """The words of a text, read as Rust and as terms."""
+    """Returns the words of a text, both as Rust and as terms."""
     return frozenset(WORD.findall(text)) | frozenset(NAME.findall(text))
 
 
 def has(text, name):
-    """Whether a text has a name, of an operator its words."""
+    """True if a text has a name. For an operator, the text must have its words."""
     return words(text).issuperset(filter(None, name.split("◌")))
 
 
 def bare(text):
-    """The text of a file of src/ without its comments and empty lines."""
+    """Returns the text of a file of src/ without comments and empty lines."""
     kept = TOKEN.sub(lambda it: "" if it[0].startswith(("//", "/*")) else it[0], text)
     return "\n".join(line.rstrip() for line in kept.split("\n") if line.strip())
 
 
 def uses_of(text, path=""):
-    """The names that a `use` of Rust brings, each with its path and the name that it has there."""
+    """Returns the names that a `use` of Rust imports, each with its path and its name there."""
     found, tree = {}, re.sub(r"\s+", " ", text).strip()
     depth, start = 0, 0
     for at, it in enumerate(f"{tree},"):
@@ -66,10 +66,14 @@ def uses_of(text, path=""):
 
 
 class Item:
-    """A text that proofs can read. `text` is what others see of it, `rest` what it has besides: the body of a function, the proof
-    of a lemma, a definition that can't be unfolded. `owner` is the type or trait of a method, `trait` that of an impl, and `scope`
-    the name that the checker has for both; `path` is the checker's of a function, without the crate. `imports` and `uses` have the
-    names that its file brings from modules of definitions, and by `use` of Rust."""
+    """A text that proofs can read.
+
+    - `text` is the part that others see. `rest` is the rest: the body of a function, the proof of a lemma, or a definition that can't
+      be unfolded.
+    - `owner` is the type or trait of a method, `trait` that of an impl, and `scope` the checker's name for both.
+    - `path` is the checker's path of a function, without the crate.
+    - `imports` has the names that its file imports from modules of definitions, and `uses` those from a `use` of Rust.
+    """
 
     def __init__(self, crate, file, kind, name, text, rest=""):
         self.crate, self.file, self.kind, self.name, self.text, self.rest = crate, file, kind, name, text, rest
@@ -82,7 +86,7 @@ class Item:
 
 
 def pieces(text, begin, end):
-    """The items between two places of a file: of each its kind, its name, where it begins and ends, and its braces."""
+    """Returns the items between two places of a file, each with its kind, name, begin, end and braces."""
     start, depth, opened, groups = begin, 0, 0, []
     for token in TOKEN.finditer(text, begin, end):
         it = token[0]
@@ -105,7 +109,7 @@ def pieces(text, begin, end):
 
 
 def imports_of(text):
-    """The names that a `use` line brings, each with the path of a module and a name there, or with none for the module itself."""
+    """Returns the names that a `use` line imports, each with a module's path and a name there. The module itself has an empty name."""
     found = IMPORT.match(text.strip().removeprefix("ghost ").rstrip(";"))
     if not found:
         return {}
@@ -117,7 +121,7 @@ def imports_of(text):
 
 
 def impl_of(head):
-    """The type of an impl, its trait, and the name that the checker has for both, by what stands behind the word `impl`."""
+    """Returns the type of an impl, its trait, and the checker's name for both, by the text after the word `impl`."""
     text, depth = re.split(r"\bwhere\b", head)[0].replace("->", "").strip(), 0
     declared, rest = "", text
     for at, it in enumerate(text if text.startswith("<") else ""):
@@ -138,7 +142,7 @@ class Source:
 
     def __init__(self, crate, file, text):
         self.crate, self.file, self.whole, self.items, self.uses = crate, file, text, [], {}
-        # The path of the module that is read.
+        # The path of the current module.
         self.module = re.sub(r"(^|\.)(lib|main|mod)$", "", file.removeprefix("src/").removesuffix(".rt").replace("/", "."))
         self.read(0, len(text), ("", "", ""), {})
 
@@ -149,7 +153,7 @@ class Source:
         self.items.append(it)
 
     def read(self, begin, end, of, imports):
-        """Reads what stands between two places, of an impl or a trait, and returns the text of what is no function there."""
+        """Reads the items between two places, which may be in an impl or a trait. Returns the text there that is not of functions."""
         other = []
         for kind, name, start, stop, groups in pieces(self.whole, begin, end):
             text, first = self.whole[start:stop], groups[0][0] if groups else stop
@@ -174,7 +178,7 @@ class Source:
         return "\n".join(other)
 
     def read_members(self, kind, name, start, first, stop, imports):
-        """Reads an impl or a trait: its functions are items, and what else it has is one."""
+        """Reads an impl or a trait. Each of its functions is an item, and the rest of it is one more."""
         head = self.whole[start:first]
         of = impl_of(head[KIND.match(head, LEAD.match(head).end()).end(1) :]) if kind == "impl" else (name, "", name)
         text = f"{head}\n{self.read(first + 1, stop - 1, of, imports)}"
@@ -182,7 +186,7 @@ class Source:
 
 
 def chunks(lines):
-    """Lines of a file of specs/ or proofs/, those of one declaration together, without comments."""
+    """Returns the declarations of a file of specs/ or proofs/, without comments."""
     found = []
     for line in lines:
         if not line.strip() or line.lstrip().startswith("--"):
@@ -196,20 +200,20 @@ def chunks(lines):
 
 @functools.lru_cache(maxsize=None)
 def unfolded():
-    """The names that are unfolded somewhere: what a check unfolds for a lemma it can unfold for whoever uses this."""
+    """Returns the names that any file unfolds. If a check unfolds a name for a lemma, it can do so for each user of the lemma."""
     files = [f"{TOP}/crates/{crate}/{file}" for crate in crates() for part in ("specs", "proofs") for file in files_of(crate, part, "antt")]
     return {name for file in files for names in UNFOLDING.findall(text_of(file)) for name in names.split()}
 
 
 class Terms:
-    """Reads a file of specs/ or proofs/ into items: each signature with the equations behind it."""
+    """Reads a file of specs/ or proofs/ into items: each signature with the equations after it."""
 
     def __init__(self, text):
         self.imports, self.found = {}, []
         self.read(text.split("\n"), [])
 
     def read(self, lines, head):
-        """Reads declarations, those of an inner module with its head above each of them."""
+        """Reads declarations. Each declaration of an inner module has the head of the module above it."""
         for chunk in chunks(lines):
             marks, name = MARKS.match(chunk).groups()
             if name == "use":
@@ -259,7 +263,7 @@ class Crate:
             it.path = "::".join([*home.split(".")] * bool(home) + [it.scope] * bool(it.scope) + [it.name])
 
     def functions(self):
-        """The functions that are written in the crate. A macro's have no item, nor has a method that is left to its trait."""
+        """Returns the functions that are written in the crate. Functions of macros and default methods of traits have no item."""
         return [it for it in self.items if it.kind == "fn"]
 
 

@@ -17,7 +17,7 @@ def run(program, words, data):
 
 
 def left(name, data):
-    """Leaves a capture in bin/, and answers its name."""
+    """Leaves a capture in bin/, and returns its name."""
     os.makedirs(f"{TOP}/bin", exist_ok=True)
     with open(f"{TOP}/bin/{name}", "wb") as to:
         to.write(data)
@@ -25,7 +25,7 @@ def left(name, data):
 
 
 def main(usage, wrong, words):
-    """Tries as many captures from a number on, of a program, as the words say: `wrong` answers what is wrong with one, or None."""
+    """Tries a program on as many captures as the words say, from a number on. `wrong` returns the fault of a capture, or None."""
     if len(words) > 3 or not all(word.isdigit() for word in words[:2]):
         print(usage, file=sys.stderr)
         return 2

@@ -1,8 +1,8 @@
 """Lists the names that the proof of a function read in a check, and finds those that the closure of the function lacks.
 
 A check leaves a file for each checked module in its incremental directory. The file begins with lines that begin with `--@`, and one
-of them is `--@ reads complete COUNT BYTES`. Then comes a body, whose last BYTES bytes list the COUNT names that the check of the
-module read.
+of them is `--@ reads complete COUNT BYTES`. Then comes a body, whose last BYTES bytes have COUNT entries: the names that the check
+of the module read.
 """
 
 import functools

@@ -23,7 +23,7 @@ def put(file, text):
 
 
 def said_by(folder, *words):
-    """The status of a command that runs in a folder, and all that it says."""
+    """Returns the status and the whole output of a command that runs in a folder."""
     how = {"stdin": subprocess.DEVNULL, "stdout": subprocess.PIPE, "stderr": subprocess.STDOUT}
     ran = subprocess.run(words, cwd=folder, encoding="utf-8", errors="replace", check=False, **how)
     return ran.returncode, ran.stdout
@@ -35,19 +35,19 @@ def on_all_cores(work, items):
 
 
 def rows_of(text):
-    """The rows of a crates.txt: each crate with the words after it, and the crates that it names."""
+    """Returns the rows of a crates.txt: each crate with the words after it, and the crates that it names."""
     rows = [line.partition("#")[0].partition(":") for line in text.splitlines()]
     return {name.split()[0]: (name.split()[1:], named.split()) for name, colon, named in rows if colon}
 
 
 def crates():
-    """The crates of the repository, each with those of them that it names."""
+    """Returns the crates of the repository, each with the crates that it names."""
     rows = rows_of(text_of(f"{TOP}/crates.txt"))
     return {name: [it for it in named if it in rows] for name, (_, named) in rows.items()}
 
 
 def with_those_below(wanted):
-    """These crates and those that they stand on, lowest first."""
+    """Returns these crates and those below them, lowest first."""
     named, found = crates(), []
 
     def find(name):
@@ -62,7 +62,7 @@ def with_those_below(wanted):
 
 
 def with_those_above(wanted):
-    """These crates and those that stand on one of them, lowest first."""
+    """Returns these crates and those above them, lowest first."""
     named, found = crates(), set(wanted)
     for name in with_those_below(named):
         if found & set(named[name]):
@@ -76,14 +76,14 @@ def has_tests(name):
 
 
 def git(*words):
-    """The output of git, or None if it fails."""
+    """Returns the output of git, or None if it fails."""
     how = {"stdin": subprocess.DEVNULL, "stdout": subprocess.PIPE, "stderr": subprocess.DEVNULL}
     ran = subprocess.run(["git", *words], cwd=TOP, encoding="utf-8", errors="replace", check=False, **how)
     return None if ran.returncode else ran.stdout
 
 
 def files_changed_since(commit):
-    """The files that are otherwise in the commit, edits that aren't committed and new files among them."""
+    """Returns the files that differ from the commit, with uncommitted edits and new files."""
     changed, new = git("diff", "--name-only", "--no-renames", commit, "--"), git("ls-files", "--others", "--exclude-standard")
     if changed is None or new is None:
         raise ValueError(f"git knows no commit {commit}")
@@ -91,7 +91,7 @@ def files_changed_since(commit):
 
 
 def commit_before():
-    """The last commit of origin/main that is below HEAD; where nothing changed since, or there is none, the one before HEAD."""
+    """Returns the last commit of origin/main below HEAD. If nothing changed since, or there is none, it is the one before HEAD."""
     base = (git("merge-base", "HEAD", "origin/main") or "").strip()
     if base and files_changed_since(base):
         return base
@@ -99,12 +99,12 @@ def commit_before():
 
 
 def text_in(commit, file):
-    """The file's text in a commit; empty without the file."""
+    """Returns the file's text in a commit, or an empty text without the file."""
     return git("show", f"{commit}:{file}") or ""
 
 
 def crates_changed_since(commit):
-    """The crates with a source, a definition, a proof or a row in crates.txt that differs from the commit."""
+    """Returns the crates with a source, a definition, a proof or a row in crates.txt that differs from the commit."""
     found = {it.split("/")[1] for it in files_changed_since(commit) if re.match(rf"crates/\w+/({'|'.join(PARTS)})/", it)}
     was, rows = rows_of(text_in(commit, "crates.txt")), rows_of(text_of(f"{TOP}/crates.txt"))
     return [name for name in crates() if name in found or was.get(name) != rows[name]]
