@@ -1,11 +1,11 @@
-"""The cost of each crate's proof in processor seconds: measured on this machine, or else from tools/costs."""
+"""The cost of each crate's proof in processor seconds, measured on this machine or else from tools/costs."""
 
 import os
 
 from repository import TOP, put, text_of
 
 STATED, MEASURED = f"{TOP}/tools/costs", f"{TOP}/bin/costs"
-# The cost of a crate that was never measured.
+# The cost of a crate without a measurement.
 UNKNOWN = 60.0
 
 
@@ -22,6 +22,6 @@ def cost_of(name):
 
 
 def note_cost(name, seconds):
-    """Keeps what the proof of a crate took here."""
+    """Keeps the cost of a crate's proof on this machine."""
     now = {**table(MEASURED), name: seconds}
     put(MEASURED, "".join(f"{it} {now[it]:.0f}\n" for it in sorted(now)))

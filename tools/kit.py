@@ -1,8 +1,8 @@
-"""The toolchain as the tools call it.
+"""The calls of the toolchain by the tools.
 
-`rt` proves one crate a call, and locks all crates below it meanwhile. So the tools call `rattle`, the compiler, with the words of `rt`,
-to prove crates in parallel. They use the proofs that `rt ci` kept on this machine. Their results are where `rt` looks for them, in
-crates/NAME/out/rlib, with the stamp by which `rt` knows them, and a key that names the libraries below.
+`rt` proves one crate a call, and locks all crates below it meanwhile. To prove crates in parallel, the tools call the compiler `rattle`
+with the words of `rt`. They use the proofs that `rt ci` kept on this machine. The results are in crates/NAME/out/rlib, where `rt` looks
+for them. They have the stamp by which `rt` recognizes them, and a key that names the libraries below.
 """
 
 import contextlib
@@ -23,7 +23,7 @@ WASM = "wasm64-unknown-unknown"
 
 
 def folder():
-    """The toolchain's folder: the page that `rt doc` names stands there."""
+    """Returns the toolchain's folder, which has the page that `rt doc` names."""
     status, said = said_by(TOP, "rt", "doc")
     if status:
         raise ValueError(f"`rt doc` fails: {said.strip()}")
@@ -31,7 +31,7 @@ def folder():
 
 
 def loaded():
-    """The command `rt` as a module."""
+    """Returns the command `rt` as a module."""
     path = f"{folder()}/bin/rt"
     loader = importlib.machinery.SourceFileLoader("rt", path)
     made = importlib.util.module_from_spec(importlib.util.spec_from_loader("rt", loader))
@@ -49,7 +49,7 @@ def text_of(file):
 
 
 def without(words, *flags):
-    """The words without these flags and the word after each."""
+    """Returns the words without these flags and the word after each of them."""
     for flag in flags:
         at = words.index(flag)
         words = [*words[:at], *words[at + 2 :]]
@@ -57,11 +57,11 @@ def without(words, *flags):
 
 
 class Kit:
-    """The crates of a repository with what is proved of them. Its calls may run in threads, for a crate once those below it are done."""
+    """The crates of a repository, with their proofs. Calls may run in threads. A crate's call comes after all calls for the crates below."""
 
     def __init__(self, top=TOP, beside=None, anew=False):
-        """`top` is the repository or a copy of its crates. `beside` is the number of a process, an `rt ci`: as long as it is at work, libraries are
-        taken as it makes them. `anew` takes nothing that an `rt ci` kept."""
+        """`top` is the repository or a copy of its crates. `beside` is the process number of an `rt ci`: while it is at work, the kit uses the
+        libraries that it makes. With `anew` the kit uses nothing that an `rt ci` kept."""
         self.rt = rt = loaded()
         self.top, self.beside, self.anew = top, beside, anew
         rt.Crate.allowed = rt.handles_of(top)
@@ -82,7 +82,7 @@ class Kit:
         return bool(os.path.isdir(f"{self.out(name)}/incremental") and os.listdir(f"{self.out(name)}/incremental"))
 
     def key(self, name, target=""):
-        """A sum of all that the crate's proof reads, once those below it are built."""
+        """Returns a sum of all texts that the crate's proof reads, once the crates below are built."""
         return self.kept.key(self.crates[name]) + target
 
     def is_made(self, file, key):
@@ -93,8 +93,8 @@ class Kit:
             it.write(key)
 
     def is_given(self, name, key):
-        """True if an earlier `rt ci` on this machine, or a build of the copied repository, proved the same; its results are then in out/.
-        If an `rt ci` proves it just now, this waits for it."""
+        """True if an earlier `rt ci` on this machine, or a build of the copied repository, proved the same files. The results are then in out/.
+        If an `rt ci` is just proving the crate, this waits for it."""
         crate, built = self.crates[name], f"{TOP}/crates/{name}/out/rlib/{name}.rlib"
         if self.anew:
             return False
@@ -119,11 +119,11 @@ class Kit:
         return True
 
     def kept_names(self):
-        """The crates whose current files `rt ci` has proved and kept on this machine, with their tests."""
+        """Returns the crates whose current files `rt ci` has proved and kept on this machine, with their tests."""
         return self.names_of(lambda crate, key: crate.has_tests() and self.kept_sums(crate, True, key) is None)
 
     def proved_names(self):
-        """These, and the crates that were proved and built here."""
+        """Returns the kept crates, and those that were proved and built here."""
         return self.names_of(lambda crate, key: False, self.is_built)
 
     def is_built(self, crate, key):
@@ -132,7 +132,7 @@ class Kit:
         return os.path.exists(file) and (text_of(f"{file}.key") or "").startswith(key)
 
     def names_of(self, lacks, is_built=lambda crate, key: False):
-        """The crates that are kept or built, and below which all are."""
+        """Returns the crates that are kept or built, if all crates below them are too."""
         found = []
         for name, crate in self.crates.items():
             if any(it.name not in self.kept.rlibs for it in crate.below()):
@@ -149,7 +149,7 @@ class Kit:
         return found
 
     def kept_sums(self, crate, tests, key):
-        """The files that are kept of a proof, each with its sum; None where none is kept."""
+        """Returns the kept files of a proof, each with its sum, or None if no proof is kept."""
         text = text_of(f"{self.kept.place(crate, tests, key)}/made.json") if self.kept.at else None
         return None if text is None else [tuple(it) for it in json.loads(text)["files"]]
 
@@ -160,7 +160,7 @@ class Kit:
         return ran.returncode, ran.stdout
 
     def call(self, crate, words, told=None, later=False):
-        """Runs `rattle` in a crate's folder, hands each line that it says to `told`, and returns its status and its lines."""
+        """Runs `rattle` in a crate's folder, and passes each line of its output to `told`. Returns its status and its lines."""
         how = {"stdin": subprocess.DEVNULL, "stdout": subprocess.PIPE, "stderr": subprocess.STDOUT, "errors": "replace"}
         before = [*self.guard, *(["nice", "-n", "10"] if later else [])]
         ran, lines = subprocess.Popen([*before, self.rt.rtlib.RATTLE, *words], cwd=crate.folder, text=True, **how), []
@@ -174,7 +174,7 @@ class Kit:
         return ran.returncode, lines
 
     def library(self, name, jobs, told=None, later=False):
-        """Proves a library and builds it, unless that is done. The status, and what was said of it."""
+        """Proves a library and builds it, unless that is done. Returns the status and the output."""
         crate, key = self.crates[name], self.key(name)
         rlib, lines, status = f"{self.out(name)}/rlib/{name}.rlib", [], 0
         if not self.is_made(rlib, key):
@@ -231,7 +231,7 @@ class Kit:
         return (crate.link(f"out/{crate.name}.o", f"out/{crate.name}") if not status else status), lines
 
     def tests(self, name, told=None, later=False):
-        """Proves and runs the tests of a crate. The status, and what was said."""
+        """Proves and runs the tests of a crate. Returns the status and the output."""
         how = {"stdin": subprocess.DEVNULL, "stdout": subprocess.PIPE, "stderr": subprocess.STDOUT, "errors": "replace"}
         words = [*self.guard, *(["nice", "-n", "10"] if later else []), "rt", "test"]
         ran = subprocess.run(words, cwd=self.crates[name].folder, text=True, check=False, **how)
@@ -255,21 +255,21 @@ class Kit:
         return status, lines
 
     def needs(self, name, jobs):
-        """The memory that a proof of the crate is likely to take, in bytes, as was measured over libraries without their proofs. `rt` plans on
-        twice as much."""
+        """Estimates the memory of a proof of the crate in bytes, as was measured over libraries without their proofs. `rt` reserves twice as
+        much."""
         crate = self.crates[name]
         antt = sum(text_of(it).count("\n") for it in self.rt.rtlib.files_of(crate.folder) if it.endswith(".antt"))
         return (1_000_000_000 + 350_000 * crate.count(rb"\n") + 100_000 * antt) * (1 + 0.35 * (jobs - 1))
 
     def memory(self):
-        """The memory that all proofs together may take, in bytes."""
+        """Returns the memory in bytes that all proofs together may use."""
         return 0.85 * self.rt.free()
 
     def processors(self):
         return self.rt.processors()
 
     def link_page(self, name):
-        """Links the module for WebAssembly of a static library that was made for it."""
+        """Links the module for WebAssembly from a static library for it."""
         out, kit = self.out(name), self.rt.KIT
         words = ["--target", WASM, "--toolchain", f"{kit}/toolchain", "-o", f"{out}/{name}.wasm", f"{out}/lib{name}.a"]
         return said_by(TOP, f"{kit}/bin/rattle-link", *words)

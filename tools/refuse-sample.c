@@ -1,5 +1,5 @@
-/* A copy of standard input to standard output, with the fault that the first word names, or with none. `refuse` has to tell the
-   faults apart. */
+/* Copies standard input to standard output, with the fault that the first word names, or with none. tools/refuse has to distinguish
+   the faults. */
 #include <stdlib.h>
 #include <string.h>
 #include <unistd.h>

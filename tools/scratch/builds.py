@@ -1,4 +1,4 @@
-"""Tests of tools/build: what it proves, in which order, and how it ends."""
+"""Tests of tools/build: the proofs, their order, and the end of a build."""
 
 import os
 import shutil
@@ -7,7 +7,7 @@ from scratch import CRATES, put, run, taken, want
 
 
 def build(top, *words):
-    """The status of a build, what it said, and what it had proved and built."""
+    """Returns the status of a build, its output, and the crates that it proved and built."""
     put(f"{top}/order", "")
     status, said = run(top, f"{top}/tools/build", *words)
     return status, said, taken(f"{top}/order").splitlines()
@@ -24,7 +24,7 @@ def emptied(top):
 
 
 def builds_libraries(top):
-    """Builds of the library for C, for two processors, and of the page's module."""
+    """Builds the library for C, for two processors, and the page's module."""
     status, said, order = build(top, "--library")
     want((status, checks(order), order[-1]) == (0, ["low check", "right check"], "mq_c build x86_64-unknown-linux-gnu"), "a build of the library", (said, order))
     want("right: logic=proved functions=2 sum=0\n" in taken(f"{top}/lib/build.log"), "the log of the library lacks a line", "")
@@ -42,7 +42,7 @@ def builds_libraries(top):
 
 
 def builds_program(top):
-    """A build of the program from nothing, one over it, and one after a change."""
+    """Builds the program from nothing, again without a change, and after a change."""
     emptied(top)
     status, said, order = build(top, "some", "words")
     want(status == 0 and checks(order)[0] == "low check", "lower crates are proved first", (said, order))
@@ -60,7 +60,7 @@ def builds_program(top):
 
 
 def takes_what_is_kept(top):
-    """Crates that `rt ci` has kept, or that were proved before, aren't proved again."""
+    """Checks that crates with a kept or earlier proof aren't proved again."""
     emptied(top)
     order = build(top, "--crates", "low")[2]
     key = taken(f"{top}/crates/low/out/rlib/low.rlib.key")

@@ -18,7 +18,7 @@ def names_what_is_missing(top):
 
 
 def tries(top):
-    """Words are handed to the program where it is built, and else to one that isn't proved, which is said."""
+    """Checks that the built program gets the words. Without it, a program without a proof gets them, and the tool says so."""
     os.makedirs(f"{top}/crates/mquerier", exist_ok=True)
     os.remove(f"{top}/bin/mquerier")
     put(f"{top}/capture", "bytes")
@@ -30,7 +30,7 @@ def tries(top):
 
 
 def ended(top):
-    """Waits until the last run in the background has ended."""
+    """Waits for the end of the last run in the background."""
     for _ in range(100):
         if "at work" not in run(top, f"{top}/tools/kept")[1]:
             return
@@ -38,7 +38,7 @@ def ended(top):
 
 
 def keeps(top):
-    """`rt ci` is begun for the crates that aren't kept, and its end is told."""
+    """Checks that `rt ci` starts for the crates without a kept proof, and that its end is reported."""
     put(f"{top}/said", "rt: low proved\n7 passed, 0 failed (low and the crates below alone: not the gate)\n")
     put(f"{top}/status", "0")
     status, said = run(top, f"{top}/tools/kept", "low")

@@ -4,7 +4,7 @@ import shutil
 
 from scratch import copy_tools, put, run, want
 
-# Prints an error if a text has it; else the end of the program, if a text has that.
+# Prints an error if a text has one, or else the end of the program if a text has it.
 COMPILES = """#!/bin/sh
 top=$(cd ../.. && pwd)
 grep -rn ill "$top"/crates/low/src | sed 's/:\\([0-9]*\\):.*/:\\1:5: error[mismatched-types]: ill/' | grep . && exit 1
@@ -14,7 +14,7 @@ exit 0
 
 
 def edits_compile(top):
-    """Edits of two functions, of which what one makes doesn't compile."""
+    """Compiles edits of two functions. One of them does not compile."""
     copy_tools(top, "compiled")
     put(f"{top}/path/rt", COMPILES, 0o755)
     put(f"{top}/crates.txt", "low:\n")

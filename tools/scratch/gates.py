@@ -1,11 +1,11 @@
-"""Tests of tools/gate: what it counts, how it ends, and what a quick one does."""
+"""Tests of tools/gate: its counts, its end, and the quick gate."""
 
 import shutil
 import time
 
 from scratch import TOOLS, committed, git, put, run, taken, want
 
-# A script's status, what `rt ci` says and how it ends; the status of the gate, and what passed and failed of these two.
+# The status of a script, the last line and the status of `rt ci`, and then the status of the gate with its counts of these two.
 GATES = [
     (0, "rt: ok\n7 passed, 0 failed\n", 0, 0, 8, 0),
     (1, "rt: ok\n7 passed, 0 failed\n", 0, 1, 7, 1),
@@ -24,13 +24,13 @@ def names_of_the_gate():
 
 
 def gate(top, *parts):
-    """The gate's status and last line, and what it said."""
+    """Returns the gate's status and last line, and its output."""
     status, said = run(top, f"{top}/tools/gate", *parts)
     return (status, said.splitlines()[-1]), said
 
 
 def stand_in(top, command, counts):
-    """A script in the place of a command, which says a sum where the command does."""
+    """Writes a script in the place of a command. It prints a sum if the command does."""
     name = command.split()[0]
     script = name if "/" in name else f"path/{name}"
     put(f"{top}/{script}", f"#!/bin/sh\n{'echo 2 passed, 0 failed' if counts else ''}\necho {name} >> {top}/runs\n", 0o755)
@@ -64,7 +64,7 @@ def gates(top):
 
 
 def tries_edits_beside(top):
-    """Edits that are tried beside `rt ci`: they are counted, they know its process, and they end where it fails."""
+    """Tries edits while `rt ci` runs: the gate counts them, they know its process, and they end if it fails."""
     stand_in(top, "tools/wrong-bodies", True)
     put(f"{top}/tools/wrong-bodies", '#!/bin/sh\n[ "$1" = --fit ] || echo "beside $*" >> ' + f"{top}/runs\necho 2 passed, 0 failed\n", 0o755)
     put(f"{top}/runs", "")
@@ -83,14 +83,14 @@ def tries_edits_beside(top):
 
 
 def quick_gate(top, *words):
-    """Its status, and what it did of proofs and of runs of the program."""
+    """Returns the status of a quick gate, its proofs and its runs of the program."""
     put(f"{top}/order", "")
     status, said = run(top, f"{top}/tools/gate", "quick", *words)
     return status, sorted(taken(f"{top}/order").splitlines()), said
 
 
 def begin_repository(top):
-    """A repository with all crates proved and everything committed."""
+    """Makes a repository with all crates proved and everything committed."""
     names = names_of_the_gate()
     for command, counts in [*names["FIRST"], *names["RUNS"], ("tools/compiled", True), ("make", False)]:
         stand_in(top, command, counts)
@@ -103,7 +103,7 @@ def begin_repository(top):
 
 
 def quick_gates(top):
-    """The proofs and runs after a change of a crate that the program uses, of a crate that nothing uses, and of none."""
+    """Checks the proofs and runs after a change of a crate that the program uses, of a crate that nothing uses, and of none."""
     begin_repository(top)
     here = "x86_64-unknown-linux-gnu"
     for name, order in (("left", ["left build", "left check"]), ("beside", ["beside build", "beside check"]), ("right", [f"mq_c build {here}", "right build", "right check"])):

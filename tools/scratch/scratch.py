@@ -1,4 +1,4 @@
-"""A repository that is made for a test of the tools, and what is wrong of them."""
+"""A scratch repository for a test of the tools, and the faults that the test finds."""
 
 import os
 import shutil
@@ -33,7 +33,7 @@ def copy_tools(top, *names):
 
 
 def run(top, *command):
-    """The status of a command that meets the scratch toolchain, and all that it says."""
+    """Returns the status and the whole output of a command that runs with the scratch toolchain."""
     path = {"PATH": f"{top}/path:{os.environ['PATH']}"}
     how = {"stdin": subprocess.DEVNULL, "stdout": subprocess.PIPE, "stderr": subprocess.STDOUT, "text": True}
     ran = subprocess.run(command, env={**os.environ, **path}, check=False, **how)

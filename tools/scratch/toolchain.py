@@ -1,10 +1,10 @@
-"""A toolchain that proves nothing: it says lines, and writes down what it was called for. `install` puts it into a scratch repository."""
+"""A toolchain that proves nothing: it prints lines and records its calls. `install` puts it into a scratch repository."""
 
 import os
 
 from scratch import put
 
-# The command `rt`, as far as the tools call it as a command.
+# The part of the command `rt` that the tools call as a command.
 RT = """#!/bin/sh
 case $1 in
 ci)
@@ -113,8 +113,8 @@ class rtlib:
 
         return [crate(it) for it in known]
 '''
-# The compiler. Its output for a wrong function stands in says/, under the function's name, its
-# answers, and the fields that the last of them names.
+# The compiler. Its output for a wrong function is in says/, under the function's name, its
+# answers, and the fields that the last answer names.
 RATTLE = '''#!/usr/bin/env python3
 import json
 import os
@@ -174,7 +174,7 @@ echo "linked $7" > "$6"
 
 
 def install(top):
-    """Puts the toolchain into a repository, on the path that `run` has."""
+    """Puts the toolchain into a repository, on the path of `run`."""
     put(f"{top}/path/rt", RT.format(top=top), 0o755)
     put(f"{top}/kit/bin/rt", MODULE)
     put(f"{top}/kit/bin/rattle", RATTLE.format(top=top), 0o755)

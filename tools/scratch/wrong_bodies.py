@@ -1,4 +1,4 @@
-"""Tests of tools/wrong-bodies: which edits are tried, and what refuses them."""
+"""Tests of tools/wrong-bodies: the edits that it tries, and the reasons why they are refused."""
 
 import os
 import shutil
@@ -15,13 +15,13 @@ NOT_PROVED, VALUES = "fn low::{}: not proved\n", "; the facts known there allow 
 
 
 def unproved(function, goals, more="; `search` gave up"):
-    """What a check says of goals that `search` did not prove."""
+    """Returns the output of a check for goals that `search` did not prove."""
     line = 3 * list(FUNCTIONS).index(function) + 2
     return "".join(OPEN.format(line, it, more) for it in goals) + NOT_PROVED.format(function)
 
 
 def lost(function, goals):
-    """What a check says of goals that are new where answers lost their own."""
+    """Returns the output of a check for new goals if answers lost their own goals."""
     return "".join(LOST.format(function, it, it, it) for it in goals) + unproved(function, goals.values())
 
 
@@ -34,61 +34,61 @@ EARLY, TWO = "returns-then-x-clause-it", "returns-clause-it,returns-in-y-clause-
 
 
 def early(function, first, second, more="; `search` gave up"):
-    """What a check says of a return that is new, and where it has the answer of the first other one, or of the second."""
+    """Returns the outputs for a new return: without an answer, and with that of the first or the second other return."""
     return {f"{TWO}:y": unproved(function, [EARLY], more), f"{TWO},{EARLY}": first.format(function), f"{TWO},{EARLY}:x": second.format(function)}
 
 
 UNFIT, REFUSES = FIELD.replace("`{}`", f"`{EARLY}`", 1).replace(".{},", ".up,").replace("field `{}`", "field `cell`").replace("low.{}", "low"), FALSE.replace("`{}`", f"`{EARLY}`")
-# What a check says of a function, by the answers that its proof has, each with the fields that it names.
+# The output of a check for a function, by the answers in its proof, each with the fields that it names.
 SAYS = {
     # An unproved goal, and a function that calls it.
     "callee": {"none": unproved("callee", ["returns"]) + "fn low::caller: no proof: it calls `low::callee`, which is not proved\n"},
     "caller": {"none": "./proofs/+caller/Answers.antt:3:1: error: `returns`: the goal does not follow\n"},
-    # One that is refused only where it is tried alone.
+    # An edit that is refused only if it is tried alone.
     "single": {"none": "", "none alone": PATH.format("single") + "`returns`: the goal does not follow\n"},
-    # Names that the edit took away; nothing at all; an invariant that stands elsewhere; a loop's invariant.
+    # A name that the edit removed, no error, an invariant outside the function, and a loop's invariant.
     "mentions": {"none": PATH.format("mentions") + "`returns`: record `low.mentions.Lts` has no field `cell`\n"},
     "right": {"none": ""},
     "held": {"none": OPEN.format(400, "invariant_of-self", "") + NOT_PROVED.format("held")},
     "loop": {"none": "./proofs/loop/Invariants.antt:3:1: error: `invariant-loop`: it differs\n" + unproved("loop", ["returns"])},
-    # Goals that are new where answers lost their own: one that is refused with its answer renamed, one that isn't, two whose
-    # answers are to be exchanged, and one with no answer to be renamed.
+    # New goals, after answers lost their own goals. With the renamed answer, the first is refused and the second is not. Then come two
+    # goals whose answers have to be exchanged, and a goal without an answer to rename.
     "renamed": {"cell-requires": lost("renamed", CELL) + CITES, "slot-requires": FALSE.format("renamed", "slot-requires")},
     "moved": {"cell-requires": lost("moved", CELL), "slot-requires": ""},
     "turned": {"a-requires,b-requires": lost("turned", EXCHANGED), "c-requires,d-requires": FALSE.format("turned", "c-requires"), "d-requires,c-requires": ""},
     "vanished": {"cell-requires": lost("vanished", {"cell-requires": "other-clause-it"})},
-    # A name on two lines; what only cites what was refused; an error of a file.
+    # A name on two lines, answers that fail only in form, and an answer that only cites a refused one.
     "folded": {"none": PATH.format("folded") + "`returns`: record `low.folded.Lts`\n  has no field `cell`\n"},
     "unchecked": {"none": PATH.format("unchecked") + "`returns`: `cell-requires` was not admitted\n"},
     "unwritten": {"none": PATH.format("unwritten") + "`returns`: replace that `_` with the term it stands for\n"},
     "uncited": {"none": CITES.replace("renamed", "uncited")},
-    # A check that found no verdict on the function, and one that refuses a proof and doesn't say why.
+    # A check without a result for the function, a check that gives no reason, and an error of a file.
     "untold": {"none": "fn low::untold: could not tell\n"},
     "unsaid": {"none": "fn low::unsaid: not proved; it stands on `low.proofs.unsaid.Answers.returns`, which antt refuses\n"},
     "bare_name": {"none": PATH.format("bare_name") + "unexpected `=`\n"},
-    # A new return, at which the answer of another one doesn't fit, is refused, or holds: the first, or only the second.
+    # A new return with the answer of another return. It fails in form, is refused, holds with the first, or holds only with the second.
     "early": early("early", UNFIT, UNFIT, VALUES),
     "early_false": early("early_false", REFUSES, UNFIT),
     "early_holds": early("early_holds", "", UNFIT),
     "early_first": early("early_first", REFUSES, ""),
-    # A new return where `search` proved all others, and knows values at which it is false, or none.
+    # A new return whose clause `search` proved at all others. It knows values for which the new goal is false, or none.
     "searched": {"none": unproved("searched", [EARLY], VALUES)},
     "limits": {"none": unproved("limits", [EARLY])},
-    # A goal that is new, and no return's.
+    # A new goal that does not belong to a return.
     "stranger": {"none": unproved("stranger", ["it-requires"], VALUES)},
-    # A field that has another name: the answer is refused by it, or holds; and one that the answer names already.
+    # A field with another name. The answer with the new name is refused, or holds. In the last edit the answer already has that name.
     "fields": {"returns:x-it": FIELD.format("fields", "returns", "fields", "x-now", "x-it"), "returns:x-now": FALSE.format("fields", "returns")},
     "fields_fit": {"returns:x-it": FIELD.format("fields_fit", "returns", "fields_fit", "x-now", "x-it"), "returns:x-now": ""},
     "fields_old": {"returns:x-it:x-now": FIELD.format("fields_old", "returns", "fields_old", "x-now", "x-it"), "returns:x-now:x-now": FALSE.format("fields_old", "returns")},
-    # A sum that is turned round, and its answer with it, which holds or doesn't; and two calls that are exchanged.
+    # A sum with swapped sides, whose answer with swapped sides holds or does not. Then two exchanged calls, with the same two results.
     "sides": {"returns:left:right": FALSE.format("sides", "returns"), "returns:right:left": ""},
     "sides_false": {it: FALSE.format("sides_false", "returns") for it in ("returns:left:right", "returns:right:left")},
     "calls": {"returns:f:f-2": FALSE.format("calls", "returns"), "returns:f-2:f": ""},
     "calls_false": {it: FALSE.format("calls_false", "returns") for it in ("returns:f:f-2", "returns:f-2:f")},
-    # An answer that stands on an invariant which was refused.
+    # An answer that uses a refused invariant.
     "sits": {"none": PATH.format("sits") + "`returns`: it differs\n  `invariant` stands by its signature alone, since it was refused\n"},
 }
-# The texts of a body and of what an edit makes of it.
+# The texts of a body before and after the edit.
 BODIES = {it: (f"{it} body", f"{it} wrong") for it in SAYS} | {
     "sides": ("sides; x.left + right;", "sides; right + x.left;"),
     "sides_false": ("sides_false; x.left + right;", "sides_false; right + x.left;"),
@@ -96,21 +96,21 @@ BODIES = {it: (f"{it} body", f"{it} wrong") for it in SAYS} | {
     "calls_false": ("calls_false; a b", "calls_false; b a"),
 }
 OF_EDITS = "wrong-bodies", "edits.py", "answers.py", "verdicts.py", "stubs.py", "items.py", "closure.py", "passing.py"
-# Those that a contract refuses, those that it lets through, and those whose answers are renamed or moved first.
+# The edits that a contract refuses, those that it lets through, and the refused ones whose answers are first renamed or moved.
 REFUSED = "callee", "caller", "single", "held", "renamed", "early_false", "searched", "fields", "calls_false"
 HOLDS = "right", "moved", "turned", "early_holds", "early_first", "fields_fit", "sides", "calls"
 MOVED = "renamed", "early_false", "fields", "calls_false"
 
 
 def answers(says):
-    """A proof file as what is said first of a function has it: with answers, the last of which names fields."""
+    """Returns the proof file for the first output of a function. Its last answer names the fields."""
     names, *fields = next(iter(says)).split(":")
     of = "".join(f"pub {it} : goal.{it}\n{it} g c = refl\n\n" for it in names.split(","))
     return of.removesuffix("refl\n\n") + " + ".join(["it", *(f"c.{it}" for it in fields)]) + "\n"
 
 
 def wrong_bodies_drawn(top):
-    """All edits where something changed since they passed, and few where nothing did."""
+    """Checks that `--drawn` tries all edits after a change, and only a few without a change."""
     crate, many = f"{top}/crates/low", f"{top}/crates/low/wrong-bodies/callee.edit"
     for number in range(100):
         shutil.copy(many, many.replace("callee.edit", f"callee_{number}.edit"))
@@ -128,7 +128,7 @@ def wrong_bodies_drawn(top):
 
 
 def scratch_edits(top):
-    """A crate with a function for each of SAYS, each of which has a wrong body, and an edit that can't be applied."""
+    """Makes a crate with a function and a wrong body for each entry of SAYS, and an edit that can't be applied."""
     shutil.rmtree(f"{top}/crates")
     copy_tools(top, *OF_EDITS)
     put(f"{top}/tools/reads.py", "def missed(edit, folder):\n    return []\n")
@@ -147,13 +147,13 @@ def scratch_edits(top):
 
 
 def tried(top, *words):
-    """How tools/wrong-bodies ends, and what it says."""
+    """Returns the status and last line of tools/wrong-bodies, and its output."""
     status, said = run(top, f"{top}/tools/wrong-bodies", *words)
     return (status, said.splitlines()[-1] if said else ""), said
 
 
 def wrong_bodies(top):
-    """Edits of functions, of which goals of some are refused, and one that can't be applied; then right ones."""
+    """Checks the results of wrong bodies, an edit that can't be applied, and then right bodies."""
     crate = scratch_edits(top)
     ended, said = tried(top)
     want(ended == (1, f"{len(REFUSED)} passed, {len(SAYS) - len(REFUSED) + 1} failed"), "the sum of wrong bodies", said)
@@ -170,7 +170,7 @@ def wrong_bodies(top):
 
 
 def wrong_and_right_bodies(top, crate):
-    """Wrong bodies that are refused, and right ones that aren't, but for one; those that aren't refused are taken as right."""
+    """Checks a refused wrong body among the right ones. The wrong bodies that weren't refused serve as right bodies."""
     for it in set(SAYS) - set(REFUSED):
         put(f"{crate}/right-bodies/{it}.edit", taken(f"{crate}/wrong-bodies/{it}.edit"))
         os.remove(f"{crate}/wrong-bodies/{it}.edit")
@@ -184,7 +184,7 @@ def wrong_and_right_bodies(top, crate):
 
 
 def wrong_bodies_fit(top):
-    """Edits that are only held to their files, one that read more than its sum is of, and a crate below that isn't proved."""
+    """Checks `--fit`, `--clean`, an edit whose proof read more than its sum covers, and a crate that isn't proved."""
     crate = f"{top}/crates/low"
     want(tried(top, "--fit")[0] == (0, f"{len(REFUSED)} passed, 0 failed"), "edits that fit", "")
     before = taken(f"{top}/tools/passed")
