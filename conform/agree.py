@@ -10,7 +10,7 @@ ADDRESSES = {
 
 
 class Quiet(model.Querier):
-    """The model without a history of what is forwarded, which takes most of its time."""
+    """The model without its history of filters, which takes most of its time."""
 
     def forwarded(self):
         return {}
@@ -44,7 +44,7 @@ def sent(cast, others, options):
 
 
 def flat(wanted):
-    """Wanted queries, one for each source."""
+    """Splits the expected queries, one for each source."""
     return sorted(((at, group, source, is_set) for at, group, sources, is_set in wanted for source in sources or [None]), key=str)
 
 

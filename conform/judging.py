@@ -18,7 +18,7 @@ IP_PRECEDENCE = 0xC0
 
 @dataclasses.dataclass
 class Heard:
-    """A frame of the recording, and the message in it: None where it can't be read."""
+    """A frame of the recording, and its message, or None if the message can't be read."""
 
     stamp: int
     frame: bytes
@@ -53,7 +53,7 @@ class Finding:
 
 
 def heard(family, record):
-    """A record of the recording, read."""
+    """Reads a record of the recording."""
     stamp, frame, is_sent = record
     it = Heard(stamp, frame, is_sent)
     packet = wire.unwrap(link.ETHERNET, frame)
@@ -69,7 +69,7 @@ def heard(family, record):
 
 
 def as_others():
-    """Has a program share the machine as others do: conform itself comes before them."""
+    """Gives a program the usual priority. Conform itself has a higher one."""
     os.sched_setscheduler(0, os.SCHED_OTHER, os.sched_param(0))
 
 
@@ -133,7 +133,7 @@ class Judge:
         return found
 
     def mended(self, it):
-        """A frame of the router's query whose header is as it should be, since faults of headers are judged by themselves."""
+        """Returns a frame of the router's query with a correct header, since faults of headers are judged separately."""
         if not it.is_query() or not self.is_from_router(it):
             return it.frame
         to = destination(it.frame, it.packet)
@@ -201,7 +201,7 @@ class Judge:
         return it.kind in cast.case.judged and it.is_general == wants_general and cast.begin - self.options.within <= at < cast.until
 
     def compare(self, cast, frames, found, began):
-        """Keeps what a check found of fields that the case doesn't judge, and what was compared."""
+        """Keeps the findings about fields that the case does not judge, and the compared queries."""
         if cast.case.stage and cast.case.stage != "lower":
             return
         is_lower = cast.case.stage == "lower"
@@ -214,8 +214,8 @@ class Judge:
     # Forwarding.
 
     def forwarded(self, cast, frames, began, sent, seen):
-        """Which datagrams were forwarded otherwise than the filter says that a replay has at their moment, and a tolerance before
-        and after it."""
+        """Returns the datagrams whose forwarding contradicts the filter of a replay at their time, and a tolerance before and after
+        it."""
         history, wrong, within = self.history(cast, frames, began), {}, self.options.within
         for payload, (stamp, group, source) in sorted(sent.items(), key=lambda it: it[1][0]):
             at = (stamp - began) / 10**6
@@ -245,7 +245,7 @@ class Judge:
     # Rules of cases.
 
     def seen(self, cast, frames, began):
-        """The router's queries in a capture: the moment of each in the case, and what it asks about."""
+        """Returns the router's queries in a capture: the time of each in the case, its group and its sources."""
         found = []
         for it in frames:
             if self.is_from_router(it) and it.is_query():
@@ -253,7 +253,7 @@ class Judge:
         return found
 
     def own_times(self, cast, frames, began):
-        """Each thing is asked for as often as the table says."""
+        """Checks that the router queries each group and source as often as the table says."""
         found = []
         for words in [one for its in cast.case.sees for _, one in (cast.each(its) if "~" in its[1] else [(0, its)])]:
             number, group, sources = cast.at(words[0]), cast.group(words[1]), cast.sources(words[2:])
@@ -264,7 +264,7 @@ class Judge:
         return found
 
     def own_at_most(self, cast, frames, began):
-        """No group is asked for more often than the Last Member Query Count, whenever that is: other cases judge the moments."""
+        """Checks that no group is queried more often than the Last Member Query Count, at any time. Other cases judge the times."""
         times = collections.Counter(it.message.group for _, it in self.seen(cast, frames, began) if not it.is_general())
         most = cast.names["RV"]
         return [Finding(0, "asks", f"{text_of(it)} was asked for {number} times, at most {most} wanted") for it, number in times.items() if number > most]
@@ -280,15 +280,15 @@ class Judge:
         return [at for at, it in self.seen(cast, frames, began) if it.is_general()]
 
     def own_no_startup(self, cast, frames, began):
-        """After the first general query since the case begins, the next isn't a Startup Query Interval later. Another case judges
-        whether one comes."""
+        """Checks that the second general query of the case does not come a Startup Query Interval after the first. Another case judges
+        if a query comes."""
         moments = [at for at in self.generals(cast, frames, began) if at >= cast.begin - self.options.within]
         spans = [round(later - before) for before, later in zip(moments, moments[1:])]
         wrong = [it for it in spans if abs(it - cast.names["SQI"]) <= self.options.within]
         return [Finding(round(moments[1]), "general", f"general after {it}, a Startup Query Interval", True) for it in wrong]
 
     def own_startup(self, cast, frames, began):
-        """As many general queries as the Robustness Variable, a Startup Query Interval apart."""
+        """Checks the number of general queries, which is the Robustness Variable, and their distance, a Startup Query Interval."""
         moments, number, span = self.generals(cast, frames, began), cast.names["RV"], cast.names["SQI"]
         if not moments:
             return [Finding(0, "general", "no general query after the start", True)]
@@ -301,7 +301,7 @@ class Judge:
     # Fields and headers of all queries.
 
     def over_all(self, case, queries):
-        """The findings of a case over all queries: None where there was no query of its kind."""
+        """Returns the findings of a case over all queries, or None if there was no query of its kind."""
         kind = case.of[0]
         is_of = {"general": Heard.is_general, "specific": lambda it: not it.is_general()}.get((*case.of, "")[1], lambda it: True)
         if kind in HEADERS:

@@ -13,7 +13,7 @@ OWN = {"igmp": "10.0.0.9", "mld": "fe80::9"}
 
 
 class Failed(Exception):
-    """Why a router couldn't be had."""
+    """The reason why a router could not be started."""
 
 
 def run(*words, is_checked=True):
@@ -67,7 +67,7 @@ class Lab:
         run(*self.words("sh", "-c", f"echo {value} > /proc/sys/net/{name}"))
 
     def address(self, name, *addresses):
-        """Has an interface up with these addresses and no other."""
+        """Sets an interface up with exactly these addresses."""
         self.setting(f"ipv6/conf/{name}/addr_gen_mode", 1)
         for it in addresses:
             self.ip("address", "add", it, "dev", name, *(["nodad"] if ":" in it else []))
@@ -79,7 +79,7 @@ class Lab:
         self.address("u0", "10.9.9.254/24", "2001:db8::fe/64")
 
     def start(self, *words, until=None, seconds=10):
-        """Starts a program in the namespace, and waits until it says a text."""
+        """Starts a program in the namespace, and waits until it prints a text."""
         with open(self.log, "ab") as log:
             begin = log.tell()
             # pylint: disable-next=consider-using-with
@@ -96,7 +96,7 @@ class Lab:
             return it.read()
 
     def conform(self, family, *words, out=None):
-        """Runs conform, and answers its status, its lines and what it said on standard error."""
+        """Runs conform. Returns its status, its lines and its standard error."""
         out = out or f"/tmp/{self.space}.report"
         its = self.words(f"{HERE}/conform", "p0", family, "--router", OWN[family], "--out", out, *words)
         ran = subprocess.run(its, capture_output=True, text=True, check=False)

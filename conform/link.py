@@ -96,7 +96,7 @@ class Recording:
         self.packets.setsockopt(SOL_PACKET, PACKET_IGNORE_OUTGOING, int(is_so))
 
     def end(self):
-        """Ends it, and returns how many frames the kernel lost."""
+        """Ends the recording, and returns the number of frames that the kernel lost."""
         self.is_over = True
         self.thread.join()
         lost = struct.unpack("II", self.packets.getsockopt(SOL_PACKET, PACKET_STATISTICS, 8))[1]
@@ -144,7 +144,7 @@ class Sender:
                 self.socket.send(what)
 
     def burst(self, frames, rate, seconds):
-        """Sends frames in turn at this rate per second, and returns how many it sent in that time."""
+        """Sends frames in turn at this rate per second, and returns the number of sent frames."""
         began, sent, wanted = time.monotonic(), 0, int(rate * seconds)
         while (passed := time.monotonic() - began) < seconds:
             due = min(wanted, int(rate * passed) + 1)

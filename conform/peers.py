@@ -37,7 +37,7 @@ phyint lo disabled
 
 
 def installed(package, program):
-    """The program of a package of Debian, installed where it is missing; None where it can't be."""
+    """Returns the program of a package of Debian, and installs it if it is missing. None if that fails."""
     with MAKING:
         if not os.path.exists(program):
             quiet = {"env": {**os.environ, "DEBIAN_FRONTEND": "noninteractive", "RUNLEVEL": "1"}, "stdout": subprocess.DEVNULL, "stderr": subprocess.DEVNULL}
@@ -129,7 +129,7 @@ def live_switch(lab, family):
 
 
 def debian_13():
-    """A folder with Debian 13 and its FRR, made where it is missing: that of Debian 12 has no pim6d."""
+    """Returns a folder with Debian 13 and its FRR, and makes it if it is missing. The FRR of Debian 12 has no pim6d."""
     place = f"{UNPACKED}/trixie"
     with MAKING:
         if not os.path.exists(f"{place}/usr/lib/frr/pim6d"):

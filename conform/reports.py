@@ -51,7 +51,7 @@ def finding_line(it):
 
 
 def end(run, seconds, say):
-    """Writes the reports, prints the last line, and answers the status."""
+    """Writes the reports, prints the last line, and returns the status."""
     verdicts, out = run.verdicts, run.options.out
     for it in verdicts:
         if it.frames:
@@ -176,7 +176,7 @@ def listing(verdicts):
 
 
 def failure(it, has_timeline):
-    """A case that failed: what was said, its findings, and its timeline."""
+    """A failed case: its packets, its findings, and its timeline."""
     steps = [f"at {it.cast.at(moment)}: {' '.join(words)}" for moment, words in it.case.steps] if it.cast else []
     steps += [", ".join(it.cast.named())] if steps else []
     wanted = wanted_of(it)
@@ -213,7 +213,7 @@ def wanted_line(group, sources, is_set):
 
 
 def texts_of(run, it):
-    """The texts of a failed case's capture, from which its timeline is drawn; None where it has none of its own."""
+    """Returns the texts of a failed case's capture for its timeline, or None if it has no capture of its own."""
     if it.cast is None or not it.frames or len(it.frames) > 5000:
         return None
     judge, frames = run.judge, [(one.stamp, run.judge.mended(one)) for one in it.frames]

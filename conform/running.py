@@ -88,7 +88,7 @@ class Run:
     # The router.
 
     def find_router(self):
-        """Says where the querier isn't the router, or isn't alone."""
+        """Reports if the querier isn't the router, or isn't alone."""
         recording, sender = link.Recording(self.options.interface), link.Sender(self.options.interface)
         cast = Cast(Probe, 0, self.site)
         began = time.monotonic_ns() + 10**8
@@ -112,7 +112,7 @@ class Run:
         self.judge.mac = next(iter(own))[1]
 
     def askers(self, recording, cast):
-        """Who asked for the groups of a case: addresses, and those of their interfaces."""
+        """Returns the senders of queries for the groups of a case: addresses, and those of their interfaces."""
         found = [heard(self.family, it) for it in list(recording.found) if not it[2]]
         return {(it.packet.source, it.frame[6:12]) for it in found if it.is_query() and any(map(cast.is_own, it.groups()))}
 
@@ -203,7 +203,7 @@ class Run:
         self.shortfall[cast.name] = BURST["rate"] * BURST["seconds"] - sent
 
     def sending(self, sender, wanted, began):
-        """A thread that sends what has to be sent, or keeps why that can't be done."""
+        """Starts a thread that sends the frames of the cases, or keeps the reason why it failed."""
 
         def send():
             try:
@@ -216,7 +216,7 @@ class Run:
         return thread
 
     def wait(self, end):
-        """Waits up to a moment, and says how far it is."""
+        """Waits until a time, and prints the progress."""
         while (left := end - time.monotonic_ns()) > 0:
             if self.fault:
                 raise Wrong(f"{self.options.interface}: {self.fault.strerror}")
@@ -255,13 +255,13 @@ class Run:
         return ""
 
     def sharp(self, cast):
-        """When a pause of this machine counts: around what is said and what has to be seen."""
+        """Returns the times at which a pause of this machine counts: around sent packets and expected queries."""
         within, span = self.options.within, cast.names["LMQI"]
         moments = [step.at for step in cast.steps] + ([] if cast.case.own else [it[0] for it in cast.wanted()])
         return [(at - within, at + span + within) for at in moments if at < cast.end] or [(0, cast.end)]
 
     def others(self, known):
-        """Says where another querier was heard."""
+        """Reports another querier that was heard."""
         found = {it.packet.source for it in known if not it.is_sent and it.is_query() and not self.judge.is_from_router(it)}
         if found:
             raise Wrong(f"{', '.join(sorted(map(text_of, found)))} asks on {self.options.interface} too: the router has to be the only querier there")
@@ -295,7 +295,7 @@ class Probes:
         self.wanted.append((at, datagram(self.mac, source, group, payload)))
 
     def sent(self, cast):
-        """The datagrams of a case that went: the stamp of each, its group and its source, by what it carries."""
+        """Returns the sent datagrams of a case by their contents: the timestamp, the group and the source of each."""
         found = {}
         for stamp, frame, is_sent in self.recording.found:
             of = self.whose.get(frame[-len(MAGIC) - 4 :]) if is_sent else None

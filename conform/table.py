@@ -116,7 +116,7 @@ def cases_of(family):
 
 
 def case_of(block, at, family):
-    """The case of a block of lines, or None where it isn't one of the family."""
+    """Returns the case of a block of lines, or None if it is not a case of the family."""
     name, title = block[0].split(" | ", 1)
     sections = [it.strip() for it in block[1].split("|")]
     section = sections[0 if family == "igmp" else 1]
@@ -144,7 +144,7 @@ def value(text, names):
 
 @dataclasses.dataclass
 class Site:
-    """Who is on the link: the router's address, those of the hosts and routers that are played, and the first of the sources."""
+    """The stations on the link: the addresses of the router, of the played hosts and routers, and of the first source."""
 
     family: object
     router: bytes
@@ -353,7 +353,7 @@ class Cast:
         return Step(at, self.frame(body, text_of(self.family.everyone), source, **how), told, True)
 
     def frame(self, body, to, source=None, is_wrong=False, **how):
-        """A frame with a message, from the played host where no source is named."""
+        """Returns a frame with a message. Its source is by default the played host."""
         source, to = source or self.site.host, wire.address(to)
         source = self.site.host if source == bytes(4) and self.family is not IGMP else source
         body = wire.with_checksum(self.family, body, source, to)

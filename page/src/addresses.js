@@ -22,12 +22,12 @@ function bytes6(text) {
   return words && Uint8Array.from(words.flatMap((it) => [parseInt(it, 16) >> 8, parseInt(it, 16) & 255]));
 }
 
-// The 4 or 16 bytes of an address, or null where the text is none of the family.
+// The 4 or 16 bytes of an address, or null if the text is not an address of the family.
 export function addressBytes(text, family) {
   return family === "igmp" ? bytes4(text) : bytes6(text);
 }
 
-// A text by which addresses of one family stand in order.
+// A text that sorts like the addresses of one family.
 export function addressKey(text, family) {
   return hexOf(addressBytes(text, family) ?? []);
 }
@@ -36,7 +36,7 @@ function hexOf(bytes) {
   return Array.from(bytes, (it) => it.toString(16).padStart(2, "0")).join("");
 }
 
-// The longest run of two or more zero words: where it begins, and how long it is.
+// The longest run of two or more zero words: its begin and its length.
 function zeroRun(words) {
   let best = { at: 0, length: 1 };
   for (let at = 0; at < words.length; at++) {

@@ -1,5 +1,5 @@
-// Bars: while a group is in one filter mode, and while a source in it is forwarded or stopped. They come from the lines of
-// groups that change.
+// Bars for the time in which a group stays in one filter mode, and for the time in which a source is forwarded or stopped. They come
+// from the lines of groups that change.
 
 import { BAR } from "./kinds.js";
 import { Table } from "./columns.js";
@@ -41,7 +41,7 @@ export class Bars {
     this.table.to.items[bar] = line;
   }
 
-  // The line `T change G ..`, with the words behind the group.
+  // The line `T change G ..`, with the words after the group.
   change(time, group, words, line) {
     const before = this.states.get(group) ?? NONE;
     const kind = { include: BAR.INCLUDE, exclude: BAR.EXCLUDE }[words[0]] ?? null;

@@ -1,7 +1,7 @@
 // The page's side of the Worker.
 
 export class Client {
-  // `source` is the Worker's program. It stands in a Blob, since a page that is opened from a folder has no other way.
+  // `source` is the Worker's program. It is in a Blob, because a page that is opened from a folder can't load a script for a Worker.
   constructor(source, onProgress) {
     this.url = URL.createObjectURL(new Blob([source], { type: "text/javascript" }));
     this.onProgress = onProgress;
@@ -9,7 +9,7 @@ export class Client {
     this.count = 0;
   }
 
-  // Starts a Worker with the module, and answers when it is ready for other calls.
+  // Starts a Worker with the module, and returns when it is ready for other calls.
   start(module) {
     this.worker = new Worker(this.url);
     this.worker.onmessage = ({ data }) => (data.progress ? this.onProgress(data.progress) : this.settle(data));

@@ -37,7 +37,7 @@ export class Table {
   }
 }
 
-// The first place from `low` below `high` whose item is at or above the value; `high` where there is none.
+// The first place from `low` below `high` whose item is at or above the value, or `high` if there is none.
 export function firstAtLeast(items, value, low, high) {
   while (low < high) {
     const middle = (low + high) >> 1;

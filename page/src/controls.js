@@ -8,7 +8,7 @@ export function base64Bytes(base64) {
 export function listenToFiles(open, samples) {
   const field = document.getElementById("file");
   field.addEventListener("change", () => field.files[0] && open(field.files[0]));
-  // So that a file can be chosen again, when it has changed.
+  // After this the same file can be chosen again, for example when it has changed.
   field.addEventListener("click", () => (field.value = ""));
   listenToDrops(open);
   for (const [name, base64] of Object.entries(samples)) {

@@ -10,7 +10,7 @@ import { queryOf } from "./queries.js";
 // The reason for which the querier's own queries are dropped, and those from 0.0.0.0.
 const OWN_QUERY = 8;
 
-// A mark at the same moment in another lane of its row, as the query that a finding tells of.
+// A mark at the same time in another lane of its row, for example the query of a finding.
 function besideOf(history, mark, lane) {
   const { time, starts, row } = history.marks;
   const key = row[mark] * LANE_COUNT + lane;
@@ -18,7 +18,7 @@ function besideOf(history, mark, lane) {
   return found < starts[key + 1] && time[found] === time[mark] ? found : null;
 }
 
-// The lines that belong to a mark or a bar, in each text, counted from 1; 0: none.
+// The lines that belong to a mark or a bar, in each text, counted from 1. 0 is no line.
 export function linesOf(history, { mark, bar }) {
   if (mark === undefined) return { listing: 0, replay: history.bars.from[bar], check: 0 };
   const { kind, listing, replay, check } = history.marks;
@@ -50,7 +50,7 @@ function markWords(history, mark, texts) {
   return heardWords(history, mark, texts.listing.line(lines.listing - 1));
 }
 
-// A message that was heard, or one record of it.
+// A received message, or one record of it.
 function heardWords({ family, names, marks }, mark, line) {
   const kind = marks.kind[mark];
   const source = line.split(" ")[2];
@@ -77,7 +77,7 @@ function wantedWords(family, line) {
   return { what: `Query that is wanted for ${asked}${suppresses ? ", with S set" : ""}`, section: cited(family, sections[family]) };
 }
 
-// A finding has its section at its end, where it cites one.
+// A finding ends with its section, if it cites one.
 function findingWords(line) {
   const [, what, section] = line.match(/^\d+ (.*?)(?: \((RFC .*)\))?$/);
   return { what: `Finding: ${what}`, section: section ?? "" };
@@ -93,7 +93,7 @@ function barWords(history, bar, texts) {
   return { what: `${what}, until ${momentText(end[bar])}${state}`, section: cited(history.family, sections[history.family]) };
 }
 
-// `at` is the moment as a text, `what` says what there is, `section` is the standard's.
+// `at` is the time as a text, `what` describes the mark or bar, and `section` is the section of the standard.
 export function describe(history, selection, texts) {
   const { mark, bar } = selection;
   const moment = mark === undefined ? history.bars.begin[bar] : history.marks.time[mark];

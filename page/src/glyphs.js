@@ -1,6 +1,6 @@
 // The shapes of marks and bars. Shape and filling distinguish a mark, not its colour.
 
-// Each draws a path around the origin, and says how it is painted.
+// Each shape draws a path around the origin, and returns how to paint it.
 const SHAPES = {
   circle: (pen, r) => pen.arc(0, 0, r, 0, 7) || "hollow",
   disc: (pen, r) => pen.arc(0, 0, r, 0, 7) || "filled",

@@ -27,7 +27,7 @@ export class Names {
   }
 }
 
-// The number behind a word of a query's line.
+// The number after a word of a query's line.
 function fieldOf(words, name) {
   const at = words.indexOf(name, 8);
   return at < 0 ? null : Number(words[at + 1]);

@@ -1,4 +1,4 @@
-// The history of the groups of a capture, ready to be drawn: rows, and in each of them bars and marks by their moments.
+// The history of the groups of a capture, ready to be drawn: rows, each with its bars and marks in the order of time.
 
 import { addressKey, ZERO } from "./addresses.js";
 import { BAR, KIND, KINDS, LANES, LANE_COUNT } from "./kinds.js";
@@ -65,7 +65,7 @@ function putMarks(all, first, table, rows, kindAt) {
   }
 }
 
-// All marks: those heard, then those sent, then findings.
+// All marks: first received messages, then sent queries, then findings.
 function marksOf(heard, replayed, found, rows) {
   const { marks } = heard;
   const { sent, lineOf, droppedFor } = replayed;
@@ -85,7 +85,7 @@ function marksOf(heard, replayed, found, rows) {
   return all;
 }
 
-// The marks by row, lane and moment; `byTime` has their places by moment alone.
+// The marks by row, lane and time. `byTime` has their places by time alone.
 function sortedMarks(all, rowCount) {
   const count = all.time.length;
   const byMoment = new Uint32Array(count).map((_, at) => at).sort((a, b) => all.time[a] - all.time[b] || a - b);
@@ -112,7 +112,7 @@ function different(numbers) {
   return [...new Set(numbers)].sort((a, b) => a - b);
 }
 
-// The kinds of bars and marks that there are, and whether any mark but a query is of a message that is dropped.
+// The kinds of the present bars and marks. `hasDropped` is true if a mark other than a query belongs to a dropped message.
 function kindsIn(marks, bars) {
   const hasDropped = marks.dropped.some((it, at) => it !== 0 && marks.kind[at] !== KIND.heard_query);
   return { bars: different(bars.kind), marks: different(marks.kind), hasDropped };
@@ -123,7 +123,7 @@ export function historyOf(family, groups, heard, replayed, found) {
   const marks = sortedMarks(marksOf(heard, replayed, found, rows), rows.names.length);
   const bars = sortedBars(replayed.bars, rows);
   const last = Object.fromEntries(replayed.last);
-  // A replay that broke off ends before what was heard.
+  // A replay that a fault ended may end before the last received message.
   const end = Math.max(replayed.end, marks.time[marks.byTime[marks.byTime.length - 1]] ?? 0);
   const isSource = Uint8Array.from(rows.isSource);
   return { family, names: rows.names, isSource, marks, bars, last, end, isQuerier: replayed.isQuerier, kinds: kindsIn(marks, bars) };

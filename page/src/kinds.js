@@ -1,4 +1,4 @@
-// The kinds of marks and bars: what each is called, how it is drawn, and the sections of the standards that it stands on.
+// The kinds of marks and bars. Each kind has its name, its drawing and its sections of the standards.
 
 export const STANDARDS = { igmp: "RFC 3376", mld: "RFC 3810" };
 
@@ -12,7 +12,7 @@ const older = { igmp: "7.3.2", mld: "8.3.2" };
 const unknown = { igmp: "4.2.12", mld: "5.2.12" };
 const empty = { igmp: "4.2.3", mld: "5.2.3" };
 const heard = { igmp: "6.6.1", mld: "7.6.1" };
-// A specific query; a general one has `GENERAL_QUERY`, one for sources `SOURCE_QUERY`.
+// A specific query. A general query has `GENERAL_QUERY`, and a query for sources has `SOURCE_QUERY`.
 const wanted = { igmp: "6.6.3.1", mld: "7.6.3.1" };
 
 export const GENERAL_QUERY = { wanted: { igmp: "6.1", mld: "7.1" }, heard: { igmp: "6.6.2", mld: "7.6.2" } };
@@ -53,7 +53,7 @@ export const BARS = [
 
 export const BAR = Object.fromEntries(BARS.map(({ name }, number) => [name, number]));
 
-// Why a message that can be read is dropped, by the number in its line, and the sections that say so.
+// The reason why a well-formed message is dropped, by the number in its line, and the sections of the standards for it.
 export const DROPPED = {
   5: ["its source isn't a link-local address", { mld: "7.4, 7.6" }],
   6: ["its hop limit isn't 1", { mld: "7.4, 7.6" }],

@@ -1,4 +1,4 @@
-// Where the rows and lanes of a history stand, from above.
+// The positions of the rows and lanes of a history, from the top.
 
 import { firstAtLeast } from "./columns.js";
 import { lanesOf } from "./history.js";

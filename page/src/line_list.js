@@ -1,7 +1,7 @@
 // A list of lines; only the visible ones are in the document. Keys move the current line, which screen readers announce.
 
 const LINE = 20;
-// Browsers bound how high an element can be; a longer list is scrolled by shares.
+// Browsers limit the height of an element. A list that exceeds the limit is scrolled by shares of its length.
 const MOST_HEIGHT = 8_000_000;
 
 export class LineList {
@@ -36,7 +36,7 @@ export class LineList {
     return Math.ceil(this.box.clientHeight / LINE);
   }
 
-  // Which line is the first in view.
+  // The first visible line.
   get first() {
     const { scrollTop, clientHeight } = this.box;
     if (this.count * LINE <= MOST_HEIGHT) return Math.floor(scrollTop / LINE);
@@ -75,7 +75,7 @@ export class LineList {
     return element;
   }
 
-  // Makes a line the current one and brings it into view; -1: none.
+  // Makes a line the current one and brings it into view. -1 stands for no line.
   select(line) {
     this.current = line;
     if (line >= 0) this.reach(line);

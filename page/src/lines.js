@@ -1,4 +1,4 @@
-// A text as bytes: where its lines begin, and the lines one after the other.
+// A text as bytes: the offsets of its lines, and its lines in order.
 
 import { Column } from "./columns.js";
 
@@ -13,7 +13,7 @@ export function lineStarts(bytes) {
   return starts.taken();
 }
 
-// A text whose lines are asked for by their number, from 0 on.
+// A text that returns a line by its number, from 0 on.
 export class Text {
   constructor(bytes, starts) {
     this.bytes = bytes;

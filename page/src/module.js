@@ -5,7 +5,7 @@
 
 import { addressBytes } from "./addresses.js";
 
-// The numbers of an answer that the page knows by itself.
+// The numbers of an answer that the page itself handles.
 export const STATUS = { done: 0, full: 1, memory: 2, otherMagic: 12, otherLinkType: 14, noCapture: 32 };
 
 const PAGE = 65536;
@@ -40,7 +40,7 @@ class Call {
     return lent;
   }
 
-  // Memory for the work: what crosses is the address of where it is and how many units it has.
+  // Memory for the work. The call receives the address of a pair: the begin of the memory and its number of units.
   lendWork(length) {
     const { at } = this.lend(length);
     return this.lendBytes(new Uint8Array(new BigUint64Array([at, BigInt(length / UNIT)]).buffer)).at;
@@ -115,7 +115,7 @@ export class Module {
     }
   }
 
-  // The library's sentence for the fault of an answer; nothing where it has none.
+  // The library's sentence for the fault of an answer, or nothing if there is no fault.
   sentence(call, answer) {
     const text = call.lend(LEAST_TEXT);
     const length = call.exports.page_fault_text(answer.at, text.at, text.length);

@@ -10,7 +10,7 @@ const STEPS = [
   ...[1, 2, 6, 12, 24].map((it) => it * HOUR),
 ];
 
-// A step with at most so many on the axis.
+// The step that gives at most this number of marks on the axis.
 export function stepFor(span, most) {
   const least = span / most;
   return STEPS.find((it) => it >= least) ?? Math.ceil(least / (24 * HOUR)) * 24 * HOUR;

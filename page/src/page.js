@@ -1,4 +1,4 @@
-// The page: what a person does, and what is shown then.
+// The page: the actions of a user, and their results.
 
 import { Client } from "./client.js";
 import { base64Bytes, listenToButtons, listenToFiles, listenToForm } from "./controls.js";
@@ -52,7 +52,7 @@ function sentenceOf(words) {
   return `${words[0].toUpperCase()}${words.slice(1)}${/[.)]$/.test(words) ? "" : "."}`;
 }
 
-// Shows a text in its list, with how many lines it has.
+// Shows a text in its list, with the number of its lines.
 function showText(name, text) {
   state.texts[name] = text;
   lists[name].show(text.count, (line) => text.line(line));
@@ -129,7 +129,7 @@ function showOpened(opened) {
   fillInFamily(firstFamily(opened.families));
 }
 
-// The family of the first general query; where there is none, that with more messages.
+// The family of the first general query. If there is none, it is the family with more messages.
 function firstFamily({ igmp, mld }) {
   if (igmp.first !== mld.first) return igmp.first < mld.first ? "igmp" : "mld";
   return igmp.messages >= mld.messages ? "igmp" : "mld";
@@ -219,7 +219,7 @@ async function showChanges() {
   showText("replay", new Text(replay.bytes, replay.starts));
 }
 
-// The place of each mark in the list of marks, made when it is first asked for.
+// The place of each mark in the list of marks, made at its first use.
 function placeInList(mark) {
   if (!state.placeOf) {
     const { byTime } = state.history.marks;
@@ -229,7 +229,7 @@ function placeInList(mark) {
   return state.placeOf[mark];
 }
 
-// Shows a mark or a bar in the picture, in all texts and in words. `from` is where it was chosen, which stays as it is.
+// Shows a mark or a bar in the picture, in all texts and in words. `from` is the place where it was chosen, which does not change.
 function select(selection, from) {
   const lines = linesOf(state.history, selection);
   timeline.select(selection);

@@ -1,4 +1,4 @@
-// Paints what is in view of a history: of marks and bars that share a pixel, one.
+// Paints the visible part of a history. If marks or bars share a pixel, it paints one of them.
 
 import { firstAtLeast } from "./columns.js";
 import { drawBar, drawGlyph } from "./glyphs.js";
@@ -159,7 +159,7 @@ export class Painter {
     }
   }
 
-  // A replay drops the queries of the querier itself: those aren't told as dropped.
+  // A replay drops the queries of the querier itself. They are not marked as dropped.
   paintMark(mark, middle) {
     const { marks } = this.history;
     const kind = marks.kind[mark];
@@ -200,7 +200,7 @@ export class Painter {
   }
 }
 
-// A text with its middle left out where it is too wide.
+// A text whose middle is left out if the text is too wide.
 function shortened(pen, text, most) {
   if (pen.measureText(text).width <= most) return text;
   let kept = text.length - 1;

@@ -50,7 +50,7 @@ export class Pointers {
     timeline.draw();
   }
 
-  // How far two fingers are apart, and the middle of them; of one pointer nothing.
+  // The distance of two fingers and the middle between them, or nothing for one pointer.
   spread() {
     const [one, other] = [...this.down.values()];
     return other ? { width: Math.abs(one.x - other.x), middle: (one.x + other.x) / 2 } : null;

@@ -6,10 +6,10 @@ function hexBytes(hex) {
   return Uint8Array.from({ length: hex.length >> 1 }, (_, it) => parseInt(hex.slice(2 * it, 2 * it + 2), 16));
 }
 
-// Where the fields stand: of IGMPv3 from RFC 3376 section 4.1, of MLDv2 from RFC 3810 section 5.1.
+// The offsets of the fields: RFC 3376 section 4.1 for IGMPv3, RFC 3810 section 5.1 for MLDv2.
 const FORMS = { igmp: { group: 4, length: 4, flags: 8 }, mld: { group: 8, length: 16, flags: 24 } };
 
-// The group of a query alone: most replays ask for nothing else.
+// Only the group of a query, because most replays need no other field.
 export function groupOf(hex, family) {
   const { group, length } = FORMS[family];
   return addressText(hexBytes(hex.slice(2 * group, 2 * (group + length))));

@@ -13,7 +13,7 @@ import { Timeline } from "./timeline.js";
 const TEXTS = ["listing", "replay", "check"];
 const CHOOSE = "A click on a mark or a bar says what it is.";
 
-// The history of a case and its texts, of what the report has of it.
+// The history of a case and its texts, from the data of the report.
 function readCase(family, said) {
   const bytes = Object.fromEntries(TEXTS.map((name) => [name, new TextEncoder().encode(said[name])]));
   const heard = heardIn(bytes.listing)[family];

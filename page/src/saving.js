@@ -1,4 +1,4 @@
-// Texts to the clipboard, and to files.
+// Saves texts to the clipboard and to files.
 
 export function save(bytes, name) {
   const link = document.createElement("a");

@@ -5,7 +5,7 @@ import { addressBytes } from "./addresses.js";
 const NO_QUERIER = { igmp: "10.0.0.9", mld: "fe80::9" };
 const GROUP_SOURCES = { igmp: 366, mld: 89 };
 
-// The numbers, each with the name of its field in the page, and the default where it isn't by the family.
+// The numbers, each with the name of its field in the page, and its default if both families have the same.
 export const NUMBERS = {
   rv: 2,
   qi: 125,
@@ -24,7 +24,7 @@ export function defaultsOf(family) {
   return { family, own: NO_QUERIER[family], ...NUMBERS, group_sources: GROUP_SOURCES[family], until: null, ssm: false, cite: true };
 }
 
-// Says by an Error with a sentence that a field is wrong.
+// Throws an Error with a sentence for a wrong field.
 function refuse(field, words) {
   field.setAttribute("aria-invalid", "true");
   throw new Error(`${field.labels[0].firstChild.textContent.trim()}: “${field.value}” is ${words}.`);
@@ -36,7 +36,7 @@ function numberOf(field, most) {
   return Number(field.value);
 }
 
-// The settings that a form has. It throws an Error with a sentence where one can't be read; ranges are for the module to judge.
+// The settings of a form. If a field can't be read, it throws an Error with a sentence. The module checks the ranges.
 export function settingsOf(form) {
   const field = (name) => form.elements[name];
   for (const it of form.elements) it.removeAttribute("aria-invalid");

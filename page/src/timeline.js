@@ -1,4 +1,4 @@
-// The picture of a history: a canvas that is as large as what is in view, with wheel, pointer and keys.
+// The picture of a history: a canvas as large as its visible part, with wheel, pointer and keys.
 
 import { firstAtLeast } from "./columns.js";
 import { LANE_COUNT } from "./kinds.js";
@@ -119,7 +119,7 @@ export class Timeline {
     this.draw();
   }
 
-  // How long so many pixels are.
+  // The time that a number of pixels stands for.
   spanOf(pixels) {
     return (pixels * this.window.span) / (this.box.clientWidth - this.labelWidth);
   }
@@ -133,7 +133,7 @@ export class Timeline {
     return { x: event.clientX - left, y: event.clientY - top };
   }
 
-  // The wheel zooms over the bars; with shift, or sideways, it goes. Where that changes nothing it scrolls the page.
+  // The wheel zooms over the bars. With shift, or sideways, it moves the window. If that changes nothing, it scrolls the page.
   wheel(event) {
     const { x } = this.place(event);
     if (!this.history || (x < this.labelWidth && !event.ctrlKey)) return;

@@ -1,4 +1,4 @@
-// The part of a history that is in view: from one moment to another.
+// The visible part of a history, from one time to another.
 
 const LEAST = 20;
 const MARGIN = 0.015;
@@ -35,7 +35,7 @@ export class TimeWindow {
     return this.set(from, from + span);
   }
 
-  // Goes by a share of what is in view.
+  // Moves by a share of the visible time.
   go(share) {
     return this.set(this.from + share * this.span, this.to + share * this.span);
   }

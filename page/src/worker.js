@@ -35,7 +35,7 @@ async function read(file) {
   }
 }
 
-// The listing of a file; one of another form is converted first.
+// The listing of a file. A file of another form is converted first.
 async function listed(bytes) {
   tell("Listing the packets", 0.2);
   const listing = await held.module.show(bytes);
@@ -119,7 +119,7 @@ async function answerTo({ id, call, request }) {
   }
 }
 
-// One call after the other: the next may need what the one before it leaves.
+// The calls run one after the other, because a call may need the results of the call before.
 let last = Promise.resolve();
 self.onmessage = ({ data }) => {
   last = last.then(() => answerTo(data));
