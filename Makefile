@@ -233,7 +233,7 @@ install: bin/mquerier lib/libmquerier.a lib/$(SONAME) $(CAPTURES) bin/mquerier-l
 
 # The release of this commit: an archive and the wheel, with their sums in dist/mquerier-VERSION.sha256.
 dist: bin/mquerier bin/mquerier-live lib/libmquerier.a lib/$(SONAME) page wheel
-	@tools/dist
+	@PYTHON=$(PYTHON) tools/dist
 
 clean:
 	rm -rf bin lib dist page/dist crates/*/out

@@ -77,12 +77,12 @@ def put(lab, name, text):
 # Each answers the options of conform besides the family and the router, and says its version.
 
 
-def live(lab, family):
-    """bin/mquerier-live, which keeps the source-specific range and can be restarted."""
+def live(lab, family, variables=("--lmqi", "1000")):
+    """bin/mquerier-live with a Last Member Query Interval. It keeps the source-specific range and can be restarted."""
     if not os.access(LIVE, os.X_OK):
         raise Failed("bin/mquerier-live is not there: `make live` builds it")
     lab.both()
-    words = [LIVE, "interface", "q0", family, "--own", OWN[family], *LIMITS, "--ssm"]
+    words = [LIVE, "interface", "q0", family, "--own", OWN[family], *variables[:2], *LIMITS, "--ssm"]
     place = put(lab, "restart", f"#!/bin/sh\nkill $(cat /tmp/{lab.space}.pid)\nsleep 0.3\nexec /bin/sh /tmp/{lab.space}.start\n")
     put(lab, "start", f"chrt -r 1 {' '.join(words)} < /dev/null > /tmp/{lab.space}.live 2>&1 &\necho $! > /tmp/{lab.space}.pid\n")
     run(*lab.words("sh", f"/tmp/{lab.space}.start"))

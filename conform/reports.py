@@ -223,7 +223,7 @@ def texts_of(run, it):
         return {
             "listing": said(judge.run(["show"], frames, it.case.name)),
             "replay": said(judge.run(["replay", family, f"--own={router}", "--changes", until], frames, it.case.name)),
-            "check": said(judge.run(["check", family, f"--querier={router}", f"--within={run.options.within}", "--cite", until], frames, it.case.name)),
+            "check": said(judge.run(["check", family, f"--querier={router}", f"--within={run.options.within}", "--cite", "--strict", until], frames, it.case.name)),
         }
     except (OSError, subprocess.SubprocessError):
         return None

@@ -27,6 +27,8 @@ OTHERS = re.compile(r"the fields that can be named here are ([^\n]*)")
 # The sides of a symmetric operator in code and in terms, and these operators.
 SIDE, TERM = r"[\w.]+(?:\[[\w. ]+\])?", r"[^\s(){}\[\],;]*"
 UNORDERED = "+", "*", "==", "!=", "||", "&&"
+# A symmetric method with its two sides.
+METHOD = re.compile(r"(\([^()]*\)|[\w.]+(?:\(\))?)\.(min|max)\(((?:[^()]|\(\))*)\)")
 
 
 def answers_in(texts):
@@ -112,14 +114,29 @@ def ways(texts, heard, was):
     return [*moved, *(without(with_answers(texts, more), heard.lost) for more in kept if more)][:MOST_WAYS]
 
 
+def without_brackets(text):
+    return re.sub(r"[\s()]", "", text)
+
+
 def turned(pairs):
     """Returns the operator whose sides an edit swaps, with the two sides, or None if it does something else."""
     for old, new in pairs if len(pairs) == 1 else []:
+        for at in METHOD.finditer(old):
+            other = f"{old[:at.start()]}{at[3]}.{at[2]}({at[1]}){old[at.end():]}"
+            if without_brackets(other) == without_brackets(new):
+                return at[2], at[1], at[3]
         for operator in UNORDERED:
             for at in re.finditer(rf"({SIDE}) {re.escape(operator)} (?=({SIDE}))", old):
                 if f"{old[:at.start()]}{at[2]} {operator} {at[1]}{old[at.end() + len(at[2]):]}".split() == new.split():
                     return operator, at[1], at[2]
     return None
+
+
+def is_only_order(pairs):
+    """True if an edit only exchanges whole statements. An answer that names a state between them then fails, also if the body is right."""
+    before, after = ("".join("".join(pair[at] for pair in pairs).split()) for at in (0, 1))
+    is_of_statements = before.endswith(";") and after.endswith(";") and not re.search("[{}]", before)
+    return is_of_statements and before != after and sorted(before.split(";")) == sorted(after.split(";"))
 
 
 def with_turned(texts, operator, left, right):

@@ -21,6 +21,8 @@ from repository import TOP, said_by, text_of, with_those_below
 # The number of the rule for verdicts. A change of the tools voids no row of tools/passed, since then all edits would have to be tried
 # again. Raise the number if a change requires that.
 RULE = 2
+# The part of a sum for a logic, if the sums in tools/passed began with the whole line of `rt version`.
+NAMED = {"logic dac8208d650f15bf": "rattle-kit-13f logic dac8208d650f15bf"}
 # The part of a sum that earlier tools used in place of the number, by the toolchain and the rule.
 EARLIER = {("rattle-kit-13f logic dac8208d650f15bf", 1): "6d4204f509bda9b94ab18d04ddde21dc81918936b69c867f4fa5525e4a7a4695"}
 # A constructor or a field of a type, on a line of its own.
@@ -231,7 +233,10 @@ def sum_of_item(item):
 
 @functools.lru_cache(maxsize=None)
 def version():
-    return said_by(TOP, "rt", "version")[1].splitlines()[0]
+    """Returns the toolchain's logic. Kits of one logic refuse the same false goals, so they share the sums."""
+    line = said_by(TOP, "rt", "version")[1].splitlines()[0]
+    logic = line[max(line.find("logic "), 0) :]
+    return NAMED.get(logic, logic)
 
 
 @functools.lru_cache(maxsize=None)

@@ -6,7 +6,7 @@ import glob
 import os
 import re
 
-from answers import MOST_WAYS, answers_in, turned, turns, ways
+from answers import MOST_WAYS, answers_in, is_only_order, turned, turns, ways
 from closure import function_of
 from repository import TOP, put, text_of
 from verdicts import HOLDS, REFUSED, UNDECIDED, Heard
@@ -116,9 +116,10 @@ class Edit:
         return bool(is_left)
 
     def verdict(self):
-        """Returns the verdict of all trials. An edit holds if one trial held. It is refused if one trial was refused and none held. An edit
-        that only swaps the two sides of a symmetric operator is never refused."""
-        said = [HOLDS] if turned(self.pairs) else [HOLDS, REFUSED]
+        """Returns the verdict of all trials. An edit holds if one trial held. It is refused if one trial was refused and none held, unless
+        it only swaps two sides or exchanges statements."""
+        is_alike = turned(self.pairs) or is_only_order(self.pairs)
+        said = [HOLDS] if is_alike else [HOLDS, REFUSED]
         return next((it for it in said if it in self.verdicts), UNDECIDED)
 
 

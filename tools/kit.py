@@ -56,6 +56,28 @@ def without(words, *flags):
     return words
 
 
+class NothingKept:
+    """The proofs kept by an `rt` whose `ci` keeps none. It has the calls of the class `Kept` of later kits."""
+
+    at = None
+
+    def __init__(self):
+        # The sum of each crate that is built, by its name.
+        self.rlibs = {}
+
+    def key(self, crate):
+        return hashlib.sha256(repr((crate.stamp(), [self.rlibs[it.name] for it in crate.below()])).encode()).hexdigest()
+
+    def give(self, crate, tests, key):
+        return False
+
+    def in_turn(self, crate, tests, key):
+        return contextlib.nullcontext(False)
+
+    def is_built(self, crate):
+        self.rlibs[crate.name] = crate.stamp()
+
+
 class Kit:
     """The crates of a repository, with their proofs. Calls may run in threads. A crate's call comes after all calls for the crates below."""
 
@@ -68,7 +90,8 @@ class Kit:
         rt.rtlib.Crate = rt.Crate
         found = rt.rtlib.crates_below(f"{top}/crates")
         self.crates = {it.name: it for it in sorted(found, key=lambda it: len(it.below()))}
-        self.kept = rt.Kept([*self.crates.values()])
+        self.keeps = hasattr(rt, "Kept")
+        self.kept = rt.Kept([*self.crates.values()]) if self.keeps else NothingKept()
         # Its first call starts a process, which is not safe once threads run.
         self.guard = rt.rtlib.guarded()
         # The processor seconds of `rattle` for each crate.
@@ -99,13 +122,21 @@ class Kit:
         if self.anew:
             return False
         if self.top != TOP and crate.makes_rlib() and self.is_made(built, key):
-            shutil.copytree(built, crate.rlib, copy_function=self.rt.link_or_copy)
+            shutil.copytree(built, crate.rlib, copy_function=getattr(self.rt, "link_or_copy", shutil.copy2))
             return True
         with contextlib.ExitStack() as turn:
             is_given = self.kept.give(crate, False, key)
             if not is_given and turn.enter_context(self.kept.in_turn(crate, False, key)):
                 is_given = self.kept.give(crate, False, key)
         return is_given
+
+    def adopt(self, name):
+        """Records that an `rt ci` that keeps nothing has just proved a crate. Its library or program in out/ is then used as it is."""
+        crate = self.crates[name]
+        made = crate.rlib if crate.makes_rlib() else f"{self.out(name)}/{name}" if crate.is_program else None
+        if made and os.path.exists(made) and all(it.name in self.kept.rlibs for it in crate.below()):
+            self.made(made, self.key(name))
+            self.kept.is_built(crate)
 
     def is_beside(self):
         return self.beside is not None and os.path.isdir(f"/proc/{self.beside}")

@@ -9,6 +9,9 @@ An edit is REFUSED only if a goal of its function has an answer, and that answer
 
 An edit HOLDS if every goal of its function is proved. Every other edit is UNDECIDED: an answer or an invariant names a thing that the
 edit removed, or a new goal has no answer. Then the tools try the edit with other answers, or it needs another form.
+
+An edit that only swaps the two sides of a symmetric operator, or only exchanges whole statements, is never REFUSED (tools/answers.py).
+Its answers may name the sides, or the states between the statements.
 """
 
 import re

@@ -1,12 +1,13 @@
 """A model of the check of another querier, written from docs/FORMATS.md.
 
 The queries of a querier at the same address are wanted, and the capture's queries from that address were seen. The model compares
-the two at the end. It pairs whole lists, for each group or source apart, and streams nothing. `check` returns the verdict of a capture.
+the two at the end. It pairs whole lists, for each group or source apart, and streams nothing. `check` returns the verdict of a capture,
+and `check_taking` that about the querier which the capture names.
 """
 
 import dataclasses
 
-from model import DAY, Querier
+from model import DAY, Options, Querier
 from wire import IGMP, CaptureFault, Fault, code_of, moments, opened, read, text_of, unwrap, value_of
 
 
@@ -23,7 +24,7 @@ class Terms:
 @dataclasses.dataclass
 class Asked:
     """A query for one thing: a group, a source of one (`source` is None without), or all groups (`group` is zero). `order` is
-    its place in the order in which things happen."""
+    its place in the order in which things happen. If the standard's words allow a query that was seen, `allowed` has its fields."""
 
     order: int
     at: int
@@ -33,6 +34,8 @@ class Asked:
     partner: Terms | None = None
     may_be_left_out: bool = False
     in_role: bool = True
+    allowed: Terms | None = None
+    seen: "Asked | None" = None
 
     def thing(self):
         return self.group, self.source
@@ -113,6 +116,12 @@ class Observed(Querier):
         to = group if any(group) else self.family.everyone
         return Terms(self.family.version, said, (int(s), self.rv, interval), to)
 
+    def is_unheld(self, group, source):
+        """Whether hosts may report a group, and no timer runs that a query for it, or for this source of it, would lower."""
+        held = self.groups.get(group)
+        has_timer = held is not None and (held.until is not None if source is None else source in held.running())
+        return self.is_admitted(group) and (source is None or any(source)) and not has_timer
+
     def send(self, group, sources, s, response):
         if not any(group) and not self.is_back:
             return
@@ -140,8 +149,8 @@ class Verdict:
 class Check:
     """A check of a capture. `findings` are lines with their order."""
 
-    def __init__(self, family, options, within):
-        self.family, self.it, self.within = family, options, within
+    def __init__(self, family, options, within, strict):
+        self.family, self.it, self.within, self.strict = family, options, within, strict
         self.link = Observed(family, options)
         self.seen, self.changes, self.findings = [], [], []
         self.general, self.specific = 0, 0
@@ -190,17 +199,24 @@ class Check:
 
     def headers(self, moment, number, kind, frame, packet):
         """Finds the faults of the headers of a packet with a query of the router that is checked, whether hosts act on it or not."""
+        if packet.source != self.it.own:
+            return
         try:
             is_query = read(self.family, packet.body, packet.source, packet.to).what == "query"
-        except Fault:
+        except Fault as fault:
+            if fault.number == 2 and packet.body[0] == self.family.query:
+                self.find(self.link.next_order(), f"{moment} packet {number} checksum")
             return
-        if packet.source != self.it.own or not is_query:
+        if not is_query:
             return
         ttl, alert = (packet.hops, packet.alert) if packet.to else headers4(ip_in(kind, frame))
         if ttl != 1:
             self.find(self.link.next_order(), f"{moment} packet {number} ttl {ttl}, wanted 1")
         if not alert:
             self.find(self.link.next_order(), f"{moment} packet {number} alert 0")
+        reserved = packet.body[8:9].hex()[:1] if self.family is IGMP else packet.body[1:2].hex() + packet.body[6:8].hex()
+        if reserved.strip("0"):
+            self.find(self.link.next_order(), f"{moment} packet {number} reserved")
 
     def see(self, moment, message, to):
         has_response = message.version > 1 or self.family is not IGMP
@@ -209,7 +225,9 @@ class Check:
         if any(message.group) or message.sources:
             self.specific += 1
             for source in message.sources or [None]:
-                self.seen.append(Asked(self.link.next_order(), moment, message.group, source, terms, in_role=in_role))
+                it = Asked(self.link.next_order(), moment, message.group, source, terms, in_role=in_role)
+                it.allowed = self.allowed(it, message)
+                self.seen.append(it)
             return
         self.general += 1
         if in_role:
@@ -219,6 +237,17 @@ class Check:
             it.partner = self.link.terms(self.family.zero(), False, self.it.qri)
         self.seen.append(it)
         self.last_general = moment
+
+    def allowed(self, it, message):
+        """The fields of a query that the standard's words allow here beside those that are wanted, or None: a querier may hold the
+        group or the source since before the capture, if no query was wanted for it yet. S depends on timers that are not known."""
+        timing = self.it
+        is_late = it.at > timing.rv * 1000 * timing.qi + timing.qri + self.within
+        is_known = it.thing() in {one.thing() for one in self.link.wanted}
+        if self.strict or not it.in_role or is_late or is_known or not self.link.is_unheld(*it.thing()):
+            return None
+        s = message.fields[0] if message.fields else False
+        return self.link.terms(it.group, s, self.it.lmqi)
 
     def interval(self, moment):
         """Judges the time since the general query before this one."""
@@ -252,11 +281,33 @@ class Check:
             # A general query seen in the role takes a query that is already wanted.
             of_thing = [one for one in of_thing if one.order < it.order] if it.partner else of_thing
             if of_thing:
-                of_thing[0].partner = it.terms
+                of_thing[0].partner, of_thing[0].seen = it.terms, it
                 it.partner = it.partner or of_thing[0].terms
 
+    def schedules(self):
+        """Allows queries of schedules that the link has replaced, for each thing in the order in which things happen. A query goes on
+        with the first schedule that waits, if it comes one interval after that schedule's last query. Any other query starts a
+        schedule if its partner was wanted before it."""
+        for thing in {it.thing() for it in self.seen}:
+            waiting = []
+            for it in [one for one in self.seen if one.thing() == thing]:
+                waiting = [one for one in waiting if it.at <= one[0] + self.it.lmqi + self.within]
+                follows = bool(waiting) and self.is_near(it.at, waiting[0][0] + self.it.lmqi)
+                before, left = waiting.pop(0) if follows else (None, self.it.rv)
+                wanted = [one for one in self.link.wanted if one.thing() == thing and one.order < it.order]
+                has_partner = any(one.seen is it for one in wanted)
+                if follows and it.in_role and it.allowed is None and wanted and self.is_replaced(before, wanted[-1].at):
+                    s, terms = it.terms.querier[0] if it.terms.querier else False, wanted[-1].terms
+                    it.allowed = dataclasses.replace(terms, querier=(s, *terms.querier[1:]))
+                if left > 1 and (follows or has_partner):
+                    waiting.append((it.at, left - 1))
+
+    def is_replaced(self, before, wanted):
+        """Whether a query that was wanted at a moment replaced the schedule of a query that was seen before."""
+        return before + self.within < wanted and wanted + self.within < before + self.it.lmqi
+
     def differences(self, it):
-        seen, wanted = it.terms, it.partner
+        seen, wanted = it.terms, it.partner or it.allowed
         named = [("version", seen.version, wanted.version)]
         if None not in (seen.response, wanted.response):
             named.append(("response", seen.response, wanted.response))
@@ -268,6 +319,8 @@ class Check:
     def judge(self, end):
         """All lines, where the capture ends at a moment: of what has no partner by then nothing is said, if one may come."""
         self.pair()
+        if not self.strict:
+            self.schedules()
         for it in self.link.wanted:
             if not it.partner and not it.may_be_left_out and it.at + self.within < end:
                 self.find(it.order, f"{it.at} missing {it.text()}")
@@ -276,7 +329,8 @@ class Check:
                 for line in self.differences(it):
                     self.find(it.order, line)
             elif it.at + self.within < end and not any(self.is_near(it.at, change) for change in self.changes):
-                self.find(it.order, f"{it.at} extra {it.text()}")
+                for line in self.differences(it) if it.allowed else [f"{it.at} extra {it.text()}"]:
+                    self.find(it.order, line)
         if self.link.other is None:
             self.silence(end, self.link.next_order())
         lines = [line for _, line in sorted(self.findings, key=lambda it: it[0])]
@@ -306,9 +360,65 @@ def headers4(packet):
     return packet[8], at + 1 < end and packet[at] == 148 and 2 <= packet[at + 1] <= end - at
 
 
-def check(data, family, options, within=100):
-    """The verdict of a whole capture, or None and what it says where a fault or a gap ends it."""
-    it, last, number = Check(family, options, within), 0, 0
+def is_router(family, source):
+    """A router may send queries from this address."""
+    return any(source) and source[0] < 224 if family is IGMP else source[0] == 0xFE and source[1] >> 6 == 2
+
+
+def routers_queries(data, family):
+    """The queries of routers on which hosts act, with their sources, up to a fault of the capture."""
+    try:
+        kind, records = opened(data)
+        for _, _, frame in moments(records):
+            packet = unwrap(kind, frame)
+            if isinstance(packet, str) or packet.family is not family or not is_router(family, packet.source):
+                continue
+            if family is not IGMP and (packet.hops != 1 or not packet.alert):
+                continue
+            try:
+                message = read(family, packet.body, packet.source, packet.to)
+            except Fault:
+                continue
+            if message.what == "query":
+                yield packet.source, message
+    except CaptureFault as fault:
+        yield None, fault.text
+
+
+def taken(data, family):
+    """The querier of a capture and the variables that its first queries have, or None and why there is none."""
+    querier, found = None, {}
+    for source, query in routers_queries(data, family):
+        if source is None:
+            return (querier, found) if querier else (None, query)
+        if querier is None and not any(query.group) and not query.sources:
+            querier = source
+            _, robustness, interval = query.fields or (0, 0, 0)
+            found = {"rv": robustness, "qi": interval, "qri": query.response}
+        elif querier == source and any(query.group) and not found.get("lmqi"):
+            found["lmqi"] = query.response
+    found = {name: value for name, value in found.items() if value}
+    return (querier, found) if querier else (None, "nothing judged: there is no general query of this family")
+
+
+def check_taking(data, family, given, within=100, strict=False):
+    """The verdict of a whole capture about the querier that it names, or None and what it says. `given` are the options."""
+    querier, found = taken(data, family)
+    if querier is None:
+        return None, found
+    options = Options(querier, **{**found, **given})
+    if options.qri >= 1000 * options.qi:
+        return None, "configuration fault 3"
+    verdict, fault = check(data, family, options, within, strict)
+    if verdict:
+        words = [f" {name} {found[name]}" for name in ("rv", "qi", "qri", "lmqi") if name in found and name not in given]
+        verdict.lines.append(f"taken from the capture: querier {text_of(querier)}{''.join(words)}")
+    return verdict, fault
+
+
+def check(data, family, options, within=100, strict=False):
+    """The verdict of a whole capture, or None and what it says where a fault or a gap ends it. `strict` allows no other readings."""
+    it, last, number = Check(family, options, within, strict), 0, 0
     try:
         kind, records = opened(data)
         for number, moment, frame in moments(records):

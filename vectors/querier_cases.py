@@ -43,15 +43,19 @@ class Query:
     is_older: bool = False
     hops: int = 1
     has_alert: bool = True
+    reserved: int | None = None
+    is_broken: bool = False
 
 
 @dataclasses.dataclass(frozen=True)
 class Case:
-    """A querier, and what is found of it. `but` makes its queries of the right ones."""
+    """A querier, and what is found of it. `but` makes its queries of the right ones. `strict` is what is found with --strict, if
+    that is something else."""
 
     what: str
     but: object
     found: tuple = ()
+    strict: tuple | None = None
     hosts: tuple = ()
     words: tuple = ()
     general: int = 3
@@ -90,7 +94,13 @@ class Bench:
             body = wire.older(self.family, kind, group, self.code(it.response))
         else:
             body = wire.query(self.family, group, it.sources, it.s, self.code(it.response), it.qrv, wire.code_of(it.seconds, 8))
-        return self.framed(body, source or self.querier, to, it.hops, it.has_alert)
+        if it.reserved is not None:
+            body = body[: it.reserved] + bytes([body[it.reserved] | 0x10]) + body[it.reserved + 1 :]
+        frame = self.framed(body, source or self.querier, to, it.hops, it.has_alert)
+        if it.is_broken:
+            at = len(frame) - len(body) + 3
+            frame = frame[:at] + bytes([frame[at] ^ 1]) + frame[at + 1 :]
+        return frame
 
     def report(self, *records):
         to = wire.address("224.0.0.22" if self.family is IGMP else "ff02::16")
@@ -183,7 +193,7 @@ def wrong(b):
     yield Case("sends queries for a group to another one", each(LEFT, to=b.C), differing(left, a, f"to {other}, wanted {a}"))
     yield Case("sends older queries for a group", each(LEFT, is_older=True), differing(left, a, f"version {version - 1}, wanted {version}"))
     two = tuple(f"{at} {what} {which}" for at in left for what, which in (("missing", a), ("extra", other)))
-    yield Case("asks for another group", each(LEFT, group=b.C), two)
+    yield Case("asks for another group", each(LEFT, group=b.C), two[::2], two)
     yield Case("sets S and says another QRV", each(LEFT, s=True, qrv=1), differing(left, a, "s 1, wanted 0", "qrv 1, wanted 2"))
     yield Case(
         "asks all groups at a leave",
@@ -203,7 +213,7 @@ def wrong(b):
     swapped = tuple(f"{at} {what}" for at in blocked for what in (f"missing {s}", f"extra {t}"))
     yield Case("asks for another source", each(BLOCKED, sources=(b.T,)), swapped)
     grouped = tuple(f"{at} {what}" for at in blocked for what in (f"missing {s}", f"extra {text(b.B)}"))
-    yield Case("asks for the group of a blocked source", each(BLOCKED, sources=()), grouped)
+    yield Case("asks for the group of a blocked source", each(BLOCKED, sources=()), grouped[::2], grouped)
     yield Case("names the blocked source twice", each(BLOCKED, sources=(b.S, b.S)), (f"50000 extra {s}", f"51000 extra {s}"))
     yield Case("sets S in queries for sources", each(BLOCKED, s=True), differing(blocked, s, "s 1, wanted 0"))
     yield Case("says another response for sources", each(BLOCKED, response=500), differing(blocked, s, "response 500, wanted 1000"))
@@ -213,7 +223,13 @@ def wrong(b):
     # Where nothing is to be asked.
     yield Case("asks when a host joins", having(Query(5000, "joined", b.A)), (f"5000 extra {a}",), specific=5)
     yield Case("asks when a source is allowed", having(Query(7000, "allowed", b.B, (b.S,))), (f"7000 extra {s}",), specific=5)
-    yield Case("asks for a group that nobody reports", having(Query(60000, "nothing", b.C)), (f"60000 extra {other}",), specific=5)
+    yield Case(
+        "asks for a group that nobody reports",
+        having(Query(260101, "nothing", b.C)),
+        (f"260101 extra {other}",),
+        words=("--until", "261000"),
+        specific=5,
+    )
     # General queries.
     yield Case("says the wrong response in general queries", each(GENERAL, response=1000), differing(general, zero, "response 1000, wanted 10000"))
     yield Case("sets S in general queries", each(GENERAL, s=True), differing(general, zero, "s 1, wanted 0"))
@@ -238,6 +254,12 @@ def wrong(b):
         faulty = [f"40000 packet 6 {fault}", f"41000 packet 7 {fault}"]
         dropped = [f"40000 missing {a}", faulty[0], f"41000 missing {a}", faulty[1]]
         yield Case(f"sends queries for a group with {fault}", each(LEFT, **field), tuple(faulty if igmp else dropped), specific=4 if igmp else 2)
+    # The message. Hosts drop a query with a wrong checksum, and ignore reserved fields.
+    broken = [f"40000 missing {a}", "40000 packet 6 checksum", f"41000 missing {a}", "41000 packet 7 checksum"]
+    yield Case("sends queries for a group with a wrong checksum", each(LEFT, is_broken=True), tuple(broken), specific=2)
+    for place in (8,) if igmp else (1, 6, 7):
+        fields = "40000 packet 6 reserved", "41000 packet 7 reserved"
+        yield Case(f"sets a bit of the reserved byte {place}", each(LEFT, reserved=place), fields)
     # The election: another querier with a lower address is heard at 60000, and is gone 255000 later.
     heard = (60000, b.query(b.general(60000), b.lower))
     yield Case("goes on beside a lower querier", as_it_is, (f"156250 extra {zero}",), hosts=(heard,), words=("--until", "160000"))
@@ -260,6 +282,8 @@ def right(b):
     """The queriers that do everything right."""
     heard = (60000, b.query(b.general(60000), b.lower))
     yield Case("is on time", as_it_is)
+    if b.family is not IGMP:
+        yield Case("sets a bit beside S and QRV, of which RFC 3810 says nothing", each(LEFT, reserved=24))
     yield Case("is as late as the tolerance allows", both(*(each(why, later=WITHIN) for why in (GENERAL, LEFT, BLOCKED))))
     yield Case("answers before the leave is captured", moved(m40000=39900, m41000=40900))
     yield Case("is late at a leave and early behind it", moved(m40000=40100, m41000=40900))
@@ -290,15 +314,35 @@ def other_readings(b):
     # A change that comes again.
     later = both(without(41000), having(ask_group(40400), ask_group(41400)))
     yield Case("starts the count of a group anew", later, hosts=(left_again,), specific=5)
-    yield Case("keeps both schedules of a group", both(later, having(ask_group(41000))), (f"41000 extra {a}",), hosts=(left_again,), specific=6)
-    yield Case("asks nothing at a leave that comes again", as_it_is, (f"40400 missing {a}", f"41000 extra {a}", f"41400 missing {a}"), hosts=(left_again,))
+    earlier = both(later, having(ask_group(41000)))
+    yield Case("keeps both schedules of a group", earlier, (), (f"41000 extra {a}",), hosts=(left_again,), specific=6)
+    late_and_early = both(without(41000), moved(m40000=40100), having(*map(ask_group, (40300, 41000, 41500))))
+    yield Case("keeps both schedules within the tolerance", late_and_early, (), (f"41000 extra {a}",), hosts=(left_again,), specific=6)
+    for moment in (40999, 41201):
+        found = (f"{moment} extra {a}",)
+        off = both(without(41000), moved(m40000=40100), having(*map(ask_group, (40400, 41400, moment))))
+        yield Case(f"keeps the earlier schedule at {moment}", off, found, hosts=(left_again,), specific=6)
+    thrice = both(earlier, having(ask_group(42000)))
+    yield Case("asks a third time beside both schedules", thrice, (f"42000 extra {a}",), (f"41000 extra {a}", f"42000 extra {a}"), hosts=(left_again,), specific=7)
+    twice = both(earlier, having(ask_group(41000)))
+    yield Case("asks twice in the earlier schedule", twice, (f"41000 extra {a}",), (f"41000 extra {a}",) * 2, hosts=(left_again,), specific=7)
+    yield Case("keeps only the earlier schedule behind the new query", both(earlier, without(41400)), (f"41400 missing {a}",), (f"41000 extra {a}", f"41400 missing {a}"), hosts=(left_again,), specific=5)
+    other_qrv = both(later, having(dataclasses.replace(ask_group(41000), qrv=3)))
+    yield Case("says another QRV in the earlier schedule", other_qrv, differing((41000,), a, "qrv 3, wanted 2"), (f"41000 extra {a}",), hosts=(left_again,), specific=6)
+    yield Case("keeps a schedule that was not replaced", having(ask_group(41000)), (f"41000 extra {a}",), specific=5)
+    found = f"40400 missing {a}", f"41000 extra {a}", f"41400 missing {a}"
+    yield Case("asks nothing at a leave that comes again", as_it_is, found[::2], found, hosts=(left_again,))
     yield Case("waits with a source that is blocked again", as_it_is, hosts=(blocked_again,))
     yield Case("asks at once for a source that is blocked again", having(ask_source(50400, b.S)), (f"50400 extra {s}",), hosts=(blocked_again,), specific=5)
     # A source that waits, beside a new one.
     together = both(without(51000), having(ask_source(50400, b.S, b.T), ask_source(51400, b.T)))
     yield Case("names a source that waits in the new sending", together, hosts=(other_blocked,), specific=5)
     apart = having(ask_source(50400, b.T), ask_source(51400, b.T))
-    yield Case("asks for each source at its own moments", apart, (f"50400 missing {s}", f"51000 extra {s}"), hosts=(other_blocked,), specific=6)
+    found = f"50400 missing {s}", f"51000 extra {s}"
+    yield Case("asks for each source at its own moments", apart, found[:1], found, hosts=(other_blocked,), specific=6)
+    beside = both(together, having(ask_source(51000, b.S)))
+    yield Case("keeps both schedules of a source", beside, (), found[1:], hosts=(other_blocked,), specific=6)
+    yield Case("asks a third time for a source beside both schedules", both(beside, having(ask_source(52000, b.S))), (f"52000 extra {s}",), (*found[1:], f"52000 extra {s}"), hosts=(other_blocked,), specific=7)
     # A query for sources with S set, beside one for their group.
     excluded = (55000, b.report((TO_EX, b.C, ()))), (56000, b.report((ALLOW, b.C, (b.S,))))
     gone = (*excluded, (60000, b.report((TO_IN, b.C, ()))), (60500, b.report((ALLOW, b.C, (b.S,)))))
@@ -316,7 +360,20 @@ def other_readings(b):
     known = (90000, b.report((TO_IN, b.C, ())))
     held, other = having(Query(90000, LEFT, b.C), Query(91000, LEFT, b.C)), wire.text_of(b.C)
     yield Case("knows no group from before the capture", as_it_is, hosts=(known,))
-    yield Case("knows a group from before the capture", held, (f"90000 extra {other}", f"91000 extra {other}"), hosts=(known,), specific=6)
+    yield Case("knows a group from before the capture", held, (), (f"90000 extra {other}", f"91000 extra {other}"), hosts=(known,), specific=6)
+    blocked_before = (90000, b.report((BLOCK, b.C, (b.S,))))
+    of_source, source = [Query(at, LEFT, b.C, (b.S,)) for at in (90000, 91000)], f"{other} {wire.text_of(b.S)}"
+    extra = (f"90000 extra {source}", f"91000 extra {source}")
+    yield Case("knows a source from before the capture", having(*of_source), (), extra, hosts=(blocked_before,), specific=6)
+    faulty = both(held, each(LEFT, qrv=3))
+    of_left = differing((40000, 41000), a, "qrv 3, wanted 2")
+    of_known = differing((90000, 91000), other, "qrv 3, wanted 2")
+    yield Case("says another QRV for a group from before the capture", faulty, of_left + of_known, of_left + tuple(f"{at} extra {other}" for at in (90000, 91000)), hosts=(known,), specific=6)
+    last = having(Query(260100, LEFT, b.C))
+    yield Case("knows a group until the interval ends", last, (), (f"260100 extra {other}",), words=("--until", "261000"), specific=5)
+    again = both(held, having(Query(120000, LEFT, b.A)))
+    found = (f"120000 extra {a}",)
+    yield Case("asks for a group that it left", again, found, (*tuple(f"{at} extra {other}" for at in (90000, 91000)), *found), hosts=(known,), specific=7)
     # The phase of general queries.
     yield Case("counts an interval from the query before", moved(m31250=31300, m156250=156350))
     yield Case("counts intervals from the first query", moved(m31250=31350, m156250=156250))

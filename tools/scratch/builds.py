@@ -72,6 +72,22 @@ def takes_what_is_kept(top):
     shutil.rmtree(f"{top}/kit/kept/False-low-{key}")
 
 
+def uses_what_was_proved(top):
+    """Checks a toolchain whose `ci` keeps nothing. A crate that it has just proved is adopted, and isn't proved again."""
+    module, adopt = f"{top}/kit/bin/rt", f"import sys; sys.path.insert(0, '{top}/tools'); from kit import Kit; Kit().adopt('low')"
+    text = taken(module)
+    want("class Kept:" in text, "the toolchain keeps proofs", "")
+    put(module, text.replace("class Kept:", "class Others:"), 0o755)
+    emptied(top)
+    want(checks(build(top, "--crates", "left")[2]) == ["low check", "left check"], "what nothing has proved is passed over", "")
+    for name in ("low", "left"):
+        os.remove(f"{top}/crates/{name}/out/rlib/{name}.rlib.key")
+    status, said = run(top, "python3", "-c", adopt)
+    order = build(top, "--crates", "left")[2]
+    want((status, checks(order)) == (0, ["left check"]), "what is adopted is proved again, or what isn't is used", (said, order))
+    put(module, text, 0o755)
+
+
 def ends_where_a_crate_is_not_proved(top):
     emptied(top)
     build(top, "some", "words")
@@ -99,6 +115,7 @@ def builds(top):
     builds_libraries(top)
     builds_program(top)
     takes_what_is_kept(top)
+    uses_what_was_proved(top)
     ends_where_a_crate_is_not_proved(top)
     runs_tests(top)
     want(run(top, f"{top}/tools/build")[0] == 2, "a build of no words passes", "")

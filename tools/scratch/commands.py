@@ -55,6 +55,10 @@ def keeps(top):
         time.sleep(0.1)
     want(status == 1 and "the last run failed" in said, "a run that fails", said)
     want(run(top, f"{top}/tools/kept", "no-such-crate")[0] == 2, "a crate that isn't there", "")
+    module = taken(f"{top}/kit/bin/rt")
+    put(f"{top}/kit/bin/rt", module.replace("class Kept:", "class Others:"), 0o755)
+    want(run(top, f"{top}/tools/kept") == (0, "kept: the `rt ci` of this kit keeps no proofs\n"), "a kit that keeps nothing", "")
+    put(f"{top}/kit/bin/rt", module, 0o755)
 
 
 def commands(top):

@@ -27,7 +27,7 @@ def lost(function, goals):
 
 FUNCTIONS = (
     "callee caller single mentions right held loop renamed moved turned vanished folded unchecked unwritten uncited untold unsaid bare_name early early_false early_holds early_first "
-    "searched limits stranger fields fields_fit fields_old sits sides sides_false calls calls_false".split()
+    "searched limits stranger fields fields_fit fields_old sits sides sides_false calls calls_false smaller order".split()
 )
 CELL, EXCHANGED = {"cell-requires": "slot-requires"}, {"a-requires": "c-requires", "b-requires": "d-requires"}
 EARLY, TWO = "returns-then-x-clause-it", "returns-clause-it,returns-in-y-clause-it"
@@ -85,6 +85,9 @@ SAYS = {
     "sides_false": {it: FALSE.format("sides_false", "returns") for it in ("returns:left:right", "returns:right:left")},
     "calls": {"returns:f:f-2": FALSE.format("calls", "returns"), "returns:f-2:f": ""},
     "calls_false": {it: FALSE.format("calls_false", "returns") for it in ("returns:f:f-2", "returns:f-2:f")},
+    # A symmetric method with swapped sides, and two exchanged statements. The answers fail in each form.
+    "smaller": {"none": FALSE.format("smaller", "returns")},
+    "order": {"none": FALSE.format("order", "returns")},
     # An answer that uses a refused invariant.
     "sits": {"none": PATH.format("sits") + "`returns`: it differs\n  `invariant` stands by its signature alone, since it was refused\n"},
 }
@@ -94,7 +97,11 @@ BODIES = {it: (f"{it} body", f"{it} wrong") for it in SAYS} | {
     "sides_false": ("sides_false; x.left + right;", "sides_false; right + x.left;"),
     "calls": ("calls; a b", "calls; b a"),
     "calls_false": ("calls_false; a b", "calls_false; b a"),
+    "smaller": ("smaller; (a as u8).min(b.c())", "smaller; b.c().min(a as u8)"),
+    "order": ("order; f(1); f(2);", "order; f(2) ; f(1);"),
 }
+# The edits that change several texts.
+PAIRS = {"order": [("f(1);", "f(2) ;"), ("f(2);", "f(1);")]}
 OF_EDITS = "wrong-bodies", "edits.py", "answers.py", "verdicts.py", "stubs.py", "items.py", "closure.py", "passing.py"
 # The edits that a contract refuses, those that it lets through, and the refused ones whose answers are first renamed or moved.
 REFUSED = "callee", "caller", "single", "held", "renamed", "early_false", "searched", "fields", "calls_false"
@@ -138,7 +145,8 @@ def scratch_edits(top):
     for it, says in SAYS.items():
         for name, text in {**says, "wrong": BODIES[it][1]}.items():
             put(f"{top}/says/{it}/{name}", text)
-        put(f"{crate}/wrong-bodies/{it}.edit", "file: src/lib.rt\nold: {}\nnew: {}\n".format(*BODIES[it]))
+        pairs = PAIRS.get(it, [BODIES[it]])
+        put(f"{crate}/wrong-bodies/{it}.edit", "file: src/lib.rt\n" + "".join("old: {}\nnew: {}\n".format(*pair) for pair in pairs))
     for it, says in SAYS.items():
         if "none" not in says:
             put(f"{crate}/proofs/{it}/Answers.antt", answers(says))

@@ -4,14 +4,15 @@
 and `convert` read captures. Times are whole milliseconds of any clock that does not go back.
 """
 
+from ._arguments import AddressLike
 from ._link import Link, message_line
-from ._types import Answer, Counts, Dropped, Group, Parsed, Query, Refused, Source
-from .captures import Converted, Findings, Lines, check, convert, replay, show
+from ._types import Address, Answer, Counts, Dropped, Group, Parsed, Query, Refused, Source
+from .captures import Capture, Converted, Findings, Lines, check, convert, replay, show
 from .faults import CaptureFault, Fault
-from .lines import Basis, Change, End, Finding, Packet, Received, Role, Sent, Skipped, Totals
+from .lines import Basis, Change, End, Event, Finding, Packet, Received, Role, Sent, Skipped, Totals
 
 __all__ = [
-    "Answer", "Basis", "CaptureFault", "Change", "Converted", "Counts", "Dropped", "End", "Fault", "Finding", "Findings", "Group", "Lines",
-    "Link", "Packet", "Parsed", "Query", "Received", "Refused", "Role", "Sent", "Skipped", "Source", "Totals", "check", "convert",
-    "message_line", "replay", "show",
+    "Address", "AddressLike", "Answer", "Basis", "Capture", "CaptureFault", "Change", "Converted", "Counts", "Dropped", "End", "Event",
+    "Fault", "Finding", "Findings", "Group", "Lines", "Link", "Packet", "Parsed", "Query", "Received", "Refused", "Role", "Sent",
+    "Skipped", "Source", "Totals", "check", "convert", "message_line", "replay", "show",
 ]  # fmt: skip

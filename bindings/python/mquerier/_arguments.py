@@ -5,7 +5,7 @@ from __future__ import annotations
 import ctypes
 import ipaddress
 import operator
-from typing import Any, Mapping, Union
+from typing import Any, Dict, Mapping, Union
 
 from ._library import LATEST, VARIABLES, Family, Handle, Units, families
 from ._types import Address
@@ -14,7 +14,13 @@ from .faults import MEMORY, Fault
 AddressLike = Union[str, bytes, Address]
 
 
+def not_a(field: str, wanted: str, value: Any) -> TypeError:
+    return TypeError(f"{field}: expected {wanted}, and it is {type(value).__name__}")
+
+
 def family_named(name: str) -> Family:
+    if not isinstance(name, str):
+        raise not_a("family", "'igmp' or 'mld'", name)
     if name not in families():
         raise Fault("family", f"expected 'igmp' or 'mld', and it is {name!r}")
     return families()[name]
@@ -22,7 +28,7 @@ def family_named(name: str) -> Family:
 
 def any_address(field: str, value: AddressLike) -> Address:
     if not isinstance(value, (str, bytes, ipaddress.IPv4Address, ipaddress.IPv6Address)):
-        raise TypeError(f"{field}: expected an address, and it is {type(value).__name__}")
+        raise not_a(field, "an address", value)
     try:
         return ipaddress.ip_address(value)
     except ValueError as why:
@@ -37,11 +43,18 @@ def packed(family: Family, field: str, value: AddressLike) -> bytes:
     return address.packed
 
 
+def whole(field: str, value: Any) -> int:
+    """Returns a whole number. A bool is none."""
+    if isinstance(value, bool) or not hasattr(value, "__index__"):
+        raise not_a(field, "a whole number", value)
+    return operator.index(value)
+
+
 def within(field: str, value: Any, most: int) -> int:
     """Returns a whole number from 0 to `most`."""
-    number = operator.index(value)
+    number = whole(field, value)
     if not 0 <= number <= most:
-        raise Fault(field, f"{number} is not from 0 to {most}")
+        raise Fault(field, f"it is not from 0 to {most}")
     return number
 
 
@@ -49,12 +62,28 @@ def moment(field: str, value: Any) -> int:
     return within(field, value, LATEST)
 
 
-def octets(field: str, value: Any) -> bytes:
+def flag(field: str, value: Any) -> bool:
+    if not isinstance(value, bool):
+        raise not_a(field, "True or False", value)
+    return value
+
+
+def octets(field: str, value: Any, wanted: str = "bytes") -> bytes:
     """Returns a copy of the bytes of any object with a buffer."""
     try:
         return bytes(memoryview(value))
     except TypeError:
-        raise TypeError(f"{field}: expected bytes, and it is {type(value).__name__}") from None
+        raise not_a(field, wanted, value) from None
+
+
+def fitting(number: int) -> int:
+    """Returns a number for a field of the configuration. 0 stands for those that no field holds, since it too is out of each range."""
+    return number if 0 <= number < 2**32 else 0
+
+
+def given(arguments: Mapping[str, Any]) -> Dict[str, Any]:
+    """Returns the variables of a querier among the arguments of a call. None stands for the default."""
+    return {name: arguments[name] for name in (*VARIABLES, "source_specific") if arguments[name] is not None}
 
 
 def config_of(family: Family, field: str, own: AddressLike, variables: Mapping[str, Any]) -> Any:
@@ -62,9 +91,7 @@ def config_of(family: Family, field: str, own: AddressLike, variables: Mapping[s
     status names the first fault of the configuration, if there is one."""
     config = family.defaults(packed(family, field, own))
     for name, value in variables.items():
-        if name not in VARIABLES and name != "source_specific":
-            raise TypeError(f"a querier has no variable {name!r}")
-        setattr(config, name, bool(value) if name == "source_specific" else within(name, value, 2**32 - 1))
+        setattr(config, name, flag(name, value) if name == "source_specific" else fitting(whole(name, value)))
     status = family.init_units(config, 0, Units(16, 0), ctypes.byref(Handle()))
     if status != MEMORY:
         fault = Fault.of_status(status)

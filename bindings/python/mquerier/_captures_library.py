@@ -7,9 +7,9 @@ import dataclasses
 import functools
 import mmap
 from ctypes import POINTER, c_char_p, c_size_t, c_uint32, c_uint64, c_void_p
-from typing import Any, List, Optional
+from typing import Any, Dict, List, Optional
 
-from ._library import VARIABLES, VERSION, Units, found
+from ._library import VARIABLES, VERSION, Units, call_of, loaded
 
 DONE, FULL, MEMORY = 0, 1, 2
 LEAST_TEXT, LEAST_WORK, MOST_WORK, UNIT = 1 << 16, 1 << 26, 1 << 36, 16
@@ -49,13 +49,16 @@ class Outcome:
 
 
 @functools.lru_cache(None)
-def library() -> Any:
-    calls = ctypes.CDLL(found(f"libmquerier-captures.so.{VERSION}"))
+def library() -> Dict[str, Any]:
+    """Returns the calls by their names without the prefix."""
+    it = loaded(f"libmquerier-captures.so.{VERSION}")
     ends: List[Any] = [c_char_p, c_size_t, Units, c_void_p, c_size_t]
+    calls = {}
     for name in ("show", "convert", "replay_igmp", "replay_mld", "check_igmp", "check_mld"):
-        call = getattr(calls, f"page_{name}")
+        calls[name] = call = call_of(it, f"page_{name}")
         call.restype, call.argtypes = RawOutcome, [c_char_p, POINTER(Settings), *ends] if "_" in name else ends
-    calls.page_fault_text.restype, calls.page_fault_text.argtypes = c_size_t, [POINTER(RawOutcome), c_void_p, c_size_t]
+    calls["fault_text"] = call = call_of(it, "page_fault_text")
+    call.restype, call.argtypes = c_size_t, [POINTER(RawOutcome), c_void_p, c_size_t]
     return calls
 
 
@@ -69,7 +72,7 @@ class Lent:
 
 def run(call: str, data: bytes, querier: Optional[Querier] = None) -> Outcome:
     """Makes a call, and repeats it with twice the memory if that was too little. The work memory includes room for the text."""
-    function = getattr(library(), f"page_{call}_{querier.family}" if querier else f"page_{call}")
+    function = library()[f"{call}_{querier.family}" if querier else call]
     asked = [querier.own, ctypes.byref(querier.settings)] if querier else []
     room, work = LEAST_TEXT + 2 * len(data), LEAST_WORK
     while True:
@@ -86,5 +89,5 @@ def run(call: str, data: bytes, querier: Optional[Querier] = None) -> Outcome:
 
 def sentence_of(raw: RawOutcome) -> Optional[str]:
     room = ctypes.create_string_buffer(LONGEST_SENTENCE)
-    length = library().page_fault_text(ctypes.byref(raw), room, len(room))
+    length = library()["fault_text"](ctypes.byref(raw), room, len(room))
     return room.raw[:length].decode() if raw.status != DONE else None

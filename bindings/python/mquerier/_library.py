@@ -19,10 +19,27 @@ NATIVE = os.path.join(os.path.dirname(os.path.abspath(__file__)), "native")
 
 
 def found(name: str) -> str:
-    """Returns the path of a library in the folder MQUERIER_LIB or in the package, or else its name, for the system's loader."""
-    folders = [it for it in (os.environ.get("MQUERIER_LIB"), NATIVE) if it]
-    paths = [os.path.join(folder, name) for folder in folders]
-    return next((path for path in paths if os.path.exists(path)), name)
+    """Returns the path of a library in the folder MQUERIER_LIB, or if that is not set in the package, or else its name, for the system's
+    loader."""
+    folder = os.environ.get("MQUERIER_LIB")
+    path = os.path.join(folder or NATIVE, name)
+    return path if folder or os.path.exists(path) else name
+
+
+def loaded(name: str) -> Any:
+    """Loads a library."""
+    try:
+        return ctypes.CDLL(found(name))
+    except OSError as why:
+        raise ImportError(f"{why}. Install the wheel, or set MQUERIER_LIB to the folder of {name}", name=name) from None
+
+
+def call_of(library: Any, name: str) -> Any:
+    """Returns a function of a library."""
+    try:
+        return library[name]
+    except AttributeError:
+        raise ImportError(f"{library._name} has no {name}: it is of another version than this package, {VERSION}") from None
 
 
 class Units(ctypes.Structure):
@@ -90,7 +107,7 @@ class Family:
         self.RawGroup = structure("RawGroup", [("address", octets), ("sources", c_uint32), ("deadline", c_uint64), *hosts])
         self.RawSource = structure("RawSource", [("address", octets), ("deadline", c_uint64)])
         for call, (result, arguments) in signatures(self).items():
-            function = library[f"mq_{name}_{call}"]
+            function = call_of(library, f"mq_{name}_{call}")
             function.restype, function.argtypes = result, arguments
             setattr(self, call, function)
 
@@ -100,7 +117,8 @@ class Family:
 
 @functools.lru_cache(None)
 def families() -> Dict[str, Family]:
-    library = ctypes.CDLL(found(f"libmquerier.so.{VERSION}"))
-    if library.mq_version() != VERSION:
-        raise ImportError(f"libmquerier has version {library.mq_version()}, and this package is for version {VERSION}")
+    library = loaded(f"libmquerier.so.{VERSION}")
+    version = call_of(library, "mq_version")()
+    if version != VERSION:
+        raise ImportError(f"{library._name} has version {version}, and this package is for version {VERSION}")
     return {"igmp": Family(library, "igmp", 4, IPv4Address), "mld": Family(library, "mld", 16, IPv6Address)}

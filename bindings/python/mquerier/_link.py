@@ -3,10 +3,12 @@
 from __future__ import annotations
 
 import ctypes
+import os
 import threading
-from typing import Any, List, Optional, Tuple
+import weakref
+from typing import Any, List, Optional, Tuple, Union
 
-from ._arguments import AddressLike, config_of, family_named, moment, octets, packed, within
+from ._arguments import AddressLike, config_of, family_named, flag, given, moment, octets, packed, within
 from ._library import COUNTERS, LATEST, NONE, Family, Handle, Units
 from ._types import Address, Answer, Counts, Dropped, Group, Parsed, Query, Refused, Source
 from .faults import Fault
@@ -28,27 +30,58 @@ class Block:
         self.units = Units(ctypes.addressof(self.memory) + before, (size - before) // 16)
 
 
+class Torn:
+    """The lock of a link whose process was forked during a call: nobody gets it."""
+
+    def __enter__(self) -> None:
+        raise RuntimeError("another thread called this link while the process was forked: make a new link")
+
+    def __exit__(self, *_: object) -> None:
+        pass
+
+
 class Link:
     """A querier on one interface. It begins at `start`, as querier: its first query is due then, and a tick sends it.
 
-    `own` is the source address of queries. The variables are `robustness`, `query_interval` (seconds), `response_interval` and
-    `last_member_interval` (milliseconds), the limits `groups`, `group_sources`, `sources` and `scheduled`, and `source_specific`.
-    Those that are not given are the standards' defaults. Threads may share a link: it serves one call at a time.
+    `own` is the source address of queries. `query_interval` is in seconds, `response_interval` and `last_member_interval` are in
+    milliseconds; `groups`, `group_sources`, `sources` and `scheduled` are limits. None stands for the standards' default. Threads may
+    share a link: it serves one call at a time. After a fork the new process has a copy of its own.
     """
 
-    def __init__(self, family: str, own: AddressLike, *, start: int = 0, **variables: int) -> None:
+    def __init__(
+        self,
+        family: str,
+        own: AddressLike,
+        *,
+        start: int = 0,
+        robustness: Optional[int] = None,
+        query_interval: Optional[int] = None,
+        response_interval: Optional[int] = None,
+        last_member_interval: Optional[int] = None,
+        groups: Optional[int] = None,
+        group_sources: Optional[int] = None,
+        sources: Optional[int] = None,
+        scheduled: Optional[int] = None,
+        source_specific: Optional[bool] = None,
+    ) -> None:
+        variables = given(locals())
         self._family = it = family_named(family)
         config = config_of(it, "own", own, variables)
-        self._lock = threading.Lock()
+        self._lock: Union[threading.Lock, Torn] = threading.Lock()
         self._memory, self._work = Block(it.size(config)), Block(it.workspace_size(config))
         self._link, self._workspace = Handle(), Handle()
         self._group_sources = config.group_sources
         self._queries = ctypes.create_string_buffer(it.outlet_bytes(config, LONGEST_BODY))
         self._made(it.init_units(config, moment("start", start), self._memory.units, ctypes.byref(self._link)))
         self._made(it.workspace_init_units(config, self._work.units, ctypes.byref(self._workspace)))
+        LINKS.add(self)
 
     def __reduce__(self) -> Any:
         raise TypeError("a link cannot be copied: its memory stays where it is")
+
+    def _forked(self) -> None:
+        """Frees the lock in a new process, where no other thread holds it any longer."""
+        self._lock = Torn() if isinstance(self._lock, Torn) or self._lock.locked() else threading.Lock()
 
     @staticmethod
     def _made(status: int) -> None:
@@ -72,7 +105,7 @@ class Link:
         if it.name == "mld":
             if destination is None:
                 raise TypeError("destination: a datagram of MLD needs it")
-            envelope += [packed(it, "destination", destination), within("hop_limit", hop_limit, 255), bool(alert)]
+            envelope += [packed(it, "destination", destination), within("hop_limit", hop_limit, 255), flag("alert", alert)]
         return self._call(it.receive, *envelope, data, len(data), moment("now", now))
 
     def tick(self, now: int) -> Answer:
@@ -162,6 +195,17 @@ class Link:
         return Counts(received, dropped, by_reason, parsed, applied, ignored, refused, limits, sent, unsent)
 
 
+LINKS: "weakref.WeakSet[Link]" = weakref.WeakSet()
+
+
+def after_fork() -> None:
+    for link in list(LINKS):
+        link._forked()
+
+
+os.register_at_fork(after_in_child=after_fork)
+
+
 def queries_in(family: Family, written: bytes) -> Tuple[Query, ...]:
     """Returns the queries in memory: each is its destination, the length of its message in two bytes, and its message."""
     found, at = [], 0
@@ -182,9 +226,13 @@ def group_of(family: Family, raw: Any, sources: List[Any]) -> Group:
 def message_line(
     family: str, body: bytes, source: Optional[AddressLike] = None, destination: Optional[AddressLike] = None
 ) -> str:
-    """Returns a message as one line, or the line of its fault. The addresses are those of its packet; IGMP does not need them."""
+    """Returns a message as one line, or the line of its fault. The addresses are those of its packet; IGMP does not look at them."""
     it, data = family_named(family), octets("body", body)
-    ends = [] if it.name == "igmp" else [packed(it, "source", source or ""), packed(it, "destination", destination or "")]
+    ends = []
+    for field, value in (("source", source), ("destination", destination)) if it.name == "mld" else ():
+        if value is None:
+            raise TypeError(f"{field}: a message of MLD needs it")
+        ends.append(packed(it, field, value))
     room = 256 + 64 * len(data)
     line = ctypes.create_string_buffer(room)
     return ctypes.string_at(line, it.line(*ends, data, len(data), line, room)).decode()

@@ -24,6 +24,15 @@ class Dropped(enum.IntEnum):
     IGMPV1_QUERY = 9
     GROUP = 10
 
+    @classmethod
+    def _missing_(cls, value: object) -> Optional[Dropped]:
+        """Makes a reason that only a later library knows."""
+        if not isinstance(value, int) or value <= len(cls):
+            return None
+        it = int.__new__(cls, value)
+        it._name_, it._value_ = f"REASON_{value}", value
+        return it
+
 
 class Parsed(enum.IntEnum):
     """The kinds of datagrams that were parsed. LEAVE is also a Done."""

@@ -4,10 +4,10 @@ from __future__ import annotations
 
 import dataclasses
 import os
-from typing import Any, Callable, Generic, List, Optional, Sequence, TypeVar, Union, overload
+from typing import Any, Callable, Generic, List, Mapping, Optional, Sequence, TypeVar, Union, overload
 
 from . import _captures_library as library
-from ._arguments import AddressLike, any_address, config_of, family_named, moment, within
+from ._arguments import AddressLike, any_address, config_of, family_named, flag, given, moment, octets, within
 from ._captures_library import NO_END, Outcome, Querier, Settings
 from ._library import VARIABLES
 from .faults import CaptureFault
@@ -54,6 +54,20 @@ class Findings(Lines[Finding]):
         self.basis = basis_of(lines[at + 1]) if is_whole else None
         self.role = role_of(lines[at + 2]) if is_whole else None
 
+    @property
+    def unjudged(self) -> Optional[str]:
+        """The reason why the check judged nothing, whatever it found; None if it judged the querier. A mistyped address is one."""
+        it = self.basis
+        if it is None:
+            return "the check did not come to its end"
+        if 0 < it.packets <= 2 * (it.cut + it.unread):
+            return "every second packet or more is cut or isn't read"
+        if it.messages + it.malformed == 0:
+            return "there is no message of this family"
+        if len(self) + self.general + self.specific == 0:
+            return "no query from this address was seen, and none is missing"
+        return None
+
 
 @dataclasses.dataclass(frozen=True)
 class Converted:
@@ -63,11 +77,31 @@ class Converted:
     unread: int
 
 
-def run(call: str, capture: Capture, querier: Optional[Querier] = None) -> Outcome:
+# Other kinds of files, by their first bytes.
+PCAPNG = b"\n\r\r\n"
+KINDS = {
+    PCAPNG: "the file is pcapng, which convert() reads",
+    b"\x1f\x8b": "the file is compressed by gzip",
+    b"\x28\xb5\x2f\xfd": "the file is compressed by zstd",
+}
+
+
+def bytes_of(capture: Capture) -> bytes:
     if isinstance(capture, (str, os.PathLike)):
         with open(capture, "rb") as file:
-            return library.run(call, file.read(), querier)
-    return library.run(call, bytes(memoryview(capture)), querier)
+            return file.read()
+    return octets("capture", capture, "bytes or a path")
+
+
+def run(call: str, capture: Capture, querier: Optional[Querier] = None) -> Outcome:
+    """Makes a call on a capture. The message of a fault begins with the path of a file, and ends with the kind of another file."""
+    data = bytes_of(capture)
+    outcome = library.run(call, data, querier)
+    if outcome.fault is None:
+        return outcome
+    path = [os.fsdecode(capture)] if isinstance(capture, (str, os.PathLike)) else []
+    kinds = [kind for first, kind in KINDS.items() if data.startswith(first) and (call, first) != ("convert", PCAPNG)]
+    return dataclasses.replace(outcome, fault=": ".join([*path, outcome.fault, *kinds]))
 
 
 def whole(outcome: Outcome, lines: Read) -> Read:
@@ -76,7 +110,7 @@ def whole(outcome: Outcome, lines: Read) -> Read:
     return lines
 
 
-def querier_of(field: str, own: AddressLike, until: Optional[int], variables: Any, **asked: int) -> Querier:
+def querier_of(field: str, own: AddressLike, until: Optional[int], variables: Mapping[str, Any], **asked: int) -> Querier:
     """Returns the querier at an address, of the family of that address."""
     address = any_address(field, own)
     family = family_named("igmp" if address.version == 4 else "mld")
@@ -94,11 +128,26 @@ def show(capture: Capture) -> Lines[Packet]:
 
 
 def replay(
-    capture: Capture, own: AddressLike, *, until: Optional[int] = None, changes: bool = False, **variables: int
+    capture: Capture,
+    own: AddressLike,
+    *,
+    until: Optional[int] = None,
+    changes: bool = False,
+    robustness: Optional[int] = None,
+    query_interval: Optional[int] = None,
+    response_interval: Optional[int] = None,
+    last_member_interval: Optional[int] = None,
+    groups: Optional[int] = None,
+    group_sources: Optional[int] = None,
+    sources: Optional[int] = None,
+    scheduled: Optional[int] = None,
+    source_specific: Optional[bool] = None,
 ) -> Lines[Event]:
     """Replays a capture to a querier at the address `own`, of the family of that address. With `changes`, a `Change` follows each
-    event for each group whose filter it changed. The variables are those of a `Link`."""
-    outcome = run("replay", capture, querier_of("own", own, until, variables, changes=bool(changes)))
+    event for each group whose filter it changed. The variables are those of a `Link`. `until` is the end of the replay in milliseconds
+    after the first record, by default the time of the last one."""
+    variables = given(locals())
+    outcome = run("replay", capture, querier_of("own", own, until, variables, changes=flag("changes", changes)))
     text = outcome.text.decode()
     return whole(outcome, Lines(text, text.splitlines(), event_of))
 
@@ -107,15 +156,25 @@ def check(
     capture: Capture,
     querier: AddressLike,
     *,
+    until: Optional[int] = None,
     tolerance: int = 100,
     cite: bool = True,
-    until: Optional[int] = None,
-    **variables: int,
+    robustness: Optional[int] = None,
+    query_interval: Optional[int] = None,
+    response_interval: Optional[int] = None,
+    last_member_interval: Optional[int] = None,
+    groups: Optional[int] = None,
+    group_sources: Optional[int] = None,
+    sources: Optional[int] = None,
+    scheduled: Optional[int] = None,
+    source_specific: Optional[bool] = None,
 ) -> Findings:
     """Checks the querier at an address: returns each difference from the standards that exceeds the tolerance in milliseconds. The
-    variables are those of a `Link`. Without `cite` no finding has a section."""
+    variables are those of a `Link`. Without `cite` no finding has a section. `until` is the end of the check in milliseconds after the
+    first record, by default the time of the last one."""
+    variables = given(locals())
     most = within("tolerance", tolerance, 2**32 - 1)
-    outcome = run("check", capture, querier_of("querier", querier, until, variables, within=most, cite=bool(cite)))
+    outcome = run("check", capture, querier_of("querier", querier, until, variables, within=most, cite=flag("cite", cite)))
     return whole(outcome, Findings(outcome.text.decode()))
 
 

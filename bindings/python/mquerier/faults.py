@@ -28,7 +28,10 @@ class Fault(ValueError):
 
     def __init__(self, field: str, why: str) -> None:
         super().__init__(f"{field}: {why}")
-        self.field = field
+        self.field, self.why = field, why
+
+    def __reduce__(self) -> Any:
+        return type(self), (self.field, self.why)
 
     @classmethod
     def of_status(cls, status: int) -> Fault:
@@ -36,8 +39,11 @@ class Fault(ValueError):
 
 
 class CaptureFault(ValueError):
-    """Why a capture was not read to its end. `lines` has what was read before."""
+    """The reason why a capture was not read to its end. `lines` has what was read before."""
 
     def __init__(self, why: str, lines: Sequence[Any]) -> None:
         super().__init__(why)
-        self.lines = lines
+        self.why, self.lines = why, lines
+
+    def __reduce__(self) -> Any:
+        return type(self), (self.why, self.lines)

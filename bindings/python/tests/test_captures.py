@@ -3,10 +3,12 @@
 import concurrent.futures
 import gc
 import glob
+import gzip
 import ipaddress
 import json
 import os
 import pathlib
+import pickle
 import subprocess
 import sys
 
@@ -22,15 +24,25 @@ CAPTURES = sorted(glob.glob(f"{TOP}/vectors/*.pcap") + glob.glob(f"{TOP}/samples
 QUERIERS = ("10.9.0.1", "10.0.0.9", "fe80::9")
 
 
+def status_of(found):
+    """Returns the status of the program with these lines, and its line on standard error."""
+    if not isinstance(found, mquerier.Findings):
+        return 0, ""
+    if found.unjudged:
+        return 4, f"mquerier: nothing judged: {found.unjudged}\n"
+    return 3 if found else 0, ""
+
+
 def is_as_printed(data, words, call, *own, **more):
     """True if a call returns the text that the program `mquerier` prints, and fails exactly if the program fails."""
     ran = subprocess.run([f"{TOP}/bin/mquerier", *words, *own], input=data, stdout=subprocess.PIPE, stderr=subprocess.PIPE, check=False)
     try:
-        text, status = call(data, *own[1:], **more).text, 0
+        found = call(data, *own[1:], **more)
     except CaptureFault as fault:
-        text, status = fault.lines.text, 1
-    assert ran.returncode in ((1,) if status else (0, 3, 4)), ran.stderr
-    return text.encode() == ran.stdout
+        assert ran.returncode == 1
+        return fault.lines.text.encode() == ran.stdout
+    assert (ran.returncode, ran.stderr.decode()) == status_of(found)
+    return found.text.encode() == ran.stdout
 
 
 def are_as_printed(data):
@@ -156,6 +168,56 @@ def test_faults_of_captures():
     assert len(gap.value.lines) > 46
 
 
+def fault_of(call, capture):
+    with pytest.raises(CaptureFault) as fault:
+        call(capture)
+    return str(fault.value)
+
+
+def test_fault_names_its_file(tmp_path):
+    truncated = tmp_path / os.fsdecode(b"link \xff.pcap")
+    truncated.write_bytes(DATA[:-1])
+    assert fault_of(mquerier.show, truncated) == f"{truncated}: the data of record 46 are cut"
+    assert fault_of(mquerier.show, str(truncated)) == fault_of(mquerier.show, truncated)
+    assert fault_of(mquerier.convert, truncated) == f"{truncated}: block 46: the file ends within it"
+    for capture, error in [(tmp_path, IsADirectoryError), ("/no/such/file", FileNotFoundError), ("", FileNotFoundError)]:
+        with pytest.raises(error):
+            mquerier.show(capture)
+
+
+def test_fault_names_another_kind_of_file():
+    with open(f"{TOP}/samples/igmp.pcapng", "rb") as file:
+        pcapng = file.read()
+    unknown = "no capture: the magic number is unknown"
+    for call in (mquerier.show, lambda it: mquerier.replay(it, "10.0.0.9"), lambda it: mquerier.check(it, "10.0.0.9")):
+        assert fault_of(call, pcapng) == f"{unknown}: the file is pcapng, which convert() reads"
+        assert fault_of(call, gzip.compress(DATA)) == f"{unknown}: the file is compressed by gzip"
+        assert fault_of(call, b"\x28\xb5\x2f\xfd" + DATA) == f"{unknown}: the file is compressed by zstd"
+        assert fault_of(call, b"text" * 9) == unknown
+    assert fault_of(mquerier.convert, gzip.compress(DATA)).endswith(": the file is compressed by gzip")
+    assert "pcapng" not in fault_of(mquerier.convert, pcapng[:-1])
+
+
+def test_findings_of_nothing():
+    assert mquerier.check(SAMPLE, "10.9.0.1").unjudged is None
+    assert mquerier.check(SAMPLE, "fe80::1").unjudged == "there is no message of this family"
+    typo = mquerier.check(f"{TOP}/vectors/igmp-startup.pcap", "10.0.0.77", until=1000)
+    assert len(typo) == 0 and typo.unjudged == "no query from this address was seen, and none is missing"
+    with pytest.raises(CaptureFault) as fault:
+        mquerier.check(DATA[:-1], "10.9.0.1")
+    assert fault.value.lines.unjudged == "the check did not come to its end" and len(fault.value.lines) > 0
+
+
+def test_faults_are_copied_whole():
+    with pytest.raises(CaptureFault) as fault:
+        mquerier.show(DATA[:-1])
+    for it in (fault.value, Fault("now", "too late")):
+        copied = pickle.loads(pickle.dumps(it))
+        assert (type(copied), str(copied)) == (type(it), str(it))
+    assert pickle.loads(pickle.dumps(fault.value)).lines[:] == fault.value.lines[:]
+    assert pickle.loads(pickle.dumps(Fault("now", "too late"))).field == "now"
+
+
 def test_faults_of_arguments():
     for field, call in [
         ("own", lambda: mquerier.replay(DATA, "0.0.0.0")),
@@ -167,11 +229,19 @@ def test_faults_of_arguments():
         with pytest.raises(Fault) as fault:
             call()
         assert fault.value.field == field
-    for call in (lambda: mquerier.show(7), lambda: mquerier.show(None), lambda: mquerier.check(DATA, 7), lambda: mquerier.replay(DATA, "10.9.0.1", rv=2)):
-        with pytest.raises(TypeError):
+    for field, call in [
+        ("capture", lambda: mquerier.show(7)),
+        ("capture", lambda: mquerier.convert(None)),
+        ("querier", lambda: mquerier.check(DATA, 7)),
+        ("own", lambda: mquerier.replay(DATA, None)),
+        ("rv", lambda: mquerier.replay(DATA, "10.9.0.1", rv=2)),
+        ("until", lambda: mquerier.replay(DATA, "10.9.0.1", until=1.5)),
+        ("changes", lambda: mquerier.replay(DATA, "10.9.0.1", changes=1)),
+        ("tolerance", lambda: mquerier.check(DATA, "10.9.0.1", tolerance=True)),
+        ("cite", lambda: mquerier.check(DATA, "10.9.0.1", cite="no")),
+    ]:
+        with pytest.raises(TypeError, match=field):
             call()
-    with pytest.raises(FileNotFoundError):
-        mquerier.show("/no/such/file")
 
 
 def ran(*words):
@@ -187,6 +257,24 @@ def test_command_line():
         "file": SAMPLE, "time": 4355, "kind": "extra", "group": "232.1.1.1", "source": "10.9.0.101",
         "section": "RFC 3376 section 6.6.3.2", "detail": "",
     }  # fmt: skip
-    assert ran("check", f"{TOP}/vectors/igmp-frames-cut.pcap", "--querier", "10.0.0.77").returncode == 0
-    assert ran("check", "/no/such/file", *words).returncode == 1 and ran("check", __file__, *words).returncode == 1
+    right = ran("check", f"{TOP}/vectors/igmp-query-from-lower.pcap", "--querier", "10.0.0.2")
+    assert (right.returncode, right.stdout, right.stderr) == (0, "", "")
+
+
+def test_command_line_with_faults(tmp_path):
+    (tmp_path / "truncated.pcap").write_bytes(DATA[:-1])
+    it = ran("check", "/no/such/file", str(tmp_path / "truncated.pcap"), SAMPLE, "--querier", "10.9.0.1")
+    files = [json.loads(line)["file"] for line in it.stdout.splitlines()]
+    assert it.returncode == 1 and set(files) == {str(tmp_path / "truncated.pcap"), SAMPLE}
+    why = ["/no/such/file: No such file or directory", f"{tmp_path}/truncated.pcap: the data of record 46 are cut"]
+    assert it.stderr.splitlines() == why
+    nothing = ran("check", SAMPLE, "--querier", "fe80::1")
+    assert (nothing.returncode, nothing.stderr) == (4, f"{SAMPLE}: nothing judged: there is no message of this family\n")
     assert ran("check", SAMPLE, "--querier", "0.0.0.0").returncode == 2 and ran("check", SAMPLE).returncode == 2
+
+
+def test_command_line_that_nobody_reads():
+    words = [sys.executable, "-m", "mquerier", "check", SAMPLE, "--querier", "10.9.0.1"]
+    with subprocess.Popen(words, stdout=subprocess.PIPE, stderr=subprocess.PIPE, text=True) as it:
+        it.stdout.close()
+        assert (it.stderr.read(), it.wait()) == ("", 1)

@@ -1,11 +1,15 @@
 """Links: what they return, faults, wrong arguments, memory and threads."""
 
 import copy
+import dataclasses
 import gc
+import inspect
 import ipaddress
+import os
 import pickle
 import re
 import threading
+import typing
 
 import mquerier
 import pytest
@@ -62,7 +66,7 @@ def ip(text):
         ("robustness", 0), ("robustness", 8), ("robustness", -1), ("query_interval", 31745), ("response_interval", 125000),
         ("last_member_interval", 99), ("groups", 0), ("groups", 65536), ("group_sources", 1025), ("sources", 0), ("scheduled", 2**32),
         ("own", "0.0.0.0"), ("own", "224.0.0.1"), ("own", "fe80::9"), ("own", "10.0.0"), ("own", b"123"), ("start", 2**53 + 1),
-        ("start", -1), ("family", "ipv4"),
+        ("own", "10.0.0.9/24"), ("own", "host"), ("own", b"10.0.0.9"), ("start", -1), ("family", "ipv4"), ("family", "IGMP"),
     ],
 )  # fmt: skip
 def test_fault_names_its_field(field, value):
@@ -89,28 +93,54 @@ def test_faults_of_calls():
     assert link.counts.received == 0 and link.next_deadline == 0
 
 
+def mld(**more):
+    return Link("mld", "fe80::9").receive(**{"source": "fe80::1", "body": b"", "now": 0, "destination": "ff02::1", **more})
+
+
 @pytest.mark.parametrize(
-    "call",
+    "field, call",
     [
-        lambda link: link.tick(1.5),
-        lambda link: link.tick(None),
-        lambda link: link.tick("1"),
-        lambda link: link.receive(HOST, "text", 0),
-        lambda link: link.receive(HOST, 8, 0),
-        lambda link: link.receive(HOST, None, 0),
-        lambda link: link.receive(167772161, JOIN, 0),
-        lambda link: link.forwards(GROUP, None),
-        lambda link: made(robustness="2"),
-        lambda link: made(nothing=2),
-        lambda link: Link("mld", "fe80::9").receive("fe80::1", JOIN, 0),
-        copy.copy,
-        copy.deepcopy,
-        pickle.dumps,
+        ("now", lambda link: link.tick(1.5)),
+        ("now", lambda link: link.tick(None)),
+        ("now", lambda link: link.tick("1")),
+        ("now", lambda link: link.tick(True)),
+        ("body", lambda link: link.receive(HOST, "text", 0)),
+        ("body", lambda link: link.receive(HOST, 8, 0)),
+        ("body", lambda link: link.receive(HOST, None, 0)),
+        ("source", lambda link: link.receive(167772161, JOIN, 0)),
+        ("source", lambda link: link.forwards(GROUP, None)),
+        ("group", lambda link: link.group(7)),
+        ("destination", lambda _: mld(destination=None)),
+        ("hop_limit", lambda _: mld(hop_limit=1.0)),
+        ("alert", lambda _: mld(alert=1)),
+        ("family", lambda _: Link(4, "10.0.0.9")),
+        ("family", lambda _: Link(["igmp"], "10.0.0.9")),
+        ("own", lambda _: Link("igmp", 7)),
+        ("start", lambda _: made(start=0.5)),
+        ("robustness", lambda _: made(robustness="2")),
+        ("robustness", lambda _: made(robustness=True)),
+        ("groups", lambda _: made(groups=1e3)),
+        ("source_specific", lambda _: made(source_specific="no")),
+        ("nothing", lambda _: made(nothing=2)),
+        ("destination", lambda _: mquerier.message_line("mld", JOIN, "fe80::1")),
+        ("copied", copy.copy),
+        ("copied", copy.deepcopy),
+        ("copied", pickle.dumps),
     ],
 )
-def test_wrong_types(call):
-    with pytest.raises(TypeError):
+def test_wrong_type_names_its_argument(field, call):
+    with pytest.raises(TypeError, match=field):
         call(made())
+
+
+def test_numbers_of_any_size():
+    for number in (-1, 2**31, 2**32 + 2, 2**64, -(10**5000), 10**5000):
+        for field in ("robustness", "groups", "start"):
+            if (field, number) != ("start", 2**31) and (field, number) != ("start", 2**32 + 2):
+                with pytest.raises(Fault) as fault:
+                    made(**{field: number})
+                assert fault.value.field == field
+    assert made(robustness=None).next_deadline == 0
 
 
 @pytest.mark.parametrize("length", [0, 1, 3, 7, 9, 1480, 65535, 1 << 20])
@@ -128,6 +158,9 @@ def test_texts_and_fields_are_those_of_the_header():
     assert [text for _, text in faults.STATUSES] == re.findall(r'"([^"]+)"', texts)[1:]
     reasons = re.findall(r"MQ_DROPPED_(\w+)(?: = 1)?[,\s]", HEADER[HEADER.index("MQ_DROPPED_TRUNCATED = 1") :].partition("}")[0])
     assert [it.name for it in Dropped] == reasons
+    assert (Dropped(11).name, Dropped(11)) == ("REASON_11", 11)
+    with pytest.raises(ValueError):
+        Dropped(0)
     for kind, prefix in ((mquerier.Parsed, "MQ_PARSED_"), (mquerier.Refused, "MQ_REFUSED_")):
         names = HEADER[HEADER.index(f"enum {{ {prefix}") if prefix == "MQ_PARSED_" else HEADER.index(f"  {prefix}LONG") :]
         assert [it.name for it in kind] == re.findall(rf"{prefix}(\w+)", names.partition("}")[0])
@@ -177,3 +210,52 @@ def test_threads_that_share_a_link():
     for it in threads:
         it.join()
     assert link.counts.sent == sum(map(len, seen)) and link.counts.dropped == 0
+
+
+def in_a_fork(call):
+    """Returns the text that a call returns in a new process."""
+    read, write = os.pipe()
+    child = os.fork()
+    if not child:
+        try:
+            text = call()
+        except RuntimeError as why:
+            text = str(why)
+        os.write(write, text.encode())
+        os._exit(0)
+    os.close(write)
+    with open(read, encoding="utf-8") as said:
+        text = said.read()
+    os.waitpid(child, 0)
+    return text
+
+
+def test_a_fork_has_links_of_its_own():
+    link = made()
+    assert in_a_fork(lambda: link.tick(0).queries[0].message.hex()) == link.tick(0).queries[0].message.hex()
+
+
+def test_a_fork_during_a_call_leaves_no_deadlock():
+    link, other = made(), made()
+    with link._lock:  # as another thread in a call
+        assert "another thread" in in_a_fork(lambda: str(link.tick(0)))
+        assert in_a_fork(lambda: in_a_fork(lambda: str(link.is_querier))).startswith("another thread")
+        assert in_a_fork(lambda: str(len(other.tick(0).queries))) == "1"
+    assert len(link.tick(0).queries) == 1
+
+
+def calls_of(it):
+    """Returns the calls of a function or a class that a user makes."""
+    if not inspect.isclass(it):
+        return [it] if inspect.isfunction(it) else []
+    public = [of for name, of in vars(it).items() if name == "__init__" or not name.startswith("_")]
+    return [of.fget if isinstance(of, property) else of for of in public if isinstance(of, property) or inspect.isfunction(of)]
+
+
+@pytest.mark.parametrize("name", mquerier.__all__)
+def test_types_are_whole(name):
+    it = getattr(mquerier, name)
+    for call in calls_of(it):
+        assert {*inspect.signature(call).parameters, "return"} - {"self"} == {*typing.get_type_hints(call)}
+    if dataclasses.is_dataclass(it):
+        assert {of.name for of in dataclasses.fields(it)} == {*typing.get_type_hints(it)}

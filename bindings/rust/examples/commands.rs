@@ -57,10 +57,7 @@ struct Player<F: Family> {
     now: u64,
 }
 
-impl<F: Played> Player<F>
-where
-    F::Address: for<'q> TryFrom<&'q [u8]>,
-{
+impl<F: Played> Player<F> {
     fn made(words: &[&str]) -> Self {
         let v: Vec<u32> = words[1..].iter().map(|it| number(it) as u32).collect();
         let config = Config::<F>::new(F::address(bytes(words[0])));

@@ -59,6 +59,7 @@ impl<F: Family> fmt::Debug for Answer<'_, F> {
 /// A query. The caller sends it from the own address, with a TTL or hop limit of 1 and the Router Alert option.
 #[derive(Clone, Copy, Debug, PartialEq, Eq)]
 pub struct Query<'q, A> {
+    /// The destination of its packet.
     pub destination: A,
     /// The message without the IP header.
     pub message: &'q [u8],
@@ -71,10 +72,7 @@ pub struct Queries<'q, F> {
     family: PhantomData<fn() -> F>,
 }
 
-impl<'q, F: Family> Iterator for Queries<'q, F>
-where
-    F::Address: TryFrom<&'q [u8]>,
-{
+impl<'q, F: Family> Iterator for Queries<'q, F> {
     type Item = Query<'q, F::Address>;
 
     fn next(&mut self) -> Option<Self::Item> {
@@ -91,15 +89,25 @@ where
 #[derive(Clone, Copy, Debug, PartialEq, Eq, Hash)]
 #[non_exhaustive]
 pub enum Dropped {
+    /// A field is truncated.
     Truncated = 1,
+    /// The checksum is wrong.
     Checksum,
+    /// The type is unknown.
     UnknownType,
+    /// A query has a length of no version.
     QueryLength,
+    /// The source is not link-local.
     Source,
+    /// The hop limit is not 1.
     HopLimit,
+    /// The packet has no Router Alert option.
     NoAlert,
+    /// A query from the own address or from 0.0.0.0.
     OwnOrZero,
+    /// A query of IGMPv1.
     Igmpv1Query,
+    /// An older message for a group that hosts do not report.
     Group,
     /// A reason that this crate does not know.
     Other,

@@ -10,16 +10,20 @@ use crate::Dropped;
 pub struct Counts {
     /// Datagrams.
     pub received: u64,
+    /// Datagrams that were dropped.
     pub dropped: u64,
     dropped_by: [u64; 10],
     parsed: [u64; 5],
-    /// Records.
+    /// Records that were applied.
     pub applied: u64,
+    /// Records that were ignored.
     pub ignored: u64,
+    /// Records that would have exceeded a limit.
     pub refused: u64,
     refused_by: [u64; 7],
-    /// Queries.
+    /// Queries that the caller got.
     pub sent: u64,
+    /// Queries that did not fit, and are lost.
     pub unsent: u64,
 }
 
@@ -45,11 +49,15 @@ impl Counts {
 /// The kinds of datagrams that are parsed.
 #[derive(Clone, Copy, Debug, PartialEq, Eq)]
 pub enum Parsed {
+    /// A query of IGMPv3 or MLDv2.
     Query,
+    /// A query of an older version.
     OlderQuery,
+    /// A Report of an older version.
     OlderReport,
-    /// Or a Done.
+    /// A Leave or a Done.
     Leave,
+    /// A Report of IGMPv3 or MLDv2.
     Report,
 }
 
@@ -60,10 +68,14 @@ pub enum Refused {
     Long,
     /// It is the fifth record of its datagram, or a later one, for a group that the link has.
     Repeated,
+    /// The limit of groups.
     Groups,
+    /// The limit of the sources of a group.
     GroupSources,
+    /// The limit of the sources of all groups.
     Sources,
+    /// The limit of schedules of specific queries.
     Scheduled,
-    /// Never.
+    /// Memory, which never lacks.
     Memory,
 }

@@ -19,7 +19,7 @@ pub(crate) mod sealed {
 /// A family of addresses: [`Igmp`] or [`Mld`].
 pub trait Family: sealed::Calling<Octets = Self::Address> {
     /// An address in network order, as `Ipv4Addr::octets` and `Ipv6Addr::octets` return it.
-    type Address: Copy + Eq + Ord + Debug + AsRef<[u8]> + 'static;
+    type Address: Copy + Eq + Ord + Debug + AsRef<[u8]> + for<'a> TryFrom<&'a [u8]> + 'static;
 }
 
 /// IGMPv3 of IPv4, RFC 3376.

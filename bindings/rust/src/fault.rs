@@ -6,14 +6,23 @@ use core::fmt;
 #[derive(Clone, Copy, Debug, PartialEq, Eq, Hash)]
 #[non_exhaustive]
 pub enum Fault {
+    /// `robustness` is out of range.
     Robustness,
+    /// `query_interval` is out of range.
     QueryInterval,
+    /// `response_interval` is out of range, or not below the query interval.
     ResponseInterval,
+    /// `last_member_interval` is out of range.
     LastMemberInterval,
+    /// `groups` is out of range.
     Groups,
+    /// `group_sources` is out of range.
     GroupSources,
+    /// `sources` is out of range.
     Sources,
+    /// `scheduled` is out of range.
     Scheduled,
+    /// No router may send queries from the own address.
     OwnAddress,
     /// The memory is too small, or the heap has none left.
     Memory,

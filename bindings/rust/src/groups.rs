@@ -18,6 +18,7 @@ pub struct Group<F: Family>(pub(crate) raw::Group<F::Address, <F as Calling>::Ho
 pub struct Source<F: Family>(pub(crate) raw::Source<F::Address>);
 
 impl<F: Family> Group<F> {
+    /// Returns its address.
     pub fn address(&self) -> F::Address {
         self.0.address
     }
@@ -44,6 +45,7 @@ impl<F: Family> Group<F> {
 }
 
 impl<F: Family> Source<F> {
+    /// Returns its address.
     pub fn address(&self) -> F::Address {
         self.0.address
     }
@@ -84,13 +86,18 @@ impl<F: Family> Copy for Source<F> {}
 
 impl<F: Family> fmt::Debug for Group<F> {
     fn fmt(&self, to: &mut fmt::Formatter<'_>) -> fmt::Result {
-        let it = to.debug_struct("Group").field("address", &self.address()).field("sources", &self.sources()).finish();
-        it.and_then(|()| write!(to, " until {:?}", self.deadline()))
+        to.debug_struct("Group")
+            .field("address", &self.address())
+            .field("sources", &self.sources())
+            .field("deadline", &self.deadline())
+            .field("v1", &self.v1())
+            .field("v2", &self.v2())
+            .finish()
     }
 }
 
 impl<F: Family> fmt::Debug for Source<F> {
     fn fmt(&self, to: &mut fmt::Formatter<'_>) -> fmt::Result {
-        write!(to, "Source {:?} until {:?}", self.address(), self.deadline())
+        to.debug_struct("Source").field("address", &self.address()).field("deadline", &self.deadline()).finish()
     }
 }

@@ -96,10 +96,12 @@ impl<'m, F: Family> Link<'m, F> {
         unsafe { (F::CALLS.len)(&self.raw) as usize }
     }
 
+    /// Returns whether the link has no group.
     pub fn is_empty(&self) -> bool {
         self.len() == 0
     }
 
+    /// Returns whether this router is querier.
     pub fn is_querier(&self) -> bool {
         // SAFETY: "A link or a workspace comes from a call that returned MQ_DONE".
         unsafe { (F::CALLS.is_querier)(&self.raw) }
@@ -145,8 +147,11 @@ impl Link<'_, Igmp> {
 /// What a datagram of MLD says before its message.
 #[derive(Clone, Copy, Debug)]
 pub struct Envelope {
+    /// The source of the packet.
     pub source: [u8; 16],
+    /// The destination of the packet, which the checksum covers.
     pub destination: [u8; 16],
+    /// The hop limit of the packet.
     pub hop_limit: u8,
     /// Whether the packet has the Router Alert option.
     pub alert: bool,

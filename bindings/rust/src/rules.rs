@@ -31,7 +31,12 @@
 //! let link = Link::new(&Config::<Igmp>::new([10, 0, 0, 9]), 0).unwrap();
 //! link.clone();
 //! ```
-//! One thread at a time uses a link, or a workspace:
+//! One thread at a time uses a link, or a workspace, and may hand it to another:
+//! ```
+//! fn handed<T: Send>() {}
+//! handed::<(mquerier::Link<'static, mquerier::Igmp>, mquerier::Workspace<'static, mquerier::Igmp>)>();
+//! handed::<(mquerier::Link<'static, mquerier::Mld>, mquerier::Workspace<'static, mquerier::Mld>)>();
+//! ```
 //! ```compile_fail,E0277
 //! fn shared<T: Sync>() {}
 //! shared::<mquerier::Link<'static, mquerier::Mld>>();

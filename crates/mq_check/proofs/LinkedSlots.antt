@@ -115,10 +115,10 @@ closed_there nexts last next number within is = record {
 pub closed_nowhere : (nexts : List ℕ) (last number : ℕ) → length nexts ≤ last → IsClosed nexts nexts last number
 closed_nowhere nexts last number beyond = record { long = refl; lower = λ i. omega arith; here = λ inside. absurd (omega arith) }
 
-pub linked_pushed : (slots nexts more lasts : List ℕ) (base slot number : ℕ) → AreLinked slots nexts lasts base → length nexts ≡ length slots → length lasts ≡ 65522 → slot < 65522
-    → number ≡ min (base + length slots) (2 ^ 64 - 1) → IsClosed nexts more (get_or lasts slot 0 - base) number
+pub linked_pushed : (slots nexts more lasts : List ℕ) (base slot number last : ℕ) → AreLinked slots nexts lasts base → length nexts ≡ length slots → length lasts ≡ 65522 → slot < 65522
+    → number ≡ min (base + length slots) (2 ^ 64 - 1) → (base ≤ get_or lasts slot 0 → last ≡ get_or lasts slot 0 - base) → IsClosed nexts more last number
     → AreLinked (slots ++ slot ∷ []) (more ++ (2 ^ 64 - 1) ∷ []) (set lasts slot number) base
-linked_pushed slots nexts more lasts base slot number linked paired all known is closed =
+linked_pushed slots nexts more lasts base slot number last linked paired all known is pending closed =
     let long = length_push slots slot in
     let at_more : (i : ℕ) → i < length slots → get_or (more ++ (2 ^ 64 - 1) ∷ []) i 0 ≡ get_or more i 0 = λ i within.
     get_or_append_left more ((2 ^ 64 - 1) ∷ []) 0 i (omega (arith, within, closed.long, paired)) in
@@ -128,10 +128,10 @@ linked_pushed slots nexts more lasts base slot number linked paired all known is
     let up_to : (i : ℕ) → i < length slots → get_or slots i 0 ≡ slot → get_or more i 0 ≤ base + length slots = λ i within same.
     elim (linked.closed i within) [
       | inl before ↦ omega (arith, before, closed.lower i)
-      | inr last ↦
-          let here : get_or lasts slot 0 ≡ base + i = ap (λ (s : ℕ). get_or lasts s 0) (sym same) ∙ last in
-          let place : get_or lasts slot 0 - base ≡ i = omega (arith, here) in
-          let inside : get_or lasts slot 0 - base < length nexts = omega (arith, place, within, paired) in
+      | inr end ↦
+          let here : get_or lasts slot 0 ≡ base + i = ap (λ (s : ℕ). get_or lasts s 0) (sym same) ∙ end in
+          let place : last ≡ i = omega (arith, here, pending (omega (arith, here))) in
+          let inside : last < length nexts = omega (arith, place, within, paired) in
           omega (arith, ap (λ (k : ℕ). get_or more k 0) place, closed.here inside, is)
     ] in
     record {

@@ -155,14 +155,13 @@ tick_next config within moment mid after queries left new is_config is_next is k
     ticks ∙ (λ i. ticked (is_config i) within (is_next i) (record { link = mid.state; checking = settles i; basis = kept i }))
 
 -- all ticks were made
-pub ticks_done : {E : Type 0} (family : Family) (config : Configuration) (within limit : ℕ) (all : Outcome) (done : List (Finding ℕ)) (before after : LinkValue) (queries new : WantingValue) (old_told new_told : ToldState) (a b : OutputState)
-    → limit ≤ next_of after.state → after.config ≡ before.config → new.own ≡ queries.own → IsTickedTo config within limit all done (checked_in after new) → Tells {T = Unit} {E = E} family done old_told new_told a b (Ok tt)
-    → Comes {T = Unit} {E = E} family all before after queries new old_told new_told a b (Ok tt)
-ticks_done family config within limit all done before after queries new old_told new_told a b reached same_config same_own ticked_to tells =
+pub ticks_done : {E : Type 0} (family : Family) (config : Configuration) (within limit : ℕ) (all : Outcome) (done : List (Finding ℕ)) (before after : LinkValue) (new : WantingValue) (old_told new_told : ToldState) (a b : OutputState)
+    → limit ≤ next_of after.state → after.config ≡ before.config → IsTickedTo config within limit all done (checked_in after new) → Tells {T = Unit} {E = E} family done old_told new_told a b (Ok tt)
+    → Comes {T = Unit} {E = E} family all before after new old_told new_told a b (Ok tt)
+ticks_done family config within limit all done before after new old_told new_told a b reached same_config ticked_to tells =
     let is = all_ticked config within limit all done (checked_in after new) reached ticked_to in
     record {
       same_config = same_config;
-      same_own = same_own;
       checked = sym (ap (λ (o : Outcome). o.checked) is);
       tells = tells_as family _ _ old_told new_told a b (Ok tt) (sym (ap (λ (o : Outcome). o.found) is)) tells;
     }

@@ -13,7 +13,7 @@ use Rattle.mq_check.specs.declared.asked.Asked.{Asked}
 use Rattle.mq_check.specs.declared.entry.Entry.{Entry}
 use Rattle.mq_check.specs.declared.terms.Terms.{Terms}
 use Rattle.mq_check.specs.declared.waiting.Side.{Side}
-use Rattle.mq_check.specs.Entries.{is_over, terms_in, joined, first_terms, first_joined, findings_of}
+use Rattle.mq_check.specs.Entries.{is_over, terms_in, joined, first_terms, first_joined, first_entry, findings_of}
 use Rattle.mq_check.specs.Places.{IsNoneFree, IsFirstFree, IsNoneOver, IsFirstOver}
 use Rattle.mq_check.specs.Waiting.{WaitingValue, room, is_free, with_entry, with_partner, told, settled}
 
@@ -36,14 +36,21 @@ up_to_place xs place x within is = take-suc xs place x within ∙ ap (λ (y : _)
 -- none of the entries before a place is free
 pub record IsPassed (side : Side) (asked : Asked ℕ) (entries : List (Entry ℕ)) (place : ℕ) : Type 0 where
   pub terms : first_terms (is_free side asked) entries ≡ first_terms (is_free side asked) (drop place entries)
+  pub entry : first_entry (is_free side asked) entries ≡ first_entry (is_free side asked) (drop place entries)
   pub joined : (other : Terms ℕ) → first_joined (is_free side asked) other entries ≡ take place entries ++ first_joined (is_free side asked) other (drop place entries)
 
 pub none_passed : (side : Side) (asked : Asked ℕ) (entries : List (Entry ℕ)) → IsPassed side asked entries 0
-none_passed side asked entries = record { terms = refl; joined = λ other. refl }
+none_passed side asked entries = record { terms = refl; entry = refl; joined = λ other. refl }
 
 -- what is found at an entry that isn't free, and at one that is
 skipped_terms : (test : Entry ℕ → Bool) (entry : Entry ℕ) (rest : List (Entry ℕ)) → test entry ≡ false → first_terms test (entry ∷ rest) ≡ first_terms test rest
 skipped_terms test entry rest is = rw is refl
+
+skipped_entry : (test : Entry ℕ → Bool) (entry : Entry ℕ) (rest : List (Entry ℕ)) → test entry ≡ false → first_entry test (entry ∷ rest) ≡ first_entry test rest
+skipped_entry test entry rest is = rw is refl
+
+found_entry : (test : Entry ℕ → Bool) (entry : Entry ℕ) (rest : List (Entry ℕ)) → test entry ≡ true → first_entry test (entry ∷ rest) ≡ Some entry
+found_entry test entry rest is = rw is refl
 
 skipped_joined : (test : Entry ℕ → Bool) (other : Terms ℕ) (entry : Entry ℕ) (rest : List (Entry ℕ)) → test entry ≡ false → first_joined test other (entry ∷ rest) ≡ entry ∷ first_joined test other rest
 skipped_joined test other entry rest is = rw is refl
@@ -62,6 +69,7 @@ one_passed side asked entries place entry within is not_free passed =
     let split = from_place entries place entry within is in
     let next : IsPassed side asked entries (suc place) = record {
       terms = passed.terms ∙ ap (first_terms test) split ∙ skipped_terms test entry rest not_free;
+      entry = passed.entry ∙ ap (first_entry test) split ∙ skipped_entry test entry rest not_free;
       joined = λ other.
           passed.joined other ∙ ap (λ (es : List (Entry ℕ)). take place entries ++ first_joined test other es) split
           ∙ ap (λ (es : List (Entry ℕ)). take place entries ++ es) (skipped_joined test other entry rest not_free)
@@ -79,6 +87,7 @@ free_at side asked entries place entry within is free passed =
     record {
       within = within;
       terms = λ d. passed.terms ∙ ap (first_terms test) split ∙ found_terms test entry rest free ∙ ap terms_in (get_or_read entries place entry within is d);
+      entry = λ d. passed.entry ∙ ap (first_entry test) split ∙ found_entry test entry rest free ∙ ap Some (get_or_read entries place entry within is d);
       joined = λ other d.
           passed.joined other ∙ ap (λ (es : List (Entry ℕ)). take place entries ++ first_joined test other es) split
           ∙ ap (λ (es : List (Entry ℕ)). take place entries ++ es) (found_joined test other entry rest free)
@@ -92,6 +101,7 @@ none_free side asked entries place all passed =
     let rest : drop place entries ≡ [] = ap (λ (n : ℕ). drop n entries) all ∙ drop-length entries in
     record {
       terms = passed.terms ∙ ap (first_terms test) rest;
+      entry = passed.entry ∙ ap (first_entry test) rest;
       joined = λ other.
           passed.joined other ∙ ap (λ (es : List (Entry ℕ)). take place entries ++ first_joined test other es) rest ∙ append-nil (take place entries)
           ∙ ap (λ (n : ℕ). take n entries) all ∙ take-length entries;

@@ -114,11 +114,11 @@ fault_behind config within until cite number None None course e is = by_gap (is_
 fault_text : (config : Configuration) (terms : CheckTerms) (c : ReadCapture) (e : CheckFault) → (verdict_of config terms c).answer ≡ Err e → IsFaultText (length c.packets + 1) c.end (packets_text config terms c) (verdict_of config terms c) e
 fault_text config terms c e is = by_header c.header is
   where
-    by_header : (header : Result Form PcapFault) → (check_of config terms.within terms.until terms.cite header c.packets c.end).answer ≡ Err e
-        → IsFaultText (length c.packets + 1) c.end (so_far config terms header c.packets) (check_of config terms.within terms.until terms.cite header c.packets c.end) e
+    by_header : (header : Result Form PcapFault) → (check_of config terms.within terms.until terms.cite terms.strict header c.packets c.end).answer ≡ Err e
+        → IsFaultText (length c.packets + 1) c.end (so_far config terms header c.packets) (check_of config terms.within terms.until terms.cite terms.strict header c.packets c.end) e
     by_header (Err f) is = inl refl
     by_header (Ok form) is =
-        let course = with_all_packets config terms.within form c.packets in
+        let course = with_all_packets config terms.within terms.strict form c.packets in
         fault_behind config terms.within terms.until terms.cite (length c.packets + 1) c.end course.fault course e is
 
 -- one that ends with totals is that of a file without a fault
@@ -130,10 +130,10 @@ whole_behind config within until cite number None None course totals is = refl
 whole_end : (config : Configuration) (terms : CheckTerms) (c : ReadCapture) (totals : Totals) → (verdict_of config terms c).answer ≡ Ok totals → c.end ≡ None
 whole_end config terms c totals is = by_header c.header is
   where
-    by_header : (header : Result Form PcapFault) → (check_of config terms.within terms.until terms.cite header c.packets c.end).answer ≡ Ok totals → c.end ≡ None
+    by_header : (header : Result Form PcapFault) → (check_of config terms.within terms.until terms.cite terms.strict header c.packets c.end).answer ≡ Ok totals → c.end ≡ None
     by_header (Err f) is = absurd (cc is)
     by_header (Ok form) is =
-        let course = with_all_packets config terms.within form c.packets in
+        let course = with_all_packets config terms.within terms.strict form c.packets in
         whole_behind config terms.within terms.until terms.cite (length c.packets + 1) c.end course.fault course totals is
 
 -- of no text a part is left

@@ -30,7 +30,7 @@ use Rattle.mq_check.specs.Basis.{basis_at_start, named, with_frame, with_other_q
 use Rattle.mq_check.specs.Basis as basis
 use Rattle.mq_check.specs.Checking.{CheckingValue, checking_at_start, told, settled, faults_seen, with_messages, role_changed, role_after_tick, query_came, told_at_end}
 use Rattle.mq_check.specs.FindingLines.{finding_lines, last_lines}
-use Rattle.mq_check.specs.Headers.{faults_if, headers4_in, is_own_query}
+use Rattle.mq_check.specs.Headers.{faults_if, faults_of, has_reserved_bits, headers4_in, is_broken_query, is_own_query}
 use Rattle.mq_check.specs.Queries.{query_seen}
 
 -- A check in progress: the link, its treatment of queries, and the basis of the verdict.
@@ -40,10 +40,10 @@ pub record Checked : Type 0 where
   pub basis : Basis
 
 -- the check whose link starts at 0, without a wanted or a seen query
-abbrev pub at_the_start : Configuration → Checked
-at_the_start config = record {
+abbrev pub at_the_start : Configuration → (within : ℕ) → (strict : Bool) → Checked
+at_the_start config within strict = record {
   link = link_at config 0;
-  checking = checking_at_start config.timing;
+  checking = checking_at_start within config.timing strict;
   basis = basis_at_start (named config.family config.own);
 }
 
@@ -122,10 +122,11 @@ abbrev pub headers_in : Family → LinkType → (frame : List ℕ) → Envelope 
 headers_in Igmp link frame envelope = headers4_in (packet_in link frame)
 headers_in Mld link frame envelope = record { ttl = envelope.hop_limit; alert = envelope.alert }
 
--- their faults, if the datagram is a query of the checked querier
+-- their faults and those of the message, if the datagram is a query of the checked querier
 abbrev pub faults_in : Configuration → LinkType → (frame : List ℕ) → Datagram → List HeaderFault
 faults_in config link frame datagram =
-    faults_if (is_own_query config datagram) (headers_in config.family link frame datagram.envelope)
+    faults_if (is_own_query config datagram) (is_broken_query config datagram)
+    (faults_of (headers_in config.family link frame datagram.envelope) (has_reserved_bits config.family datagram.body))
 
 -- the check after the link received a datagram, by which the role may change
 unfoldable pub received : Configuration → (within moment : ℕ) → Datagram → Checked → Checked
@@ -144,7 +145,7 @@ received config within moment datagram r =
 -- the check after a query of the checked querier was seen
 unfoldable pub seen_at : Configuration → (within moment to : ℕ) → Query ℕ → Checked → Checked
 seen_at config within moment to query r =
-    record r { checking = query_came within config r.link.election.timing moment to query r.checking }
+    record r { checking = query_came within config r.link moment to query r.checking }
 
 -- the check after a datagram: a seen query of the checked querier, or a datagram for the link
 abbrev pub seen_or_received : Configuration → (within moment to : ℕ) → Datagram → Option (Query ℕ) → Checked → Checked
@@ -206,9 +207,9 @@ with_packets config link within first before number (packet ∷ packets) r =
     ]
 
 -- the outcome of the packets of a capture, numbered from 1
-abbrev pub with_all_packets : Configuration → (within : ℕ) → Form → List Captured → Course
-with_all_packets config within form packets =
-    with_packets config form.link within None 0 1 packets (at_the_start config)
+abbrev pub with_all_packets : Configuration → (within : ℕ) → (strict : Bool) → Form → List Captured → Course
+with_all_packets config within strict form packets =
+    with_packets config form.link within None 0 1 packets (at_the_start config within strict)
 
 -- The verdict of a check: its text, and its totals or the reason why it ended early.
 pub record Verdict : Type 0 where
@@ -260,8 +261,8 @@ verdict_behind config within until cite number None None course =
     ]
 
 -- The check of a capture: its header, its packets, and its end.
-abbrev pub check_of : Configuration → (within : ℕ) → (until : Option ℕ) → (cite : Bool) → Result Form PcapFault → List Captured → (end : Option PcapFault) → Verdict
-check_of config within until cite (Err fault) packets end = record { text = []; answer = Err (Pcap fault) }
-check_of config within until cite (Ok form) packets end =
-    let course = with_all_packets config within form packets in
+abbrev pub check_of : Configuration → (within : ℕ) → (until : Option ℕ) → (cite strict : Bool) → Result Form PcapFault → List Captured → (end : Option PcapFault) → Verdict
+check_of config within until cite strict (Err fault) packets end = record { text = []; answer = Err (Pcap fault) }
+check_of config within until cite strict (Ok form) packets end =
+    let course = with_all_packets config within strict form packets in
     verdict_behind config within until cite (length packets + 1) end course.fault course

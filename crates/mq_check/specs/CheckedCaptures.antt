@@ -18,13 +18,13 @@ use Rattle.mq_check.specs.FindingLines.{finding_lines}
 
 -- the verdict of a capture
 abbrev pub verdict_of : Configuration → CheckTerms → ReadCapture → Verdict
-verdict_of config terms c = check_of config terms.within terms.until terms.cite c.header c.packets c.end
+verdict_of config terms c = check_of config terms.within terms.until terms.cite terms.strict c.header c.packets c.end
 
 -- the lines of the findings up to the last packet, without those of the end
 abbrev pub so_far : Configuration → CheckTerms → Result Form PcapFault → List Captured → List ℕ
 so_far config terms (Err fault) packets = []
 so_far config terms (Ok form) packets =
-    finding_lines config.family terms.cite (with_all_packets config terms.within form packets).found
+    finding_lines config.family terms.cite (with_all_packets config terms.within terms.strict form packets).found
 
 abbrev pub packets_text : Configuration → CheckTerms → ReadCapture → List ℕ
 packets_text config terms c = so_far config terms c.header c.packets
@@ -37,6 +37,15 @@ is_failed_write (Err answer.Write) = true
 is_failed_write (Err (answer.Gap number)) = false
 is_failed_write (Err (answer.Waiting number)) = false
 is_failed_write (Err answer.Memory) = false
+
+-- a result isn't that memory was refused
+abbrev pub is_granted : {T : Type 0} → Result T CheckFault → Bool
+is_granted (Ok x) = true
+is_granted (Err (answer.Pcap f)) = true
+is_granted (Err answer.Write) = true
+is_granted (Err (answer.Gap number)) = true
+is_granted (Err (answer.Waiting number)) = true
+is_granted (Err answer.Memory) = false
 
 -- The verdict ends early at a packet that was read, or at the end of the file.
 abbrev pub IsBrokenOffAt : (number : ℕ) → ReadCapture → InputState → Type 0

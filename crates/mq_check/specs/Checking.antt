@@ -1,14 +1,16 @@
 -- A check's treatment of queries, in order. A wanted query and a seen one are partners if they have the same subject
 -- and lie at most the tolerance apart. Each has at most one partner, and the earlier query is paired first.
-use Rattle.std.specs.Prelude.{ℕ, ◌+◌, ◌-◌, ◌^◌, ◌&&◌, min, not, Bool, true, false, if◌then◌else◌, List, [], ◌∷◌, ◌++◌, Option, None, Some, is_some, flat_map, fold}
+use Rattle.std.specs.Prelude.{ℕ, ◌+◌, ◌-◌, ◌^◌, ◌&&◌, min, nat_lt, not, Bool, true, false, if◌then◌else◌, List, [], ◌∷◌, ◌++◌, Option, None, Some, is_some, flat_map, fold}
 use Rattle.mq_wire.specs.declared.query.Query.{Query}
 use Rattle.mq_wire.specs.Family.{Family}
 use Rattle.mq_table.specs.declared.timing.Timing.{Timing}
-use Rattle.mq_table.specs.Timing.{query_interval}
+use Rattle.mq_table.specs.Timing.{membership_interval, query_interval}
 use Rattle.mq_check.specs.declared.asked.Asked.{Asked}
 use Rattle.mq_check.specs.declared.asked.Asked.TheVariants.{AllGroups}
 use Rattle.mq_check.specs.declared.entry.Entry.{Entry}
 use Rattle.mq_check.specs.declared.entry.Entry.TheVariants.{Wanted, Seen, Interval, Silence, Packet}
+use Rattle.mq_check.specs.declared.entry.Unpaired.{Unpaired}
+use Rattle.mq_check.specs.declared.entry.Unpaired.TheVariants.{Extra, Allowed}
 use Rattle.mq_check.specs.declared.finding.Finding.{Finding}
 use Rattle.mq_check.specs.declared.finding.Finding.TheVariants as finding
 use Rattle.mq_check.specs.declared.headers.HeaderFault.{HeaderFault}
@@ -18,13 +20,18 @@ use Rattle.mq_check.specs.declared.terms.Terms.{Terms}
 use Rattle.mq_check.specs.declared.waiting.Side.TheVariants.{OfWanted, OfSeen}
 use Rattle.mq_check.specs.Entries.{first_terms, may_be_left_out, differences_found}
 use Rattle.mq_check.specs.General.{phase_at_start, wrong_interval, phase_behind, silence_up_to, phase_again}
+use Rattle.mq_check.specs.Unheld.{specific_terms, unheld}
+use Rattle.mq_check.specs.Schedules.{SchedulesValue, schedules_at_start, schedules_seen, schedules_wanted, recent, allowed_by}
 use Rattle.mq_link.specs.Configuration.{Configuration}
 use Rattle.mq_link.specs.Sent.{Outgoing}
+use Rattle.mq_link.specs.State.{LinkState}
 use Rattle.mq_check.specs.Queries.{asked_in, is_general, terms_of, general_terms, query_sent}
 use Rattle.mq_check.specs.Waiting.{WaitingValue, nothing, with_entry, with_partner, is_free}
 use Rattle.mq_check.specs.Waiting as waits
 
 -- The pending entries, the last change of the role, the phase of general queries, and the counts of seen queries.
+-- Before the moment `known_from`, a querier may hold what the link doesn't hold. `known` has the subjects of the queries
+-- that were wanted before: their timers were lowered then. `schedules` has the schedules that a querier may keep.
 pub record CheckingValue : Type 0 where
   pub waiting : WaitingValue
   pub changed : Option ℕ
@@ -32,15 +39,27 @@ pub record CheckingValue : Type 0 where
   pub last_general : Option ℕ
   pub general : ℕ
   pub specific : ℕ
+  pub known_from : ℕ
+  pub known : WaitingValue
+  pub schedules : SchedulesValue
 
-abbrev pub checking_at_start : Timing → CheckingValue
-checking_at_start timing = record {
+-- A group from before the capture is held for at most a Group Membership Interval after its start. The tolerance comes
+-- on top. A strict check accepts none of these groups.
+abbrev pub known_from : (within : ℕ) → Timing → (strict : Bool) → ℕ
+known_from within timing true = 0
+known_from within timing false = membership_interval timing + within + 1
+
+abbrev pub checking_at_start : (within : ℕ) → Timing → (strict : Bool) → CheckingValue
+checking_at_start within timing strict = record {
   waiting = nothing;
   changed = None;
   phase = phase_at_start timing;
   last_general = None;
   general = 0;
   specific = 0;
+  known_from = known_from within timing strict;
+  known = nothing;
+  schedules = schedules_at_start within timing strict;
 }
 
 -- The findings of the entries that have expired at a moment, and the check after their removal. If an entry had no
@@ -62,18 +81,61 @@ is_querier_in (Heard before startup) = true
 is_querier_in Returned = true
 is_querier_in NotQuerier = false
 
+-- a query on this subject was wanted before
+abbrev pub is_known : Asked ℕ → CheckingValue → Bool
+is_known asked c = is_some (first_terms (is_free OfWanted asked) c.known.entries)
+
+abbrev pub may_be_unknown : (moment : ℕ) → Asked ℕ → CheckingValue → Bool
+may_be_unknown moment asked c = nat_lt moment c.known_from && not (is_known asked c)
+
+-- the known subjects after a query on this one became wanted
+abbrev pub with_known : (moment : ℕ) → Terms ℕ → Asked ℕ → CheckingValue → WaitingValue
+with_known moment terms asked c =
+    if may_be_unknown moment asked c then with_entry (Wanted moment asked terms true false) c.known else c.known
+
 -- The check after a query became wanted. Its partner is the first seen query on the subject that has none.
 unfoldable pub with_wanted : (moment : ℕ) → Terms ℕ → CheckingValue → Asked ℕ → CheckingValue
 with_wanted moment terms c asked =
     let is_optional = may_be_left_out moment asked terms c.waiting.entries in
     let is_found = is_some (first_terms (is_free OfSeen asked) c.waiting.entries) in
-    record c { waiting = with_entry (Wanted moment asked terms is_optional is_found) (with_partner OfSeen asked terms c.waiting) }
+    record c {
+      waiting = with_entry (Wanted moment asked terms is_optional is_found) (with_partner OfSeen asked terms c.waiting);
+      known = with_known moment terms asked c;
+      schedules = schedules_wanted moment terms asked (recent moment c.schedules);
+    }
+
+-- A seen query if it finds no partner. It is allowed if the router is querier, and its subject may be held since before
+-- the capture, or it belongs to an earlier schedule. `unheld` has the terms of such a query if the link doesn't hold the
+-- subject, and `earlier` has those of an earlier schedule.
+abbrev pub allowed_if : (is_querier : Bool) → Option (Terms ℕ) → Unpaired ℕ
+allowed_if false wanted = Extra false
+allowed_if true None = Extra true
+allowed_if true (Some wanted) = Allowed wanted
+
+abbrev pub either_of : (may_be_unknown : Bool) → (unheld earlier : Option (Terms ℕ)) → Option (Terms ℕ)
+either_of false unheld earlier = earlier
+either_of true None earlier = earlier
+either_of true (Some wanted) earlier = Some wanted
+
+abbrev pub alone_after : (moment : ℕ) → Terms ℕ → (unheld : Option (Terms ℕ)) → Asked ℕ → CheckingValue → Unpaired ℕ
+alone_after moment terms unheld asked c =
+    allowed_if (is_querier_in c.phase)
+    (either_of (may_be_unknown moment asked c) unheld (allowed_by moment terms asked c.schedules))
+
+abbrev pub alone_in : (moment : ℕ) → Terms ℕ → (unheld : Option (Terms ℕ)) → Asked ℕ → CheckingValue → Unpaired ℕ
+alone_in moment terms unheld asked c =
+    alone_after moment terms unheld asked (record c { schedules = recent moment c.schedules })
 
 -- The check after a query was seen. Its partner is the first wanted query on the subject that has none.
-unfoldable pub with_seen : (moment : ℕ) → Terms ℕ → CheckingValue → Asked ℕ → CheckingValue
-with_seen moment terms c asked =
+unfoldable pub with_seen : (moment : ℕ) → Terms ℕ → (unheld : Option (Terms ℕ)) → CheckingValue → Asked ℕ → CheckingValue
+with_seen moment terms unheld c asked =
     let partner = first_terms (is_free OfWanted asked) c.waiting.entries in
-    record c { waiting = with_entry (Seen moment asked terms partner (is_querier_in c.phase)) (with_partner OfWanted asked terms c.waiting) }
+    record c {
+      waiting =
+          with_entry (Seen moment asked terms partner (alone_in moment terms unheld asked c))
+          (with_partner OfWanted asked terms c.waiting);
+      schedules = schedules_seen moment terms asked (is_some partner) (recent moment c.schedules);
+    }
 
 -- the entries with a wrong interval, or with a silence that is too long, if there is one
 abbrev pub with_interval : (configured : Timing) → (moment : ℕ) → Option ℕ → WaitingValue → WaitingValue
@@ -92,7 +154,7 @@ unfoldable pub with_general : (within : ℕ) → (configured : Timing) → (mome
 with_general within configured moment terms wanted c =
     let judged = with_interval configured moment (wrong_interval within configured moment c.phase) c.waiting in
     record c {
-      waiting = with_entry (Seen moment AllGroups terms (Some wanted) true) (with_partner OfWanted AllGroups terms judged);
+      waiting = with_entry (Seen moment AllGroups terms (Some wanted) (Extra true)) (with_partner OfWanted AllGroups terms judged);
       phase = phase_behind within configured moment c.phase;
     }
 
@@ -101,7 +163,7 @@ abbrev pub general_compared : (within : ℕ) → (configured : Timing) → (mome
 general_compared within configured moment terms wanted c =
     if is_querier_in c.phase
     then with_general within configured moment terms wanted c
-    else with_seen moment terms c AllGroups
+    else with_seen moment terms None c AllGroups
 
 abbrev pub general_seen : (within : ℕ) → (configured : Timing) → (moment : ℕ) → (terms wanted : Terms ℕ) → CheckingValue → CheckingValue
 general_seen within configured moment terms wanted c =
@@ -109,9 +171,12 @@ general_seen within configured moment terms wanted c =
     record compared { last_general = Some moment; general = counted_up compared.general }
 
 -- the check after a query for a group or for sources was seen
-abbrev pub specific_seen : (moment : ℕ) → Terms ℕ → List (Asked ℕ) → CheckingValue → CheckingValue
-specific_seen moment terms asked c =
-    let seen = fold (with_seen moment terms) c asked in
+abbrev pub one_seen : (moment : ℕ) → Terms ℕ → (unheld : Asked ℕ → Option (Terms ℕ)) → CheckingValue → Asked ℕ → CheckingValue
+one_seen moment terms unheld c asked = with_seen moment terms (unheld asked) c asked
+
+abbrev pub specific_seen : (moment : ℕ) → Terms ℕ → (unheld : Asked ℕ → Option (Terms ℕ)) → List (Asked ℕ) → CheckingValue → CheckingValue
+specific_seen moment terms unheld asked c =
+    let seen = fold (one_seen moment terms unheld) c asked in
     record seen { specific = counted_up seen.specific }
 
 -- the check after these faults were seen in the headers of a packet with a query of the checked querier
@@ -122,12 +187,12 @@ abbrev pub faults_seen : (moment number : ℕ) → List HeaderFault → Checking
 faults_seen moment number faults c = fold (with_fault moment number) c faults
 
 -- The check after a query of the checked querier was seen. A general query is compared with one of the timing in force.
-unfoldable pub query_came : (within : ℕ) → Configuration → (in_force : Timing) → (moment to : ℕ) → Query ℕ → CheckingValue → CheckingValue
-query_came within config in_force moment to query c =
+unfoldable pub query_came : (within : ℕ) → Configuration → LinkState → (moment to : ℕ) → Query ℕ → CheckingValue → CheckingValue
+query_came within config link moment to query c =
     let terms = terms_of config.family to query in
     if is_general query
-    then general_seen within config.timing moment terms (general_terms config in_force) c
-    else specific_seen moment terms (asked_in query) c
+    then general_seen within config.timing moment terms (general_terms config link.election.timing) c
+    else specific_seen moment terms (unheld config.family link.groups (specific_terms config link.election.timing query)) (asked_in query) c
 
 -- The check after a query that the link sends. A general query is wanted at its moment only if the router becomes
 -- querier again (RFC 3376 section 6.6.2, RFC 3810 section 7.6.2).
@@ -178,8 +243,8 @@ role_after_tick within moment false false c = c
 -- partner may come later.
 abbrev pub found_of_last : Entry ℕ → List (Finding ℕ)
 found_of_last (Wanted moment asked terms is_optional is_found) = []
-found_of_last (Seen moment asked terms None is_querier) = []
-found_of_last (Seen moment asked terms (Some wanted) is_querier) = differences_found moment asked terms wanted
+found_of_last (Seen moment asked terms None alone) = []
+found_of_last (Seen moment asked terms (Some wanted) alone) = differences_found moment asked terms wanted
 found_of_last (Interval moment after wanted) = finding.Interval moment after wanted ∷ []
 found_of_last (Silence moment after wanted) = finding.Silence moment after wanted ∷ []
 found_of_last (Packet moment number fault) = finding.Packet moment number fault ∷ []

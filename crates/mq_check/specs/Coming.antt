@@ -1,9 +1,14 @@
 -- Outcomes of the steps of a check in the code.
-use Rattle.std.specs.Prelude.{◌≡◌, Result, IfOk}
+use Rattle.std.specs.Prelude.{◌≡◌, true, false, Result, Ok, Err, IfOk}
 use Rattle.mq_wire.specs.Family.{Family}
 use Rattle.mq_link.specs.Link.{LinkValue}
 use Rattle.mq_text.specs.Printing.{OutputState}
-use Rattle.mq_check.specs.Check.{Checked, Outcome}
+use Rattle.mq_replay.specs.PlacedPackets.{PlacedPacket}
+use Rattle.mq_replay.specs.Report.{is_gap}
+use Rattle.mq_check.specs.declared.check_fault.CheckFault.{CheckFault}
+use Rattle.mq_check.specs.declared.check_fault.CheckFault.TheVariants as answer
+use Rattle.mq_check.specs.declared.check_terms.CheckTerms.{CheckTerms}
+use Rattle.mq_check.specs.Check.{Checked, Outcome, with_packet}
 use Rattle.mq_check.specs.Telling.{ToldState, Tells}
 use Rattle.mq_check.specs.Wanting.{WantingValue}
 
@@ -12,9 +17,36 @@ abbrev pub checked_in : LinkValue → WantingValue → Checked
 checked_in link queries = record { link = link.state; checking = queries.checking; basis = queries.basis }
 
 -- The step had this outcome and its findings were reported, or a write failed.
-pub record Comes {T E : Type 0} (family : Family) (o : Outcome) (link link' : LinkValue) (queries queries' : WantingValue) (told told' : ToldState) (before after : OutputState)
+pub record Comes {T E : Type 0} (family : Family) (o : Outcome) (link link' : LinkValue) (queries' : WantingValue) (told told' : ToldState) (before after : OutputState)
     (r : Result T E) : Type 0 where
   pub same_config : link'.config ≡ link.config
-  pub same_own : queries'.own ≡ queries.own
   pub checked : IfOk r (λ _. checked_in link' queries' ≡ o.checked)
   pub tells : Tells family o.found told told' before after r
+
+-- A check in the code: the link, its outlet, the terms, the output of findings, and the output that it goes to.
+pub record CheckState : Type 0 where
+  pub link : LinkValue
+  pub queries : WantingValue
+  pub terms : CheckTerms
+  pub told : ToldState
+  pub output : OutputState
+
+-- a packet was checked and its findings were reported, unless a write failed
+pub record ChecksPacket {E : Type 0} (family : Family) (packet : PlacedPacket) (old new : CheckState) (r : Result Unit E) : Type 0 where
+  pub no_gap : is_gap packet.before packet.moment ≡ false
+  pub same_terms : new.terms ≡ old.terms
+  pub comes : Comes family
+      (with_packet old.link.config packet.link old.terms.within packet.moment packet.number packet.frame (checked_in old.link old.queries))
+      old.link new.link new.queries old.told new.told old.output new.output r
+
+-- the effect of a packet on a check, which ends with a gap before the packet or with too many pending entries after it
+abbrev pub TakesChecked : Family → PlacedPacket → CheckState → CheckState → Result Unit CheckFault → Type 0
+TakesChecked family packet old new (Ok u) =
+    ChecksPacket {E = Unit} family packet old new (Ok u) × (new.queries.checking.waiting.is_full ≡ false)
+TakesChecked family packet old new (Err answer.Write) = ChecksPacket {E = Unit} family packet old new (Err tt)
+TakesChecked family packet old new (Err (answer.Gap number)) =
+    (is_gap packet.before packet.moment ≡ true) × (number ≡ packet.number) × (new ≡ old)
+TakesChecked family packet old new (Err (answer.Waiting number)) =
+    ChecksPacket {E = Unit} family packet old new (Ok tt) × (new.queries.checking.waiting.is_full ≡ true) × (number ≡ packet.number)
+TakesChecked family packet old new (Err (answer.Pcap f)) = ⊥
+TakesChecked family packet old new (Err answer.Memory) = ⊥

@@ -1,15 +1,12 @@
 -- Outcomes of the parts of a check that go to a writer through a buffer.
 use Rattle.std.specs.Prelude.{◌≡◌, ◌⊎◌, ℕ, max, Bool, true, false, if◌then◌else◌, List, [], ◌++◌, length, flat_map, Option, None, Result, Ok, Err, unwrap_or}
 use Rattle.std.specs.Io.KnownBytes.{IsAtEnd}
-use Rattle.mq_pcap.specs.declared.fault.PcapFault.{PcapFault}
-use Rattle.mq_pcap.specs.declared.form.Form.{Form}
-use Rattle.mq_pcap.specs.Capture.{Captured, Captures, AreRecords}
+use Rattle.mq_pcap.specs.Capture.{Captures}
 use Rattle.mq_pcap.specs.Filling.{InputState, Takes}
 use Rattle.mq_wire.specs.Family.{Family}
 use Rattle.mq_table.specs.declared.timing.Timing.{Timing}
 use Rattle.mq_link.specs.Configuration.{Configuration}
 use Rattle.mq_text.specs.Printing.{GrowsByBeginning, Passes}
-use Rattle.mq_replay.specs.PuttingReports.{behind_header}
 use Rattle.mq_replay.specs.Replaying.{ReadCapture}
 use Rattle.mq_replay.specs.Report.{is_gap}
 use Rattle.mq_check.specs.declared.basis.Basis.{Basis}
@@ -44,17 +41,6 @@ pub record PutsVerdict (config : Configuration) (terms : CheckTerms) (old new : 
   pub capture : Captures read.bytes read.header read.packets read.end
   pub ended : IsEndedBy config terms read old new r
   pub put : IsVerdictPut config terms read new before after held left r
-
--- the verdict of the packets after a file's header was put
-pub record PutsPackets (config : Configuration) (terms : CheckTerms) (form : Form) (old new : InputState) (before after : Option (List ℕ)) (held left : List ℕ)
-    (r : Result Totals CheckFault) : Type 0 where
-  pub bytes : List ℕ
-  pub packets : List Captured
-  pub end : Option PcapFault
-  pub takes : Takes old new bytes
-  pub records : AreRecords form 1 bytes packets end
-  pub ended : IsEndedBy config terms (behind_header form bytes packets end) old new r
-  pub put : IsVerdictPut config terms (behind_header form bytes packets end) new before after held left r
 
 -- the findings at the end, after the expired entries
 abbrev pub last_findings : (within : ℕ) → (configured : Timing) → (moment : ℕ) → CheckingValue → List (Finding ℕ)

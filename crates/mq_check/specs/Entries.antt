@@ -6,6 +6,8 @@ use Rattle.mq_check.specs.declared.asked.Asked.{Asked}
 use Rattle.mq_check.specs.declared.asked.Asked.TheVariants.{AllGroups, Group, Source}
 use Rattle.mq_check.specs.declared.entry.Entry.{Entry}
 use Rattle.mq_check.specs.declared.entry.Entry.TheVariants.{Wanted, Seen, Interval, Silence, Packet}
+use Rattle.mq_check.specs.declared.entry.Unpaired.{Unpaired}
+use Rattle.mq_check.specs.declared.entry.Unpaired.TheVariants.{Extra, Allowed, Scheduled}
 use Rattle.mq_check.specs.declared.finding.Difference.{Difference}
 use Rattle.mq_check.specs.declared.finding.Difference.TheVariants as field
 use Rattle.mq_check.specs.declared.finding.Finding.{Finding}
@@ -16,7 +18,7 @@ use Rattle.mq_check.specs.Queries.{is_same}
 
 abbrev pub moment_of : Entry ℕ → ℕ
 moment_of (Wanted moment asked terms is_optional is_found) = moment
-moment_of (Seen moment asked terms partner is_querier) = moment
+moment_of (Seen moment asked terms partner alone) = moment
 moment_of (Interval moment after wanted) = moment
 moment_of (Silence moment after wanted) = moment
 moment_of (Packet moment number fault) = moment
@@ -32,7 +34,7 @@ is_over within now entry = nat_lt (moment_of entry + within) now
 -- a wanted query that has no partner yet
 abbrev pub is_free_wanted : Asked ℕ → Entry ℕ → Bool
 is_free_wanted asked (Wanted moment asked' terms is_optional is_found) = is_same asked asked' && not is_found
-is_free_wanted asked (Seen moment asked' terms partner is_querier) = false
+is_free_wanted asked (Seen moment asked' terms partner alone) = false
 is_free_wanted asked (Interval moment after wanted) = false
 is_free_wanted asked (Silence moment after wanted) = false
 is_free_wanted asked (Packet moment number fault) = false
@@ -40,14 +42,14 @@ is_free_wanted asked (Packet moment number fault) = false
 -- a seen query that has no partner yet
 abbrev pub is_free_seen : Asked ℕ → Entry ℕ → Bool
 is_free_seen asked (Wanted moment asked' terms is_optional is_found) = false
-is_free_seen asked (Seen moment asked' terms partner is_querier) = is_same asked asked' && not (is_some partner)
+is_free_seen asked (Seen moment asked' terms partner alone) = is_same asked asked' && not (is_some partner)
 is_free_seen asked (Interval moment after wanted) = false
 is_free_seen asked (Silence moment after wanted) = false
 is_free_seen asked (Packet moment number fault) = false
 
 abbrev pub terms_in : Entry ℕ → Option (Terms ℕ)
 terms_in (Wanted moment asked terms is_optional is_found) = Some terms
-terms_in (Seen moment asked terms partner is_querier) = Some terms
+terms_in (Seen moment asked terms partner alone) = Some terms
 terms_in (Interval moment after wanted) = None
 terms_in (Silence moment after wanted) = None
 terms_in (Packet moment number fault) = None
@@ -55,7 +57,7 @@ terms_in (Packet moment number fault) = None
 -- the entry with a partner, whose terms a seen query keeps
 abbrev pub joined : Terms ℕ → Entry ℕ → Entry ℕ
 joined other (Wanted moment asked terms is_optional is_found) = Wanted moment asked terms is_optional true
-joined other (Seen moment asked terms partner is_querier) = Seen moment asked terms (Some other) is_querier
+joined other (Seen moment asked terms partner alone) = Seen moment asked terms (Some other) alone
 joined other (Interval moment after wanted) = Interval moment after wanted
 joined other (Silence moment after wanted) = Silence moment after wanted
 joined other (Packet moment number fault) = Packet moment number fault
@@ -70,10 +72,27 @@ first_joined test other [] = []
 first_joined test other (entry ∷ entries) =
     if test entry then joined other entry ∷ entries else entry ∷ first_joined test other entries
 
+abbrev pub first_entry : (Entry ℕ → Bool) → List (Entry ℕ) → Option (Entry ℕ)
+first_entry test [] = None
+first_entry test (entry ∷ entries) = if test entry then Some entry else first_entry test entries
+
+-- the number of queries that may come after a seen one in its schedule
+abbrev pub left_of : Unpaired ℕ → ℕ
+left_of (Extra is_querier) = 0
+left_of (Allowed wanted) = 0
+left_of (Scheduled left) = left
+
+abbrev pub left_in : Entry ℕ → ℕ
+left_in (Wanted moment asked terms is_optional is_found) = 0
+left_in (Seen moment asked terms partner alone) = left_of alone
+left_in (Interval moment after wanted) = 0
+left_in (Silence moment after wanted) = 0
+left_in (Packet moment number fault) = 0
+
 -- a query for a group that is wanted at a moment
 abbrev pub is_group_wanted : (moment group : ℕ) → Entry ℕ → Bool
 is_group_wanted moment group (Wanted moment' asked terms is_optional is_found) = is_same (Group group) asked && (moment == moment')
-is_group_wanted moment group (Seen moment' asked terms partner is_querier) = false
+is_group_wanted moment group (Seen moment' asked terms partner alone) = false
 is_group_wanted moment group (Interval moment' after wanted) = false
 is_group_wanted moment group (Silence moment' after wanted) = false
 is_group_wanted moment group (Packet moment' number fault) = false
@@ -134,18 +153,25 @@ differ_at moment asked differences = list_map (finding.Differs moment asked) dif
 abbrev pub differences_found : (moment : ℕ) → Asked ℕ → (seen wanted : Terms ℕ) → List (Finding ℕ)
 differences_found moment asked seen wanted = differ_at moment asked (terms_differ seen wanted)
 
--- The findings of a seen query. Without a partner it is extra, unless the role changed within the tolerance of it.
-abbrev pub findings_of_seen : (within : ℕ) → (changed : Option ℕ) → (moment : ℕ) → Asked ℕ → Terms ℕ → Option (Terms ℕ) → (is_querier : Bool) → List (Finding ℕ)
-findings_of_seen within changed moment asked terms None is_querier =
-    if is_near_change within moment changed then [] else finding.Extra moment asked is_querier ∷ []
-findings_of_seen within changed moment asked terms (Some wanted) is_querier = differences_found moment asked terms wanted
+-- The findings of a seen query without a partner. It is extra, or it is allowed and compared with a query of these
+-- terms.
+abbrev pub findings_alone : (moment : ℕ) → Asked ℕ → Terms ℕ → Unpaired ℕ → List (Finding ℕ)
+findings_alone moment asked terms (Extra is_querier) = finding.Extra moment asked is_querier ∷ []
+findings_alone moment asked terms (Allowed wanted) = differences_found moment asked terms wanted
+findings_alone moment asked terms (Scheduled left) = []
+
+-- The findings of a seen query. Without a partner it has none if the role changed within the tolerance of it.
+abbrev pub findings_of_seen : (within : ℕ) → (changed : Option ℕ) → (moment : ℕ) → Asked ℕ → Terms ℕ → Option (Terms ℕ) → Unpaired ℕ → List (Finding ℕ)
+findings_of_seen within changed moment asked terms None alone =
+    if is_near_change within moment changed then [] else findings_alone moment asked terms alone
+findings_of_seen within changed moment asked terms (Some wanted) alone = differences_found moment asked terms wanted
 
 -- the findings of an expired entry, if the role changed last at `changed`
 abbrev pub findings_of : (within : ℕ) → (changed : Option ℕ) → Entry ℕ → List (Finding ℕ)
 findings_of within changed (Wanted moment asked terms is_optional is_found) =
     if is_optional || is_found then [] else finding.Missing moment asked ∷ []
-findings_of within changed (Seen moment asked terms partner is_querier) =
-    findings_of_seen within changed moment asked terms partner is_querier
+findings_of within changed (Seen moment asked terms partner alone) =
+    findings_of_seen within changed moment asked terms partner alone
 findings_of within changed (Interval moment after wanted) = finding.Interval moment after wanted ∷ []
 findings_of within changed (Silence moment after wanted) = finding.Silence moment after wanted ∷ []
 findings_of within changed (Packet moment number fault) = finding.Packet moment number fault ∷ []

@@ -12,7 +12,7 @@ use Rattle.mq_check.specs.declared.finding.Difference.TheVariants.{Version, Resp
 use Rattle.mq_check.specs.declared.finding.Finding.{Finding}
 use Rattle.mq_check.specs.declared.finding.Finding.TheVariants.{Missing, Extra, Differs, Interval, Silence, Packet}
 use Rattle.mq_check.specs.declared.headers.HeaderFault.{HeaderFault}
-use Rattle.mq_check.specs.declared.headers.HeaderFault.TheVariants.{TimeToLive, NoRouterAlert}
+use Rattle.mq_check.specs.declared.headers.HeaderFault.TheVariants.{TimeToLive, NoRouterAlert, WrongChecksum, ReservedBits}
 use Rattle.mq_check.specs.declared.querier_address.QuerierAddress.{QuerierAddress}
 use Rattle.mq_check.specs.declared.querier_address.QuerierAddress.TheVariants.{V4, V6}
 use Rattle.mq_check.specs.declared.basis.Basis.{Basis}
@@ -50,6 +50,8 @@ interval_text passed wanted = decimal passed ++ codes ", wanted " ++ decimal wan
 unfoldable pub header_fault_text : (number : ℕ) → HeaderFault → List ℕ
 header_fault_text number (TimeToLive ttl) = decimal number ++ codes " ttl " ++ decimal ttl ++ codes ", wanted 1"
 header_fault_text number NoRouterAlert = decimal number ++ codes " alert 0"
+header_fault_text number WrongChecksum = decimal number ++ codes " checksum"
+header_fault_text number ReservedBits = decimal number ++ codes " reserved"
 
 abbrev pub finding_text : Family → Finding ℕ → List ℕ
 finding_text family (Missing moment asked) = at_moment moment (codes " missing ") ++ asked_text family asked
@@ -101,6 +103,13 @@ field_section family asked (Robustness seen wanted) = of_family family (codes "4
 field_section family asked (QueryInterval seen wanted) = of_family family (codes "4.1.7") (codes "5.1.9")
 field_section family asked (Destination seen wanted) = of_family family (codes "4.1.12") (codes "5.1.15")
 
+-- the section of a field of the headers: of the packet, of the checksum, or of what is reserved
+abbrev pub fault_section : Family → HeaderFault → List ℕ
+fault_section family (TimeToLive ttl) = of_family family (codes "4") (codes "5")
+fault_section family NoRouterAlert = of_family family (codes "4") (codes "5")
+fault_section family WrongChecksum = of_family family (codes "4.1.2") (codes "5.1.2")
+fault_section family ReservedBits = of_family family (codes "4.1.4") (codes "5.1")
+
 -- the section of RFC 3376 or RFC 3810 that a finding violates; for intervals that of the Query Interval
 abbrev pub section_of : Family → Finding ℕ → List ℕ
 section_of family (Missing moment asked) = sending_section family asked
@@ -108,7 +117,7 @@ section_of family (Extra moment asked is_querier) = extra_section family is_quer
 section_of family (Differs moment asked difference) = field_section family asked difference
 section_of family (Interval moment after wanted) = of_family family (codes "8.2") (codes "9.2")
 section_of family (Silence moment after wanted) = of_family family (codes "8.2") (codes "9.2")
-section_of family (Packet moment number fault) = of_family family (codes "4") (codes "5")
+section_of family (Packet moment number fault) = fault_section family fault
 
 -- the standard and its section after a finding, if they are requested, and the end of the line
 abbrev pub citation_text : Family → (cite : Bool) → Finding ℕ → List ℕ

@@ -1,3 +1,4 @@
+pub mod Announced
 pub mod Basis
 pub mod Check
 pub mod CheckedCaptures
@@ -12,8 +13,11 @@ pub mod Headers
 pub mod Numbered
 pub mod Places
 pub mod Queries
+pub mod Schedules
+pub mod Sizes
 pub mod Slots
 pub mod Telling
 pub mod Trails
+pub mod Unheld
 pub mod Waiting
 pub mod Wanting

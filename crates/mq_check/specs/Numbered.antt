@@ -1,9 +1,13 @@
 -- Entries and findings with addresses as numbers.
-use Rattle.std.specs.Prelude.{ℕ, List, [], ◌∷◌, Option, None, Some}
+use Rattle.std.specs.Prelude.{ℕ, List, [], ◌∷◌, Option, None, Some, Result, Ok, Err}
+use Rattle.mq_check.specs.declared.announced.Announced.{Announced}
 use Rattle.mq_check.specs.declared.asked.Asked.{Asked}
 use Rattle.mq_check.specs.declared.asked.Asked.TheVariants.{AllGroups, Group, Source}
+use Rattle.mq_check.specs.declared.check_fault.CheckFault.{CheckFault}
 use Rattle.mq_check.specs.declared.entry.Entry.{Entry}
 use Rattle.mq_check.specs.declared.entry.Entry.TheVariants.{Wanted, Seen, Interval, Silence, Packet}
+use Rattle.mq_check.specs.declared.entry.Unpaired.{Unpaired}
+use Rattle.mq_check.specs.declared.entry.Unpaired.TheVariants.{Extra, Allowed, Scheduled}
 use Rattle.mq_check.specs.declared.finding.Difference.{Difference}
 use Rattle.mq_check.specs.declared.finding.Difference.TheVariants as difference
 use Rattle.mq_check.specs.declared.finding.Finding.{Finding}
@@ -25,18 +29,45 @@ abbrev pub numbered_terms : {K : Type 0} → (K → ℕ) → Terms K → Terms �
 numbered_terms number terms =
     record { version = terms.version; response = terms.response; querier = terms.querier; to = number terms.to }
 
+abbrev pub numbered_announced : {K : Type 0} → (K → ℕ) → Announced K → Announced ℕ
+numbered_announced number a = record {
+  querier = number a.querier;
+  robustness = a.robustness;
+  query_seconds = a.query_seconds;
+  response_interval = a.response_interval;
+  last_member_interval = a.last_member_interval;
+}
+
+abbrev pub numbered_announced_if : {K : Type 0} → (K → ℕ) → Option (Announced K) → Option (Announced ℕ)
+numbered_announced_if number None = None
+numbered_announced_if number (Some a) = Some (numbered_announced number a)
+
+abbrev pub numbered_answer : {K : Type 0} → (K → ℕ) → Result (Option (Announced K)) CheckFault → Result (Option (Announced ℕ)) CheckFault
+numbered_answer number (Ok found) = Ok (numbered_announced_if number found)
+numbered_answer number (Err fault) = Err fault
+
 abbrev pub numbered_terms_if : {K : Type 0} → (K → ℕ) → Option (Terms K) → Option (Terms ℕ)
 numbered_terms_if number None = None
 numbered_terms_if number (Some terms) = Some (numbered_terms number terms)
 
+abbrev pub numbered_unpaired : {K : Type 0} → (K → ℕ) → Unpaired K → Unpaired ℕ
+numbered_unpaired number (Extra is_querier) = Extra is_querier
+numbered_unpaired number (Allowed terms) = Allowed (numbered_terms number terms)
+numbered_unpaired number (Scheduled left) = Scheduled left
+
 abbrev pub numbered_entry : {K : Type 0} → (K → ℕ) → Entry K → Entry ℕ
 numbered_entry number (Wanted moment asked terms is_optional is_found) =
     Wanted moment (numbered_asked number asked) (numbered_terms number terms) is_optional is_found
-numbered_entry number (Seen moment asked terms partner is_querier) =
-    Seen moment (numbered_asked number asked) (numbered_terms number terms) (numbered_terms_if number partner) is_querier
+numbered_entry number (Seen moment asked terms partner alone) =
+    Seen moment (numbered_asked number asked) (numbered_terms number terms) (numbered_terms_if number partner)
+    (numbered_unpaired number alone)
 numbered_entry number (Interval moment after wanted) = Interval moment after wanted
 numbered_entry number (Silence moment after wanted) = Silence moment after wanted
 numbered_entry number (Packet moment packet fault) = Packet moment packet fault
+
+abbrev pub numbered_entry_if : {K : Type 0} → (K → ℕ) → Option (Entry K) → Option (Entry ℕ)
+numbered_entry_if number None = None
+numbered_entry_if number (Some entry) = Some (numbered_entry number entry)
 
 abbrev pub numbered_difference : {K : Type 0} → (K → ℕ) → Difference K → Difference ℕ
 numbered_difference number (difference.Version seen wanted) = difference.Version seen wanted

@@ -1,22 +1,24 @@
 -- Contracts of the calls that search for an entry or remove the first one.
-use Rattle.std.specs.Prelude.{◌≡◌, ℕ, ◌+◌, ◌<◌, List, [], ◌++◌, length, Option, None, slice_set}
+use Rattle.std.specs.Prelude.{◌≡◌, ℕ, ◌+◌, ◌<◌, List, [], ◌++◌, length, Option, None, Some, slice_set}
 use Rattle.std.specs.List.{HoldsAt}
 use Rattle.mq_check.specs.declared.asked.Asked.{Asked}
 use Rattle.mq_check.specs.declared.entry.Entry.{Entry}
 use Rattle.mq_check.specs.declared.terms.Terms.{Terms}
 use Rattle.mq_check.specs.declared.waiting.Side.{Side}
-use Rattle.mq_check.specs.Entries.{moment_of, terms_in, joined, first_terms, first_joined, findings_of}
+use Rattle.mq_check.specs.Entries.{moment_of, terms_in, joined, first_terms, first_joined, first_entry, findings_of}
 use Rattle.mq_check.specs.Waiting.{WaitingValue, is_free, told, settled}
 
 -- no entry of the side has this subject and no partner
 pub record IsNoneFree (side : Side) (asked : Asked ℕ) (entries : List (Entry ℕ)) : Type 0 where
   pub terms : first_terms (is_free side asked) entries ≡ None
+  pub entry : first_entry (is_free side asked) entries ≡ None
   pub joined : (other : Terms ℕ) → first_joined (is_free side asked) other entries ≡ entries
 
 -- the first such entry is at this place
 pub record IsFirstFree (side : Side) (asked : Asked ℕ) (entries : List (Entry ℕ)) (place : ℕ) : Type 0 where
   pub within : place < length entries
   pub terms : HoldsAt (λ entry. first_terms (is_free side asked) entries ≡ terms_in entry) entries place
+  pub entry : HoldsAt (λ entry. first_entry (is_free side asked) entries ≡ Some entry) entries place
   pub joined : (other : Terms ℕ) → HoldsAt (λ entry. first_joined (is_free side asked) other entries ≡ slice_set entries place (joined other entry)) entries place
 
 -- no entry has expired at `now`

@@ -9,4 +9,6 @@ pub struct CheckTerms {
     pub until: Option<u64>,
     /// True if each finding cites a section of the standard.
     pub cite: bool,
+    /// True if only this project's own readings of the standard are accepted.
+    pub strict: bool,
 }

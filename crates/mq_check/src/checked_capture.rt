@@ -1,32 +1,32 @@
 //! The check of a capture.
 
-ghost use Rattle.std.specs.Prelude.{◌≡◌, ◌≤◌, ◌^◌, ◌||◌, Err, IfSome, length};
+ghost use Rattle.std.specs.Prelude.{◌≡◌, ◌+◌, ◌≤◌, ◌^◌, ◌||◌, [], Err, IfSome, length};
+ghost use Rattle.std.specs.contracts.vec.Vec as page;
+ghost use denote.Builtin.{u16};
+ghost use Rattle.mq_arena.specs.Vectors.{Takes, bytes_for};
 ghost use Rattle.mq_count.specs.Streams.{inner_of, has_failed};
-ghost use Rattle.mq_pcap.specs.declared.reader_state.Progress.TheVariants.{Reading};
+ghost use Rattle.mq_link.specs.Sizes.{bytes_of_link, bytes_of_workspace};
 ghost use Rattle.mq_pcap.specs.Capture.{most_bytes};
 ghost use Rattle.mq_pcap.specs.Filling.{input_of};
-ghost use Rattle.mq_pcap.specs.Reading.{form_of, number_of, progress_of};
 ghost use Rattle.mq_check.specs.Check.{at_the_start};
 ghost use Rattle.mq_check.specs.CheckedCaptures as spec;
 ghost use Rattle.mq_check.specs.Coming.{checked_in};
-ghost use Rattle.mq_check.specs.Ending.{PutsPackets, PutsVerdict};
+ghost use Rattle.mq_check.specs.Ending.{PutsVerdict};
+ghost use Rattle.mq_check.specs.Sizes.{bytes_of_checking};
 
 use crate::check_fault::{CheckFault, is_failed_write};
 use crate::check_terms::CheckTerms;
 use crate::checked_family::CheckedFamily;
 use crate::checking::Checking;
-use crate::ending::check_rest;
-use crate::stamp::Stamp;
-use crate::stepping::check_packet;
-use crate::told::Told;
+use crate::running_check::Check;
 use crate::totals::Totals;
-use crate::wanted_queries::WantedQueries;
+use mq_arena::{OfAllocator, VectorSource, filled};
 use mq_count::Watched;
 use mq_lines::LineKey;
 use mq_link::{Config, Link};
-use mq_pcap::{GREATEST_PACKET, PcapReader, Supply};
-use mq_replay::{Stamps, first_moment, is_gap};
-use std::alloc::Allocator;
+use mq_pcap::{GREATEST_PACKET, Supply};
+use mq_replay::{first_moment, walk};
+use std::alloc::{AllocError, Allocator};
 use std::io::{Read, Write};
 
 /// Checks the querier whose address is the own address of the configuration. A link with this configuration starts at
@@ -55,34 +55,57 @@ where
     ensures failed { has_failed writer.new ≡ has_failed writer.old || spec.is_failed_write result }
     ensures memory { result ≡ Err CheckFault.Memory → (reader.new ≡ reader.old) × (writer.new ≡ writer.old) }
 {
-    let Ok(mut packet) = vec![in alloc; 0; GREATEST_PACKET] else {
-        return Err(CheckFault::Memory);
-    };
-    let timing = config.timing();
-    let own = config.own();
-    let Ok(mut link) = Link::new(alloc, config, first_moment()) else {
-        return Err(CheckFault::Memory);
-    };
-    let Ok(checking) = Checking::<F, A>::new(alloc, timing) else {
-        return Err(CheckFault::Memory);
-    };
-    let mut queries = WantedQueries::new(checking, own, first_moment());
-    check_on(
-        &mut link,
-        &mut queries,
+    check_in(
+        &mut OfAllocator(alloc),
+        config,
         terms,
-        packet.as_mut_slice(),
         supply,
         reader,
         writer,
     )
 }
 
-/// Checks a capture on an existing link, with caller-provided memory for a packet.
-fn check_on<F: CheckedFamily, A: Allocator, S: Supply, R: Read, W: Write>(
-    link: &mut Link<F, A>,
-    queries: &mut WantedQueries<F, A>,
+/// Acts like `check`, with all memory from `memory`. Fails with `Memory` only if that refuses the memory for one packet,
+/// for the link or for the pending entries.
+pub fn check_in<F: CheckedFamily, A: Allocator, M: VectorSource<A>, S: Supply, R: Read, W: Write>(
+    memory: &mut M,
+    config: Config<F>,
     terms: CheckTerms,
+    supply: &S,
+    reader: &mut Watched<R>,
+    writer: &mut Watched<W>,
+) -> Result<Totals, CheckFault>
+where
+    F::Address: LineKey,
+    requires { IfSome terms.until (λ ms. ms ≤ 2 ^ 53) }
+    ensures checks { spec.Checks config terms
+        (input_of R.remaining reader.old) (input_of R.remaining reader.new)
+        (W.contents (inner_of writer.old)) (W.contents (inner_of writer.new))
+        result }
+    ensures failed { has_failed writer.new ≡ has_failed writer.old || spec.is_failed_write result }
+    ensures memory { result ≡ Err CheckFault.Memory → (reader.new ≡ reader.old) × (writer.new ≡ writer.old) }
+    ensures takes { Takes
+        (bytes_for 1 most_bytes + (bytes_of_workspace F.Address.row config.limits + bytes_of_link (page.the_row u16 A.row ⟦<A as Allocator>⟧) F.Address.row config.limits) + bytes_of_checking F.Address.row)
+        (M.less_than memory.old) (M.less_than memory.new) (spec.is_granted result) }
+{
+    let packet: Result<Vec<u8, A>, AllocError> = filled(memory, 0, GREATEST_PACKET);
+    let Ok(mut packet) = packet else {
+        return Err(CheckFault::Memory);
+    };
+    let timing = config.timing();
+    let Ok(link) = Link::new_in(memory, config, first_moment()) else {
+        return Err(CheckFault::Memory);
+    };
+    let Ok(checking) = Checking::<F, A>::new(memory, terms.within, timing, terms.strict) else {
+        return Err(CheckFault::Memory);
+    };
+    let mut check = Check::new(link, checking, terms);
+    check_on(&mut check, packet.as_mut_slice(), supply, reader, writer)
+}
+
+/// Checks a capture, with caller-provided memory for a packet.
+fn check_on<F: CheckedFamily, A: Allocator, S: Supply, R: Read, W: Write>(
+    check: &mut Check<F, A>,
     packet: &mut [u8],
     supply: &S,
     reader: &mut Watched<R>,
@@ -91,121 +114,46 @@ fn check_on<F: CheckedFamily, A: Allocator, S: Supply, R: Read, W: Write>(
 where
     F::Address: LineKey,
     requires room { most_bytes ≤ length packet.old }
-    requires in_range { IfSome terms.until (λ ms. ms ≤ 2 ^ 53) }
-    requires starts { checked_in link.old queries.old ≡ at_the_start link.old.config }
-    requires own { queries.old.own ≡ link.old.config.own }
-    ensures checks { spec.Checks link.old.config terms
+    requires in_range { IfSome check.old.terms.until (λ ms. ms ≤ 2 ^ 53) }
+    requires starts { checked_in check.old.link check.old.queries ≡ at_the_start check.old.link.config check.old.terms.within check.old.terms.strict }
+    requires told { check.old.told ≡ record { held = []; cite = check.old.terms.cite; count = 0 } }
+    ensures checks { spec.Checks check.old.link.config check.old.terms
         (input_of R.remaining reader.old) (input_of R.remaining reader.new)
         (W.contents (inner_of writer.old)) (W.contents (inner_of writer.new))
         result }
     ensures failed { has_failed writer.new ≡ has_failed writer.old || spec.is_failed_write result }
     ensures no_memory { result ≡ Err CheckFault.Memory → ⊥ }
 {
-    let mut told = Told::new(terms.cite);
-    let answer = check_file(
-        link, queries, terms, packet, supply, &mut told, reader, writer,
-    );
+    let answer = check_file(check, packet, supply, reader, writer);
     if is_failed_write(&answer) {
         return answer;
     }
-    told.finish(writer)?;
+    check.told.finish(writer)?;
     answer
 }
 
 /// Checks a capture, from its header to its end.
 fn check_file<F: CheckedFamily, A: Allocator, S: Supply, R: Read, W: Write>(
-    link: &mut Link<F, A>,
-    queries: &mut WantedQueries<F, A>,
-    terms: CheckTerms,
+    check: &mut Check<F, A>,
     packet: &mut [u8],
     supply: &S,
-    told: &mut Told,
     reader: &mut Watched<R>,
     writer: &mut Watched<W>,
 ) -> Result<Totals, CheckFault>
 where
     F::Address: LineKey,
     requires room { most_bytes ≤ length packet.old }
-    requires in_range { IfSome terms.until (λ ms. ms ≤ 2 ^ 53) }
-    requires starts { checked_in link.old queries.old ≡ at_the_start link.old.config }
-    requires own { queries.old.own ≡ link.old.config.own }
-    requires cite { told.old.cite ≡ terms.cite }
-    requires count { told.old.count ≡ 0 }
-    ensures puts { PutsVerdict link.old.config terms
+    requires in_range { IfSome check.old.terms.until (λ ms. ms ≤ 2 ^ 53) }
+    requires starts { checked_in check.old.link check.old.queries ≡ at_the_start check.old.link.config check.old.terms.within check.old.terms.strict }
+    requires told { check.old.told ≡ record { held = []; cite = check.old.terms.cite; count = 0 } }
+    ensures puts { PutsVerdict check.old.link.config check.old.terms
         (input_of R.remaining reader.old) (input_of R.remaining reader.new)
         (W.contents (inner_of writer.old)) (W.contents (inner_of writer.new))
-        told.old.held told.new.held result }
+        check.old.told.held check.new.told.held result }
     ensures failed { has_failed writer.new ≡ has_failed writer.old || spec.is_failed_write result }
     ensures no_memory { result ≡ Err CheckFault.Memory → ⊥ }
 {
-    let mut capture = PcapReader::open(reader)?;
-    check_packets(
-        link,
-        queries,
-        terms,
-        &mut capture,
-        packet,
-        supply,
-        told,
-        reader,
-        writer,
-    )
-}
-
-/// Checks the packets of a capture whose header has been read, and its end.
-fn check_packets<F: CheckedFamily, A: Allocator, S: Supply, R: Read, W: Write>(
-    link: &mut Link<F, A>,
-    queries: &mut WantedQueries<F, A>,
-    terms: CheckTerms,
-    capture: &mut PcapReader,
-    packet: &mut [u8],
-    supply: &S,
-    told: &mut Told,
-    reader: &mut Watched<R>,
-    writer: &mut Watched<W>,
-) -> Result<Totals, CheckFault>
-where
-    F::Address: LineKey,
-    requires room { most_bytes ≤ length packet.old }
-    requires first { number_of capture.old ≡ 1 }
-    requires reading { progress_of capture.old ≡ Reading }
-    requires in_range { IfSome terms.until (λ ms. ms ≤ 2 ^ 53) }
-    requires starts { checked_in link.old queries.old ≡ at_the_start link.old.config }
-    requires own { queries.old.own ≡ link.old.config.own }
-    requires cite { told.old.cite ≡ terms.cite }
-    requires count { told.old.count ≡ 0 }
-    ensures puts { PutsPackets link.old.config terms (form_of capture.old)
-        (input_of R.remaining reader.old) (input_of R.remaining reader.new)
-        (W.contents (inner_of writer.old)) (W.contents (inner_of writer.new))
-        told.old.held told.new.held result }
-    ensures failed { has_failed writer.new ≡ has_failed writer.old || spec.is_failed_write result }
-    ensures no_memory { result ≡ Err CheckFault.Memory → ⊥ }
-{
-    link.config().is_faultless();
-    let within = terms.within;
-    let until = terms.until;
-    let mut number = 0;
-    let mut stamps = Stamps::new();
-    let mut last = Stamp::of(0);
-    while let Some(read) = capture.next(reader, packet)? {
-        number += 1;
-        let ms = stamps.moment_of_next(read.stamp_ms);
-        let stamp = Stamp::of(ms);
-        let before = last.moment();
-        let now = stamp.moment();
-        if is_gap(before, now) {
-            return Err(CheckFault::Gap { number });
-        }
-        last = stamp;
-        let kind = capture.link();
-        let frame = &packet[..read.length];
-        check_packet(
-            link, queries, within, kind, frame, number, stamp, told, writer,
-        )?;
-        if queries.checking().is_full() {
-            return Err(CheckFault::Waiting { number });
-        }
-        told.write_before_wait(capture, supply, writer)?;
-    }
-    check_rest(link, queries, within, until, last, number + 1, told, writer)
+    check.link.config().is_faultless();
+    let walked = walk(check, packet, supply, reader, writer)?;
+    check.rest(walked.last, walked.packets + 1, writer)
 }

@@ -4,9 +4,10 @@ ghost use Rattle.std.specs.Prelude.{◌≡◌};
 ghost use Rattle.mq_wire.specs.RoundTrip.{response_lowered};
 ghost use Rattle.mq_check.specs.Check.{packet_in, destination4_in, destination_in, headers_in};
 ghost use Rattle.mq_check.specs.Basis.{named};
+ghost use Rattle.mq_check.specs.Headers.{has_query_type, has_reserved_bits};
 ghost use Rattle.mq_check.specs.Queries as spec;
 
-use crate::headers::{Headers, headers4};
+use crate::headers::{Headers, byte_at, headers4};
 use crate::querier_address::QuerierAddress;
 use mq_count::{Addr4, Addr6};
 use mq_lines::LineKey;
@@ -31,6 +32,14 @@ where
     /// Returns the TTL, or hop limit, and the presence of Router Alert in the packet of a datagram.
     fn headers(link: LinkType, frame: &[u8], envelope: &Self::Envelope) -> Headers
         ensures { result ≡ headers_in Self.FAMILY link frame.now (Self.envelope_of envelope.now) };
+
+    /// Returns whether a message's bytes have the type of a query.
+    fn has_query_type(body: &[u8]) -> bool
+        ensures { result ≡ has_query_type Self.FAMILY body.now };
+
+    /// Returns whether a bit of a query's reserved fields is set.
+    fn has_reserved_bits(body: &[u8]) -> bool
+        ensures { result ≡ has_reserved_bits Self.FAMILY body.now };
 
     /// Returns the address of a querier of this family.
     fn named(address: Self::Address) -> QuerierAddress
@@ -80,6 +89,14 @@ impl CheckedFamily for Igmp {
         headers4(packet_in(link, frame))
     }
 
+    fn has_query_type(body: &[u8]) -> bool {
+        byte_at(body, 0) == 0x11
+    }
+
+    fn has_reserved_bits(body: &[u8]) -> bool {
+        byte_at(body, 8) > 15
+    }
+
     fn named(address: Addr4) -> QuerierAddress {
         QuerierAddress::V4(address)
     }
@@ -108,6 +125,14 @@ impl CheckedFamily for Mld {
             ttl: envelope.hop_limit,
             alert: envelope.alert,
         }
+    }
+
+    fn has_query_type(body: &[u8]) -> bool {
+        byte_at(body, 0) == 130
+    }
+
+    fn has_reserved_bits(body: &[u8]) -> bool {
+        byte_at(body, 1) > 0 || byte_at(body, 6) > 0 || byte_at(body, 7) > 0
     }
 
     fn named(address: Addr6) -> QuerierAddress {

@@ -1,6 +1,7 @@
 //! A check's treatment of queries, in order.
 
-ghost use Rattle.std.specs.Prelude.{◌≡◌, ◌≤◌, ◌^◌, [], ◌∷◌, IfOk, flat_map, fold, map as list_map};
+ghost use Rattle.std.specs.Prelude.{◌≡◌, ◌≤◌, ◌^◌, [], ◌∷◌, IfOk, is_ok, flat_map, fold, map as list_map};
+ghost use Rattle.mq_arena.specs.Vectors.{Takes};
 ghost use Rattle.mq_wire.specs.Numbered.{numbered_query, numbered_version};
 ghost use Rattle.mq_text.specs.Printing.{output_of};
 ghost use Rattle.mq_lines.specs.Text.{query_sources};
@@ -8,25 +9,32 @@ ghost use Rattle.mq_check.specs.declared.asked.Asked.TheVariants.{Source};
 ghost use Rattle.mq_check.specs.Checking as spec;
 ghost use Rattle.mq_check.specs.Entries.{may_be_left_out};
 ghost use Rattle.mq_check.specs.General.{phase_again, silence_up_to};
+ghost use Rattle.mq_check.specs.declared.headers.HeaderFault.TheVariants.{WrongChecksum};
 ghost use Rattle.mq_check.specs.Headers.{faults_of};
-ghost use Rattle.mq_check.specs.Numbered.{numbered_asked, numbered_terms};
+ghost use Rattle.mq_check.specs.Numbered.{numbered_asked, numbered_terms, numbered_terms_if, numbered_unpaired};
 ghost use Rattle.mq_check.specs.Queries as queries;
+ghost use Rattle.mq_check.specs.Schedules.{recent, schedules_wanted};
+ghost use Rattle.mq_check.specs.Sizes.{bytes_of_checking};
+ghost use Rattle.mq_check.specs.Unheld as unheld;
 ghost use Rattle.mq_check.specs.Telling.{Tells};
 
 use crate::asked::Asked;
 use crate::checked_family::CheckedFamily;
-use crate::entry::Entry;
+use crate::entry::{Entry, Unpaired};
 use crate::general::query_interval;
 use crate::headers::{HeaderFault, Headers};
 use crate::phase::Phase;
+use crate::schedules::Schedules;
 use crate::settling::{settle, tell_rest};
 use crate::stamp::Stamp;
 use crate::terms::{Terms, general_terms, terms_of};
 use crate::told::Told;
-use crate::waiting::{Side, Waiting};
+use crate::unheld::{specific_terms, unheld};
+use crate::waiting::{Side, Waiting, is_before};
+use mq_arena::VectorSource;
 use mq_count::{Meter, Moment, Span, Watched};
 use mq_lines::LineKey;
-use mq_link::{Config, Family};
+use mq_link::{Family, Link};
 use mq_table::Timing;
 use mq_text::LineFault;
 use mq_wire::{Query, QueryVersion, Sources, WireKey};
@@ -34,7 +42,8 @@ use std::alloc::{AllocError, Allocator};
 use std::io::Write;
 use std::marker::Model;
 
-/// The pending entries, the last change of the role, the phase of general queries, and the counts of seen queries.
+/// The pending entries, the last change of the role, the phase of general queries, and the counts of seen queries. Before
+/// the moment `known_from`, a querier may hold what the link doesn't hold.
 #[derive(Drop)]
 pub(crate) struct Checking<F: Family, A: Allocator> {
     waiting: Waiting<F, A>,
@@ -43,6 +52,10 @@ pub(crate) struct Checking<F: Family, A: Allocator> {
     last_general: Option<Stamp>,
     general: u64,
     specific: u64,
+    known_from: Moment,
+    // The subjects of the wanted queries before that moment.
+    known: Waiting<F, A>,
+    schedules: Schedules<F, A>,
 }
 
 impl<F: Family, A: Allocator> Model for Checking<F, A> {
@@ -51,7 +64,7 @@ impl<F: Family, A: Allocator> Model for Checking<F, A> {
 
     ghost Value = { CheckingValue };
 
-    ghost view = { λ c. record { waiting = c.waiting; changed = c.changed; phase = c.phase; last_general = c.last_general; general = c.general; specific = c.specific } };
+    ghost view = { λ c. record { waiting = c.waiting; changed = c.changed; phase = c.phase; last_general = c.last_general; general = c.general; specific = c.specific; known_from = c.known_from; known = c.known; schedules = c.schedules } };
 
     ghost invariant = { λ c. IfSome c.changed (λ moment. moment ≤ 2 ^ 53) };
 }
@@ -67,7 +80,7 @@ fn sources_of<'a, K: WireKey>(version: &QueryVersion<'a, K>) -> Sources<'a, K>
 }
 
 /// Returns whether a query is a General Query.
-fn is_general<F: Family>(query: &Query<'_, F::Address>) -> bool
+pub(crate) fn is_general<F: Family>(query: &Query<'_, F::Address>) -> bool
     ensures { result ≡ queries.is_general (numbered_query F.Address.number query.now) }
 {
     F::is_zero(query.group) && sources_of(&query.version).is_empty()
@@ -82,6 +95,45 @@ fn asked_without_sources<F: Family>(group: F::Address) -> Asked<F::Address>
     } else {
         Asked::Group(group)
     }
+}
+
+/// Returns the verdict on a seen query without a partner, which is allowed if it has terms.
+fn allowed_if<K: WireKey>(is_querier: bool, wanted: Option<Terms<K>>) -> Unpaired<K>
+    ensures { numbered_unpaired K.number result ≡ spec.allowed_if is_querier (numbered_terms_if K.number wanted) }
+{
+    match (is_querier, wanted) {
+        (true, Some(wanted)) => Unpaired::Allowed(wanted),
+        _ => Unpaired::Extra(is_querier),
+    }
+}
+
+/// Returns the terms of a query on a subject that the link doesn't hold, or else those of an earlier schedule.
+fn either_of<K: WireKey>(
+    may_be_unknown: bool,
+    unheld: Option<Terms<K>>,
+    earlier: Option<Terms<K>>,
+) -> Option<Terms<K>>
+    ensures { numbered_terms_if K.number result
+        ≡ spec.either_of may_be_unknown (numbered_terms_if K.number unheld) (numbered_terms_if K.number earlier) }
+{
+    match (may_be_unknown, unheld) {
+        (true, Some(wanted)) => Some(wanted),
+        _ => earlier,
+    }
+}
+
+/// Returns the moment from which the link holds every group that a querier may hold.
+fn known_from(within: u32, configured: Timing, strict: bool) -> Moment
+    ensures { result ≡ spec.known_from within configured strict }
+{
+    let start = Stamp::of(0).moment();
+    if strict {
+        return start;
+    }
+    start
+        .after(configured.membership_interval())
+        .after(Span::from_ms(within))
+        .after(Span::from_ms(1))
 }
 
 /// Queues a finding if the interval is wrong.
@@ -113,19 +165,29 @@ fn put_silence<F: Family, A: Allocator>(
 }
 
 impl<F: Family, A: Allocator> Checking<F, A> {
-    /// Returns the check at the start of a capture, with all memory allocated.
-    pub(crate) fn new(alloc: A, configured: Timing) -> Result<Checking<F, A>, AllocError>
-    where
-        A: Copy,
-        ensures { IfOk result (λ c. c ≡ spec.checking_at_start configured) }
+    /// Returns the check at the start of a capture, with all memory allocated from `memory`.
+    pub(crate) fn new<M: VectorSource<A>>(
+        memory: &mut M,
+        within: u32,
+        configured: Timing,
+        strict: bool,
+    ) -> Result<Checking<F, A>, AllocError>
+        ensures starts { IfOk result (λ c. c ≡ spec.checking_at_start within configured strict) }
+        ensures memory { Takes (bytes_of_checking F.Address.row) (M.less_than memory.old) (M.less_than memory.new) (is_ok result) }
     {
+        let waiting = Waiting::new(memory)?;
+        let known = Waiting::new(memory)?;
+        let schedules = Schedules::new(memory, within, configured, strict)?;
         Ok(Checking {
-            waiting: Waiting::new(alloc)?,
+            waiting,
             changed: None,
             phase: Phase::at_start(configured),
             last_general: None,
             general: 0,
             specific: 0,
+            known_from: known_from(within, configured, strict),
+            known,
+            schedules,
         })
     }
 
@@ -154,10 +216,44 @@ impl<F: Family, A: Allocator> Checking<F, A> {
     fn want(&mut self, moment: Moment, terms: Terms<F::Address>, asked: Asked<F::Address>)
         ensures { self.new ≡ spec.with_wanted moment (numbered_terms F.Address.number terms) self.old (numbered_asked F.Address.number asked) }
     {
+        self.know(moment, terms, asked);
+        self.schedule(moment, terms, asked);
         let is_optional = self.may_be_left_out(moment, asked, &terms);
         let is_found = self.waiting.join(Side::OfSeen, asked, terms).is_some();
         self.waiting
             .put(Entry::Wanted(moment, asked, terms, is_optional, is_found));
+    }
+
+    /// Notes the subject of a wanted query.
+    fn know(&mut self, moment: Moment, terms: Terms<F::Address>, asked: Asked<F::Address>)
+        ensures { self.new ≡ record self.old { known = spec.with_known moment (numbered_terms F.Address.number terms) (numbered_asked F.Address.number asked) self.old } }
+    {
+        if self.may_be_unknown(moment, asked) {
+            self.known
+                .put(Entry::Wanted(moment, asked, terms, true, false));
+        }
+    }
+
+    /// Notes a wanted query, which starts a schedule or goes on with one.
+    fn schedule(&mut self, moment: Moment, terms: Terms<F::Address>, asked: Asked<F::Address>)
+        ensures { self.new ≡ record self.old { schedules = schedules_wanted moment (numbered_terms F.Address.number terms) (numbered_asked F.Address.number asked) (recent moment self.old.schedules) } }
+    {
+        self.schedules.forget(moment);
+        self.schedules.want(moment, terms, asked);
+    }
+
+    /// Forgets the schedules in which no query may come any more.
+    fn forget(&mut self, moment: Moment)
+        ensures { self.new ≡ record self.old { schedules = recent moment self.old.schedules } }
+    {
+        self.schedules.forget(moment);
+    }
+
+    /// Returns whether a querier may hold a subject that the link doesn't hold.
+    fn may_be_unknown(&self, moment: Moment, asked: Asked<F::Address>) -> bool
+        ensures { result ≡ spec.may_be_unknown moment (numbered_asked F.Address.number asked) self.now }
+    {
+        is_before(moment, self.known_from) && !self.known.has_free(Side::OfWanted, asked)
     }
 
     /// Returns whether a wanted query may be left out.
@@ -177,14 +273,41 @@ impl<F: Family, A: Allocator> Checking<F, A> {
         }
     }
 
-    /// Adds a seen query, and pairs it with the first wanted query on the subject that has no partner.
-    fn see(&mut self, moment: Moment, terms: Terms<F::Address>, asked: Asked<F::Address>)
-        ensures { self.new ≡ spec.with_seen moment (numbered_terms F.Address.number terms) self.old (numbered_asked F.Address.number asked) }
+    /// Adds a seen query, and pairs it with the first wanted query on the subject that has no partner. `unheld` has the
+    /// terms of such a query if the link doesn't hold the subject.
+    fn see(
+        &mut self,
+        moment: Moment,
+        terms: Terms<F::Address>,
+        unheld: Option<Terms<F::Address>>,
+        asked: Asked<F::Address>,
+    )
+        ensures { self.new ≡ spec.with_seen moment (numbered_terms F.Address.number terms) (numbered_terms_if F.Address.number unheld) self.old (numbered_asked F.Address.number asked) }
+    {
+        self.forget(moment);
+        let alone = self.alone(moment, terms, unheld, asked);
+        let partner = self.waiting.join(Side::OfWanted, asked, terms);
+        let has_partner = partner.is_some();
+        self.schedules.see(moment, terms, asked, has_partner);
+        self.waiting
+            .put(Entry::Seen(moment, asked, terms, partner, alone));
+    }
+
+    /// Returns the verdict on a seen query if it finds no partner.
+    fn alone(
+        &self,
+        moment: Moment,
+        terms: Terms<F::Address>,
+        unheld: Option<Terms<F::Address>>,
+        asked: Asked<F::Address>,
+    ) -> Unpaired<F::Address>
+        ensures { numbered_unpaired F.Address.number result
+            ≡ spec.alone_after moment (numbered_terms F.Address.number terms) (numbered_terms_if F.Address.number unheld) (numbered_asked F.Address.number asked) self.now }
     {
         let is_querier = self.phase.is_querier();
-        let partner = self.waiting.join(Side::OfWanted, asked, terms);
-        self.waiting
-            .put(Entry::Seen(moment, asked, terms, partner, is_querier));
+        let is_unknown = self.may_be_unknown(moment, asked);
+        let earlier = self.schedules.allowed(moment, terms, asked);
+        allowed_if(is_querier, either_of(is_unknown, unheld, earlier))
     }
 
     /// Adds a wanted query for each subject of a query.
@@ -214,16 +337,26 @@ impl<F: Family, A: Allocator> Checking<F, A> {
         }
     }
 
-    /// Adds a seen query for each subject of a query.
-    fn see_all(&mut self, moment: Moment, terms: Terms<F::Address>, query: &Query<'_, F::Address>)
-        ensures { self.new ≡ fold (spec.with_seen moment (numbered_terms F.Address.number terms)) self.old (queries.asked_in (numbered_query F.Address.number query.now)) }
+    /// Adds a seen query for each subject of a query. `wanted` has the terms of such a query.
+    fn see_all(
+        &mut self,
+        moment: Moment,
+        terms: Terms<F::Address>,
+        link: &Link<F, A>,
+        wanted: Terms<F::Address>,
+        query: &Query<'_, F::Address>,
+    )
+        ensures { self.new ≡ fold (spec.one_seen moment (numbered_terms F.Address.number terms) (unheld.unheld F.FAMILY link.now.state.groups (numbered_terms F.Address.number wanted)))
+            self.old (queries.asked_in (numbered_query F.Address.number query.now)) }
     {
         let sources = sources_of(&query.version);
         if sources.is_empty() {
-            self.see(moment, terms, asked_without_sources::<F>(query.group));
+            let asked = asked_without_sources::<F>(query.group);
+            let held = unheld(link, wanted, asked);
+            self.see(moment, terms, held, asked);
             return;
         }
-        self.see_sources(moment, terms, query.group, sources);
+        self.see_sources(moment, terms, link, wanted, query.group, sources);
     }
 
     /// Adds a seen query for each of some sources of a group.
@@ -231,13 +364,18 @@ impl<F: Family, A: Allocator> Checking<F, A> {
         &mut self,
         moment: Moment,
         terms: Terms<F::Address>,
+        link: &Link<F, A>,
+        wanted: Terms<F::Address>,
         group: F::Address,
         sources: Sources<'_, F::Address>,
     )
-        ensures { self.new ≡ fold (spec.with_seen moment (numbered_terms F.Address.number terms)) self.old (list_map (Source (F.Address.number group)) sources.entry) }
+        ensures { self.new ≡ fold (spec.one_seen moment (numbered_terms F.Address.number terms) (unheld.unheld F.FAMILY link.now.state.groups (numbered_terms F.Address.number wanted)))
+            self.old (list_map (Source (F.Address.number group)) sources.entry) }
     {
         for source in sources {
-            self.see(moment, terms, Asked::Source(group, source));
+            let asked = Asked::Source(group, source);
+            let held = unheld(link, wanted, asked);
+            self.see(moment, terms, held, asked);
         }
     }
 
@@ -256,7 +394,13 @@ impl<F: Family, A: Allocator> Checking<F, A> {
         put_interval(&mut self.waiting, configured, stamp, passed);
         self.phase = self.phase.behind(within, configured, stamp.ms());
         self.waiting.join(Side::OfWanted, Asked::AllGroups, terms);
-        self.waiting.put(Entry::Seen(stamp.moment(), Asked::AllGroups, terms, Some(wanted), true));
+        self.waiting.put(Entry::Seen(
+            stamp.moment(),
+            Asked::AllGroups,
+            terms,
+            Some(wanted),
+            Unpaired::Extra(true),
+        ));
     }
 
     /// Judges a general query if the router is querier, and adds it as a seen query otherwise.
@@ -274,7 +418,7 @@ impl<F: Family, A: Allocator> Checking<F, A> {
             self.judge_general(within, configured, stamp, terms, wanted);
             return;
         }
-        self.see(stamp.moment(), terms, Asked::AllGroups);
+        self.see(stamp.moment(), terms, None, Asked::AllGroups);
     }
 
     /// Handles a general query that is seen, and counts it.
@@ -298,17 +442,26 @@ impl<F: Family, A: Allocator> Checking<F, A> {
         &mut self,
         moment: Moment,
         terms: Terms<F::Address>,
+        link: &Link<F, A>,
+        wanted: Terms<F::Address>,
         query: &Query<'_, F::Address>,
     )
-        ensures { self.new ≡ spec.specific_seen moment (numbered_terms F.Address.number terms) (queries.asked_in (numbered_query F.Address.number query.now)) self.old }
+        ensures { self.new ≡ spec.specific_seen moment (numbered_terms F.Address.number terms) (unheld.unheld F.FAMILY link.now.state.groups (numbered_terms F.Address.number wanted))
+            (queries.asked_in (numbered_query F.Address.number query.now)) self.old }
     {
-        self.see_all(moment, terms, query);
+        self.see_all(moment, terms, link, wanted, query);
         self.specific = self.specific.saturating_add(1);
     }
 
     /// Handles the headers of a packet with a query of the checked router.
-    pub(crate) fn see_headers(&mut self, moment: Moment, number: u64, headers: Headers)
-        ensures { self.new ≡ spec.faults_seen moment number (faults_of headers) self.old }
+    pub(crate) fn see_headers(
+        &mut self,
+        moment: Moment,
+        number: u64,
+        headers: Headers,
+        has_reserved_bits: bool,
+    )
+        ensures { self.new ≡ spec.faults_seen moment number (faults_of headers has_reserved_bits) self.old }
     {
         if headers.ttl != 1 {
             let fault = HeaderFault::TimeToLive(headers.ttl);
@@ -318,6 +471,18 @@ impl<F: Family, A: Allocator> Checking<F, A> {
             let fault = HeaderFault::NoRouterAlert;
             self.waiting.put(Entry::Packet(moment, number, fault));
         }
+        if has_reserved_bits {
+            let fault = HeaderFault::ReservedBits;
+            self.waiting.put(Entry::Packet(moment, number, fault));
+        }
+    }
+
+    /// Handles a query of the checked router with a wrong checksum.
+    pub(crate) fn see_broken(&mut self, moment: Moment, number: u64)
+        ensures { self.new ≡ spec.with_fault moment number self.old WrongChecksum }
+    {
+        let fault = HeaderFault::WrongChecksum;
+        self.waiting.put(Entry::Packet(moment, number, fault));
     }
 
     /// Returns the time without general queries up to a moment, if it is too long.
@@ -370,23 +535,25 @@ where
     pub(crate) fn query_seen(
         &mut self,
         within: u32,
-        config: &Config<F>,
-        in_force: Timing,
+        link: &Link<F, A>,
         stamp: Stamp,
         to: F::Address,
         query: &Query<'_, F::Address>,
     )
-        ensures { self.new ≡ spec.query_came within config.now in_force stamp (F.Address.number to) (numbered_query F.Address.number query.now) self.old }
+        ensures { self.new ≡ spec.query_came within link.now.config link.now.state stamp (F.Address.number to) (numbered_query F.Address.number query.now) self.old }
     {
+        let config = link.config();
         config.is_faultless();
         let terms = terms_of(to, query);
         let configured = config.timing();
+        let in_force = link.timing();
         if is_general::<F>(query) {
             let wanted = general_terms(config, in_force);
             self.see_general(within, configured, stamp, terms, wanted);
             return;
         }
-        self.see_specific(stamp.moment(), terms, query);
+        let wanted = specific_terms(config, in_force, query);
+        self.see_specific(stamp.moment(), terms, link, wanted, query);
     }
 
     /// Handles a query that the link sends. A general query is wanted only if the router becomes querier again.

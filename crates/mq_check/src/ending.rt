@@ -14,14 +14,14 @@ use crate::checked_family::CheckedFamily;
 use crate::finding::Finding;
 use crate::general::query_interval;
 use crate::judging::tell_finding;
+use crate::running_check::Check;
 use crate::stamp::Stamp;
-use crate::stepping::tick_through;
 use crate::told::Told;
 use crate::totals::Totals;
 use crate::wanted_queries::WantedQueries;
 use mq_count::Watched;
 use mq_lines::LineKey;
-use mq_link::{Family, Link};
+use mq_link::Family;
 use mq_replay::is_gap;
 use mq_table::Timing;
 use mq_text::LineFault;
@@ -39,66 +39,66 @@ fn last_moment(until: Option<u64>, last: Stamp) -> Stamp
     }
 }
 
-/// Checks the time after the last packet. Fails if there is a gap before the end of the check. `number` is the packet
-/// count plus 1.
-pub(crate) fn check_rest<F: CheckedFamily, A: Allocator, W: Write>(
-    link: &mut Link<F, A>,
-    queries: &mut WantedQueries<F, A>,
-    within: u32,
-    until: Option<u64>,
-    last: Stamp,
-    number: u64,
-    told: &mut Told,
-    writer: &mut Watched<W>,
-) -> Result<Totals, CheckFault>
+impl<F: CheckedFamily, A: Allocator> Check<F, A>
 where
     F::Address: LineKey,
-    requires in_range { IfSome until (λ ms. ms ≤ 2 ^ 53) }
-    requires own { queries.old.own ≡ link.old.config.own }
-    ensures rest { IsRestPut
-        (rest_behind link.old.config within until told.old.cite last told.old.count number (checked_in link.old queries.old))
-        (W.contents (inner_of writer.old)) (W.contents (inner_of writer.new))
-        told.old.held told.new.held result }
-    ensures failed { has_failed writer.new ≡ has_failed writer.old || spec.is_failed_write result }
 {
-    let end = last_moment(until, last);
-    let before = last.moment();
-    let now = end.moment();
-    if is_gap(before, now) {
-        return Err(CheckFault::Gap { number });
+    /// Checks the time after the last packet. Fails if there is a gap before the end of the check. `number` is the packet
+    /// count plus 1.
+    pub(crate) fn rest<W: Write>(
+        &mut self,
+        last: Stamp,
+        number: u64,
+        writer: &mut Watched<W>,
+    ) -> Result<Totals, CheckFault>
+        requires in_range { IfSome self.old.terms.until (λ ms. ms ≤ 2 ^ 53) }
+        ensures rest { IsRestPut
+            (rest_behind self.old.link.config self.old.terms.within self.old.terms.until self.old.told.cite last self.old.told.count number (checked_in self.old.link self.old.queries))
+            (W.contents (inner_of writer.old)) (W.contents (inner_of writer.new))
+            self.old.told.held self.new.told.held result }
+        ensures failed { has_failed writer.new ≡ has_failed writer.old || spec.is_failed_write result }
+    {
+        let end = last_moment(self.terms.until, last);
+        let before = last.moment();
+        let now = end.moment();
+        if is_gap(before, now) {
+            return Err(CheckFault::Gap { number });
+        }
+        self.end(end, number, writer)
     }
-    check_end(link, queries, within, end, number, told, writer)
-}
 
-/// Checks up to and including the end, and reports the totals.
-fn check_end<F: CheckedFamily, A: Allocator, W: Write>(
-    link: &mut Link<F, A>,
-    queries: &mut WantedQueries<F, A>,
-    within: u32,
-    end: Stamp,
-    number: u64,
-    told: &mut Told,
-    writer: &mut Watched<W>,
-) -> Result<Totals, CheckFault>
-where
-    F::Address: LineKey,
-    requires own { queries.old.own ≡ link.old.config.own }
-    ensures rest { IsRestPut
-        (ended_behind link.old.config within told.old.cite end told.old.count number (checked_in link.old queries.old))
-        (W.contents (inner_of writer.old)) (W.contents (inner_of writer.new))
-        told.old.held told.new.held result }
-    ensures failed { has_failed writer.new ≡ has_failed writer.old || spec.is_failed_write result }
-{
-    link.config().is_faultless();
-    let configured = link.config().timing();
-    let now = end.moment();
-    tick_through(link, queries, within, now, told, writer)?;
-    queries.settle(within, now, told, writer)?;
-    if queries.checking().is_full() {
-        return Err(CheckFault::Waiting { number });
+    /// Checks up to and including the end, and reports the totals.
+    fn end<W: Write>(
+        &mut self,
+        end: Stamp,
+        number: u64,
+        writer: &mut Watched<W>,
+    ) -> Result<Totals, CheckFault>
+        ensures rest { IsRestPut
+            (ended_behind self.old.link.config self.old.terms.within self.old.told.cite end self.old.told.count number (checked_in self.old.link self.old.queries))
+            (W.contents (inner_of writer.old)) (W.contents (inner_of writer.new))
+            self.old.told.held self.new.told.held result }
+        ensures failed { has_failed writer.new ≡ has_failed writer.old || spec.is_failed_write result }
+    {
+        self.link.config().is_faultless();
+        let configured = self.link.config().timing();
+        let within = self.terms.within;
+        let now = end.moment();
+        self.tick_through(now, writer)?;
+        self.queries.settle(within, now, &mut self.told, writer)?;
+        if self.queries.checking().is_full() {
+            return Err(CheckFault::Waiting { number });
+        }
+        let totals = tell_end(
+            &mut self.queries,
+            within,
+            configured,
+            end,
+            &mut self.told,
+            writer,
+        )?;
+        Ok(totals)
     }
-    let totals = tell_end(queries, within, configured, end, told, writer)?;
-    Ok(totals)
 }
 
 /// Reports the findings of the pending entries at the end, then a silence that is too long, then the totals.
@@ -112,6 +112,7 @@ fn tell_end<F: CheckedFamily, A: Allocator, W: Write>(
 ) -> Result<Totals, LineFault>
 where
     F::Address: LineKey,
+    ensures own { queries.new.own ≡ queries.old.own }
     ensures text { let found = last_findings within configured end queries.old.checking in Puts
         (W.contents (inner_of writer.old)) (W.contents (inner_of writer.new))
         told.old.held told.new.held

@@ -15,15 +15,25 @@ use mq_wire::WireKey;
 pub enum Entry<K: WireKey> {
     /// A wanted query: its moment, subject and terms, whether it may be left out, and whether it has a partner.
     Wanted(Moment, Asked<K>, Terms<K>, bool, bool),
-    /// A seen query: its moment, subject and terms, its partner's terms if it has one, and whether the router was
-    /// querier.
-    Seen(Moment, Asked<K>, Terms<K>, Option<Terms<K>>, bool),
+    /// A seen query: its moment, subject and terms, its partner's terms if it has one, and its verdict without one.
+    Seen(Moment, Asked<K>, Terms<K>, Option<Terms<K>>, Unpaired<K>),
     /// A general query at a wrong interval: its moment, the interval, and the wanted one.
     Interval(Moment, u64, u64),
     /// A time without general queries: its end, its length, and the wanted interval.
     Silence(Moment, u64, u64),
     /// A fault in the headers of a query's packet: its moment, the number of the packet, and the fault.
     Packet(Moment, u64, HeaderFault),
+}
+
+/// The verdict on a seen query that finds no partner.
+#[derive(Clone, Copy)]
+pub enum Unpaired<K: WireKey> {
+    /// An extra query. The flag is set if the router was querier then.
+    Extra(bool),
+    /// A query that the standard's words allow, with these terms.
+    Allowed(Terms<K>),
+    /// A query of a schedule, after which so many more may come.
+    Scheduled(u32),
 }
 
 impl<K: WireKey> Entry<K> {
@@ -50,6 +60,16 @@ impl<K: WireKey> Entry<K> {
         }
     }
 
+    /// Returns how many queries may come after it in its schedule, if it is a seen query.
+    pub(crate) fn left(&self) -> u32
+        ensures { result ≡ spec.left_in (numbered_entry K.number self.now) }
+    {
+        match self {
+            Entry::Seen(_, _, _, _, Unpaired::Scheduled(left)) => *left,
+            _ => 0,
+        }
+    }
+
     /// Returns the entry with a partner that has these terms.
     pub(crate) fn joined(self, other: Terms<K>) -> Entry<K>
         ensures { numbered_entry K.number result
@@ -59,8 +79,8 @@ impl<K: WireKey> Entry<K> {
             Entry::Wanted(moment, asked, terms, is_optional, _) => {
                 Entry::Wanted(moment, asked, terms, is_optional, true)
             }
-            Entry::Seen(moment, asked, terms, _, is_querier) => {
-                Entry::Seen(moment, asked, terms, Some(other), is_querier)
+            Entry::Seen(moment, asked, terms, _, alone) => {
+                Entry::Seen(moment, asked, terms, Some(other), alone)
             }
             other => other,
         }

@@ -1,7 +1,7 @@
 //! Worked examples of the definitions, each computed by the check. No function here has an effect: its contract is the
 //! example. The tolerance is 100 ms.
 
-ghost use Rattle.std.specs.Prelude.{◌≡◌, ℕ, Bool, List, [], ◌∷◌, true, Err, Option};
+ghost use Rattle.std.specs.Prelude.{◌≡◌, ℕ, Bool, List, [], ◌∷◌, true, false, Err, Option};
 ghost use Rattle.mq_pcap.specs.declared.fault.PcapFault.{PcapFault};
 ghost use Rattle.mq_pcap.specs.Capture.{Captured};
 ghost use Rattle.mq_link.specs.Configuration.{Configuration};
@@ -9,7 +9,7 @@ ghost use Rattle.mq_check.specs.declared.check_fault.CheckFault.TheVariants.{Pca
 ghost use Rattle.mq_check.specs.Check.{check_of};
 ghost use Rattle.mq_check.specs.declared.asked.Asked.TheVariants.{Group};
 ghost use Rattle.mq_check.specs.declared.finding.Finding.TheVariants.{Missing, Extra, Interval};
-ghost use Rattle.mq_check.specs.Examples.{seen_first, two_general, wanted_first};
+ghost use Rattle.mq_check.specs.Examples.{both_schedules, seen_again, seen_first, seen_unheld, third_query, two_general, wanted_first};
 ghost use Rattle.mq_check.specs.Checking.{told};
 
 /// Shows that a query that is late by the tolerance has no finding.
@@ -42,8 +42,36 @@ pub fn a_query_interval_apart()
     ensures { told 100 400000 (two_general 90000 215100) ≡ [] }
 {}
 
+/// Shows a query for a group that the link doesn't hold. Up to a Group Membership Interval (260 seconds) and the
+/// tolerance, the querier may hold the group since before the capture. A strict check finds it extra.
+pub fn a_group_from_before_the_capture()
+    ensures allowed { told 100 300000 (seen_unheld false 260100) ≡ [] }
+    ensures late { told 100 300000 (seen_unheld false 260101) ≡ Extra 260101 (Group 5) true ∷ [] }
+    ensures strict { told 100 300000 (seen_unheld true 1000) ≡ Extra 1000 (Group 5) true ∷ [] }
+{}
+
+/// Shows that this query is extra if one for the group was wanted before: then the querier has lowered its timer too.
+pub fn a_group_that_was_left()
+    ensures { told 100 300000 (seen_again 1000 3000) ≡ Extra 3000 (Group 5) true ∷ [] }
+{}
+
+/// Shows queries that are wanted at 1000 and 1400. The retransmission of the first one, at 2000, may go on beside the
+/// schedule of the second one, within the tolerance. A strict check finds it extra.
+pub fn a_schedule_that_goes_on()
+    ensures on_time { told 100 5000 (both_schedules false 2000) ≡ [] }
+    ensures late { told 100 5000 (both_schedules false 2100) ≡ [] }
+    ensures too_late { told 100 5000 (both_schedules false 2101) ≡ Extra 2101 (Group 5) true ∷ [] }
+    ensures too_early { told 100 5000 (both_schedules false 1899) ≡ Extra 1899 (Group 5) true ∷ [] }
+    ensures strict { told 100 5000 (both_schedules true 2000) ≡ Extra 2000 (Group 5) true ∷ [] }
+{}
+
+/// Shows that a third query, an interval after the last one of the first schedule, is extra.
+pub fn a_third_query_of_a_schedule()
+    ensures { told 100 5000 third_query ≡ Extra 3000 (Group 5) true ∷ [] }
+{}
+
 /// Shows that a file whose header has a fault has no text.
 pub fn a_faulty_header()
-    ensures { (config : Configuration) (within : ℕ) (until : Option ℕ) (cite : Bool) (fault : PcapFault) (packets : List Captured) (end : Option PcapFault)
-        → check_of config within until cite (Err fault) packets end ≡ record { text = []; answer = Err (Pcap fault) } }
+    ensures { (config : Configuration) (within : ℕ) (until : Option ℕ) (cite strict : Bool) (fault : PcapFault) (packets : List Captured) (end : Option PcapFault)
+        → check_of config within until cite strict (Err fault) packets end ≡ record { text = []; answer = Err (Pcap fault) } }
 {}

@@ -169,6 +169,8 @@ fn put_header_fault(text: &mut Text, number: u64, fault: HeaderFault)
             put(text, b", wanted 1");
         }
         HeaderFault::NoRouterAlert => put(text, b" alert 0"),
+        HeaderFault::WrongChecksum => put(text, b" checksum"),
+        HeaderFault::ReservedBits => put(text, b" reserved"),
     }
 }
 
@@ -235,6 +237,21 @@ fn put_field_section<K: LineKey>(text: &mut Text, asked: Asked<K>, difference: D
     }
 }
 
+/// Appends the section of a field of the headers.
+fn put_fault_section<K: LineKey>(text: &mut Text, fault: HeaderFault)
+    requires { array_vec_len text.old + 14 ≤ 4096 }
+    ensures text { text.new.items ≡ text.old.items ++ spec.fault_section K.family fault }
+    ensures room { array_vec_len text.new ≤ array_vec_len text.old + 14 }
+{
+    match fault {
+        HeaderFault::TimeToLive(_) | HeaderFault::NoRouterAlert => {
+            put_of_family::<K>(text, b"4", b"5")
+        }
+        HeaderFault::WrongChecksum => put_of_family::<K>(text, b"4.1.2", b"5.1.2"),
+        HeaderFault::ReservedBits => put_of_family::<K>(text, b"4.1.4", b"5.1"),
+    }
+}
+
 /// Appends the section that a finding violates.
 fn put_section<K: LineKey>(text: &mut Text, finding: Finding<K>)
     requires { array_vec_len text.old + 14 ≤ 4096 }
@@ -248,7 +265,7 @@ fn put_section<K: LineKey>(text: &mut Text, finding: Finding<K>)
         Finding::Extra(_, _, false) => put_of_family::<K>(text, b"6.6.2", b"7.6.2"),
         Finding::Differs(_, asked, difference) => put_field_section(text, asked, difference),
         Finding::Interval(..) | Finding::Silence(..) => put_of_family::<K>(text, b"8.2", b"9.2"),
-        Finding::Packet(..) => put_of_family::<K>(text, b"4", b"5"),
+        Finding::Packet(_, _, fault) => put_fault_section::<K>(text, fault),
     }
 }
 

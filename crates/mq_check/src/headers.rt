@@ -12,13 +12,17 @@ pub struct Headers {
     pub alert: bool,
 }
 
-/// A fault in the headers of a query's packet (RFC 3376 section 4, RFC 3810 section 5).
+/// A fault in the headers of a query's packet or message (RFC 3376 section 4, RFC 3810 section 5).
 #[derive(Clone, Copy)]
 pub enum HeaderFault {
     /// The time to live, or the hop limit, which is not 1.
     TimeToLive(u8),
     /// No Router Alert option.
     NoRouterAlert,
+    /// A wrong checksum of the message.
+    WrongChecksum,
+    /// A reserved field of the message that is not zero.
+    ReservedBits,
 }
 
 /// The type that ends the options of an IPv4 header, and the other type of a single byte.
@@ -43,6 +47,13 @@ pub(crate) fn headers4(packet: &[u8]) -> Headers
         ttl: packet[8],
         alert: has_router_alert(&packet[20..end]),
     }
+}
+
+/// Returns a byte of a message, or 0 after its end.
+pub(crate) fn byte_at(body: &[u8], place: usize) -> u8
+    ensures { result ≡ spec.byte_at body.now place }
+{
+    if place < body.len() { body[place] } else { 0 }
 }
 
 fn no_headers() -> Headers

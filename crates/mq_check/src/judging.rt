@@ -5,11 +5,11 @@ ghost use Rattle.mq_text.specs.Printing.{output_of};
 ghost use Rattle.mq_check.specs.declared.finding.Difference.TheVariants as field;
 ghost use Rattle.mq_check.specs.Checking.{found_of_last};
 ghost use Rattle.mq_check.specs.Entries as spec;
-ghost use Rattle.mq_check.specs.Numbered.{difference_list, numbered_asked, numbered_entry, numbered_finding, numbered_terms};
+ghost use Rattle.mq_check.specs.Numbered.{difference_list, numbered_asked, numbered_entry, numbered_finding, numbered_terms, numbered_unpaired};
 ghost use Rattle.mq_check.specs.Telling.{Tells};
 
 use crate::asked::Asked;
-use crate::entry::Entry;
+use crate::entry::{Entry, Unpaired};
 use crate::finding::{Difference, Finding};
 use crate::terms::{QuerierTerms, Terms};
 use crate::told::Told;
@@ -72,7 +72,7 @@ where
             }
             tell_finding::<F, W>(Finding::Missing(*moment, *asked), told, writer)
         }
-        Entry::Seen(moment, asked, terms, partner, is_querier) => match partner {
+        Entry::Seen(moment, asked, terms, partner, alone) => match partner {
             Some(wanted) => {
                 tell_differences::<F, W>(*moment, *asked, terms, wanted, told, writer)
             }
@@ -80,7 +80,7 @@ where
                 if is_near_change(within, *moment, changed) {
                     return Ok(());
                 }
-                tell_finding::<F, W>(Finding::Extra(*moment, *asked, *is_querier), told, writer)
+                tell_alone::<F, W>(*moment, *asked, terms, alone, told, writer)
             }
         },
         Entry::Interval(moment, passed, wanted) => {
@@ -92,6 +92,32 @@ where
         Entry::Packet(moment, number, fault) => {
             tell_finding::<F, W>(Finding::Packet(*moment, *number, *fault), told, writer)
         }
+    }
+}
+
+/// Reports the findings of a seen query that found no partner.
+fn tell_alone<F: Family, W: Write>(
+    moment: Moment,
+    asked: Asked<F::Address>,
+    terms: &Terms<F::Address>,
+    alone: &Unpaired<F::Address>,
+    told: &mut Told,
+    writer: &mut Watched<W>,
+) -> Result<(), LineFault>
+where
+    F::Address: LineKey,
+    ensures { Tells F.Address.family
+        (spec.findings_alone moment (numbered_asked F.Address.number asked) (numbered_terms F.Address.number terms.now) (numbered_unpaired F.Address.number alone.now))
+        told.old told.new (output_of W.contents writer.old) (output_of W.contents writer.new) result }
+{
+    match alone {
+        Unpaired::Extra(is_querier) => {
+            tell_finding::<F, W>(Finding::Extra(moment, asked, *is_querier), told, writer)
+        }
+        Unpaired::Allowed(wanted) => {
+            tell_differences::<F, W>(moment, asked, terms, wanted, told, writer)
+        }
+        Unpaired::Scheduled(_) => Ok(()),
     }
 }
 

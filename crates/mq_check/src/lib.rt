@@ -7,12 +7,13 @@
 //! check(alloc, config, terms, &supply, &mut input, &mut output)     // Ok(totals); or why it ended early
 //! ```
 //!
-//! - The check: `check`, with `CheckTerms`. It returns `Totals` with the `Basis` of the verdict, or a `CheckFault` if
+//! - The check: `check`, or `check_in` with memory from a source, with `CheckTerms`. It returns `Totals` with the `Basis` of the verdict, or a `CheckFault` if
 //!   it ends early.
 //! - Findings: `Finding`, on a subject `Asked`. `specs/Check` defines them.
 //! - Worked examples of the definitions: `examples`.
 #![tactic(auto)]
 
+mod announced;
 mod asked;
 mod basis;
 mod check_fault;
@@ -30,6 +31,8 @@ mod headers;
 mod judging;
 mod phase;
 mod querier_address;
+mod running_check;
+mod schedules;
 mod seen_queries;
 mod settling;
 mod slots;
@@ -39,21 +42,24 @@ mod terms;
 mod told;
 mod totals;
 mod trails;
+mod unheld;
 mod unjudged;
 mod waiting;
 mod wanted_queries;
 
+pub use announced::{Announced, announced_variables, announced_variables_in};
 pub use asked::Asked;
 pub use basis::Basis;
 pub use check_fault::CheckFault;
 pub use check_terms::CheckTerms;
-pub use checked_capture::check;
+pub use checked_capture::{check, check_in};
 pub use checked_family::CheckedFamily;
-pub use entry::Entry;
+pub use entry::{Entry, Unpaired};
 pub use finding::{Difference, Finding};
 pub use headers::{HeaderFault, Headers};
 pub use phase::Phase;
 pub use querier_address::QuerierAddress;
+pub use schedules::Repeats;
 pub use terms::{QuerierTerms, Terms};
 pub use totals::Totals;
 pub use unjudged::Unjudged;

@@ -2,13 +2,14 @@
 
 ghost use Rattle.std.specs.Prelude.{◌≡◌};
 ghost use Rattle.mq_check.specs.Queries as spec;
-ghost use Rattle.mq_check.specs.Headers.{is_own_query};
+ghost use Rattle.mq_check.specs.Headers.{has_wrong_checksum, is_broken_query, is_own_query};
 ghost use Rattle.mq_check.specs.Numbered.{numbered_query_if};
 
+use crate::checked_family::CheckedFamily;
 use mq_lines::LineKey;
 use mq_link::{Config, Family};
 use mq_replay::{CapturedDatagram, CapturedFamily};
-use mq_wire::{Message, Query};
+use mq_wire::{Message, Query, WireFault};
 
 /// Returns the query in a datagram, if it comes from the checked router and hosts act on it.
 pub(crate) fn query_seen<'a, F: CapturedFamily>(
@@ -44,6 +45,34 @@ where
     let source = F::source(&datagram.envelope);
     F::is_same(source, config.own())
         && query_spelled::<F>(&datagram.envelope, datagram.body).is_some()
+}
+
+/// Returns whether a datagram comes from the checked router, with the type of a query and a wrong checksum.
+pub(crate) fn is_broken_query<F: CheckedFamily>(
+    config: &Config<F>,
+    datagram: &CapturedDatagram<'_, F::Envelope>,
+) -> bool
+where
+    F::Address: LineKey,
+    ensures { result
+        ≡ is_broken_query config.now (record { envelope = F.envelope_of datagram.now.envelope; body = datagram.now.body.now }) }
+{
+    config.is_faultless();
+    let sender = F::source(&datagram.envelope);
+    F::is_same(sender, config.own())
+        && F::has_query_type(datagram.body)
+        && has_wrong_checksum::<F>(&datagram.envelope, datagram.body)
+}
+
+/// Returns whether the checksum is the first fault of a datagram's bytes.
+#[tactic(auto, unfolding(crate::specs::Headers::has_wrong_checksum))]
+fn has_wrong_checksum<F: Family>(envelope: &F::Envelope, body: &[u8]) -> bool
+    ensures { result ≡ has_wrong_checksum F.FAMILY (F.envelope_of envelope.now) body.now }
+{
+    match F::read(envelope, body) {
+        Err(WireFault::Checksum) => true,
+        _ => false,
+    }
 }
 
 /// Parses the bytes of a datagram. Returns None if they aren't a query.

@@ -99,7 +99,7 @@ where
 }
 
 /// Returns an interval in seconds after it is rounded by QQIC.
-fn interval_said(seconds: u32) -> u32
+pub(crate) fn interval_said(seconds: u32) -> u32
     ensures { result ≡ interval_lowered seconds }
 {
     mq_wire::resp8(mq_wire::code8(seconds))

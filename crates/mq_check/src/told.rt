@@ -14,7 +14,6 @@ use crate::totals::Totals;
 use mq_count::Watched;
 use mq_lines::LineKey;
 use mq_link::Family;
-use mq_pcap::{PcapReader, Supply};
 use mq_text::{LineFault, Text, flush, make_room};
 use std::io::Write;
 use std::marker::Model;
@@ -141,10 +140,9 @@ impl Told {
     }
 
     /// Writes the buffered text if reading the next record may wait.
-    pub(crate) fn write_before_wait<S: Supply, W: Write>(
+    pub(crate) fn write_before_wait<W: Write>(
         &mut self,
-        capture: &PcapReader,
-        supply: &S,
+        may_wait: bool,
         writer: &mut Watched<W>,
     ) -> Result<(), LineFault>
         ensures text { Puts
@@ -154,7 +152,7 @@ impl Told {
         ensures count { self.new.count ≡ self.old.count }
         ensures failed { has_failed writer.new ≡ has_failed writer.old || is_err result }
     {
-        if capture.may_wait(supply) {
+        if may_wait {
             return flush(&mut self.buffer, writer);
         }
         Ok(())

@@ -1,11 +1,14 @@
 //! Links between the pending entries of a slot.
 
-ghost use Rattle.std.specs.Prelude.{◌≡◌, ℕ, ◌+◌, ◌-◌, ◌<◌, ◌≤◌, [], ◌∷◌, ◌++◌, IfOk, length, slice_index, drop};
+ghost use Rattle.std.specs.Prelude.{◌≡◌, ℕ, ◌+◌, ◌-◌, ◌<◌, ◌≤◌, ◌^◌, [], ◌∷◌, ◌++◌, IfOk, is_ok, length, slice_index, drop};
 ghost use Rattle.std.specs.VecDeque.{deque_capacity};
+ghost use Rattle.mq_arena.specs.Vectors.{Takes};
+ghost use Rattle.mq_check.specs.Sizes.{bytes_of_trails};
 ghost use Rattle.mq_check.specs.Trails.{IsClosed, Reaches, TrailsValue};
 
 use crate::slots::SLOTS;
 use crate::waiting::ROOM;
+use mq_arena::{VectorSource, filled};
 use std::alloc::{AllocError, Allocator};
 use std::collections::VecDeque;
 use std::marker::Model;
@@ -21,7 +24,7 @@ pub(crate) struct Trails<A: Allocator> {
     // For each entry, the number of the next one of its slot, or a lower number.
     nexts: VecDeque<u64, A>,
     starts: Vec<u64, A>,
-    // For each slot, the number of its last entry.
+    // For each slot, the number of its last entry, or that of no entry before the first.
     lasts: Vec<u64, A>,
     // The number of the first pending entry.
     base: u64,
@@ -46,6 +49,18 @@ impl<A: Allocator> Model for Trails<A> {
         × (deque_capacity t.nexts ≡ 65536) };
 }
 
+/// Returns the place of the entry with a number. If that entry is gone, returns a place beyond all entries.
+fn pending_place(number: u64, base: u64) -> usize
+    ensures pending { base ≤ number → result ≡ number - base }
+    ensures gone { number < base → result ≡ 2 ^ 64 - 1 }
+{
+    if number < base {
+        usize::MAX
+    } else {
+        (number - base) as usize
+    }
+}
+
 /// Limits the link of the last entry of a slot to the number of the next one, if the last one is pending.
 fn close<A: Allocator>(nexts: &mut VecDeque<u64, A>, last: usize, number: u64)
     ensures closed { IsClosed nexts.old.items nexts.new.items last number }
@@ -58,17 +73,17 @@ fn close<A: Allocator>(nexts: &mut VecDeque<u64, A>, last: usize, number: u64)
 }
 
 impl<A: Allocator> Trails<A> {
-    /// Returns the links of an empty list.
-    pub(crate) fn new(alloc: A) -> Result<Trails<A>, AllocError>
-    where
-        A: Copy,
-        ensures { IfOk result (λ t. t.slots ≡ []) }
+    /// Returns the links of an empty list, allocated from `memory`.
+    #[tactic(auto, unfolding(crate::specs::Sizes::bytes_of_trails))]
+    pub(crate) fn new<M: VectorSource<A>>(memory: &mut M) -> Result<Trails<A>, AllocError>
+        ensures empty { IfOk result (λ t. t.slots ≡ []) }
+        ensures memory { Takes bytes_of_trails (M.less_than memory.old) (M.less_than memory.new) (is_ok result) }
     {
         Ok(Trails {
-            slots: VecDeque::with_capacity(alloc, ROOM)?,
-            nexts: VecDeque::with_capacity(alloc, ROOM)?,
-            starts: vec![in alloc; OPEN; SLOTS]?,
-            lasts: vec![in alloc; 0; SLOTS]?,
+            slots: VecDeque::from_vec(memory.with_capacity(ROOM)?),
+            nexts: VecDeque::from_vec(memory.with_capacity(ROOM)?),
+            starts: filled(memory, OPEN, SLOTS)?,
+            lasts: filled(memory, OPEN, SLOTS)?,
             base: 0,
         })
     }
@@ -113,7 +128,7 @@ impl<A: Allocator> Trails<A> {
         ensures others { (k : ℕ) → k < length self.old.slots → Reaches self.old k → Reaches self.new k }
     {
         let number = self.base.saturating_add(self.slots.len() as u64);
-        let last = self.lasts[slot].saturating_sub(self.base) as usize;
+        let last = pending_place(self.lasts[slot], self.base);
         close(&mut self.nexts, last, number);
         let start = self.starts[slot];
         self.starts[slot] = start.min(number);

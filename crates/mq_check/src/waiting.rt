@@ -1,10 +1,12 @@
 //! Pending entries in ascending order of their moments.
 
-ghost use Rattle.std.specs.Prelude.{◌≡◌, ◌<◌, ◌≤◌, ◌+◌, ◌^◌, ◌==◌, [], ◌∷◌, IfOk, IfNone, IfSome, nat_lt};
+ghost use Rattle.std.specs.Prelude.{◌≡◌, ◌<◌, ◌≤◌, ◌+◌, ◌^◌, ◌==◌, [], ◌∷◌, IfOk, IfNone, IfSome, is_ok, is_some, nat_lt};
 ghost use Rattle.std.specs.List.{list_any};
+ghost use Rattle.mq_arena.specs.Vectors.{Takes};
 ghost use Rattle.mq_check.specs.Entries as spec;
-ghost use Rattle.mq_check.specs.Numbered.{numbered_asked, numbered_entry, numbered_terms, numbered_terms_if};
+ghost use Rattle.mq_check.specs.Numbered.{numbered_asked, numbered_entry, numbered_entry_if, numbered_terms, numbered_terms_if};
 ghost use Rattle.mq_check.specs.Places.{IsFirstFree, IsFirstOver, IsNoneFree, IsNoneOver};
+ghost use Rattle.mq_check.specs.Sizes.{bytes_of_waiting};
 ghost use Rattle.mq_check.specs.Waiting as waits;
 
 use crate::asked::{Asked, is_same};
@@ -13,6 +15,7 @@ use crate::slots::{SLOTS, last_group_by, slot_in, slot_of, wanted_moment, wanted
 use crate::stamp::Stamp;
 use crate::terms::Terms;
 use crate::trails::Trails;
+use mq_arena::{VectorSource, filled};
 use mq_count::{Meter, Moment, Span};
 use mq_link::Family;
 use std::alloc::{AllocError, Allocator};
@@ -68,7 +71,7 @@ fn is_at(a: Moment, b: Moment) -> bool
 }
 
 /// Returns whether a moment is before another.
-fn is_before(a: Moment, b: Moment) -> bool
+pub(crate) fn is_before(a: Moment, b: Moment) -> bool
     ensures { result ≡ nat_lt a b }
 {
     !Meter::new().reached(b, a)
@@ -118,16 +121,16 @@ fn is_group_wanted<F: Family>(moment: Moment, group: F::Address, entry: &Entry<F
 }
 
 impl<F: Family, A: Allocator> Waiting<F, A> {
-    /// Returns an empty list, with all memory allocated.
-    pub(crate) fn new(alloc: A) -> Result<Waiting<F, A>, AllocError>
-    where
-        A: Copy,
-        ensures { IfOk result (λ w. w ≡ waits.nothing) }
+    /// Returns an empty list, with all memory allocated from `memory`.
+    #[tactic(auto, unfolding(crate::specs::Sizes::bytes_of_entries))]
+    pub(crate) fn new<M: VectorSource<A>>(memory: &mut M) -> Result<Waiting<F, A>, AllocError>
+        ensures nothing { IfOk result (λ w. w ≡ waits.nothing) }
+        ensures memory { Takes (bytes_of_waiting F.Address.row) (M.less_than memory.old) (M.less_than memory.new) (is_ok result) }
     {
         Ok(Waiting {
-            entries: VecDeque::with_capacity(alloc, ROOM)?,
-            trails: Trails::new(alloc)?,
-            latest: vec![in alloc; Stamp::of(0).moment(); SLOTS]?,
+            entries: VecDeque::from_vec(memory.with_capacity(ROOM)?),
+            trails: Trails::new(memory)?,
+            latest: filled(memory, Stamp::of(0).moment(), SLOTS)?,
             last_group: 0,
             is_full: false,
         })
@@ -178,6 +181,27 @@ impl<F: Family, A: Allocator> Waiting<F, A> {
         entry.terms()
     }
 
+    /// Returns whether an entry of a side with this subject has no partner.
+    pub(crate) fn has_free(&self, side: Side, asked: Asked<F::Address>) -> bool
+        ensures { result ≡ is_some (spec.first_terms (waits.is_free side (numbered_asked F.Address.number asked)) self.now.entries) }
+    {
+        match self.place_of(side, asked) {
+            Some(place) => self.entries[place].terms().is_some(),
+            None => false,
+        }
+    }
+
+    /// Returns the first entry of a side with this subject that has no partner.
+    pub(crate) fn first(&self, side: Side, asked: Asked<F::Address>) -> Option<Entry<F::Address>>
+        ensures { numbered_entry_if F.Address.number result
+            ≡ spec.first_entry (waits.is_free side (numbered_asked F.Address.number asked)) self.now.entries }
+    {
+        match self.place_of(side, asked) {
+            Some(place) => Some(self.entries[place]),
+            None => None,
+        }
+    }
+
     /// Returns the place of the first entry of a side with this subject that has no partner.
     fn place_of(&self, side: Side, asked: Asked<F::Address>) -> Option<usize>
         ensures none { IfNone result (IsNoneFree side (numbered_asked F.Address.number asked) self.now.entries) }
@@ -212,6 +236,14 @@ impl<F: Family, A: Allocator> Waiting<F, A> {
         }
         self.trails.pop();
         self.entries.pop_front()
+    }
+
+    /// Removes the entries that have expired at a moment, unless an entry had no room.
+    pub(crate) fn forget(&mut self, within: Span, now: Moment)
+        requires in_range { now ≤ 2 ^ 53 }
+        ensures { self.new ≡ waits.settled within now self.old }
+    {
+        while let Some(_entry) = self.pop_over(within, now) {}
     }
 
     /// Removes the first entry.

@@ -6,6 +6,7 @@ ghost use Rattle.mq_wire.specs.Numbered.{numbered_query};
 ghost use Rattle.mq_text.specs.Printing.{output_of};
 ghost use Rattle.mq_check.specs.Basis as basis;
 ghost use Rattle.mq_check.specs.Checking as spec;
+ghost use Rattle.mq_check.specs.declared.headers.HeaderFault.TheVariants.{WrongChecksum};
 ghost use Rattle.mq_check.specs.Headers.{faults_of};
 ghost use Rattle.mq_check.specs.Telling.{Tells};
 
@@ -18,7 +19,7 @@ use crate::stamp::Stamp;
 use crate::told::Told;
 use mq_count::{Moment, Watched};
 use mq_lines::LineKey;
-use mq_link::{Config, Outlet};
+use mq_link::{Link, Outlet};
 use mq_pcap::{Inner, LinkType};
 use mq_replay::CapturedDatagram;
 use mq_sched::OtherQuerier;
@@ -150,7 +151,8 @@ where
         told: &mut Told,
         writer: &mut Watched<W>,
     ) -> Result<(), LineFault>
-        ensures { Tells F.Address.family (flat_map spec.found_of_last self.old.checking.waiting.entries) told.old told.new
+        ensures own { self.new.own ≡ self.old.own }
+        ensures tells { Tells F.Address.family (flat_map spec.found_of_last self.old.checking.waiting.entries) told.old told.new
             (output_of W.contents writer.old) (output_of W.contents writer.new) result }
     {
         self.checking.tell_rest(told, writer)
@@ -180,29 +182,43 @@ where
     }
 
     /// Handles the headers of a packet with a query of the checked router.
-    pub(crate) fn see_headers(&mut self, moment: Moment, number: u64, headers: Headers)
-        ensures { self.new ≡ record self.old { checking = spec.faults_seen moment number (faults_of headers) self.old.checking } }
+    pub(crate) fn see_headers(
+        &mut self,
+        moment: Moment,
+        number: u64,
+        headers: Headers,
+        has_reserved_bits: bool,
+    )
+        ensures { self.new ≡ record self.old {
+          checking = spec.faults_seen moment number (faults_of headers has_reserved_bits) self.old.checking;
+        } }
     {
-        self.checking.see_headers(moment, number, headers);
+        self.checking
+            .see_headers(moment, number, headers, has_reserved_bits);
+    }
+
+    /// Handles a query of the checked router with a wrong checksum.
+    pub(crate) fn see_broken(&mut self, moment: Moment, number: u64)
+        ensures { self.new ≡ record self.old { checking = spec.with_fault moment number self.old.checking WrongChecksum } }
+    {
+        self.checking.see_broken(moment, number);
     }
 
     /// Handles a query of the checked router that is seen.
     pub(crate) fn see(
         &mut self,
         within: u32,
-        config: &Config<F>,
-        in_force: Timing,
+        link: &Link<F, A>,
         stamp: Stamp,
         to: F::Address,
         query: &Query<'_, F::Address>,
     )
         ensures { self.new ≡ record self.old {
           checking =
-              spec.query_came within config.now in_force stamp (F.Address.number to) (numbered_query F.Address.number query.now) self.old.checking;
+              spec.query_came within link.now.config link.now.state stamp (F.Address.number to) (numbered_query F.Address.number query.now) self.old.checking;
         } }
     {
-        self.checking
-            .query_seen(within, config, in_force, stamp, to, query);
+        self.checking.query_seen(within, link, stamp, to, query);
     }
 
     /// Handles a query that the link sends.

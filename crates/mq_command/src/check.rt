@@ -13,6 +13,7 @@ pub(crate) fn request_in<'a>(words: &ArgMatches<'a>) -> Option<Request<'a>> {
         settings: settings_in(words),
         within: words.get_one::<u32>("within"),
         cite: words.get_flag("cite"),
+        strict: words.get_flag("strict"),
         until: words.get_one::<u64>("until"),
         file: words.get_str("FILE"),
     })
@@ -23,6 +24,9 @@ const ABOUT: &str =
 
 const AFTER_HELP: &str = "\
 Examples:
+  mquerier check igmp --querier auto capture.pcap
+      checks the querier of the capture's first general query, with the variables that its queries have; the last
+      line has them: taken from the capture: querier 10.0.0.1 rv 2 qi 125 qri 10000 lmqi 1000
   mquerier check igmp --querier 10.0.0.1 capture.pcap
       prints this, if it asked for a source with a response of 500 ms, and again a second too early:
           4263 differs 232.1.1.1 10.0.0.101: response 500, wanted 1000
@@ -48,11 +52,15 @@ S a source of it:
   T general none for MS, wanted QI     none came for MS milliseconds, up to the end or another querier
   T packet N ttl X, wanted 1           packet N has a query with another TTL or hop limit
   T packet N alert 0                   it has a query without Router Alert
+  T packet N checksum                  it has a query with a wrong checksum
+  T packet N reserved                  a reserved field of its query is not zero
   checked general N specific M: F findings
   packets N messages M malformed F cut C unread U; groups held before 0 are unknown
                                       unread are fragments, second tags, PPPoE and the like
   querier A from 0, lost N, last at T, other B, again at R
                                       how often A lost the role, to B at last, and since when it has it again
+  taken from the capture: querier A rv N qi S qri MS lmqi MS
+                                      with --querier auto, without the variables that are given or that are 0
 
 Status:
   0 something was judged, and nothing found
@@ -60,7 +68,8 @@ Status:
   2 the command line is faulty, or help was asked for
   3 something was judged and something found
   4 nothing was judged: half of the packets or more are cut or unread, or there is no message of the family, or no
-    query from this address was seen and none is missing; standard error has a line with the reason
+    query from this address was seen and none is missing, or with --querier auto there is no general query;
+    standard error has a line with the reason
 
 Faults of the options are \"mquerier: configuration fault K\", with status 2. The first that holds is reported:
   1 --rv has to be 1 to 7
@@ -97,17 +106,22 @@ pub(crate) fn command<'a>(alloc: Global) -> Result<Command<'a>, AllocError> {
         .arg(file(alloc))?
         .arg(querier(alloc))?
         .arg(within(alloc))?
-        .arg(cite(alloc))?;
+        .arg(cite(alloc))?
+        .arg(strict(alloc))?;
     with_limits(alloc, with_variables(alloc, command)?)?
         .arg(ssm(alloc))?
         .arg(until(alloc))
 }
 
 fn querier<'a>(alloc: Global) -> Arg<'a> {
-    address(alloc, "querier", "querier").required(true).help(
-        "The address of the querier; for mld a link-local one, in fe80::/10",
-    )
+    address(alloc, "querier", "querier")
+        .required(true)
+        .help(QUERIER_HELP)
 }
+
+const QUERIER_HELP: &str = "\
+The address of the querier; for mld a link-local one, in fe80::/10. auto takes
+it and the variables that aren't given from the capture, which has to be a FILE";
 
 fn within<'a>(alloc: Global) -> Arg<'a> {
     Arg::new(alloc, "within")
@@ -122,4 +136,11 @@ fn cite<'a>(alloc: Global) -> Arg<'a> {
         .long("cite")
         .action(ArgAction::SetTrue)
         .help("Print after each line the section of the standard")
+}
+
+fn strict<'a>(alloc: Global) -> Arg<'a> {
+    Arg::new(alloc, "strict")
+        .long("strict")
+        .action(ArgAction::SetTrue)
+        .help("Also report what only another reading of the standard allows")
 }

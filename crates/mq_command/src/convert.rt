@@ -41,6 +41,7 @@ another link type becomes one of type 0xffff, which show lists as other.
 
 These lines on standard error leave the status 0:
   mquerier: N packets that came again are left out
+  mquerier: the file records N dropped packets
   mquerier: N packets of link types that aren't read
       with a line for each of the first 16 of these link types
 

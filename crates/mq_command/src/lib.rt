@@ -64,7 +64,7 @@ pub enum Request<'a> {
     Check {
         /// The querier's protocol.
         protocol: Protocol,
-        /// Its address.
+        /// Its address, or `auto` for the querier that the capture names.
         querier: &'a str,
         /// Its variables, and the limits of the querier that it is compared with.
         settings: Settings,
@@ -72,6 +72,8 @@ pub enum Request<'a> {
         within: Option<u32>,
         /// Prints the section of the standard after each line.
         cite: bool,
+        /// Accepts only this project's own readings of the standard.
+        strict: bool,
         /// The time until which the capture lasts at least, in milliseconds after the first packet, if given.
         until: Option<u64>,
         /// The file that the capture is in.

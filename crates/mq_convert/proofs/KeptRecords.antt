@@ -28,8 +28,9 @@ use Rattle.mq_convert.proofs.TagWalk.{no_tag}
 abbrev pub behind_header : ContextState
 behind_header = record {
   kind = Classic Little Nanoseconds;
-  interfaces = record { link = 1; limit = 0; resolution = 0; offset = 0; name = 0 } ∷ [];
+  interfaces = record { link = 1; limit = 0; resolution = 0; offset = 0; name = 0; dropped = 0 } ∷ [];
   earlier = 0;
+  dropped = 0;
 }
 
 -- the packet of a record with this header

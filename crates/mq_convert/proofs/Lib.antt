@@ -19,6 +19,7 @@ pub mod Seen
 pub mod Sieved
 pub mod Sifted
 pub mod SoFar
+pub mod StoredDrops
 pub mod TagWalk
 pub mod Tallied
 pub mod WholeFiles

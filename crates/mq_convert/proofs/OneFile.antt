@@ -103,12 +103,12 @@ same_ok context context' held held' x is other =
 same_blocks : (number : ℕ) (context after after' : ContextState) (front front' rest rest' : List ℕ) (blocks blocks' : List (Option Captured)) (end end' : Option BlockFault)
     → front ++ rest ≡ front' ++ rest' → AreBlocks context front blocks after → AreBlocks context front' blocks' after'
     → number + length blocks ≤ endless → number + length blocks' ≤ endless
-    → EndsBy (number + length blocks) after rest end → EndsBy (number + length blocks') after' rest' end' → (blocks ≡ blocks') × (end ≡ end')
+    → EndsBy (number + length blocks) after rest end → EndsBy (number + length blocks') after' rest' end' → (blocks ≡ blocks') × (end ≡ end') × (after ≡ after')
 same_blocks number context after after' front front' rest rest' [] [] end end' is are are' few few' ends ends' =
     let same : rest ≡ rest' = ap (λ xs. xs ++ rest) (sym are.0) ∙ is ∙ ap (λ xs. xs ++ rest') are'.0 in
     let a : EndsBy (number + 0) context rest' end = subst (λ xs. EndsBy (number + 0) context xs end) same (subst (λ s. EndsBy (number + 0) s rest end) are.1 ends) in
     let b : EndsBy (number + 0) context rest' end' = subst (λ s. EndsBy (number + 0) s rest' end') are'.1 ends' in
-    (refl, one_end (number + 0) context rest' end end' a b)
+    (refl, one_end (number + 0) context rest' end end' a b, are.1 ∙ sym are'.1)
 same_blocks number context after after' front front' rest rest' [] (held' ∷ blocks') end end' is are are' few few' ends ends' =
     let same : rest ≡ are'.0 ++ (are'.1 ++ rest') = ap (λ xs. xs ++ rest) (sym are.0) ∙ is ∙ ap (λ xs. xs ++ rest') are'.3 ∙ append_assoc are'.0 are'.1 rest' in
     let a = subst (λ xs. EndsBy (number + 0) context xs end) same (subst (λ s. EndsBy (number + 0) s rest end) are.1 ends) in
@@ -127,12 +127,13 @@ same_blocks number context after after' front front' rest rest' (held ∷ blocks
     let others = same_blocks (number + 1) are'.2 after after' are.1 are'.1 rest rest' blocks blocks' end end' same.1
     (subst (λ s. AreBlocks s are.1 blocks after) read.0 are.6) are'.6 (omega (arith, few)) (omega (arith, few'))
     (subst (λ n. EndsBy n after rest end) one ends) (subst (λ n. EndsBy n after' rest' end') one' ends') in
-    ((λ i. read.1 i ∷ others.0 i), others.1)
+    ((λ i. read.1 i ∷ others.0 i), others.1, others.2)
 
 none_more : (n : ℕ) → n ≡ 0 + n
 none_more n = omega arith
 
-pub one_file_lem : (bytes : List ℕ) (blocks blocks' : List (Option Captured)) (end end' : Option BlockFault) → Captures bytes blocks end → Captures bytes blocks' end' → (blocks ≡ blocks') × (end ≡ end')
+pub one_file_lem : (bytes : List ℕ) (blocks blocks' : List (Option Captured)) (end end' : Option BlockFault)
+    → (a : Captures bytes blocks end) → (b : Captures bytes blocks' end') → (blocks ≡ blocks') × (end ≡ end') × (a.context ≡ b.context)
 one_file_lem bytes blocks blocks' end end' a b =
     let few = a.few in
     let few' = b.few in

@@ -119,7 +119,8 @@ next_read choice old mid new context after number size count sieve more buffer h
 -- what the packets that were read come to, where a call ends
 ended_with : (choice : Choice) (old mid new : InputState) (before after : Option (List ℕ)) (held left : List ℕ) (context : ContextState) (number : ℕ) (sieve : SieveState) (r : IsReadTo choice old mid context number sieve)
     → (bytes : List ℕ) → Takes mid new bytes → number ≤ endless → (end : Option BlockFault) → EndsBy number context bytes end → (it : Result ConvertCounts ConvertFault)
-    → IsEndedBy choice r.blocks end (r.bytes ++ bytes) old new it → IsPut before after held left (written_of choice r.blocks) it → PutsCapture choice old new before after held left it
+    → IsEndedBy choice context.dropped r.blocks end (r.bytes ++ bytes) old new it → IsPut before after held left (written_of choice r.blocks) it
+    → PutsCapture choice old new before after held left it
 ended_with choice old mid new before after held left context number sieve r bytes takes few end ends it ended put = record {
   bytes = r.bytes ++ bytes;
   blocks = r.blocks;
@@ -139,11 +140,20 @@ ended_with choice old mid new before after held left context number sieve r byte
 }
 
 -- the file ended
-pub ended_well : (choice : Choice) (old mid new : InputState) (before after : Option (List ℕ)) (held left : List ℕ) (context : ContextState) (number : ℕ) (sieve : SieveState) (buffer : List ℕ) (r : IsReadTo choice old mid context number sieve)
-    → Passes before after held left (written_of choice r.blocks) → mid.failed ≡ old.failed → number ≤ endless → NextBlock context.kind number mid new buffer (Ok None) → PutsCapture choice old new before after held left (Ok sieve.counts)
+pub ended_well : (choice : Choice) (old mid new : InputState) (before after : Option (List ℕ)) (held left : List ℕ) (context : ContextState) (number : ℕ)
+    (sieve : SieveState) (buffer : List ℕ) (r : IsReadTo choice old mid context number sieve)
+    → Passes before after held left (written_of choice r.blocks) → mid.failed ≡ old.failed → number ≤ endless
+    → NextBlock context.kind number mid new buffer (Ok None)
+    → PutsCapture choice old new before after held left (Ok (record sieve.counts { dropped = context.dropped }))
 ended_well choice old mid new before after held left context number sieve buffer r passed same few next =
-    ended_with choice old mid new before after held left context number sieve r next.bytes next.takes few None (next.answers.0, next.answers.1) (Ok sieve.counts)
-    (refl, next.answers.2, r.sieved.counts, next.failed ∙ or-false mid.failed ∙ same) passed
+    ended_with choice old mid new before after held left context number sieve r next.bytes next.takes few None
+    (next.answers.0, next.answers.1) (Ok (record sieve.counts { dropped = context.dropped })) (
+      refl,
+      next.answers.2,
+      record { unread = r.sieved.counts.unread; repeated = r.sieved.counts.repeated },
+      next.failed ∙ or-false mid.failed ∙ same,
+      refl,
+    ) passed
 
 -- a read failed, or the next block has a fault by its size
 pub ended_faulty : (choice : Choice) (old mid new : InputState) (before after : Option (List ℕ)) (held left : List ℕ) (context : ContextState) (number : ℕ) (sieve : SieveState) (buffer : List ℕ) (e : ConvertFault) (r : IsReadTo choice old mid context number sieve)

@@ -54,7 +54,10 @@ pub one_conversion_lem : (choice choice' : Choice) (old new old' new' : InputSta
     → old.ahead ≡ Some file → old'.ahead ≡ Some file → TellsOfFile r → TellsOfFile r'
     → (c : Converts choice old new before after r) → (d : Converts choice' old' new' before' after' r') → (c.blocks ≡ d.blocks) × (c.end ≡ d.end)
 one_conversion_lem choice choice' old new old' new' before after before' after' r r' file is is' tells tells' c d =
-    one_file_lem file c.blocks d.blocks c.end d.end (whole_file choice old new before after r file is c tells) (whole_file choice' old' new' before' after' r' file is' d tells')
+    let first = whole_file choice old new before after r file is c tells in
+    let second = whole_file choice' old' new' before' after' r' file is' d tells' in
+    let one = one_file_lem file c.blocks d.blocks c.end d.end first second in
+    (one.0, one.1)
 
 pub written_lem : (bytes : List ℕ) (packets : List pcap.Captured) (old new : InputState) (before after : Option (List ℕ)) (r : Result ConvertCounts ConvertFault)
     → All (λ byte. byte < 256) bytes → (is : pcap.Captures bytes (Ok plain) packets None) → ArePlain 1 (drop 24 bytes) packets is.1

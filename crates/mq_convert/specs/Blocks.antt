@@ -14,6 +14,7 @@ use Rattle.mq_convert.specs.declared.fault.BlockFault.TheVariants as fault
 use Rattle.mq_convert.specs.declared.packet.Packet.{Packet}
 use Rattle.mq_convert.specs.declared.packet.Said.{Said}
 use Rattle.mq_convert.specs.Contexts.{ContextState}
+use Rattle.mq_convert.specs.Dropped.{after_packet, after_statistics}
 use Rattle.mq_convert.specs.Interfaces.{interface_in}
 use Rattle.mq_convert.specs.Moments.{classic_moment, moment_of}
 use Rattle.mq_convert.specs.Sizes.{section_type, form_in, most_seen, order_in, seen_of}
@@ -129,11 +130,11 @@ described_in context order size block = first_that_holds
     ∷ [])
     (Ok (record context { interfaces = context.interfaces ++ (interface_in order (slice_range block 8 (length block - 4)) ∷ []) }, None))
 
--- a section header in the byte order that it says
+-- a section header in the byte order that it says; what earlier sections record as dropped stays counted
 unfoldable pub opened_in : Endian → ContextState → (size : ℕ) → List ℕ → Outcome
 opened_in order context size block = first_that_holds
     ((not (is_closed order size block), Err fault.Length) ∷ (not (field order 12 2 block == 1), Err fault.Version) ∷ [])
-    (Ok (record { kind = Section order; interfaces = []; earlier = counted_on context.earlier (length context.interfaces) }, None))
+    (Ok (record { kind = Section order; interfaces = []; earlier = counted_on context.earlier (length context.interfaces); dropped = context.dropped }, None))
 
 -- a section header, whose version begins with 1: a new section without interfaces
 unfoldable pub section_in : ContextState → (size : ℕ) → List ℕ → Outcome
@@ -158,7 +159,8 @@ next_in order context size block =
     ((kind == section_type, section_in context size block)
     ∷ (not (is_closed order size block), Err fault.Length)
     ∷ (kind == 1, described_in context order size block)
-    ∷ (kind == 6 || (kind == 2 || kind == 3), with_packet context (packet_in context order kind block))
+    ∷ (kind == 6 || (kind == 2 || kind == 3), with_packet (after_packet order kind block context) (packet_in context order kind block))
+    ∷ (kind == 5, Ok (after_statistics order block context, None))
     ∷ [])
     (Ok (context, None))
 
@@ -170,8 +172,9 @@ classic_in order fraction block = first_that_holds
     (Ok (
       record {
         kind = Classic order fraction;
-        interfaces = record { link = field order 20 4 block % 65536; limit = 0; resolution = 0; offset = 0; name = 0 } ∷ [];
+        interfaces = record { link = field order 20 4 block % 65536; limit = 0; resolution = 0; offset = 0; name = 0; dropped = 0 } ∷ [];
         earlier = 0;
+        dropped = 0;
       },
       None,
     ))

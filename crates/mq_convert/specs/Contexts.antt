@@ -6,14 +6,17 @@ use Rattle.mq_convert.specs.declared.context.Kind.{Kind}
 use Rattle.mq_convert.specs.declared.context.Kind.TheVariants.{Start}
 
 -- The kind of the next block, the interfaces of the section so far, and the number of those of earlier sections.
+-- `dropped` is the number of dropped packets that the file so far records.
 pub record ContextState : Type 0 where
   pub kind : Kind
   pub interfaces : List Interface
   pub earlier : ℕ
+  pub dropped : ℕ
 
 abbrev pub context_of : Context → ContextState
-context_of context = record { kind = context.kind; interfaces = context.interfaces.items; earlier = context.earlier }
+context_of context =
+    record { kind = context.kind; interfaces = context.interfaces.items; earlier = context.earlier; dropped = context.dropped }
 
 -- the context before the first block of a file
 abbrev pub at_start : ContextState
-at_start = record { kind = Start; interfaces = []; earlier = 0 }
+at_start = record { kind = Start; interfaces = []; earlier = 0; dropped = 0 }

@@ -14,15 +14,16 @@ use Rattle.mq_convert.specs.Reading.{IsKnownThere}
 use Rattle.mq_convert.specs.Records.{packets_of, written_of}
 use Rattle.mq_convert.specs.Sieving.{Counts}
 
--- the input ended as the result says
-abbrev pub IsEndedBy : Choice → (blocks : List (Option Captured)) → (end : Option BlockFault) → (bytes : List ℕ) → (old new : InputState) → Result ConvertCounts ConvertFault → Type 0
-IsEndedBy choice blocks end bytes old new (Ok counts) =
+-- the input ended as the result says, and records so many dropped packets
+abbrev pub IsEndedBy : Choice → (dropped : ℕ) → (blocks : List (Option Captured)) → (end : Option BlockFault) → (bytes : List ℕ) → (old new : InputState) → Result ConvertCounts ConvertFault → Type 0
+IsEndedBy choice dropped blocks end bytes old new (Ok counts) =
     (end ≡ None) × IsAtEnd new.ahead × Counts choice (packets_of blocks) counts × (new.failed ≡ old.failed)
-IsEndedBy choice blocks end bytes old new (Err answer.Read) = new.failed ≡ true
-IsEndedBy choice blocks end bytes old new (Err (answer.Block number f)) =
+    × (counts.dropped ≡ dropped)
+IsEndedBy choice dropped blocks end bytes old new (Err answer.Read) = new.failed ≡ true
+IsEndedBy choice dropped blocks end bytes old new (Err (answer.Block number f)) =
     (end ≡ Some f) × (number ≡ length blocks) × IsKnownThere f new × (new.failed ≡ old.failed)
-IsEndedBy choice blocks end bytes old new (Err answer.Write) = Unit {0}
-IsEndedBy choice blocks end bytes old new (Err answer.Memory) = bytes ≡ []
+IsEndedBy choice dropped blocks end bytes old new (Err answer.Write) = Unit {0}
+IsEndedBy choice dropped blocks end bytes old new (Err answer.Memory) = bytes ≡ []
 
 -- the capture was written: all of it, a prefix if a write failed, nothing if an allocation failed
 abbrev pub IsWritten : (old new : Option (List ℕ)) → List ℕ → Result ConvertCounts ConvertFault → Type 0
@@ -39,5 +40,5 @@ pub record Converts (choice : Choice) (old new : InputState) (before after : Opt
   pub end : Option BlockFault
   pub takes : Takes old new bytes
   pub capture : Captures bytes blocks end
-  pub ended : IsEndedBy choice blocks end bytes old new r
+  pub ended : IsEndedBy choice capture.context.dropped blocks end bytes old new r
   pub written : IsWritten before after (written_of choice blocks) r

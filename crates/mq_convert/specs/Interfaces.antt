@@ -56,5 +56,5 @@ with_options order interface (option ∷ options) = with_options order (with_opt
 -- the interface described between the lengths of the block; moments are microseconds unless an option says otherwise
 abbrev pub interface_in : Endian → List ℕ → Interface
 interface_in order body = with_options order
-    (record { link = field order 0 2 body; limit = field order 4 4 body; resolution = 6; offset = 0; name = 0 })
+    (record { link = field order 0 2 body; limit = field order 4 4 body; resolution = 6; offset = 0; name = 0; dropped = 0 })
     (options_of order (drop 8 body))

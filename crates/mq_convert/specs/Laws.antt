@@ -18,11 +18,13 @@ use Rattle.mq_convert.specs.Choices.{is_chosen_packet}
 use Rattle.mq_convert.specs.Records.{written_of}
 use Rattle.mq_convert.specs.Repeats.{Gone, frame_out, going_out, is_again, left_out}
 
--- a file is one capture: the content of its blocks, and its end
+-- a file is one capture: the content of its blocks, its end, and the context there, with the packets that it records as
+-- dropped
 abbrev pub OneFile : Type 0
 OneFile =
     (bytes : List ℕ) (blocks blocks' : List (Option Captured)) (end end' : Option BlockFault)
-    → Captures bytes blocks end → Captures bytes blocks' end' → (blocks ≡ blocks') × (end ≡ end')
+    → (a : Captures bytes blocks end) → (b : Captures bytes blocks' end')
+    → (blocks ≡ blocks') × (end ≡ end') × (a.context ≡ b.context)
 
 -- a fault of a prefix of a file, except for a truncated block, is a fault of the whole file
 abbrev pub FaultsStay : Type 0

@@ -2,6 +2,7 @@ pub mod Blocks
 pub mod Choices
 pub mod Contexts
 pub mod Converting
+pub mod Dropped
 pub mod Faults
 pub mod Files
 pub mod Filling

@@ -52,5 +52,5 @@ pub record PutsCapture (choice : Choice) (old new : InputState) (before after : 
   pub end : Option BlockFault
   pub takes : Takes old new bytes
   pub capture : Captures bytes blocks end
-  pub ended : IsEndedBy choice blocks end bytes old new r
+  pub ended : IsEndedBy choice capture.context.dropped blocks end bytes old new r
   pub put : IsPut before after held left (written_of choice blocks) r

@@ -18,11 +18,13 @@ use mq_pcap::{Endian, Fraction};
 /// The types of the blocks that are read, besides section headers.
 const INTERFACE: u32 = 1;
 
-const OBSOLETE_PACKET: u32 = 2;
+pub(crate) const OBSOLETE_PACKET: u32 = 2;
 
 const SIMPLE_PACKET: u32 = 3;
 
-const ENHANCED_PACKET: u32 = 6;
+const STATISTICS: u32 = 5;
+
+pub(crate) const ENHANCED_PACKET: u32 = 6;
 
 /// Returns whether the size of a block also stands in its last 4 bytes.
 fn is_closed(order: Endian, size: usize, block: &[u8]) -> bool
@@ -89,11 +91,13 @@ impl Context {
             resolution: 0,
             offset: 0,
             name: 0,
+            dropped: 0,
         });
         *self = Context {
             kind: Kind::Classic { order, fraction },
             interfaces,
             earlier: 0,
+            dropped: 0,
         };
         Ok(None)
     }
@@ -164,7 +168,13 @@ impl Context {
         match kind {
             INTERFACE => self.read_interface(order, size, block),
             ENHANCED_PACKET | OBSOLETE_PACKET | SIMPLE_PACKET => {
-                Ok(Some(self.packet_in(order, kind, block)?))
+                let packet = self.packet_in(order, kind, block)?;
+                self.count_dropped(order, kind, block);
+                Ok(Some(packet))
+            }
+            STATISTICS => {
+                self.read_statistics(order, block);
+                Ok(None)
             }
             _ => Ok(None),
         }

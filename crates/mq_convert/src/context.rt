@@ -35,6 +35,8 @@ pub struct Interface {
     pub offset: u64,
     /// Its name, as `name_of` returns it, or 0 if it has no name.
     pub name: u128,
+    /// The packets that it dropped, as the file so far records.
+    pub dropped: u64,
 }
 
 /// The context of a block: what earlier blocks of the file determine.
@@ -45,6 +47,8 @@ pub struct Context {
     pub(crate) interfaces: ArrayVec<Interface, MOST_INTERFACES>,
     /// The number of interfaces that earlier sections described.
     pub(crate) earlier: u64,
+    /// The dropped packets that the file so far records, of all sections.
+    pub(crate) dropped: u64,
 }
 
 impl Context {
@@ -59,6 +63,7 @@ impl Context {
             kind: Kind::Start,
             interfaces: ArrayVec::new(),
             earlier: 0,
+            dropped: 0,
         }
     }
 }

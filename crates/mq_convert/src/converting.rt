@@ -32,8 +32,8 @@ use std::alloc::{AllocError, Allocator};
 use std::io::{Read, Write};
 
 /// Writes the chosen packets of a file as one classic capture of Ethernet, with moments in nanoseconds. Returns the
-/// number of packets whose link type isn't read, and of repeated packets that were left out. It allocates only before
-/// it reads or writes anything. It writes nothing until the first block is known to begin a capture. If the file has a
+/// numbers of packets whose link type isn't read, of repeated packets that were left out, and of packets that the file
+/// records as dropped. It allocates only before it reads or writes anything. It writes nothing until the first block is known to begin a capture. If the file has a
 /// fault, the packets before it are written first. Before a read that may wait, by the stream's `supply`, all packets
 /// so far are written.
 pub fn convert<A: Allocator + Copy, S: Supply, R: Read, W: Write>(
@@ -142,7 +142,7 @@ fn put_capture<A: Allocator, S: Supply, R: Read, W: Write>(
         write_before_wait(context.kind, supply, buffer, writer)?;
         number += 1;
     }
-    Ok(sieve.into_counts())
+    Ok(sieve.into_counts(context.dropped))
 }
 
 /// Reads a block with this number and this size by its seen part.

@@ -9,4 +9,6 @@ pub struct ConvertCounts {
     pub unread: Unread,
     /// The number of repeated packets that were left out.
     pub repeated: u64,
+    /// The number of packets that the file records as dropped.
+    pub dropped: u64,
 }

@@ -29,6 +29,7 @@ pub(crate) fn interface_in(order: Endian, body: &[u8]) -> Interface
         resolution: 6,
         offset: 0,
         name: 0,
+        dropped: 0,
     };
     let mut rest = &body[8..];
     while let Some((code, value, behind)) = first_option(order, rest) {
@@ -57,7 +58,7 @@ fn with_option(order: Endian, interface: Interface, code: u16, value: &[u8]) -> 
 }
 
 /// Returns the 64-bit number of a value.
-fn quad_word(order: Endian, value: &[u8]) -> u64
+pub(crate) fn quad_word(order: Endian, value: &[u8]) -> u64
     requires { length value.now ≡ 8 }
     ensures { result ≡ spec.quad_word order value.now }
 {
@@ -69,7 +70,7 @@ fn quad_word(order: Endian, value: &[u8]) -> u64
 
 /// Returns the code and the bytes of the first option, and the bytes after it. Returns None if no option fits, and at
 /// the end of the list.
-fn first_option(order: Endian, bytes: &[u8]) -> Option<(u16, &[u8], &[u8])>
+pub(crate) fn first_option(order: Endian, bytes: &[u8]) -> Option<(u16, &[u8], &[u8])>
     ensures option { MatchOption result
         (spec.options_of order bytes.now ≡ [])
         (λ o. spec.options_of order bytes.now ≡ (o.0, o.1.now) ∷ spec.options_of order o.2.now) }

@@ -17,6 +17,7 @@ mod comparing;
 mod context;
 mod converting;
 mod counts;
+mod dropped;
 mod fault;
 mod filling;
 mod frames;

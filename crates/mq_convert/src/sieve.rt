@@ -66,6 +66,7 @@ impl<A: Allocator> Sieve<A> {
             counts: ConvertCounts {
                 unread: Unread::none(),
                 repeated: 0,
+                dropped: 0,
             },
         })
     }
@@ -77,11 +78,15 @@ impl<A: Allocator> Sieve<A> {
         self.choice
     }
 
-    /// Returns the counts.
-    pub(crate) fn into_counts(self) -> ConvertCounts
-        ensures { result ≡ self.counts }
+    /// Returns the counts, for a file that records so many dropped packets.
+    pub(crate) fn into_counts(self, dropped: u64) -> ConvertCounts
+        ensures { result ≡ record self.counts { dropped = dropped } }
     {
-        self.counts
+        ConvertCounts {
+            unread: self.counts.unread,
+            repeated: self.counts.repeated,
+            dropped,
+        }
     }
 
     /// Returns whether a packet of a block repeats another and is left out. Otherwise, if it is compared, it is kept for comparison

@@ -1,17 +1,10 @@
 -- Lists of sources that all have one timer, for the worked examples of many sources: what is done to each is done to one.
 use Rattle.std.proofs.Common.{◌≡◌, ℕ, Bool, true, false, cond, ◌||◌, refl, List, [], ◌∷◌, ◌++◌, length, Option, None, Some, sym, ap, ◌∙◌, suc, arith}
-use Rattle.std.specs.Prelude.{filter}
+use Rattle.std.specs.{Prelude.filter, List.list_any, Ordering.nat_cmp, Ordering.eq_by_cmp, Option.option_and_then, Cmp.nat_cmp_total}
 use lib.Dec.{T}
-use Rattle.std.specs.List.{list_any}
-use Rattle.std.specs.Option.{option_and_then}
-use Rattle.std.proofs.lemmas.List.Folds.{list_any-append}
-use Rattle.std.proofs.lemmas.Bool.Decides.{nat_tests}
-use Rattle.std.specs.Ordering.{nat_cmp, eq_by_cmp}
-use Rattle.std.specs.Cmp.{nat_cmp_total}
-use Rattle.std.specs.FinMap.{find, is_sorted, nat_cmp-IsAntisymmetric}
-use Rattle.std.specs.FinMap.Entries.{same_entries}
-use Rattle.mq_table.specs.declared.timers.SourceTimer.{SourceTimer}
-use Rattle.mq_table.specs.Maps.{with_entry, entries_by}
+use Rattle.std.proofs.lemmas.{List.Folds.list_any-append, Bool.Decides.nat_tests}
+use Rattle.std.specs.FinMap.{find, is_sorted, nat_cmp-IsAntisymmetric, Entries.same_entries}
+use Rattle.mq_table.specs.{declared.timers.SourceTimer.SourceTimer, Maps.with_entry, Maps.entries_by}
 use Rattle.mq_examples.specs.ManySources.{each_as}
 use Rattle.mq_link.proofs.Known.{Entries, ordered, find-ordered, sorted-ordered, keys_of, kept_in}
 use Rattle.mq_examples.proofs.KnownGroups.{named_in, ascending}
@@ -28,8 +21,7 @@ pub tied_to_itself : (s : ℕ) → eq_by_cmp nat_cmp s s ≡ true
 tied_to_itself s = grind (arith, nat_tests)
 
 or_later : (a b : Bool) → b ≡ true → (a || b) ≡ true
-or_later true b is = refl
-or_later false b is = is
+or_later a b h1 = grind arith
 
 pub the_first : {P : ℕ → Type 0} (s : ℕ) (ss : List ℕ) → Each P (s ∷ ss) → P s
 the_first s ss each = each s (ap (λ b. b || named_in ss s) (tied_to_itself s))

@@ -1,22 +1,12 @@
 -- Groups whose sources all have one timer: what a record, a round and the end of timers make of them.
 use Rattle.std.proofs.Common.{◌≡◌, ℕ, ◌+◌, ◌-◌, Bool, true, false, cond, not, ◌&&◌, refl, List, [], ◌∷◌, ◌++◌, length, Option, None, Some, ap, ◌∙◌, ltb, leb, eqb, suc, arith}
-use Rattle.std.specs.Prelude.{filter}
-use Rattle.std.specs.List.{list_any}
+use Rattle.std.specs.{Prelude.filter, Ordering.nat_cmp, List.list_any, FinMap.find}
 use Rattle.std.proofs.lemmas.Bool.Decides.{nat_tests}
-use Rattle.std.specs.Ordering.{nat_cmp}
-use Rattle.std.specs.FinMap.{find}
 use Rattle.mq_table.specs.declared.kind.Kind.TheVariants.{Allow, Block}
-use Rattle.mq_table.specs.declared.timers.FilterMode.TheVariants.{Include}
-use Rattle.mq_table.specs.declared.timers.SourceTimer.{SourceTimer}
-use Rattle.mq_table.specs.declared.timers.SourceTimer.TheVariants.{Running}
-use Rattle.mq_table.specs.Examples.{default_timing}
-use Rattle.mq_table.specs.Sets.{Set}
-use Rattle.mq_table.specs.Group.{is_running, is_ahead, deadline_of, sendings_of}
-use Rattle.mq_table.specs.Expiry.{source_expired}
-use Rattle.mq_table.specs.Lowering.{lowered_to}
-use Rattle.mq_table.specs.Sendings.{source_asked, source_counted}
-use Rattle.mq_sched.specs.Schedule.{no_schedule}
-use Rattle.mq_sched.specs.Sending.{sources_queries}
+use Rattle.mq_table.specs.declared.timers.{FilterMode.TheVariants.Include, SourceTimer.SourceTimer, SourceTimer.TheVariants.Running}
+use Rattle.mq_table.specs.{Examples.default_timing, Expiry.source_expired, Sets.Set, Lowering.lowered_to}
+use Rattle.mq_table.specs.{Group.is_running, Group.is_ahead, Group.deadline_of, Group.sendings_of, Sendings.source_asked, Sendings.source_counted}
+use Rattle.mq_sched.specs.{Schedule.no_schedule, Sending.sources_queries}
 use Rattle.mq_examples.specs.ManySources.{each_as}
 use Rattle.mq_link.proofs.Known.{Entries, kept_in}
 use Rattle.mq_examples.proofs.KnownGroups.{Known, nothing_known, timer_in, ascending, any_sending, settled_in, is_empty, expired_in, named_in, rule_of, change_in}

@@ -1,41 +1,23 @@
 -- Links with one group whose sources all have one timer: what a Report and a tick do to it.
 use Rattle.std.proofs.Common.{◌≡◌, ℕ, ◌+◌, Bool, true, false, cond, ◌&&◌, refl, List, [], ◌∷◌, ◌++◌, length, Option, None, Some, Ok, ap, ◌∙◌, ltb, leb, eqb, arith}
-use Rattle.std.specs.Prelude.{max}
-use Rattle.std.proofs.lemmas.List.{append-nil}
-use Rattle.std.proofs.lemmas.List.Sums.{sum_by-cons}
-use Rattle.std.proofs.lemmas.Bool.Decides.{nat_tests}
-use Rattle.std.specs.List.{sum_by}
-use Rattle.std.specs.Option.{option_and_then, unwrap_or, is_some}
-use Rattle.std.specs.Ordering.{nat_cmp}
-use Rattle.std.specs.declared.cmp.Ordering.TheVariants.{Equal}
-use Rattle.std.specs.FinMap.{find}
-use Rattle.std.specs.FinMap.Entries.{by_order}
-use Rattle.mq_wire.specs.Family.{Family}
-use Rattle.mq_wire.specs.declared.message.Message.TheVariants.{Report as ReportMessage}
-use Rattle.mq_wire.specs.declared.records.RecordView.{RecordView}
-use Rattle.mq_table.specs.declared.kind.Kind.TheVariants.{Allow, Block}
-use Rattle.mq_table.specs.declared.timers.SourceTimer.{SourceTimer}
-use Rattle.mq_table.specs.declared.timers.SourceTimer.TheVariants.{Running}
-use Rattle.mq_table.specs.Maps.{with_entry}
-use Rattle.mq_table.specs.Examples.{default_timing}
-use Rattle.mq_sched.specs.Sending.{SentQuery, sources_queries}
-use Rattle.mq_sched.specs.Election.{ElectionState, ticked, general_messages}
-use Rattle.mq_link.specs.declared.configuration.Limits.{Limits}
-use Rattle.mq_link.specs.declared.answers.Refusal.TheVariants.{Repeated}
-use Rattle.mq_link.specs.declared.answers.Received.TheVariants.{Taken}
-use Rattle.mq_link.specs.Family.{per_query, v1_mutes_leave}
-use Rattle.mq_link.specs.Configuration.{Configuration}
+use Rattle.std.specs.{Prelude.max, List.sum_by, Ordering.nat_cmp, Option.option_and_then, Option.unwrap_or, Option.is_some}
+use Rattle.std.proofs.lemmas.{List.append-nil, List.Sums.sum_by-cons, Bool.Decides.nat_tests}
+use Rattle.std.specs.{declared.cmp.Ordering.TheVariants.Equal, FinMap.find, FinMap.Entries.by_order}
+use Rattle.mq_wire.specs.{Family.Family, declared.message.Message.TheVariants.Report as ReportMessage, declared.records.RecordView.RecordView}
+use Rattle.mq_table.specs.{declared.kind.Kind.TheVariants.Allow, declared.kind.Kind.TheVariants.Block, Maps.with_entry, Examples.default_timing}
+use Rattle.mq_table.specs.declared.timers.SourceTimer.{SourceTimer, TheVariants.Running}
+use Rattle.mq_sched.specs.{Sending.SentQuery, Sending.sources_queries, Election.ElectionState, Election.ticked, Election.general_messages}
+use Rattle.mq_link.specs.declared.{configuration.Limits.Limits, answers.Refusal.TheVariants.Repeated, answers.Received.TheVariants.Taken}
+use Rattle.mq_link.specs.{Family.per_query, Family.v1_mutes_leave, Configuration.Configuration, Receive.Envelope, Receive.count_read, Receive.drop_reason}
 use Rattle.mq_link.specs.Counters.{Counters, Applied, Refused, count_verdicts}
 use Rattle.mq_link.specs.Record.{limit_passed_by, Setting, GoesOn, entrance}
-use Rattle.mq_link.specs.Receive.{Envelope, count_read, drop_reason}
 use Rattle.mq_examples.specs.Links.{querier, saying}
 use Rattle.mq_link.proofs.Known.{ordered, kept_in, without}
 use Rattle.mq_examples.proofs.KnownGroups.{Known, KnownChange, nothing_known, is_empty, expired_in, change_in}
-use Rattle.mq_examples.proofs.KnownSendings.{changed_in, sent_in, round_in}
+use Rattle.mq_examples.proofs.{KnownSendings.changed_in, KnownSendings.sent_in, KnownSendings.round_in, Alike.Ascend, Alike.tied_to_itself, Alike.count-each}
 use Rattle.mq_examples.proofs.KnownLinks.{KnownGroups, KnownLink, KnownStep, sent_from, tick_in}
 use Rattle.mq_examples.proofs.KnownRecords.{group_in, with_known, passed_in, size_in, scheduled_in, Record, stated_in, KnownOutcome, passed_or_not, stated_known, changed_by_known, judged_from_known, judged_known}
 use Rattle.mq_examples.proofs.KnownReceipts.{KnownReceipt, with_known_outcomes, counting_known, taken_or_dropped_known, receipt_known}
-use Rattle.mq_examples.proofs.Alike.{Ascend, tied_to_itself, count-each}
 use Rattle.mq_examples.proofs.AlikeGroups.{all_as, some_left, sends, counts, blocked, allowed}
 
 abbrev pub one : ℕ → Known → KnownGroups
@@ -107,8 +89,7 @@ changed family limits own now group gs change e left queries is_changed is_round
         passed_or_not (passed_in limits (with_known gs group after) after) gs (with_known gs group after) (sent_in (per_query family) default_timing now group x)
 
 not_both : (b : Bool) → (b && false) ≡ false
-not_both true = refl
-not_both false = refl
+not_both b = grind arith
 
 -- All are blocked at a moment.
 pub all_blocked : (family : Family) (limits : Limits) (own : ℕ) (envelope : Envelope) (now deadline group s : ℕ) (ss : List ℕ) → Suits family limits own envelope group (s ∷ ss) → ltb (now + 2000) deadline ≡ true

@@ -1,10 +1,7 @@
 -- The captures of the worked examples, as they are read.
 use Rattle.std.proofs.Common.{drop}
-use Rattle.mq_pcap.specs.declared.form.Endian.TheVariants.{Little}
-use Rattle.mq_pcap.specs.declared.form.Fraction.TheVariants.{Microseconds}
-use Rattle.mq_pcap.specs.declared.form.Form.{Form}
-use Rattle.mq_pcap.specs.declared.link_type.LinkType.TheVariants.{Ethernet}
-use Rattle.mq_pcap.specs.Capture.{Captured}
+use Rattle.mq_pcap.specs.declared.form.{Endian.TheVariants.Little, Form.Form, Fraction.TheVariants.Microseconds}
+use Rattle.mq_pcap.specs.{declared.link_type.LinkType.TheVariants.Ethernet, Capture.Captured}
 use Rattle.mq_examples.specs.Replays.{one_report}
 
 abbrev pub the_form : Form

@@ -1,30 +1,18 @@
 -- Groups whose sources are known one by one, for the worked examples.
-use Rattle.std.proofs.Common.{◌≡◌, ℕ, ◌+◌, Bool, true, false, cond, ◌&&◌, not, refl, List, [], ◌∷◌, ◌++◌, Option, None, Some, sym, subst, ap, ◌∙◌}
+use Rattle.std.proofs.Common.{◌≡◌, ℕ, ◌+◌, Bool, true, false, cond, ◌&&◌, not, refl, List, [], ◌∷◌, ◌++◌, Option, None, Some, sym, subst, ap, ◌∙◌, arith}
 use Rattle.std.specs.Prelude.{map as list_map, filter, nat_lt, nat_eq}
 use lib.Dec.{T}
-use Rattle.std.specs.List.{list_any}
-use Rattle.std.specs.Ordering.{nat_cmp}
-use Rattle.std.specs.Cmp.{nat_cmp_total}
-use Rattle.std.specs.FinMap as map
-use Rattle.std.specs.FinMap.{find, is_sorted}
-use Rattle.std.specs.FinSet as set
-use Rattle.mq_table.specs.declared.timing.Timing.{Timing}
-use Rattle.mq_table.specs.Sets.{Set}
-use Rattle.mq_table.specs.declared.timers.FilterMode.{FilterMode}
-use Rattle.mq_table.specs.declared.timers.SourceTimer.{SourceTimer}
+use Rattle.std.specs.{List.list_any, Ordering.nat_cmp, Cmp.nat_cmp_total, FinMap.find, FinMap.is_sorted}
+use Rattle.mq_table.specs.declared.{timing.Timing.Timing, timers.FilterMode.FilterMode, timers.SourceTimer.SourceTimer}
+use Rattle.mq_table.specs.{Sets.Set, Table.GroupChange, Lowering.lowered_to, Lowering.mode_lowered, Timing.last_member_count, Examples.default_timing}
 use Rattle.mq_table.specs.Group.{GroupState, is_include, is_ahead, group_deadline, deadline_of, sendings_of}
-use Rattle.mq_table.specs.Timing.{last_member_count}
-use Rattle.mq_table.specs.Lowering.{lowered_to, mode_lowered}
-use Rattle.mq_table.specs.Examples.{default_timing}
-use Rattle.mq_examples.specs.Groups.{naming}
-use Rattle.mq_table.specs.Table.{GroupChange}
+use Rattle.mq_examples.specs.{Groups.naming, Schedules.Sends, Schedules.per_query}
 use Rattle.mq_table.proofs.Maps.{keys-from_entries, kept-from_entries}
 use Rattle.mq_table.specs.Sendings.{source_asked, source_counted, sendings_counted}
-use Rattle.mq_sched.specs.declared.queries.QuerySchedule.{QuerySchedule}
-use Rattle.mq_sched.specs.Schedule.{ScheduleState, ScheduledGroup, settled}
+use Rattle.mq_sched.specs.{declared.queries.QuerySchedule.QuerySchedule, Examples.the_group, Schedule.ScheduleState, Schedule.ScheduledGroup, Schedule.settled}
 use Rattle.mq_sched.specs.Sending.{SentQuery, GroupQuery, sources_asked, group_asked, after_change, is_due, group_due, sources_queries, messages_due, group_counted, sources_due_next, after_round}
-use Rattle.mq_examples.specs.Schedules.{Sends, per_query}
-use Rattle.mq_sched.specs.Examples.{the_group}
+use Rattle.std.specs.FinMap as map
+use Rattle.std.specs.FinSet as set
 
 -- the sources of a group, each once and ascending, with their timers
 abbrev pub Sources : Type 0
@@ -76,8 +64,7 @@ group_asked_by timing now asks mode schedule = record {
 }
 
 group_asked-known : (timing : Timing) (now : ℕ) (asks : Bool) (mode : FilterMode) (es : Sources) (v1 v2 : Option ℕ) (schedule : ScheduleState) → cond asks (group_asked timing now (record { group = known mode es v1 v2; schedule = schedule })) (record { group = known mode es v1 v2; schedule = schedule }) ≡ record { group = known (mode_asked timing now asks mode) es v1 v2; schedule = group_asked_by timing now asks mode schedule }
-group_asked-known timing now true mode es v1 v2 schedule = refl
-group_asked-known timing now false mode es v1 v2 schedule = refl
+group_asked-known timing now asks mode es v1 v2 schedule = grind arith
 
 -- what goes in a round
 abbrev pub sent_by : ℕ → Timing → ℕ → FilterMode → ScheduleState → List ℕ → (ℕ → Option SourceTimer) → List SentQuery

@@ -1,31 +1,20 @@
 -- Which groups are named where the groups before and after are known, for the worked examples.
 use Rattle.std.proofs.Common.{◌≡◌, ℕ, Bool, true, false, not, ◌||◌, refl, List, [], ◌∷◌, None, Result, Ok, sym, ap, ◌∙◌}
-use Rattle.std.specs.Prelude.{filter}
-use Rattle.std.specs.Bool.{beq}
-use Rattle.std.specs.Ordering.{nat_cmp}
-use Rattle.std.specs.Cmp.{nat_cmp_total}
-use Rattle.std.specs.FinMap as map
-use Rattle.std.specs.FinMap.{find}
-use Rattle.std.specs.FinSet as set
-use Rattle.mq_wire.specs.declared.message.Message.{Message}
-use Rattle.mq_wire.specs.declared.message.Message.TheVariants.{Report as ReportMessage}
-use Rattle.mq_wire.specs.declared.message.WireFault.{WireFault}
+use Rattle.std.specs.{Prelude.filter, Ordering.nat_cmp, Bool.beq, FinMap.find, Cmp.nat_cmp_total}
+use Rattle.mq_wire.specs.declared.message.{Message.Message, Message.TheVariants.Report as ReportMessage, WireFault.WireFault}
 use Rattle.mq_wire.specs.declared.records.RecordView.{RecordView}
-use Rattle.mq_table.specs.Group.{is_include}
-use Rattle.mq_table.specs.Filter.{Filter, names, filter_of, changes_filter}
+use Rattle.mq_table.specs.{Group.is_include, Filter.Filter, Filter.names, Filter.filter_of, Filter.changes_filter}
 use Rattle.mq_table.proofs.Filters.{changes-at}
-use Rattle.mq_link.specs.Configuration.{Configuration}
+use Rattle.mq_link.specs.{Configuration.Configuration, Run.Tick, Run.Datagram, State.LinkState}
 use Rattle.mq_link.specs.Forwarding.{changes, changed_by_tick, changed_by_read}
 use Rattle.mq_link.specs.Receive.{Envelope, read_of, pseudo_of, drop_reason, setting_of}
-use Rattle.mq_link.specs.Run.{Tick, Datagram}
-use Rattle.mq_link.specs.State.{LinkState}
-use Rattle.mq_link.proofs.Known.{ordered, keys_of, keys-known}
-use Rattle.mq_link.proofs.KeptFilters.{alike_after, unchanged}
+use Rattle.mq_link.proofs.{Known.ordered, Known.keys_of, Known.keys-known, KeptFilters.alike_after, KeptFilters.unchanged}
 use Rattle.mq_examples.specs.Named.{Names}
-use Rattle.mq_examples.proofs.KnownGroups.{Known, as_held}
+use Rattle.mq_examples.proofs.{KnownGroups.Known, KnownGroups.as_held, KnownReceipts.setting_in}
 use Rattle.mq_examples.proofs.KnownLinks.{KnownGroups, as_groups, KnownLink, as_link, tick_in, tick-known}
 use Rattle.mq_examples.proofs.KnownRecords.{group_in, group-known, judged_known, judged-known}
-use Rattle.mq_examples.proofs.KnownReceipts.{setting_in}
+use Rattle.std.specs.FinMap as map
+use Rattle.std.specs.FinSet as set
 
 -- a filter, of a list of sources
 abbrev pub filter_known : Known → Filter

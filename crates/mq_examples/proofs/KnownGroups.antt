@@ -1,31 +1,21 @@
 -- Groups whose sources are known one by one, for the worked examples: what the definitions make of them is computed of
 -- the list of their sources.
-use Rattle.std.proofs.Common.{◌≡◌, ℕ, ◌+◌, Bool, true, false, cond, ◌&&◌, ◌||◌, refl, List, [], ◌++◌, length, Option, None, Some, ap, ◌∙◌, ltb, eqb}
-use Rattle.std.specs.List.{list_any}
-use Rattle.std.specs.Option.{option_map, option_and_then}
-use Rattle.std.specs.Ordering.{nat_cmp, eq_by_cmp}
-use Rattle.std.specs.Cmp.{nat_cmp_total}
-use Rattle.std.specs.FinMap as map
-use Rattle.std.specs.FinMap.{find}
-use Rattle.std.specs.FinSet as set
-use Rattle.mq_table.specs.declared.kind.Kind.{Kind}
+use Rattle.std.proofs.Common.{◌≡◌, ℕ, ◌+◌, Bool, true, false, cond, ◌&&◌, ◌||◌, refl, List, [], ◌++◌, length, Option, None, Some, ap, ◌∙◌, ltb, eqb, arith}
+use Rattle.std.specs.{List.list_any, FinMap.find, Cmp.nat_cmp_total, Option.option_map, Option.option_and_then, Ordering.nat_cmp, Ordering.eq_by_cmp}
+use Rattle.mq_table.specs.declared.{kind.Kind.Kind, timing.Timing.Timing, older_hosts.Hosts.Hosts}
 use Rattle.mq_table.specs.declared.kind.Kind.TheVariants.{IsIn, IsEx, ToIn, ToEx, Allow, Block}
-use Rattle.mq_table.specs.declared.older_hosts.Hosts.{Hosts}
-use Rattle.mq_table.specs.declared.timing.Timing.{Timing}
-use Rattle.mq_table.specs.Sets.{Set}
-use Rattle.mq_table.specs.Maps.{entries_by, by_rule}
-use Rattle.mq_table.specs.declared.timers.FilterMode.{FilterMode}
-use Rattle.mq_table.specs.declared.timers.FilterMode.TheVariants.{Include}
-use Rattle.mq_table.specs.declared.timers.SourceTimer.{SourceTimer}
+use Rattle.mq_table.specs.{Sets.Set, Timing.membership_interval, Maps.entries_by, Maps.by_rule}
+use Rattle.mq_table.specs.declared.timers.{FilterMode.FilterMode, FilterMode.TheVariants.Include, SourceTimer.SourceTimer}
 use Rattle.mq_table.specs.Group.{GroupState, is_include, is_running, is_stopped, sendings_of, vacant, is_vacant}
-use Rattle.mq_table.specs.Timing.{membership_interval}
 use Rattle.mq_table.specs.Table.{TableRow, table_row, timer_by, GroupChange, change_of}
 use Rattle.mq_table.specs.OlderHosts.{hosts_of, translated, translated_change}
 use Rattle.mq_table.specs.Expiry.{ahead, mode_expired, source_expired, held_or_vacant}
 use Rattle.mq_sched.specs.Schedule.{ScheduleState, no_schedule, settled}
 use Rattle.mq_link.specs.Tick.{group_expired, if_held}
-pub use Rattle.mq_examples.specs.Links.{ListedGroup as Known, as_held, group_listed as group_of}
 use Rattle.mq_link.proofs.Known.{Entries, ordered, keys_of, keys-known, len-known, kept_in, kept-known, by_rule-known}
+use Rattle.std.specs.FinMap as map
+use Rattle.std.specs.FinSet as set
+pub use Rattle.mq_examples.specs.Links.{ListedGroup as Known, as_held, group_listed as group_of}
 
 abbrev pub nothing_known : Known
 nothing_known = record { mode = Include; sources = []; v1 = None; v2 = None; schedule = no_schedule }
@@ -82,8 +72,7 @@ ended g schedule = elim (is_vacant g) as (λ b. is_vacant g ≡ b → if_held (l
 ] refl
 
 mapped : {X Y : Type 0} (f : X → Y) (b : Bool) (x : X) → cond b None (Some (f x)) ≡ option_map f (cond b None (Some x))
-mapped f true x = refl
-mapped f false x = refl
+mapped f b x = grind arith
 
 pub expired-known : (now : ℕ) (k : Known) → if_held (group_expired now (as_held k)) ≡ option_map as_held (expired_in now k)
 expired-known now k =

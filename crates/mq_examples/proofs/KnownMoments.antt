@@ -1,24 +1,14 @@
 -- When a link whose groups are known has something to do next, and what it forwards, for the worked examples.
 use Rattle.std.proofs.Common.{◌≡◌, ℕ, Bool, refl, List, [], ◌∷◌, ◌++◌, Some, ap, ◌∙◌}
-use Rattle.std.specs.Prelude.{map as list_map}
-use Rattle.std.specs.List.{flat_map}
-use Rattle.std.specs.Option.{option_to_list}
-use Rattle.std.specs.Ordering.{nat_cmp}
-use Rattle.std.specs.Cmp.{nat_cmp_total}
-use Rattle.std.specs.FinMap as map
-use Rattle.std.specs.FinMap.{find}
-use Rattle.mq_table.specs.declared.timers.SourceTimer.{SourceTimer}
-use Rattle.mq_table.specs.Group.{group_deadline, deadline_of, wants, forwards_in}
-use Rattle.mq_sched.specs.Schedule.{ScheduledGroup}
-use Rattle.mq_sched.specs.Sending.{group_due}
-use Rattle.mq_sched.specs.Election.{next_moment}
-use Rattle.mq_link.specs.State.{forwards}
-use Rattle.mq_link.specs.Tick.{those_of, moments_of, moments_in, least, next_of}
+use Rattle.std.specs.{Prelude.map as list_map, Option.option_to_list, List.flat_map, FinMap.find, Ordering.nat_cmp, Cmp.nat_cmp_total}
+use Rattle.mq_table.specs.{declared.timers.SourceTimer.SourceTimer, Group.group_deadline, Group.deadline_of, Group.wants, Group.forwards_in}
+use Rattle.mq_sched.specs.{Schedule.ScheduledGroup, Sending.group_due, Election.next_moment}
+use Rattle.mq_link.specs.{State.forwards, Tick.those_of, Tick.moments_of, Tick.moments_in, Tick.least, Tick.next_of}
 use Rattle.mq_examples.specs.Links.{NextIs, Forwards}
 use Rattle.mq_link.proofs.Known.{Entries, ordered, entries-known, with_values, ordered-with_values}
-use Rattle.mq_examples.proofs.KnownGroups.{Known, as_held}
+use Rattle.mq_examples.proofs.{KnownGroups.Known, KnownGroups.as_held, KnownRecords.group_in, KnownRecords.group-known}
 use Rattle.mq_examples.proofs.KnownLinks.{KnownGroups, as_groups, KnownLink, as_link}
-use Rattle.mq_examples.proofs.KnownRecords.{group_in, group-known}
+use Rattle.std.specs.FinMap as map
 
 abbrev values_in : {X : Type 0} → Entries X → List X
 values_in es = list_map (λ (e : ℕ × _). e.1) (ordered es)

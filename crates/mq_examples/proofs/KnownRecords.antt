@@ -1,35 +1,16 @@
 -- What records and queries do to links whose groups are known one by one, for the worked examples.
-use Rattle.std.proofs.Common.{◌≡◌, ℕ, ◌+◌, Bool, true, false, cond, not, ◌&&◌, refl, List, [], ◌∷◌, ◌++◌, length, Option, None, Some, sym, ap, ◌∙◌, leb, eqb, suc}
-use Rattle.std.specs.Prelude.{map as list_map}
-use Rattle.std.specs.List.{sum_by}
+use Rattle.std.proofs.Common.{◌≡◌, ℕ, ◌+◌, Bool, true, false, cond, not, ◌&&◌, refl, List, [], ◌∷◌, ◌++◌, length, Option, None, Some, sym, ap, ◌∙◌, leb, eqb, suc, arith}
+use Rattle.std.specs.{Prelude.map as list_map, Cmp.nat_cmp_total, Option.option_map, Option.unwrap_or, Option.is_some}
+use Rattle.std.specs.{List.sum_by, FinMap.find, Ordering.nat_cmp, Ordering.eq_by_cmp}
 use Rattle.std.proofs.lemmas.List.Sums.{sum_by-cons}
-use Rattle.std.specs.Option.{option_map, unwrap_or, is_some}
-use Rattle.std.specs.Ordering.{nat_cmp, eq_by_cmp}
-use Rattle.std.specs.Cmp.{nat_cmp_total}
-use Rattle.std.specs.FinMap as map
-use Rattle.std.specs.FinMap.{find}
-use Rattle.std.specs.FinSet as set
-use Rattle.mq_count.specs.declared.versions.OlderVersion.{OlderVersion}
-use Rattle.mq_count.specs.declared.versions.OlderVersion.TheVariants.{V1, V2}
+use Rattle.mq_count.specs.declared.versions.OlderVersion.{OlderVersion, TheVariants.V1, TheVariants.V2}
 use Rattle.mq_wire.specs.declared.records.RecordView.{RecordView}
-use Rattle.mq_wire.specs.declared.query.Query.{Query}
-use Rattle.mq_wire.specs.declared.query.QueryVersion.{QueryVersion}
-use Rattle.mq_wire.specs.declared.query.QueryVersion.TheVariants.{Older, Current}
-use Rattle.mq_table.specs.declared.kind.Kind.{Kind}
-use Rattle.mq_table.specs.declared.kind.Kind.TheVariants.{IsEx, ToIn}
-use Rattle.mq_table.specs.declared.timing.Timing.{Timing}
-use Rattle.mq_table.specs.Sets.{Set, ∅}
-use Rattle.mq_table.specs.Lowering.{lowered_by_query}
-use Rattle.mq_table.specs.Timing.{older_host_present}
-use Rattle.mq_sched.specs.Schedule.{ScheduledGroup}
-use Rattle.mq_sched.specs.Sending.{SentQuery, after_change}
-use Rattle.mq_table.specs.OlderHosts.{older_host}
-use Rattle.mq_sched.specs.Election.{ElectionState, is_querier, loses_role}
-use Rattle.mq_link.specs.declared.configuration.Limits.{Limits}
-use Rattle.mq_link.specs.declared.answers.Refusal.{Refusal}
-use Rattle.mq_link.specs.declared.answers.Refusal.TheVariants.{Repeated}
-use Rattle.mq_link.specs.Family.{v1_mutes_leave, per_query}
-use Rattle.mq_link.specs.Configuration.{Configuration}
+use Rattle.mq_wire.specs.declared.query.{Query.Query, QueryVersion.QueryVersion, QueryVersion.TheVariants.Older, QueryVersion.TheVariants.Current}
+use Rattle.mq_table.specs.declared.{kind.Kind.Kind, kind.Kind.TheVariants.IsEx, kind.Kind.TheVariants.ToIn, timing.Timing.Timing}
+use Rattle.mq_table.specs.{Sets.Set, Sets.∅, OlderHosts.older_host, Lowering.lowered_by_query, Timing.older_host_present}
+use Rattle.mq_sched.specs.{Schedule.ScheduledGroup, Sending.SentQuery, Sending.after_change, Election.ElectionState, Election.is_querier, Election.loses_role}
+use Rattle.mq_link.specs.declared.{configuration.Limits.Limits, answers.Refusal.Refusal, answers.Refusal.TheVariants.Repeated}
+use Rattle.mq_link.specs.{Family.v1_mutes_leave, Family.per_query, Configuration.Configuration}
 use Rattle.mq_link.specs.Counters.{Verdict, Applied, Ignored, Refused}
 use Rattle.mq_link.specs.State.{Groups, LinkState, unheld, group_at, with_group, sources_of, schedules_of, one_if}
 use Rattle.mq_link.specs.Record.{Statement, RecordOf, OlderJoin, OlderLeave, change_stated, limit_passed_by, limit_passed, Outcome, Setting, leaving, unless_passed, sent_at_once, after_sending, changed_or_refused, is_muted, asking_nothing, stated, Seen, met, Entrance, Stops, GoesOn, entrance, seen_by, judged_from, judged, Outcomes, and_then, all_judged}
@@ -38,6 +19,8 @@ use Rattle.mq_link.proofs.Known.{Entries, ordered, ordered-known, entries-known,
 use Rattle.mq_examples.proofs.KnownGroups.{Known, KnownChange, as_held, as_change, group_of, nothing_known, is_empty, is_empty-known, named_in, change_in as table_in, change-known, translated_change_in, translated-known}
 use Rattle.mq_examples.proofs.KnownSendings.{changed_in, changed-known, sent_in, sent-known, round_in, round-known, cleared_in, cleared-known, lowered_in, lowered-known}
 use Rattle.mq_examples.proofs.KnownLinks.{KnownGroups, as_groups, KnownLink, as_link}
+use Rattle.std.specs.FinMap as map
+use Rattle.std.specs.FinSet as set
 
 -- one group of them
 abbrev pub group_in : KnownGroups → ℕ → Known
@@ -141,8 +124,7 @@ stated_in mutes muted timing now (Join version) k =
 stated_in mutes muted timing now Leave k = translated_change_in mutes muted timing now k ToIn []
 
 joined-known : (version : OlderVersion) (timing : Timing) (now : ℕ) (k : Known) → older_host version timing now (group_of k) ≡ group_of (joined_in version timing now k)
-joined-known V1 timing now k = refl
-joined-known V2 timing now k = refl
+joined-known version timing now k = grind arith
 
 change_stated-known : (mutes muted : Bool) (timing : Timing) (now : ℕ) (st : KnownStatement) (k : Known) → change_stated mutes muted timing now (as_statement st) (group_of k) ≡ option_map as_change (stated_in mutes muted timing now st k)
 change_stated-known mutes muted timing now (Record kind named) k = translated-known mutes muted timing now k kind named
@@ -174,8 +156,7 @@ changed_by_known at group gs (Some change) =
     passed_or_not (passed_in at.config.limits after left) gs after (sent_in (per_query at.config.family) at.election.timing at.now group e)
 
 unless_passed-known : (name : Option Refusal) (before after : KnownGroups) (queries : List SentQuery) → unless_passed name (as_groups before) (as_groups after) queries ≡ as_outcome (passed_or_not name before after queries)
-unless_passed-known None before after queries = refl
-unless_passed-known (Some name) before after queries = refl
+unless_passed-known name before after queries = grind arith
 
 changed_or_refused-known : (at : Setting) (group : ℕ) (gs : KnownGroups) (change : Option KnownChange) → changed_or_refused at group (as_groups gs) (option_map as_change change) ≡ as_outcome (changed_by_known at group gs change)
 changed_or_refused-known at group gs None = refl

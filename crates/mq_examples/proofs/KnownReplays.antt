@@ -1,39 +1,23 @@
 -- What a replay comes to where the groups of its link are known one by one, for the worked examples.
 use Rattle.std.proofs.Common.{◌≡◌, ℕ, zero, suc, ◌+◌, true, false, refl, List, [], ◌∷◌, ◌++◌, length, Option, None, Some, Ok, Err, unwrap_or, append-nil, ap, ◌∙◌}
-use Rattle.std.specs.Prelude.{max, nat_lt, map as list_map}
-use Rattle.std.specs.FinMap as map
-use Rattle.std.specs.List.{flat_map}
-use Rattle.std.specs.Option.{option_to_list}
-use Rattle.mq_pcap.specs.declared.fault.PcapFault.{PcapFault}
-use Rattle.mq_pcap.specs.declared.form.Form.{Form}
-use Rattle.mq_pcap.specs.declared.link_type.LinkType.{LinkType}
-use Rattle.mq_pcap.specs.Capture.{Captured}
-use Rattle.mq_pcap.specs.Frame.{Carried, carried_in}
+use Rattle.std.specs.{Prelude.max, Prelude.nat_lt, Prelude.map as list_map, List.flat_map, Option.option_to_list}
+use Rattle.mq_pcap.specs.declared.{fault.PcapFault.PcapFault, form.Form.Form, link_type.LinkType.LinkType}
+use Rattle.mq_pcap.specs.{Capture.Captured, Frame.Carried, Frame.carried_in}
 use Rattle.mq_wire.specs.Family.{Family}
-use Rattle.mq_table.specs.declared.timers.SourceTimer.{SourceTimer}
-use Rattle.mq_table.specs.Group.{group_deadline, deadline_of}
-use Rattle.mq_sched.specs.Schedule.{ScheduledGroup}
-use Rattle.mq_sched.specs.Sending.{group_due}
-use Rattle.mq_sched.specs.Election.{next_moment, is_querier, election_at}
+use Rattle.mq_table.specs.{declared.timers.SourceTimer.SourceTimer, Group.group_deadline, Group.deadline_of}
+use Rattle.mq_sched.specs.{Schedule.ScheduledGroup, Sending.group_due, Election.next_moment, Election.is_querier, Election.election_at}
 use Rattle.mq_held.specs.Moments.{those_of, moments_of, moments_in, least}
-use Rattle.mq_link.specs.Configuration.{Configuration}
-use Rattle.mq_link.specs.Counters.{count_answers, no_counts}
-use Rattle.mq_examples.specs.Links.{ListedGroup, ListedGroups, ListedLink, as_groups, as_held, as_link}
-use Rattle.mq_link.specs.Forwarding.{changed_by_tick}
-use Rattle.mq_link.specs.Receive.{read_of, pseudo_of}
-use Rattle.mq_link.specs.Sent.{outgoing}
-use Rattle.mq_link.specs.State.{LinkState}
-use Rattle.mq_link.specs.Tick.{next_of, tick_of}
+use Rattle.mq_link.specs.{Configuration.Configuration, Sent.outgoing, State.LinkState, Forwarding.changed_by_tick, Tick.next_of, Tick.tick_of}
+use Rattle.mq_link.specs.{Counters.count_answers, Counters.no_counts, Receive.read_of, Receive.pseudo_of}
+use Rattle.mq_examples.specs.{Links.ListedGroup, Links.ListedGroups, Links.ListedLink, Links.as_groups, Links.as_held, Links.as_link, Replays.up_to}
 use Rattle.mq_link.proofs.Known.{Entries, ordered, entries-known, with_values, ordered-with_values}
-use Rattle.mq_examples.proofs.KnownLinks.{KnownStep, tick_in, tick-known}
-use Rattle.mq_examples.proofs.KnownReceipts.{receipt_known, receipt-known}
+use Rattle.mq_examples.proofs.{KnownLinks.KnownStep, KnownLinks.tick_in, KnownLinks.tick-known, KnownReceipts.receipt_known, KnownReceipts.receipt-known}
 use Rattle.mq_lines.specs.Text.{line_of}
-use Rattle.mq_replay.specs.declared.replay_fault.ReplayFault.{ReplayFault}
-use Rattle.mq_replay.specs.declared.replay_fault.ReplayFault.TheVariants.{Pcap, Gap}
+use Rattle.mq_replay.specs.declared.replay_fault.ReplayFault.{ReplayFault, TheVariants.Pcap, TheVariants.Gap}
 use Rattle.mq_replay.specs.Listing.{moment_of}
 use Rattle.mq_replay.specs.ReplayLines.{query_lines, receipt_line, skip_line, end_line, counts_line, timer_text, group_start, older_hosts_text, group_line, group_lines, end_lines}
 use Rattle.mq_replay.specs.Report.{Replayed, all_sent, after_step, changed_at, those_among, with_changes, ticked_at, ticked_within, Datagram, datagram_of, received_at, taken_or_skipped, with_packet, is_gap, Course, with_packets, Report, ended_at, broken_off, reported, report_of}
-use Rattle.mq_examples.specs.Replays.{up_to}
+use Rattle.std.specs.FinMap as map
 
 -- the next moment
 abbrev pub moments_known : ListedGroup → List ℕ

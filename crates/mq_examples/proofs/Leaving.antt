@@ -1,14 +1,11 @@
 -- What shows that a change leaves a group: its sources one by one, and the sources that it asks for.
 use Rattle.std.proofs.Common.{◌≡◌, ℕ, Bool, List, Option, refl}
-use Rattle.std.specs.Ordering.{nat_cmp}
-use Rattle.std.specs.FinMap as map
-use Rattle.std.specs.FinMap.{FinMap}
-use Rattle.std.specs.FinSet as set
-use Rattle.mq_table.specs.declared.timers.FilterMode.{FilterMode}
-use Rattle.mq_table.specs.declared.timers.SourceTimer.{SourceTimer}
-use Rattle.mq_table.specs.Sets.{Set}
+use Rattle.std.specs.{Ordering.nat_cmp, FinMap.FinMap}
+use Rattle.mq_table.specs.{declared.timers.FilterMode.FilterMode, declared.timers.SourceTimer.SourceTimer, Sets.Set}
 use Rattle.mq_table.proofs.Groups.{same_group}
 use Rattle.mq_examples.specs.Groups.{Leaves, naming}
+use Rattle.std.specs.FinMap as map
+use Rattle.std.specs.FinSet as set
 
 pub leaves : {mode : FilterMode} {m n : FinMap nat_cmp SourceTimer} {v1 v2 : Option ℕ} {query : Set} {asks : Bool} {asked : List ℕ}
     → ((s : ℕ) → map.get m s ≡ map.get n s) → ((s : ℕ) → query s ≡ set.contains (naming asked) s)

@@ -1,42 +1,26 @@
 -- A sending in several messages, for any sources: what the worked examples of it are made of.
 use Rattle.std.proofs.Common.{◌≡◌, ◌<◌, ℕ, zero, suc, ◌+◌, true, false, refl, List, [], ◌∷◌, length, None, Some, Ok, sym, ap, ◌∙◌, subst, arith}
-use Rattle.std.specs.Prelude.{replicate, map as list_map}
+use Rattle.std.specs.{Prelude.replicate, Prelude.map as list_map, FinMap.is_sorted, FinMap.Entries.below_all, List.count_by, Ordering.nat_cmp, Ordering.is_lt}
 use lib.Dec.{T}
-use Rattle.std.specs.List.{count_by}
-use Rattle.std.specs.Ordering.{nat_cmp, is_lt}
-use Rattle.std.specs.FinMap.{is_sorted}
-use Rattle.std.specs.FinMap.Entries.{below_all}
 use Rattle.std.proofs.lemmas.Bool.Decides.{nat_tests}
 use Rattle.mq_count.specs.Streams.{counted_on}
-use Rattle.mq_wire.specs.Family.{Family}
-use Rattle.mq_wire.specs.declared.message.Message.TheVariants.{Report as ReportMessage}
-use Rattle.mq_table.specs.declared.timers.FilterMode.TheVariants.{Include}
-use Rattle.mq_table.specs.declared.timers.SourceTimer.{SourceTimer}
-use Rattle.mq_table.specs.declared.timers.SourceTimer.TheVariants.{Running}
+use Rattle.mq_wire.specs.{Family.Family, declared.message.Message.TheVariants.Report as ReportMessage}
+use Rattle.mq_table.specs.declared.timers.{FilterMode.TheVariants.Include, SourceTimer.SourceTimer, SourceTimer.TheVariants.Running}
 use Rattle.mq_table.specs.Examples.{default_timing, until}
 use Rattle.mq_sched.specs.Sending.{SentQuery, GeneralQuery, sources_queries}
-use Rattle.mq_link.specs.declared.configuration.Limits.{Limits}
-use Rattle.mq_link.specs.declared.answers.Received.TheVariants.{Taken}
-use Rattle.mq_link.specs.Family.{per_query}
-use Rattle.mq_link.specs.Configuration.{Configuration}
-use Rattle.mq_link.specs.Tick.{Step}
-use Rattle.mq_link.specs.Receive.{Envelope}
-use Rattle.mq_link.specs.Sent.{outgoing}
+use Rattle.mq_link.specs.declared.{configuration.Limits.Limits, answers.Received.TheVariants.Taken}
+use Rattle.mq_link.specs.{Family.per_query, Receive.Envelope, Configuration.Configuration, Tick.Step, Sent.outgoing}
 use Rattle.mq_examples.specs.Links.{ListedLink, listed, listed_due, early, after, querier, saying, as_groups}
 use Rattle.mq_examples.specs.ManySources.{sources_from, each_as, having_sent, lengths_of, sent_then, HandsAll, TicksSending, Reports}
 use Rattle.mq_held.proofs.Sorted.{both}
 use Rattle.mq_examples.proofs.KnownLinks.{KnownStep, as_step, tick-known}
-use Rattle.mq_examples.proofs.KnownReceipts.{as_receipt, receipt-known}
-use Rattle.mq_examples.proofs.Alike.{Ascend}
+use Rattle.mq_examples.proofs.{KnownReceipts.as_receipt, KnownReceipts.receipt-known, Alike.Ascend}
 use Rattle.mq_examples.proofs.AlikeGroups.{all_as, stays, goes, sends, counts}
 use Rattle.mq_examples.proofs.AlikeLinks.{one, plain, Suits, all_allowed, all_blocked, reported, tick-one, tick-gone}
 
 -- sources in a row ascend
 is_below : (x y : ℕ) → x < y → T (is_lt (nat_cmp x y))
-is_below x y below = subst T (sym (test x y below)) tt
-  where
-    test : (x y : ℕ) → x < y → is_lt (nat_cmp x y) ≡ true
-    test x y below = grind (arith, nat_tests)
+is_below x y h1 = grind arith
 
 below_from : (timer : SourceTimer) (x first count : ℕ) → x < first → T (below_all nat_cmp x (each_as timer (sources_from first count)))
 below_from timer x first zero below = tt
@@ -56,16 +40,7 @@ sent_with before queries = counted_on before (count_by (λ b. b) (replicate (len
 
 -- a step that is known
 hands : (config : Configuration) (step : Step) (s : KnownStep) (queries : List SentQuery) (lengths : List ℕ) (sent : ℕ) (after : ListedLink) → step ≡ as_step s → s.queries ≡ queries → s.timing ≡ default_timing → s.link.groups ≡ after.groups → s.link.election ≡ after.election → s.link.last ≡ after.last → lengths_in config queries ≡ lengths → sent_with s.link.counters.sent queries ≡ sent → HandsAll config step queries lengths sent after
-hands config step s queries lengths sent after is qs timing groups election last long count = record {
-  leaves = record {
-    queries_handed = ap (λ x. x.queries) is ∙ qs;
-    groups = ap (λ x. x.state.groups) is ∙ ap as_groups groups;
-    election = ap (λ x. x.state.election) is ∙ election;
-    last = ap (λ x. x.state.last) is ∙ last;
-  };
-  lengths_are = ap (lengths_of config) is ∙ (λ i. list_map (λ message. length message.bytes) (list_map (outgoing config (timing i)) (qs i))) ∙ long;
-  sent_is = ap sent_then is ∙ ap (λ q. sent_with s.link.counters.sent q) qs ∙ count;
-}
+hands config step s queries lengths sent after is qs timing groups election last long count = grind arith
 
 -- The router begins with a general query. Then they are all allowed at 1000, blocked at 2000, asked for then and at 3000,
 -- and gone at 4000.

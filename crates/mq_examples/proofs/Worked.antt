@@ -2,18 +2,11 @@
 use Rattle.std.proofs.Common.{◌≡◌, ℕ, List, [], ap, ◌∙◌}
 use Rattle.mq_wire.specs.declared.records.RecordView.{RecordView}
 use Rattle.mq_sched.specs.Sending.{SentQuery}
-use Rattle.mq_link.specs.declared.answers.Received.{Received}
-use Rattle.mq_link.specs.declared.answers.DropReason.{DropReason}
-use Rattle.mq_link.specs.declared.answers.MessageKind.{MessageKind}
-use Rattle.mq_link.specs.declared.answers.Refusal.{Refusal}
-use Rattle.mq_link.specs.Configuration.{Configuration}
-use Rattle.mq_link.specs.Counters.{Verdict}
-use Rattle.mq_link.specs.Record.{Setting}
-use Rattle.mq_link.specs.Receive.{Envelope, read_of, pseudo_of}
+use Rattle.mq_link.specs.declared.answers.{Received.Received, Refusal.Refusal, DropReason.DropReason, MessageKind.MessageKind}
+use Rattle.mq_link.specs.{Configuration.Configuration, Counters.Verdict, Record.Setting, Receive.Envelope, Receive.read_of, Receive.pseudo_of}
 use Rattle.mq_examples.specs.Links.{ListedGroups, ListedLink, as_groups, TicksTo, Comes, Becomes, BecomeAll, CountsTo, counts_of}
-use Rattle.mq_examples.proofs.KnownLinks.{tick_in, tick-known}
+use Rattle.mq_examples.proofs.{KnownLinks.tick_in, KnownLinks.tick-known, KnownReceipts.KnownReceipt, KnownReceipts.receipt_known, KnownReceipts.receipt-known}
 use Rattle.mq_examples.proofs.KnownRecords.{judged_known, judged-known, all_judged_known, all_judged-known}
-use Rattle.mq_examples.proofs.KnownReceipts.{KnownReceipt, receipt_known, receipt-known}
 
 pub ticks_to : (config : Configuration) (now : ℕ) (before : ListedLink) (queries : List SentQuery) (after : ListedLink)
     → (let s = tick_in config now before in (s.queries ≡ queries) → (s.link.groups ≡ after.groups) → (s.link.election ≡ after.election) → (s.link.last ≡ after.last) → TicksTo config now before queries after)

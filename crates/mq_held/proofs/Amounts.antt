@@ -1,80 +1,78 @@
 -- How much the groups have together, once one of them has changed, is held, or is no longer held.
-use Rattle.std.proofs.Common.{◌≡◌, ℕ, ◌+◌, ◌-◌, ◌≤◌, Bool, true, false, cond, not, ◌==◌, ◌&&◌, if◌then◌else◌, refl, List, [], ◌∷◌, get_or, set, Option, None, Some, sym, ap, ◌∙◌, arith}
+use Rattle.std.proofs.Common.{◌≡◌, ℕ, ◌+◌, ◌-◌, ◌<◌, ◌≤◌, Bool, true, false, cond, not, ◌==◌, ◌&&◌, if◌then◌else◌, refl, List, [], ◌∷◌, Option, None, Some, is_some, sym, ap, ◌∙◌, subst, arith, ⊎_elim}
 use Rattle.std.specs.Prelude.{map as list_map}
-use Rattle.std.specs.List.{remove, sum_by}
+use lib.Dec.{T}
+use Rattle.std.specs.List.{sum_by}
 use Rattle.std.specs.Option.{unwrap_or}
-use Rattle.std.specs.Ordering.{nat_cmp, eq_by_cmp}
+use Rattle.std.specs.Ordering.{nat_cmp, eq_by_cmp, is_eq, is_lt}
 use Rattle.std.specs.Cmp.{nat_cmp_total}
-use Rattle.std.proofs.lemmas.Bool.{true≢false}
-use Rattle.std.proofs.lemmas.Bool.{eqb-true}
-use Rattle.std.proofs.lemmas.List.Sums.{sum_by-cons, sum_by-set, sum_by-insert, sum_by-remove}
+use Rattle.std.specs.declared.cmp.Ordering.{Ordering}
+use Rattle.std.specs.declared.cmp.Ordering.TheVariants.{Less, Equal, Greater}
+use Rattle.std.proofs.lemmas.Bool.{cases_lt, eqb-true, true≢false}
+use Rattle.std.proofs.lemmas.List.Sums.{sum_by-cons}
 use Rattle.std.specs.FinMap as map
+use Rattle.std.specs.FinMap.{find, is_sorted}
+use Rattle.std.specs.FinMap.Entries.{below_all, by_order, put}
 use Rattle.mq_table.specs.declared.timers.FilterMode.{FilterMode}
 use Rattle.mq_table.specs.declared.timers.FilterMode.TheVariants.{Include, Exclude}
 use Rattle.mq_table.specs.declared.timers.SourceTimer.{SourceTimer}
 use Rattle.mq_table.specs.Group.{is_vacant, is_include}
 use Rattle.mq_sched.specs.Schedule.{ScheduledGroup}
 use Rattle.mq_held.specs.Groups.{Groups, unheld, group_at, with_group, sources_of, sources_in, one_if, schedules_of, schedules_in}
-use Rattle.mq_held.specs.Places.{HasPlace}
-use Rattle.mq_held.proofs.Sorted.{tied}
-use Rattle.mq_held.proofs.Entries.{place_within, key_at, get-place, entries-replaced, entries-deleted, entries-made}
-use Rattle.mq_held.proofs.Places.{GoesAt, held-place, absent-place, goes-absent}
+use Rattle.mq_held.proofs.Sorted.{all-below, below-all, find_below, first, is_below, second, tied, ties}
 
--- A sum over all groups, of any number that a group has at its address.
+-- A sum over all groups, of any number that a group has at its address, and none where it isn't held.
+module _ (w : ℕ × ScheduledGroup → ℕ) (a : ℕ) (none : w (a, unheld) ≡ 0) where
+  sum-put : (e : ScheduledGroup) (es : List (ℕ × ScheduledGroup)) → T (is_sorted nat_cmp es) → sum_by w (put nat_cmp a e es) + w (a, unwrap_or (find nat_cmp a es) unheld) ≡ sum_by w es + w (a, e)
+  sum-put e [] up = omega (arith, none, sum_by-cons w (a, e) [])
+  sum-put e (x ∷ es) up = by_order_of (nat_cmp a x.0) refl (sum-put e es (second (below_all nat_cmp x.0 es) (is_sorted nat_cmp es) up))
+    where
+      by_order_of : (o : Ordering) → nat_cmp a x.0 ≡ o → sum_by w (put nat_cmp a e es) + w (a, unwrap_or (find nat_cmp a es) unheld) ≡ sum_by w es + w (a, e)
+          → sum_by w (by_order o ((a, e) ∷ x ∷ es) ((x.0, e) ∷ es) (x ∷ put nat_cmp a e es)) + w (a, unwrap_or (cond (is_eq o) (Some x.1) (find nat_cmp a es)) unheld) ≡ sum_by w (x ∷ es) + w (a, e)
+      by_order_of Less is rest =
+          let low : a < x.0 = is_below a x.0 (subst (λ o. T (is_lt o)) (sym is) tt) in
+          let above = below-all x.0 es (first (below_all nat_cmp x.0 es) (is_sorted nat_cmp es) up) in
+          let absent = find_below a es (all-below a es (λ k d within. omega (arith, low, above k d within))) in
+          omega (arith, none, ap (λ o. w (a, unwrap_or o unheld)) absent, sum_by-cons w (a, e) (x ∷ es))
+      by_order_of Equal is rest =
+          let same = tied a x.0 (ap is_eq is) in
+          omega (arith, ap (λ k. w (k, e)) same, ap (λ k. w (k, x.1)) same, sum_by-cons w (x.0, e) es, sum_by-cons w x es)
+      by_order_of Greater is rest = omega (arith, rest, sum_by-cons w x es, sum_by-cons w x (put nat_cmp a e es))
+
+  total-put : (groups : Groups) (e : ScheduledGroup) → sum_by w (map.entries (map.insert groups a e)) + w (a, group_at groups a) ≡ sum_by w (map.entries groups) + w (a, e)
+  total-put groups e =
+      (λ i. sum_by w (map.entries-insert nat_cmp_total groups a e i) + w (a, unwrap_or (map.get-entries groups a i) unheld))
+      ∙ sum-put e (map.entries groups) (map.entries_sorted groups)
+
 module _ (w : ℕ × ScheduledGroup → ℕ) (groups : Groups) (a : ℕ) where
-  module _ (p : ℕ) where
-    entry_at : HasPlace groups a p → get_or (map.entries groups) p (a, unheld) ≡ (a, group_at groups a)
-    entry_at has =
-        let key = key_at groups a p has.address_is (a, unheld) in
-        let found = ap (λ (e : Option ScheduledGroup). unwrap_or e unheld) (get-place groups a p has.address_is (a, unheld)) in
-        λ i. (key i, sym found i)
-
-    total-put : (e : ScheduledGroup) → HasPlace groups a p → sum_by w (map.entries (map.insert groups a e)) + w (a, group_at groups a) ≡ sum_by w (map.entries groups) + w (a, e)
-    total-put e has =
-        ap (λ es. sum_by w es + w (a, group_at groups a)) (entries-replaced groups a p has.address_is e)
-        ∙ ap (λ x. sum_by w (set (map.entries groups) p (a, e)) + w x) (sym (entry_at has))
-        ∙ sum_by-set w (map.entries groups) p (a, e) (a, unheld) (place_within groups a p has.address_is)
-
-    total-insert : (e : ScheduledGroup) → GoesAt groups a p → sum_by w (map.entries (map.insert groups a e)) ≡ sum_by w (map.entries groups) + w (a, e)
-    total-insert e place = ap (sum_by w) (entries-made groups a p place.goes e) ∙ sum_by-insert w (map.entries groups) p (a, e)
-
-    total-remove : HasPlace groups a p → sum_by w (map.entries (map.remove groups a)) + w (a, group_at groups a) ≡ sum_by w (map.entries groups)
-    total-remove has =
-        ap (λ es. sum_by w es + w (a, group_at groups a)) (entries-deleted groups a p has.address_is)
-        ∙ ap (λ x. sum_by w (remove (map.entries groups) p) + w x) (sym (entry_at has))
-        ∙ sum_by-remove w (map.entries groups) p (a, unheld) (place_within groups a p has.address_is)
-
-  -- the same wherever the group stands, of a number that a group has none of where it isn't held
   module _ (none : w (a, unheld) ≡ 0) where
-    at_absent : map.contains_key groups a ≡ false → w (a, group_at groups a) ≡ 0
-    at_absent absent =
-        let found = absent-place groups a absent in
-        ap (λ (e : Option ScheduledGroup). w (a, unwrap_or e unheld)) (goes-absent groups a found.0 found.1) ∙ none
-
     pub total-with : (e : ScheduledGroup) → sum_by w (map.entries (map.insert groups a e)) + w (a, group_at groups a) ≡ sum_by w (map.entries groups) + w (a, e)
-    total-with e = by_test (map.contains_key groups a) refl
-      where
-        by_test : (b : Bool) → map.contains_key groups a ≡ b → sum_by w (map.entries (map.insert groups a e)) + w (a, group_at groups a) ≡ sum_by w (map.entries groups) + w (a, e)
-        by_test true held = let found = held-place groups a held in total-put found.0 e found.1
-        by_test false absent =
-            let found = absent-place groups a absent in
-            let total = total-insert found.0 e found.1 in
-            omega (arith, total, at_absent absent)
+    total-with e = total-put w a none groups e
 
     pub total-without : sum_by w (map.entries (map.remove groups a)) + w (a, group_at groups a) ≡ sum_by w (map.entries groups)
-    total-without = by_test (map.contains_key groups a) refl
+    total-without = by_value (map.get groups a) refl
       where
-        by_test : (b : Bool) → map.contains_key groups a ≡ b → sum_by w (map.entries (map.remove groups a)) + w (a, group_at groups a) ≡ sum_by w (map.entries groups)
-        by_test true held = let found = held-place groups a held in total-remove found.0 found.1
-        by_test false absent =
-            let found = absent-place groups a absent in
-            let same : map.remove groups a ≡ groups = map.same_map nat_cmp_total map.nat_cmp-IsAntisymmetric (map.remove groups a) groups (λ q. map.get-remove nat_cmp_total groups a q ∙ unchanged q (goes-absent groups a found.0 found.1) (eq_by_cmp nat_cmp q a) refl) in
-            let sums = ap (λ (m : Groups). sum_by w (map.entries m)) same in
-            omega (arith, sums, at_absent absent)
-          where
-            unchanged : (q : ℕ) → map.get groups a ≡ None → (b : Bool) → eq_by_cmp nat_cmp q a ≡ b → cond b None (map.get groups q) ≡ map.get groups q
-            unchanged q absent true same = sym (ap (map.get groups) (tied q a same) ∙ absent)
-            unchanged q absent false other = refl
+        left : Groups
+        left = map.remove groups a
+
+        -- what is put back is as it was
+        back : (e : ScheduledGroup) → map.get groups a ≡ Some e → (q : ℕ) (b : Bool) → eq_by_cmp nat_cmp q a ≡ b → cond b (Some e) (cond b None (map.get groups q)) ≡ map.get groups q
+        back e is q true same = sym (ap (map.get groups) (tied q a same) ∙ is)
+        back e is q false other = refl
+
+        kept : map.get groups a ≡ None → (q : ℕ) (b : Bool) → eq_by_cmp nat_cmp q a ≡ b → cond b None (map.get groups q) ≡ map.get groups q
+        kept absent q true same = sym (ap (map.get groups) (tied q a same) ∙ absent)
+        kept absent q false other = refl
+
+        by_value : (o : Option ScheduledGroup) → map.get groups a ≡ o → sum_by w (map.entries left) + w (a, unwrap_or o unheld) ≡ sum_by w (map.entries groups)
+        by_value None absent =
+            let same = map.same_map nat_cmp_total map.nat_cmp-IsAntisymmetric left groups (λ q. map.get-remove nat_cmp_total groups a q ∙ kept absent q (eq_by_cmp nat_cmp q a) refl) in
+            omega (arith, none, ap (λ (m : Groups). sum_by w (map.entries m)) same)
+        by_value (Some e) is =
+            let same = map.same_map nat_cmp_total map.nat_cmp-IsAntisymmetric (map.insert left a e) groups
+            (λ q. map.get-insert nat_cmp_total left a e q ∙ ap (cond (eq_by_cmp nat_cmp q a) (Some e)) (map.get-remove nat_cmp_total groups a q) ∙ back e is q (eq_by_cmp nat_cmp q a) refl) in
+            let gone = map.get-remove nat_cmp_total groups a a ∙ ap (λ b. cond b None (map.get groups a)) (ties a a refl) in
+            omega (arith, none, total-put w a none left e, ap (λ (m : Groups). sum_by w (map.entries m)) same, ap (λ o. w (a, unwrap_or o unheld)) gone)
 
     -- a group as said, held or not, where a vacant one has none of it either
     pub total-with_group : (e : ScheduledGroup) → (is_vacant e.group ≡ true → w (a, e) ≡ 0) → sum_by w (map.entries (with_group groups a e)) + w (a, group_at groups a) ≡ sum_by w (map.entries groups) + w (a, e)
@@ -145,10 +143,11 @@ len-with_group groups a e = by_test (is_vacant e.group)
     taken false n some = omega arith
 
     some_held : (b : Bool) → map.contains_key groups a ≡ b → one_if b ≤ map.len groups
-    some_held true held = let found = held-place groups a held in let h = place_within groups a found.0 (address found.1) in omega (arith, h, map.len-entries groups)
-      where
-        address : {q : ℕ} → HasPlace groups a q → Rattle.std.specs.Prelude.slice_get (map.keys groups) q ≡ Some a
-        address has = has.address_is
+    some_held true held =
+        ⊎_elim
+        (λ (some : 0 < map.len groups). omega (arith, some))
+        (λ (none : map.len groups ≤ 0). absurd (true≢false (sym held ∙ ap (λ (m : Groups). map.contains_key m a) (map.empty_of_len groups (omega (arith, none))) ∙ ap is_some (map.get-empty nat_cmp a))))
+        (cases_lt 0 (map.len groups))
     some_held false absent = omega arith
 
     by_test : (b : Bool) → map.len (if b then map.remove groups a else map.insert groups a e) + one_if (map.contains_key groups a) ≡ map.len groups + one_if (not b)

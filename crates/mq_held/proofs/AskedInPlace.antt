@@ -1,14 +1,11 @@
 -- A group of which one source is asked for, by its row.
-use Rattle.std.proofs.Common.{◌≡◌, ℕ, ◌+◌, ◌-◌, ◌<◌, Bool, true, false, cond, ◌&&◌, refl, List, [], ◌∷◌, ◌++◌, length, Option, None, Some, ltb, get_or, set, sym, ap, ◌∙◌, subst, arith}
+use Rattle.std.proofs.Common.{◌≡◌, ℕ, ◌+◌, ◌-◌, Bool, true, false, cond, ◌&&◌, refl, List, [], ◌∷◌, ◌++◌, Option, None, Some, ltb, get_or, set, sym, ap, ◌∙◌, subst, arith}
 use Rattle.std.specs.Prelude.{map as list_map}
 use Rattle.std.specs.List.{list_any}
 use Rattle.std.specs.FinMap as map
-use Rattle.std.specs.FinMap.{FinMap}
-use Rattle.std.specs.Ordering.{nat_cmp}
 use Rattle.std.proofs.lemmas.Bool.{le-leb}
-use Rattle.std.proofs.lemmas.List.{get_or-set_same, get_or_read, length-map, length-set, set-set}
+use Rattle.std.proofs.lemmas.List.{set-set}
 use Rattle.mq_sets.specs.Ascending.{IsAscending, set_of}
-use Rattle.mq_sets.specs.NumberedKeys.{NumberedKey}
 use Rattle.mq_sets.specs.Pools.{PoolState}
 use Rattle.mq_sets.proofs.Ascents.{IsAscending-map}
 use Rattle.mq_table.specs.declared.sources.Source.{Source}
@@ -26,20 +23,21 @@ use Rattle.mq_table.proofs.Asking.{stays}
 use Rattle.mq_table.proofs.AskingOne.{asked_found}
 use Rattle.mq_table.proofs.Rows.{any_in_row, timers_in-replaced}
 use Rattle.mq_sched.specs.Rounds.{IsQuietAt}
-use Rattle.mq_sched.specs.Schedule.{ScheduledGroup}
+use Rattle.mq_sched.specs.Schedule.{ScheduleState, ScheduledGroup}
 use Rattle.mq_sched.specs.Sending.{GroupQuery, SentQuery, after_round, is_due, messages_due, waiting_messages}
 use Rattle.mq_sched.specs.Sink.{Sends}
 use Rattle.mq_sched.proofs.Rounds.{group_not_due, quiet_is_silent, same_count, same_round}
 use Rattle.mq_sched.proofs.StayHeld.{held_acted, held_after_round}
+use Rattle.mq_held.specs.declared.held_groups.HeldGroups.TheInside.{Inside}
 use Rattle.mq_held.specs.declared.scheduled_head.ScheduledHead.{ScheduledHead}
 use Rattle.mq_held.specs.Asked.{one_asked}
-use Rattle.mq_held.specs.Groups.{Groups, group_at, schedules_of}
+use Rattle.mq_held.specs.Held.{HasNumber, HeldState}
+use Rattle.mq_held.specs.Groups.{group_at, schedules_of}
 use Rattle.mq_held.specs.Moments.{moments_of}
-use Rattle.mq_held.specs.Stored.{IsStored, earliest_of, group_by, group_of, no_head}
-use Rattle.mq_held.proofs.Inside.{group_found}
-use Rattle.mq_held.proofs.OrderedItems.{number_of}
+use Rattle.mq_held.specs.Stored.{IsStored, earliest_of, group_of, groups_by, no_head}
+use Rattle.mq_held.proofs.Inside.{address-of, ahead_is, contained, group_found, state-set}
+use Rattle.mq_held.proofs.Located.{Located, Placed, group_in, row-read, row_of, stored-written}
 use Rattle.mq_held.proofs.RestartedTimers.{insert-same}
-use Rattle.mq_held.proofs.StoredEdits.{IsStored-written}
 
 module _ {K : Type 0} (number : K → ℕ) (timing : Timing) (now : ℕ) (source : K) where
   abbrev pub asked_set : ℕ → Bool
@@ -61,12 +59,6 @@ module _ {K : Type 0} (number : K → ℕ) (timing : Timing) (now : ℕ) (source
   module _ (h : ScheduledHead) (row : List (Source K)) (up : IsAscending (number_in number) row) where
     timers_asked : timers_in number (row_asked row) ≡ (one_asked timing now (number source) (group_of number h row)).group.sources
     timers_asked = timers_in-replaced number (λ s timer. cond (asked_set s) (source_asked (lowered_to timing now) (last_member_count timing) timer) timer) made (λ x. refl) row
-
-    pub up_asked : IsAscending (number_in number) (row_asked row)
-    up_asked = IsAscending-map (number_in number) made row up
-
-    pub up_counted : IsAscending (number_in number) (row_counted row)
-    up_counted = IsAscending-map (number_in number) item_counted (row_asked row) up_asked
 
     some_above : some_source (asked_set ∩ above timing now (group_of number h row).group) (group_of number h row).group ≡ list_any test row
     some_above = any_in_row number (λ s timer. asked_set s && is_ahead (lowered_to timing now) (deadline_of timer)) row up
@@ -104,7 +96,7 @@ module _ {K : Type 0} (number : K → ℕ) (timing : Timing) (now : ℕ) (source
     counted = ap (state_of h.head) (sym (timers_in-replaced number (λ s. source_counted) item_counted (λ x. refl) (row_asked row)))
 
     some_left : some_source (has_sendings (state_of h.head (timers_in number (row_counted row)))) (state_of h.head (timers_in number (row_counted row))) ≡ list_any item_has_sendings (row_counted row)
-    some_left = any_in_row number (λ s timer. ltb 0 (sendings_of timer)) (row_counted row) up_counted
+    some_left = any_in_row number (λ s timer. ltb 0 (sendings_of timer)) (row_counted row) (IsAscending-map (number_in number) item_counted (row_asked row) (IsAscending-map (number_in number) made row up))
 
     module _ (some : list_any test row ≡ true) (quiet : IsQuietAt now h.schedule) where
       pub asked_then : one_asked timing now (number source) (group_of number h row) ≡ asked_as (Some now)
@@ -140,90 +132,103 @@ module _ {K : Type 0} (number : K → ℕ) (timing : Timing) (now : ℕ) (source
           (subst (λ b. Sends takes old (cond b (GroupQuery address (is_ahead (lowered_to timing now) (group_deadline h.head.mode)) ∷ []) [] ++ cond (is_due now (Some now)) (waiting_messages n timing now address (asked_as (Some now)).group) []) new) (sym (group_not_due now h.schedule.group_query quiet.group))
           (subst (λ b. Sends takes old (cond b (waiting_messages n timing now address (asked_as (Some now)).group) []) new) (sym due_now) sent))
 
-    pub len_counted : length (row_counted row) ≡ length row
-    len_counted = length-map (row_asked row) item_counted ∙ length-map row made
-
 -- a group that is held stays one
 pub IsWellFormed-one_asked : (timing : Timing) (now source : ℕ) (e : ScheduledGroup) → IsWellFormed e.group → IsWellFormed (after_round timing now (one_asked timing now source e)).group
 IsWellFormed-one_asked timing now source e held =
     held_after_round timing now (one_asked timing now source e) (held_acted true timing now false (set_of (λ s. s) (source ∷ [])) e held)
 
--- a group for which nothing is due, and whose timers no source that is asked for has above the limit, stays and sends nothing
-module _ (groups : Groups) (address source : ℕ) (timing : Timing) (now : ℕ) (held : map.contains_key groups address ≡ true) (quiet : IsQuietAt now (group_at groups address).schedule) (unasked : one_asked timing now source (group_at groups address) ≡ group_at groups address) where
-  pub unasked_groups : groups ≡ map.insert groups address (after_round timing now (one_asked timing now source (group_at groups address)))
-  unasked_groups =
-      sym (insert-same groups address (group_at groups address) (group_found groups address held))
-      ∙ ap (map.insert groups address) (sym (ap (after_round timing now) unasked ∙ same_round timing now (group_at groups address) quiet))
+-- the group of a number, before a source of it is asked for
+module _ {K A : Type 0} {number : K → ℕ} {s : Inside K A} {state : HeldState} {n : ℕ} (l : Located number s state n) (timing : Timing) (now : ℕ) (source : K) where
+  pub quiet_in : ((a : ℕ) → HasNumber state a n → IsQuietAt now (group_at state.groups a).schedule) → IsQuietAt now (group_in number s n).schedule
+  quiet_in quiet = let found = address-of number l.inside.0 l.was n l.is in subst (λ (e : ScheduledGroup). IsQuietAt now e.schedule) (l.group found.1) (quiet found.0 found.1)
 
-  pub unasked_sends : {S : Type 0} (takes : S → SentQuery → S → Type 0) (sink : S) (n : ℕ) → Sends takes sink (messages_due n timing now address (one_asked timing now source (group_at groups address))) sink
-  unasked_sends takes sink n =
-      subst (λ queries. Sends takes sink queries sink) (sym (ap (messages_due n timing now address) unasked ∙ quiet_is_silent n timing now address (group_at groups address) quiet)) refl
+  -- whether the timer of the source is above the limit
+  module _ {place : ℕ} {x : Source K} (f : Placed number (row_of s n) (number source) place x) (b : Bool) (above : b ≡ is_ahead (lowered_to timing now) (deadline_of (Some x.timer))) where
+    pub some_where : list_any (test number timing now source) (row_of s n) ≡ b
+    some_where = sym (asked_found number (lowered_to timing now) (last_member_count timing) source (row_of s n) place x b l.up f.within f.here f.is above).1
 
--- the rows, once a source of one of them is asked for, and once its sendings are counted
-module _ {K : Type 0} (number : K → ℕ) (timing : Timing) (now : ℕ) (source : K) (n : ℕ) (s0 s1 s2 : PoolState (Source K)) (within : n < length s0.rows) (limit count : ℕ) (limit_is : limit ≡ lowered_to timing now) (count_is : count ≡ last_member_count timing)
-    (first : s1 ≡ record s0 { rows = set s0.rows n (list_map (source_if_asked number limit count (set_of number (source ∷ []))) (get_or s0.rows n [])) }) where
-  pub rows_asked : s1 ≡ record s0 { rows = set s0.rows n (row_asked number timing now source (get_or s0.rows n [])) }
-  rows_asked = first ∙ (λ i. let s : PoolState (Source K) = record s0 { rows = set s0.rows n (list_map (source_if_asked number (limit_is i) (count_is i) (set_of number (source ∷ []))) (get_or s0.rows n [])) } in s)
+    pub same_where : b ≡ false → row_asked number timing now source (row_of s n) ≡ row_of s n
+    same_where below =
+        sym (asked_found number (lowered_to timing now) (last_member_count timing) source (row_of s n) place x b l.up f.within f.here f.is above).0
+        ∙ stays (lowered_to timing now) (last_member_count timing) true b (row_of s n) place x f.here below
 
-  pub row_asked_is : get_or s1.rows n [] ≡ row_asked number timing now source (get_or s0.rows n [])
-  row_asked_is = ap (λ (s : PoolState (Source K)). get_or s.rows n []) rows_asked ∙ get_or-set_same s0.rows n (row_asked number timing now source (get_or s0.rows n [])) [] within
+  -- where none is, the group stays, and nothing is sent
+  module _ (same : row_asked number timing now source (row_of s n) ≡ row_of s n) (none : list_any (test number timing now source) (row_of s n) ≡ false) {a : ℕ} (has : HasNumber state a n) (quiet : IsQuietAt now (group_at state.groups a).schedule) where
+    unasked : one_asked timing now (number source) (group_at state.groups a) ≡ group_at state.groups a
+    unasked =
+        subst (λ (e : ScheduledGroup). one_asked timing now (number source) e ≡ e) (sym (l.group has)) (stays_unasked number timing now source (get_or s.heads.items n no_head) (row_of s n) l.up same none)
 
-  pub within_asked : n < length s1.rows
-  within_asked = let same = ap (λ (s : PoolState (Source K)). length s.rows) rows_asked in let size = length-set s0.rows n (row_asked number timing now source (get_or s0.rows n [])) in omega (arith, same, size, within)
+    pub state_unasked : state ≡ record state { groups = map.insert state.groups a (after_round timing now (one_asked timing now (number source) (group_at state.groups a))) }
+    state_unasked =
+        let e = group_at state.groups a in
+        let groups = sym (insert-same state.groups a e (group_found state.groups a (contained number l.inside.0 l.was has))) ∙ ap (map.insert state.groups a) (sym (ap (after_round timing now) unasked ∙ same_round timing now e quiet)) in
+        λ i. record state { groups = groups i }
 
-  pub rows_counted : s2 ≡ record s1 { rows = set s1.rows n (list_map item_counted (get_or s1.rows n [])) } → s2 ≡ record s0 { rows = set s0.rows n (row_counted number timing now source (get_or s0.rows n [])) }
+    pub none_sent : {S : Type 0} (takes : S → SentQuery → S → Type 0) (sink : S) (per_query : ℕ) → Sends takes sink (messages_due per_query timing now a (one_asked timing now (number source) (group_at state.groups a))) sink
+    none_sent takes sink per_query =
+        subst (λ queries. Sends takes sink queries sink) (sym (ap (messages_due per_query timing now a) unasked ∙ quiet_is_silent per_query timing now a (group_at state.groups a) quiet)) refl
+
+-- A source of the group of a number is asked for. `t` are the rows then.
+pub record IsAsked {K A : Type 0} (number : K → ℕ) (s : Inside K A) (state : HeldState) (n : ℕ) (timing : Timing) (now : ℕ) (source : K) (t : PoolState (Source K)) : Type 0 where
+  pub at : Located number s state n
+  pub quiet : IsQuietAt now (group_in number s n).schedule
+  pub above : list_any (test number timing now source) (row_of s n) ≡ true
+  pub other : is_vacant (group_in number s n).group ≡ false
+  pub rows : t ≡ record s.sources { rows = set s.sources.rows n (row_asked number timing now source (row_of s n)) }
+
+module _ {K A : Type 0} {number : K → ℕ} {s : Inside K A} {state : HeldState} {n : ℕ} {timing : Timing} {now : ℕ} {source : K} {t : PoolState (Source K)} (a : IsAsked number s state n timing now source t) where
+  -- the rows, once its sendings are counted
+  pub rows_counted : {u : PoolState (Source K)} → u ≡ record t { rows = set t.rows n (list_map item_counted (get_or t.rows n [])) } → u ≡ record s.sources { rows = set s.sources.rows n (row_counted number timing now source (row_of s n)) }
   rows_counted second =
       second
-      ∙ (λ i. let s : PoolState (Source K) = record { rows = set (rows_asked i).rows n (list_map item_counted (row_asked_is i)); cell_limit = (rows_asked i).cell_limit; ahead = (rows_asked i).ahead } in s)
-      ∙ (λ i. let s : PoolState (Source K) = record s0 { rows = set-set s0.rows n (row_asked number timing now source (get_or s0.rows n [])) (row_counted number timing now source (get_or s0.rows n [])) i } in s)
+      ∙ (λ i. record { rows = set (a.rows i).rows n (list_map item_counted (row-read a.at _ a.rows refl i)); cell_limit = (a.rows i).cell_limit; ahead = (a.rows i).ahead })
+      ∙ (λ i. record s.sources { rows = set-set s.sources.rows n (row_asked number timing now source (row_of s n)) (row_counted number timing now source (row_of s n)) i })
 
-  pub row_counted_is : s2 ≡ record s1 { rows = set s1.rows n (list_map item_counted (get_or s1.rows n [])) } → get_or s2.rows n [] ≡ row_counted number timing now source (get_or s0.rows n [])
-  row_counted_is second = ap (λ (s : PoolState (Source K)). get_or s.rows n []) (rows_counted second) ∙ get_or-set_same s0.rows n (row_counted number timing now source (get_or s0.rows n [])) [] within
+  pub up_asked : IsAscending (number_in number) (row_asked number timing now source (row_of s n))
+  up_asked = IsAscending-map (number_in number) (made number timing now source) (row_of s n) a.at.up
 
--- what is stored, once a source of the group of a number was asked for
-module _ {K : Type 0} (number : K → ℕ) {items : List NumberedKey} {heads : List ScheduledHead} {rows : List (List (Source K))} {moments : FinMap nat_cmp ℕ} {schedules : ℕ} (known : IsStored number items heads rows moments schedules) (n : ℕ) (held : set_of number_of items n ≡ true) (rows_within : n < length rows) (timing : Timing) (now : ℕ) (source : K)
-    (h : ScheduledHead) (heads_within : n < length heads) (head_here : h ≡ get_or heads n h) (other : is_vacant (group_by number heads rows n).group ≡ false) (some : list_any (test number timing now source) (get_or rows n []) ≡ true) (quiet : IsQuietAt now (group_by number heads rows n).schedule) where
-  pub row_up : IsAscending (number_in number) (get_or rows n [])
-  row_up = known.rows_ascend n [] rows_within
+  pub up_counted : IsAscending (number_in number) (row_counted number timing now source (row_of s n))
+  up_counted = IsAscending-map (number_in number) item_counted (row_asked number timing now source (row_of s n)) up_asked
 
-  head_is : get_or heads n no_head ≡ h
-  head_is = sym (get_or_read heads n h heads_within head_here no_head)
+  module _ {h : ScheduledHead} (here : h ≡ get_or s.heads.items n h) where
+    quiet_head : IsQuietAt now h.schedule
+    quiet_head = subst (λ (x : ScheduledHead). IsQuietAt now x.schedule) (a.at.head h here) a.quiet
 
-  quiet_head : IsQuietAt now h.schedule
-  quiet_head = subst (λ (x : ScheduledHead). IsQuietAt now x.schedule) head_is quiet
+    abbrev pub head_counted : ScheduledHead
+    head_counted = head_then number timing now source h (row_of s n) a.at.up
 
-  abbrev pub head_counted : ScheduledHead
-  head_counted = head_then number timing now source h (get_or rows n []) row_up
+    pub head_is : {left : Bool} {next : ScheduleState} → left ≡ list_any item_has_sendings (list_map item_counted (get_or t.rows n [])) → next ≡ record h.schedule { sources_due = cond left (Some (now + timing.last_member_interval)) None }
+        → ◌≡◌ {A = ScheduledHead} (record { head = h.head; schedule = next }) head_counted
+    head_is left next =
+        let some = left ∙ ap (λ xs. list_any item_has_sendings (list_map item_counted xs)) (row-read a.at _ a.rows refl) in
+        let is = next ∙ (λ i. let s : ScheduleState = record h.schedule { sources_due = cond (some i) (Some (now + timing.last_member_interval)) None } in s) in
+        λ i. record { head = h.head; schedule = is i }
 
-  abbrev pub row_left : List (Source K)
-  row_left = row_counted number timing now source (get_or rows n [])
+    pub group_after : group_of number head_counted (row_counted number timing now source (row_of s n)) ≡ after_round timing now (one_asked timing now (number source) (group_in number s n))
+    group_after =
+        group_counted_is number timing now source h (row_of s n) a.at.up a.above quiet_head
+        ∙ ap (λ x. after_round timing now (one_asked timing now (number source) (group_of number x (row_of s n)))) (sym (a.at.head h here))
 
-  pub group_after : group_of number head_counted row_left ≡ after_round timing now (one_asked timing now (number source) (group_by number heads rows n))
-  group_after =
-      group_counted_is number timing now source h (get_or rows n []) row_up some quiet_head
-      ∙ ap (λ x. after_round timing now (one_asked timing now (number source) (group_of number x (get_or rows n [])))) (sym head_is)
+    pub formed_after : IsWellFormed (group_of number head_counted (row_counted number timing now source (row_of s n))).group
+    formed_after =
+        subst (λ (e : ScheduledGroup). IsWellFormed e.group) (sym group_after) (IsWellFormed-one_asked timing now (number source) (group_in number s n) (a.at.inside.0.others_are_held n a.at.held a.other))
 
-  pub formed_after : IsWellFormed (group_of number head_counted row_left).group
-  formed_after = subst (λ (e : ScheduledGroup). IsWellFormed e.group) (sym group_after) (IsWellFormed-one_asked timing now (number source) (group_by number heads rows n) (known.others_are_held n held other))
+    pub stored_after : (due : ℕ) → earliest_of (moments_of (group_of number head_counted (row_counted number timing now source (row_of s n)))) ≡ Some due
+        → IsStored number s.order.items (set s.heads.items n head_counted) (set s.sources.rows n (row_counted number timing now source (row_of s n))) (map.insert s.moments.moments n due) (s.scheduled - schedules_of (group_in number s n) + schedules_of (group_of number head_counted (row_counted number timing now source (row_of s n))))
+    stored_after due first =
+        stored-written a.at head_counted _ up_counted refl formed_after first
 
-  pub IsStored-asked : (due : ℕ) → earliest_of (moments_of (group_of number head_counted row_left)) ≡ Some due
-      → IsStored number items (set heads n head_counted) (set rows n row_left) (map.insert moments n due) (schedules - schedules_of (group_by number heads rows n) + schedules_of (group_of number head_counted row_left))
-  IsStored-asked due first =
-      IsStored-written number known n head_counted row_left (group_of number head_counted row_left) due held heads_within rows_within (up_counted number timing now source h (get_or rows n []) row_up) refl formed_after first
+    pub seen_after : {next : ScheduledHead} {u : PoolState (Source K)} → next ≡ head_counted → u ≡ record s.sources { rows = set s.sources.rows n (row_counted number timing now source (row_of s n)) } → {address : ℕ} → HasNumber state address n
+        → ◌≡◌ {A = HeldState} (record { groups = groups_by number s.order.items (set s.heads.items n next) u.rows; order = s.order; source_room = s.source_room; ahead = u.ahead }) (record state { groups = map.insert state.groups address (after_round timing now (one_asked timing now (number source) (group_at state.groups address))) })
+    seen_after next rows {address} has =
+        let e = after_round timing now (one_asked timing now (number source) (group_at state.groups address)) in
+        let is = group_after ∙ ap (λ e. after_round timing now (one_asked timing now (number source) e)) (sym (a.at.group has)) in
+        (λ i. record { groups = groups_by number s.order.items (set s.heads.items n (next i)) (rows i).rows; order = s.order; source_room = s.source_room; ahead = (rows i).ahead })
+        ∙ state-set number a.at.inside.0 a.at.was head_counted (row_counted number timing now source (row_of s n)) e s.sources.ahead state.ahead has a.at.in_heads is (ahead_is number a.at.inside.0 a.at.was)
 
-  pub sends_after : {S : Type 0} (takes : S → SentQuery → S → Type 0) (old new : S) (per_query address : ℕ)
-      → ((g : GroupState) → timers_in number (row_asked number timing now source (get_or rows n [])) ≡ g.sources → Sends takes old (waiting_messages per_query timing now address g) new)
-      → Sends takes old (messages_due per_query timing now address (one_asked timing now (number source) (group_by number heads rows n))) new
-  sends_after takes old new per_query address sent =
-      subst (λ (x : ScheduledHead). Sends takes old (messages_due per_query timing now address (one_asked timing now (number source) (group_of number x (get_or rows n [])))) new) (sym head_is)
-      (sent_is number timing now source h (get_or rows n []) row_up some quiet_head takes old new per_query address (sent (state_of h.head (timers_in number (row_asked number timing now source (get_or rows n [])))) refl))
-
--- the source that is asked for, at its place in a row: whether its timer is above the limit
-module _ {K : Type 0} (number : K → ℕ) (timing : Timing) (now : ℕ) (source : K) (row : List (Source K)) (up : IsAscending (number_in number) row) (place : ℕ) (x : Source K) (within : place < length row) (here : x ≡ get_or row place x) (is : number x.address ≡ number source) where
-  pub some_where_above : (b : Bool) → b ≡ is_ahead (lowered_to timing now) (deadline_of (Some x.timer)) → list_any (test number timing now source) row ≡ b
-  some_where_above b above = sym (asked_found number (lowered_to timing now) (last_member_count timing) source row place x b up within here is above).1
-
-  pub same_where_below : false ≡ is_ahead (lowered_to timing now) (deadline_of (Some x.timer)) → row_asked number timing now source row ≡ row
-  same_where_below below =
-      sym (asked_found number (lowered_to timing now) (last_member_count timing) source row place x false up within here is below).0
-      ∙ stays (lowered_to timing now) (last_member_count timing) true false row place x here refl
+    -- what waits for the row is what is due
+    pub sends_after : {S : Type 0} (takes : S → SentQuery → S → Type 0) (old new : S) (per_query address : ℕ) → ((g : GroupState) → timers_in number (row_asked number timing now source (row_of s n)) ≡ g.sources → Sends takes old (waiting_messages per_query timing now address g) new)
+        → HasNumber state address n → Sends takes old (messages_due per_query timing now address (one_asked timing now (number source) (group_at state.groups address))) new
+    sends_after takes old new per_query address sent has =
+        subst (λ (e : ScheduledGroup). Sends takes old (messages_due per_query timing now address (one_asked timing now (number source) e)) new) (ap (λ (x : ScheduledHead). group_of number x (row_of s n)) (sym (a.at.head h here)) ∙ sym (a.at.group has))
+        (sent_is number timing now source h (row_of s n) a.at.up a.above quiet_head takes old new per_query address (sent (state_of h.head (timers_in number (row_asked number timing now source (row_of s n)))) refl))

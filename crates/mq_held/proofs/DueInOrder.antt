@@ -1,12 +1,12 @@
 -- The due groups by their numbers: put in order, or left of all numbers.
-use Rattle.std.proofs.Common.{ℕ, ◌+◌, ◌-◌, ◌*◌, ◌<◌, ◌≤◌, ◌≡◌, min, Bool, true, false, not, cond, refl, List, [], ◌∷◌, length, get_or, Some, sym, ap, ◌∙◌, subst, arith, ⊎_elim}
+use Rattle.std.proofs.Common.{ℕ, ◌+◌, ◌-◌, ◌*◌, ◌<◌, ◌≤◌, ◌≡◌, min, Bool, true, false, not, cond, refl, List, [], ◌∷◌, length, get_or, take, Some, sym, ap, ◌∙◌, subst, arith, ⊎_elim}
 use Rattle.std.specs.Prelude.{map as list_map, filter, slice_get, if◌then◌else◌}
 use Rattle.std.specs.List.{All}
 use Rattle.std.specs.Option.{unwrap_or}
 use Rattle.std.specs.Ordering.{nat_cmp}
 use Rattle.std.proofs.Math.Nat.{mul-le-mul_left}
 use Rattle.std.proofs.lemmas.Bool.{cases_eq, cases_lt}
-use Rattle.std.proofs.lemmas.List.{get_or-map, length-map}
+use Rattle.std.proofs.lemmas.List.{get_or-map, length-map, length-take-le}
 use Rattle.std.proofs.lemmas.List.Elements.{All-filter}
 use Rattle.std.proofs.lemmas.List.Kept.{AllPairs-filter}
 use Rattle.std.proofs.lemmas.List.Sums.{sum_by-cons, length-filter, count_by-le-length}
@@ -35,10 +35,11 @@ use Rattle.mq_held.specs.Stored.{groups_by, IsStored}
 use Rattle.mq_held.proofs.DueNumbers.{due-number, due-unused}
 use Rattle.mq_held.proofs.Entries.{get-place}
 use Rattle.mq_held.proofs.GroupsInOrder.{IsOrdered, IsOrdered-stored, all-numbers, all-addresses}
-use Rattle.mq_held.proofs.Inside.{items_are}
+use Rattle.mq_held.proofs.Inside.{items_are, running-held}
 use Rattle.mq_held.proofs.KeysByNumber.{numbers_in, numbers-ascend, map-filter, filter-agree}
 use Rattle.mq_held.proofs.OrderedAmounts.{sum_by-map, times-filter}
 use Rattle.mq_held.proofs.OrderedItems.{number_of, has-number, times-in, absent-times}
+use Rattle.mq_held.proofs.StoredMoments.{one_at_most}
 
 -- lists that ascend and have each number as often are the same
 pub same-ordered : (f : ℕ → ℕ) (xs ys : List ℕ) → IsAscending f xs → IsAscending f ys → ((n : ℕ) → times n xs ≡ times n ys) → xs ≡ ys
@@ -114,6 +115,12 @@ module _ {s : HeldState} (known : IsOrdered s) (now : ℕ) where
   ordered-left {ns = ns} up same =
       same-ordered (key_in s.order.items) ns (filter (is_due_at s now) (numbers_in s.order.items)) up left_ascend same
 
+-- The first `count` of these numbers are those of the due groups.
+pub record IsPicked (state : HeldState) (now : ℕ) (numbers : List ℕ) (count : ℕ) : Type 0 where
+  pub is : count ≡ due_in now state.groups
+  pub within : count ≤ map.len state.groups
+  pub size : length (take count numbers) ≡ count
+
 module _ {K : Type 0} (number : K → ℕ) {order : NumberedKeysState} {heads : List ScheduledHead} {rows : List (List (Source K))} {moments : FinMap nat_cmp ℕ} {schedules : ℕ} (known : IsStored number order.items heads rows moments schedules) {source_room ahead : ℕ} {state : HeldState} (was : ◌≡◌ {A = HeldState} (record { groups = groups_by number order.items heads rows; order = order; source_room = source_room; ahead = ahead }) state) where
   -- how often a number is left
   pub times-left : (now n : ℕ) → times n (filter (is_due_at state now) (numbers_in state.order.items)) ≡ (if is_number_due moments now n then 1 else 0)
@@ -138,17 +145,21 @@ module _ {K : Type 0} (number : K → ℕ) {order : NumberedKeysState} {heads : 
           ∙ ap (λ b. if b then 1 else 0) (sym (due-unused number known was now n unused))
 
   -- the numbers that the moments tell are as many as there are due groups
-  pub picked-count : (now : ℕ) (picked : List ℕ) → ((n : ℕ) → times n picked ≡ (if is_number_due moments now n then 1 else 0)) → length picked ≡ due_in now state.groups
-  picked-count now picked each =
-      length-counted picked (filter (is_due_at state now) (numbers_in state.order.items)) (λ n. each n ∙ sym (times-left now n))
-      ∙ count-left (IsOrdered-stored number known was) now refl
+  pub picked_so : (now : ℕ) {count : ℕ} (numbers spare : List ℕ) → count ≤ map.len moments → length numbers ≡ length spare → map.len state.groups ≤ length spare → ((n : ℕ) → times n (take count numbers) ≡ (if is_number_due moments now n then 1 else 0)) → IsPicked state now numbers count
+  picked_so now {count} numbers spare few same space each =
+      let within : count ≤ map.len state.groups = omega (arith, few, running-held number known was, few-running state.groups) in
+      let size = length-take-le count numbers (omega (arith, within, same, space)) in
+      record {
+        is =
+            sym size
+            ∙ length-counted (take count numbers) (filter (is_due_at state now) (numbers_in state.order.items)) (λ n. each n ∙ sym (times-left now n))
+            ∙ count-left (IsOrdered-stored number known was) now refl;
+        within = within;
+        size = size;
+      }
 
   pub picked-once : (now : ℕ) (picked : List ℕ) → ((n : ℕ) → times n picked ≡ (if is_number_due moments now n then 1 else 0)) → (n : ℕ) → times n picked ≤ 1
-  picked-once now picked each n = omega (arith, each n, at_most (is_number_due moments now n))
-    where
-      at_most : (b : Bool) → (if b then 1 else 0) ≤ 1
-      at_most true = omega arith
-      at_most false = omega arith
+  picked-once now picked each n = omega (arith, each n, one_at_most (is_number_due moments now n))
 
   pub picked-ordered : (now : ℕ) (picked : List ℕ) → ((n : ℕ) → times n picked ≡ (if is_number_due moments now n then 1 else 0)) → {ns : List ℕ} → IsAscending (key_in order.items) ns → ((n : ℕ) → times n ns ≡ times n picked)
       → ns ≡ filter (is_due_at state now) (numbers_in state.order.items)

@@ -55,17 +55,6 @@ key-of_item (y ∷ items) once =
     (λ other. rw other.0 (key-of_item items (λ n. omega (arith, once n, sum_by-cons (is_cell n) y.number (numbers_in items))) k d within))
     (eqb_tells y.number x.number))
 
--- the item of a number
-pub item-of_number : (items : List NumberedKey) (n : ℕ) → set_of (λ x. x.number) items n ≡ true → (k : ℕ) × (k < length items) × ((d : NumberedKey) → (get_or items k d).number ≡ n)
-item-of_number [] n is = absurd (true≢false (sym is))
-item-of_number (x ∷ items) n is =
-    ⊎_elim
-    (λ same. (0, omega arith, λ d. same.1))
-    (λ other.
-    let rest = item-of_number items n (rw other.0 at is) in
-    (suc rest.0, omega (arith, rest.1), rest.2))
-    (eqb_tells x.number n)
-
 pub number-is : (items : List NumberedKey) (n k : ℕ) (d : NumberedKey) → k < length items → (get_or items k d).number ≡ n → set_of (λ x. x.number) items n ≡ true
 number-is items n k d within is =
     list_any_at (λ (x : NumberedKey). x.number == n) items k d within (eq-eqb (get_or items k d).number n is)

@@ -3,6 +3,7 @@ use Rattle.std.proofs.Common.{◌≡◌, ℕ, zero, suc, ◌<◌, length, get_or
 use Rattle.std.specs.Prelude.{nat_le}
 use Rattle.std.specs.Option.{option_to_list}
 use Rattle.std.specs.List.{All, list_any}
+use Rattle.std.proofs.Math.Bool.{or-false}
 use Rattle.std.proofs.lemmas.List.Elements.{All-head, All-tail}
 use Rattle.std.proofs.lemmas.Bool.Decides.{nat_tests}
 use Rattle.mq_held.specs.Moments.{least}
@@ -63,11 +64,7 @@ due-earliest now (x ∷ xs) d is =
     or_min a b = grind (arith, nat_tests)
 
     by_least : (x : ℕ) (xs : List ℕ) → (nat_le x now || list_any (λ t. nat_le t now) xs) ≡ nat_le (least x xs) now
-    by_least x [] = or_false (nat_le x now)
-      where
-        or_false : (b : Bool) → (b || false) ≡ b
-        or_false true = refl
-        or_false false = refl
+    by_least x [] = or-false (nat_le x now)
     by_least x (y ∷ ys) = or_turned (nat_le x now) (nat_le y now) (list_any (λ t. nat_le t now) ys) ∙ ap (λ b. nat_le y now || b) (by_least x ys) ∙ or_min y (least x ys)
       where
         or_turned : (a b c : Bool) → (a || (b || c)) ≡ (b || (a || c))

@@ -21,7 +21,7 @@ pub mod DueInOrder
 pub mod TakenItems
 pub mod TakenGroups
 mod HeldInOrder
-mod HeldRows
+pub mod Located
 pub mod RestartedTimers
 pub mod RestartedEach
 mod RestartedRows

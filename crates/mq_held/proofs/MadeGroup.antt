@@ -5,7 +5,7 @@ use Rattle.std.specs.List.{All, Contains, insert, sum_by}
 use Rattle.std.specs.Ordering.{nat_cmp, eq_by_cmp}
 use Rattle.std.specs.Cmp.{nat_cmp_total}
 use Rattle.std.specs.FinMap as map
-use Rattle.std.specs.FinMap.{FinMap}
+use Rattle.std.proofs.Math.Bool.{or-false}
 use Rattle.std.proofs.lemmas.Bool.{cases_lt}
 use Rattle.std.proofs.lemmas.Bool.Decides.{eqb_tells}
 use Rattle.std.proofs.lemmas.List.Edits.{length-insert, get_or-insert_below, get_or-insert_above, get_or-insert_at}
@@ -18,18 +18,18 @@ use Rattle.mq_sets.specs.Search.{IsPlaceFor}
 use Rattle.mq_sets.specs.Slots.{times}
 use Rattle.mq_sets.proofs.Placing.{set_of-insert}
 use Rattle.mq_sets.proofs.Stored.{map-insert}
-use Rattle.mq_table.specs.declared.sources.Source.{Source}
 use Rattle.mq_table.specs.Group.{is_vacant}
 use Rattle.mq_sched.specs.Schedule.{ScheduledGroup}
-use Rattle.mq_held.specs.declared.scheduled_head.ScheduledHead.{ScheduledHead}
 use Rattle.mq_held.specs.Groups.{Groups, group_at, running_in, sources_in, sources_of, unheld}
 use Rattle.mq_held.specs.Held.{HeldState, HasNumber, ahead_with, moved_by_row, moved_by_new_row}
-use Rattle.mq_held.specs.Stored.{group_by, entry_of, entries_of, groups_by, IsStored}
+use Rattle.mq_held.specs.Stored.{entry_of, entries_of, groups_by}
 use Rattle.mq_held.proofs.Amounts.{no_sources}
 use Rattle.mq_held.proofs.OrderedItems.{item, number_of, key_of}
 use Rattle.mq_held.proofs.OrderedGroups.{group-here, groups-made}
 use Rattle.mq_held.proofs.OrderedAmounts.{running-groups, sources-groups}
 use Rattle.mq_held.proofs.StoredEdits.{IsStored-order, group-unused, schedules_at, unheld-vacant}
+use Rattle.mq_held.proofs.Located.{IsStorage, group_in, seen}
+use Rattle.mq_held.specs.declared.held_groups.HeldGroups.TheInside.{Inside}
 use Rattle.mq_held.proofs.Inside.{ahead_is, groups_are, room_is, running-held, source_room_is, sources-held}
 
 -- what stands in a list after an insert
@@ -56,89 +56,114 @@ insert-over groups a d e =
     alike true o = refl
     alike false o = refl
 
-or_none : (b : Bool) → (b || false) ≡ b
-or_none true = refl
-or_none false = refl
+-- A number that no group has is given to an address. `new` is the order then, with the address at the place `p`.
+pub record IsMade {K A : Type 0} (number : K → ℕ) (s : Inside K A) (state : HeldState) (new : NumberedKeysState) (n a p : ℕ) : Type 0 where
+  pub inside : IsStorage number s
+  pub was : seen number s ≡ state
+  pub unused : group_in number s n ≡ unheld
+  pub place : IsPlaceFor key_of s.order.items a p
+  pub items : new.items ≡ insert s.order.items p (item n a)
+  pub room : new.room ≡ s.order.room
+  pub after : IsStorage number (record s { order = new })
 
--- the place of a spot among the items
-pub place-in : {order : NumberedKeysState} {groups : Groups} {source_room ahead : ℕ} {state : HeldState} (was : ◌≡◌ {A = HeldState} (record { groups = groups; order = order; source_room = source_room; ahead = ahead }) state) (a : ℕ) (spot : Spot)
-    → IsSpotFor state.order.items state.order.pages a spot → IsPlaceFor key_of order.items a (rank_of order.pages spot)
-place-in was a spot is =
-    subst (λ (s : HeldState). IsPlaceFor key_of s.order.items a (rank_of s.order.pages spot)) (sym was) is.goes
+pub made : {K A : Type 0} (number : K → ℕ) (s : Inside K A) {state : HeldState} {new : NumberedKeysState} {n a : ℕ} {spot : Spot} → IsStorage number s → seen number s ≡ state → IsSpotFor state.order.items state.order.pages a spot
+    → set_of number_of s.order.items n ≡ false → new.items ≡ insert s.order.items (rank_of s.order.pages spot) (item n a) → new.room ≡ s.order.room
+    → IsAscending key_of new.items → ((m : ℕ) → times m (map number_of new.items) ≤ 1) → All (λ (x : NumberedKey). x.number < new.room) new.items → length new.items ≤ new.room
+    → IsMade number s state new n a (rank_of s.order.pages spot)
+made {K} {A} number s {state} {new} {n} {a} {spot} inside was goes fresh items room up once numbered fits = record {
+  inside = inside;
+  was = was;
+  unused = unused;
+  place = subst (λ (x : HeldState). IsPlaceFor key_of x.order.items a (rank_of x.order.pages spot)) (sym was) goes.goes;
+  items = items;
+  room = room;
+  after = (
+    IsStored-order number inside.0 new.items up once (λ k d in_list. omega (arith, numbered k d in_list, room, inside.2)) differ (omega (arith, same, total, none)),
+    inside.1,
+    inside.2 ∙ sym room,
+    inside.3 ∙ sym room,
+    inside.4 ∙ sym room,
+    omega (arith, room, inside.5),
+    fits,
+  );
+}
+  where
+    unused : group_in number s n ≡ unheld
+    unused = group-unused number inside.0 n fresh
 
-module _ {K : Type 0} (number : K → ℕ) {order : NumberedKeysState} {heads : List ScheduledHead} {rows : List (List (Source K))} {moments : FinMap nat_cmp ℕ} {schedules : ℕ} (known : IsStored number order.items heads rows moments schedules) {source_room ahead : ℕ} {state : HeldState} (was : ◌≡◌ {A = HeldState} (record { groups = groups_by number order.items heads rows; order = order; source_room = source_room; ahead = ahead }) state)
-    (new : NumberedKeysState) (n a p : ℕ) (fresh : set_of number_of order.items n ≡ false) (place : IsPlaceFor key_of order.items a p) (items : new.items ≡ insert order.items p (item n a)) (room : new.room ≡ order.room) where
+    entries : List NumberedKey → List (ℕ × ScheduledGroup)
+    entries xs = entries_of number xs s.heads.items s.sources.rows
+
+    same : sum_by schedules_at (entries new.items) ≡ sum_by schedules_at (insert (entries s.order.items) (rank_of s.order.pages spot) (a, group_in number s n))
+    same =
+        ap (λ xs. sum_by schedules_at (entries xs)) items
+        ∙ ap (sum_by schedules_at) (map-insert (entry_of number s.heads.items s.sources.rows) s.order.items (rank_of s.order.pages spot) (item n a))
+
+    total : sum_by schedules_at (insert (entries s.order.items) (rank_of s.order.pages spot) (a, group_in number s n)) ≡ sum_by schedules_at (entries s.order.items) + schedules_at (a, group_in number s n)
+    total = sum_by-insert schedules_at (entries s.order.items) (rank_of s.order.pages spot) (a, group_in number s n)
+
+    none : schedules_at (a, group_in number s n) ≡ 0
+    none = ap (λ (e : ScheduledGroup). schedules_at (a, e)) unused
+
+    differ : (m : ℕ) → (set_of number_of new.items m ≡ set_of number_of s.order.items m) ⊎ (group_in number s m ≡ unheld)
+    differ m =
+        ⊎_elim
+        (λ same. inr (subst (λ m. group_in number s m ≡ unheld) same.1 unused))
+        (λ other.
+        inl
+        (ap (λ xs. set_of number_of xs m) items
+        ∙ set_of-insert number_of s.order.items (rank_of s.order.pages spot) (item n a) m
+        ∙ ap (λ b. set_of number_of s.order.items m || b) other.0
+        ∙ or-false (set_of number_of s.order.items m)))
+        (eqb_tells n m)
+
+module _ {K A : Type 0} {number : K → ℕ} {s : Inside K A} {state : HeldState} {new : NumberedKeysState} {n a p : ℕ} (f : IsMade number s state new n a p) where
   abbrev pub mid : HeldState
-  mid = record { groups = groups_by number new.items heads rows; order = new; source_room = source_room; ahead = ahead }
-
-  unused : group_by number heads rows n ≡ unheld
-  unused = group-unused number known n fresh
-
-  pub IsStored-made : IsAscending key_of new.items → ((m : ℕ) → times m (map number_of new.items) ≤ 1) → All (λ (x : NumberedKey). x.number < length rows) new.items → IsStored number new.items heads rows moments schedules
-  IsStored-made up once within =
-      let same : sum_by schedules_at (entries_of number new.items heads rows) ≡ sum_by schedules_at (insert (entries_of number order.items heads rows) p (a, group_by number heads rows n)) = ap (λ xs. sum_by schedules_at (entries_of number xs heads rows)) items ∙ ap (sum_by schedules_at) (map-insert (entry_of number heads rows) order.items p (item n a)) in
-      let total = sum_by-insert schedules_at (entries_of number order.items heads rows) p (a, group_by number heads rows n) in
-      let none : schedules_at (a, group_by number heads rows n) ≡ 0 = ap (λ (e : ScheduledGroup). schedules_at (a, e)) unused in
-      IsStored-order number known new.items up once within differ (omega (arith, same, total, none))
-    where
-      differ : (m : ℕ) → (set_of number_of new.items m ≡ set_of number_of order.items m) ⊎ (group_by number heads rows m ≡ unheld)
-      differ m =
-          ⊎_elim
-          (λ same. inr (subst (λ m. group_by number heads rows m ≡ unheld) same.1 unused))
-          (λ other.
-          inl
-          (ap (λ xs. set_of number_of xs m) items
-          ∙ set_of-insert number_of order.items p (item n a) m
-          ∙ ap (λ b. set_of number_of order.items m || b) other.0
-          ∙ or_none (set_of number_of order.items m)))
-          (eqb_tells n m)
+  mid = seen number (record s { order = new })
 
   pub made-has : HasNumber mid a n
-  made-has = record { is = subst (λ xs. Contains xs (item n a)) (sym items) (made-there order.items p (item n a) place.within) }
+  made-has = record { is = subst (λ xs. Contains xs (item n a)) (sym f.items) (made-there s.order.items p (item n a) f.place.within) }
 
   pub made-kept : (b m : ℕ) → HasNumber state b m → HasNumber mid b m
   made-kept b m has = record {
     is =
-        subst (λ xs. Contains xs (item m b)) (sym items) (kept-there order.items p (item n a) (item m b) place.within (subst (λ xs. Contains xs (item m b)) (ap (λ (s : HeldState). s.order.items) (sym was)) has.is));
+        subst (λ xs. Contains xs (item m b)) (sym f.items) (kept-there s.order.items p (item n a) (item m b) f.place.within (subst (λ xs. Contains xs (item m b)) (ap (λ (s : HeldState). s.order.items) (sym f.was)) has.is));
   }
 
-  pub made-group : (b : ℕ) → IsAscending key_of new.items → HasNumber mid b n → group_at mid.groups b ≡ unheld
-  made-group b up has = group-here number new.items heads rows up n b has.is ∙ unused
+  made-group : (b : ℕ) → HasNumber mid b n → group_at mid.groups b ≡ unheld
+  made-group b has = group-here number new.items s.heads.items s.sources.rows f.after.0.ascending n b has.is ∙ f.unused
 
-  pub made-vacant : (b : ℕ) → IsAscending key_of new.items → HasNumber mid b n → true ≡ is_vacant (group_at mid.groups b).group
-  made-vacant b up has = sym (ap (λ (e : ScheduledGroup). is_vacant e.group) (made-group b up has) ∙ unheld-vacant)
+  pub made-vacant : (b : ℕ) → HasNumber mid b n → true ≡ is_vacant (group_at mid.groups b).group
+  made-vacant b has = sym (ap (λ (e : ScheduledGroup). is_vacant e.group) (made-group b has) ∙ unheld-vacant)
 
-  pub made-size : (b : ℕ) → IsAscending key_of new.items → HasNumber mid b n → sources_of (group_at mid.groups b) ≡ 0
-  made-size b up has = ap sources_of (made-group b up has) ∙ no_sources
+  made-size : sources_of (group_at mid.groups a) ≡ 0
+  made-size = ap sources_of (made-group a made-has) ∙ no_sources
 
-  pub made-groups : (e : ScheduledGroup) → IsAscending key_of order.items → map.insert mid.groups a e ≡ map.insert state.groups a e
-  made-groups e up =
-      ap (λ xs. map.insert (groups_by number xs heads rows) a e) items
-      ∙ ap (λ groups. map.insert groups a e) (groups-made number order.items heads rows up n a p place)
-      ∙ insert-over (groups_by number order.items heads rows) a (group_by number heads rows n) e
-      ∙ ap (λ groups. map.insert groups a e) (groups_are number known was)
+  pub made-groups : (e : ScheduledGroup) → map.insert mid.groups a e ≡ map.insert state.groups a e
+  made-groups e =
+      ap (λ xs. map.insert (groups_by number xs s.heads.items s.sources.rows) a e) f.items
+      ∙ ap (λ groups. map.insert groups a e) (groups-made number s.order.items s.heads.items s.sources.rows f.inside.0.ascending n a p f.place)
+      ∙ insert-over (groups_by number s.order.items s.heads.items s.sources.rows) a (group_in number s n) e
+      ∙ ap (λ groups. map.insert groups a e) (groups_are number f.inside.0 f.was)
 
-  module _ (after : IsStored number new.items heads rows moments schedules) where
-    pub made-sources : sources_in mid.groups ≡ sources_in state.groups
-    made-sources = sources-groups number after ∙ sym (sources-held number known was)
+  pub made-sources : sources_in mid.groups ≡ sources_in state.groups
+  made-sources = sources-groups number f.after.0 ∙ sym (sources-held number f.inside.0 f.was)
 
-    pub made-running : running_in mid.groups ≡ running_in state.groups
-    made-running = running-groups number after ∙ sym (running-held number known was)
+  pub made-running : running_in mid.groups ≡ running_in state.groups
+  made-running = running-groups number f.after.0 ∙ sym (running-held number f.inside.0 f.was)
 
-    pub made-ahead : (has : ℕ) → ahead_with mid (sources_of (group_at mid.groups a)) has ≡ ahead_with state 0 has
-    made-ahead has =
-        let size = made-size a after.ascending made-has in
-        let rooms = room ∙ room_is number known was in
-        let total = source_room_is number known was in
-        let left = ahead_is number known was in
-        λ i. if nat_le has (size i) then left i
-        else if nat_le has (left i) then left i - has
-        else cells_reserved (rooms i) (total i) - (made-sources i - size i + has)
+  pub made-ahead : (has : ℕ) → ahead_with mid (sources_of (group_at mid.groups a)) has ≡ ahead_with state 0 has
+  made-ahead has =
+      let rooms = f.room ∙ room_is number f.inside.0 f.was in
+      let total = source_room_is number f.inside.0 f.was in
+      let left = ahead_is number f.inside.0 f.was in
+      λ i. if nat_le has (made-size i) then left i
+      else if nat_le has (left i) then left i - has
+      else cells_reserved (rooms i) (total i) - (made-sources i - made-size i + has)
 
-    pub made-moved : (has : ℕ) → moved_by_row mid true (sources_of (group_at mid.groups a)) has ≡ moved_by_new_row state has
-    made-moved has =
-        let size = made-size a after.ascending made-has in
-        let left = ahead_is number known was in
-        λ i. if nat_le has (size i) then has
-        else if nat_le has (left i) then has
-        else has + (made-sources i - size i + (made-running i + 1))
+  pub made-moved : (has : ℕ) → moved_by_row mid true (sources_of (group_at mid.groups a)) has ≡ moved_by_new_row state has
+  made-moved has =
+      let left = ahead_is number f.inside.0 f.was in
+      λ i. if nat_le has (made-size i) then has
+      else if nat_le has (left i) then has
+      else has + (made-sources i - made-size i + (made-running i + 1))

@@ -2,33 +2,28 @@
 use Rattle.std.proofs.Common.{◌≡◌, ℕ, ◌+◌, ◌-◌, ◌<◌, ◌≤◌, ◌==◌, min, Bool, true, false, if◌then◌else◌, ltb, ◌&&◌, ◌||◌, refl, List, [], ◌∷◌, ◌++◌, length, get_or, set, take, drop, Option, None, Some, IfSome, sym, ap, ◌∙◌, subst, arith, ⊎_elim}
 use Rattle.std.specs.Prelude.{map as list_map}
 use Rattle.std.specs.List.{list_all, list_any}
-use Rattle.std.specs.Ordering.{nat_cmp}
 use Rattle.std.specs.FinMap as map
-use Rattle.std.specs.FinMap.{FinMap}
 use Rattle.std.proofs.Math.Bool.{or-false}
 use Rattle.std.proofs.lemmas.Bool.{and_parts, cases_lt, eqb-true, lt-ltb, true≢false}
-use Rattle.std.proofs.lemmas.List.{drop-drop, drop-set-lt, get_or-drop, get_or_read, length-set, map-append, take_more}
+use Rattle.std.proofs.lemmas.List.{drop-drop, drop-set-lt, get_or-drop, get_or_read, length-map, length-set, map-append, take_more}
 use Rattle.std.proofs.lemmas.List.Folds.{Any-from_list_any, list_all-map, list_any-append}
 use Rattle.std.proofs.lemmas.List.Sums.{AllPass-from_list_all}
 use Rattle.mq_sets.specs.Ascending.{IsAscending, set_of}
-use Rattle.mq_sets.specs.NumberedKeys.{NumberedKey}
-use Rattle.mq_sets.proofs.OneCell.{set-same}
 use Rattle.mq_table.specs.declared.sources.Source.{Source}
 use Rattle.mq_table.specs.declared.timers.SourceTimer.TheVariants.{Running}
 use Rattle.mq_table.specs.Group.{IsWellFormed, deadline_of, is_stopped, sendings_of}
 use Rattle.mq_table.specs.Stored.{number_in, timers_in}
 use Rattle.mq_table.proofs.SourceLists.{get-found}
 use Rattle.mq_sched.specs.Schedule.{ScheduledGroup}
+use Rattle.mq_held.specs.declared.held_groups.HeldGroups.TheInside.{Inside}
 use Rattle.mq_held.specs.declared.scheduled_head.ScheduledHead.{ScheduledHead}
-use Rattle.mq_held.specs.Groups.{schedules_of}
+use Rattle.mq_held.specs.Held.{HeldState}
 use Rattle.mq_held.specs.Moments.{moments_of}
 use Rattle.mq_held.specs.Restarted.{StandsFrom, has_each, restarted, restarted_each}
-use Rattle.mq_held.specs.Stored.{IsStored, earliest_of, group_by, group_of, no_head}
-use Rattle.mq_held.proofs.HeldRows.{not_vacant-by_row}
-use Rattle.mq_held.proofs.OrderedItems.{number_of}
-use Rattle.mq_held.proofs.RestartedEach.{IsWellFormed-restarted_each, restarted_each-more}
+use Rattle.mq_held.specs.Stored.{earliest_of, group_of, no_head}
+use Rattle.mq_held.proofs.Located.{Located, group_in, row_of}
+use Rattle.mq_held.proofs.RestartedEach.{IsWellFormed-restarted_each, has_each-row, restarted_each-more}
 use Rattle.mq_held.proofs.RestartedTimers.{IsAscending-same, earliest-restarted, group-restarted}
-use Rattle.mq_held.proofs.StoredEdits.{IsStored-written, schedules_part}
 
 -- the earliest moment, once so many timers that were later run until a deadline
 abbrev pub earliest_after : (earliest deadline count : ℕ) → ℕ
@@ -207,24 +202,26 @@ module _ {K : Type 0} (number : K → ℕ) (deadline earliest : ℕ) (before : L
         there = there_then;
       }
 
--- what is stored, once some sources of the group of a number are heard of again
-module _ {K : Type 0} (number : K → ℕ) {items : List NumberedKey} {heads : List ScheduledHead} {rows : List (List (Source K))} {moments : FinMap nat_cmp ℕ} {schedules : ℕ} (known : IsStored number items heads rows moments schedules) (n : ℕ) (held : set_of number_of items n ≡ true) (rows_within : n < length rows) (some : 0 < length (get_or rows n [])) (row : List (Source K)) (up : IsAscending (number_in number) row) (h : ScheduledHead) (heads_within : n < length heads) (head_here : h ≡ get_or heads n h) (deadline : ℕ) (sources : List ℕ) (all : has_each sources (group_by number heads rows n) ≡ true) (group_is : group_of number h row ≡ restarted_each deadline sources (group_of number h (get_or rows n []))) where
-  pub head_is : get_or heads n no_head ≡ h
-  head_is = sym (get_or_read heads n h heads_within head_here no_head)
+-- The group of a number has each named source, of which there are some.
+pub record HasNamed {K A : Type 0} (number : K → ℕ) (s : Inside K A) (n : ℕ) (named : List K) : Type 0 where
+  pub all : has_each (list_map number named) (group_in number s n) ≡ true
+  pub some : 0 < length (row_of s n)
 
-  pub group-each : group_of number h row ≡ restarted_each deadline sources (group_by number heads rows n)
-  group-each = group_is ∙ ap (λ g. restarted_each deadline sources (group_of number g (get_or rows n []))) (sym head_is)
+pub has_named : {K A : Type 0} {number : K → ℕ} {s : Inside K A} {state : HeldState} {n : ℕ} (l : Located number s state n) (named : List K) {cells : List (Source K)} {told : Bool}
+    → 0 < length named → cells ≡ row_of s n → told ≡ list_all (set_of (number_in number) cells) (list_map number named) → told ≡ true → HasNamed number s n named
+has_named {number = number} {s = s} {n = n} l named some cells told is =
+    let all : list_all (set_of (number_in number) (row_of s n)) (list_map number named) ≡ true = ap (λ xs. list_all (set_of (number_in number) xs) (list_map number named)) (sym cells) ∙ sym told ∙ is in
+    record {
+      all = has_each-row number (get_or s.heads.items n no_head) (row_of s n) (list_map number named) ∙ all;
+      some = some_row (number_in number) (row_of s n) (list_map number named) all (omega (arith, some, length-map named number));
+    }
+
+-- its group, once they are heard of again
+module _ {K A : Type 0} {number : K → ℕ} {s : Inside K A} {state : HeldState} {n : ℕ} (l : Located number s state n) {named : List K} (f : HasNamed number s n named) {h : ScheduledHead} (here : h ≡ get_or s.heads.items n h) (row : List (Source K)) (deadline : ℕ) (group_is : group_of number h row ≡ restarted_each deadline (list_map number named) (group_of number h (row_of s n))) where
+  pub group-each : group_of number h row ≡ restarted_each deadline (list_map number named) (group_in number s n)
+  group-each = group_is ∙ ap (λ g. restarted_each deadline (list_map number named) (group_of number g (row_of s n))) (sym (l.head h here))
 
   pub formed-each : IsWellFormed (group_of number h row).group
   formed-each =
       subst (λ (e : ScheduledGroup). IsWellFormed e.group) (sym group-each)
-      (IsWellFormed-restarted_each deadline sources (group_by number heads rows n) all (known.others_are_held n held (not_vacant-by_row number known n held rows_within some)))
-
-  pub IsStored-restarted_each : (due : ℕ) → earliest_of (moments_of (group_of number h row)) ≡ Some due → IsStored number items heads (set rows n row) (map.insert moments n due) schedules
-  IsStored-restarted_each due first =
-      let stored = IsStored-written number known n h row (group_of number h row) due held heads_within rows_within up refl formed-each first in
-      let part = schedules_part number known n held in
-      let own : schedules_of (group_by number heads rows n) ≡ schedules_of (group_of number h row) = ap (λ g. schedules_of (group_of number g (get_or rows n []))) head_is in
-      let total : schedules - schedules_of (group_by number heads rows n) + schedules_of (group_of number h row) ≡ schedules = omega (arith, part, own) in
-      subst (λ (hs : List ScheduledHead). IsStored number items hs (set rows n row) (map.insert moments n due) schedules) (set-same heads n h heads_within head_here)
-      (subst (IsStored number items (set heads n h) (set rows n row) (map.insert moments n due)) total stored)
+      (IsWellFormed-restarted_each deadline (list_map number named) (group_in number s n) f.all (l.inside.0.others_are_held n l.held (l.other f.some)))

@@ -1,5 +1,5 @@
 -- A group of which one source is heard of again, by its row.
-use Rattle.std.proofs.Common.{◌≡◌, ℕ, zero, suc, ◌+◌, ◌-◌, ◌<◌, min, true, false, cond, refl, List, [], ◌∷◌, ◌++◌, append_assoc, length, get_or, set, Option, None, Some, IfSome, sym, ap, ◌∙◌, subst, arith, ⊎_elim}
+use Rattle.std.proofs.Common.{◌≡◌, ℕ, zero, suc, ◌<◌, min, true, false, cond, refl, List, [], ◌∷◌, ◌++◌, append_assoc, length, get_or, set, Option, None, Some, IfSome, sym, ap, ◌∙◌, subst, arith, ⊎_elim}
 use Rattle.std.specs.Option.{option_to_list}
 use Rattle.std.specs.List.{flat_map}
 use Rattle.std.specs.Ordering.{nat_cmp, eq_by_cmp}
@@ -7,29 +7,26 @@ use Rattle.std.specs.Cmp.{nat_cmp_total}
 use Rattle.std.specs.FinMap as map
 use Rattle.std.specs.FinMap.{FinMap}
 use Rattle.std.proofs.lemmas.Bool.{cases_eq}
-use Rattle.std.proofs.lemmas.List.{length-set, get_or-set_same, get_or-set_other, get_or_read}
-use Rattle.mq_sets.specs.Ascending.{IsAscending, set_of}
-use Rattle.mq_sets.specs.NumberedKeys.{NumberedKey}
-use Rattle.mq_sets.proofs.OneCell.{set-same}
+use Rattle.std.proofs.lemmas.List.{length-set, get_or-set_same, get_or-set_other}
+use Rattle.mq_sets.specs.Ascending.{IsAscending}
 use Rattle.mq_table.specs.declared.sources.Source.{Source}
 use Rattle.mq_table.specs.declared.timers.SourceTimer.{SourceTimer}
 use Rattle.mq_table.specs.declared.timers.SourceTimer.TheVariants.{Running}
-use Rattle.mq_table.specs.Group.{IsWellFormed, is_vacant, deadline_of, group_deadline, is_running, is_stopped, sendings_of, timer_at}
+use Rattle.mq_table.specs.Group.{IsWellFormed, deadline_of, group_deadline, is_running, is_stopped, sendings_of, timer_at}
 use Rattle.mq_table.specs.Stored.{number_in, timers_in}
 use Rattle.mq_table.proofs.SourceLists.{get-found}
 use Rattle.mq_sched.specs.Schedule.{ScheduledGroup}
 use Rattle.mq_sched.specs.Sending.{group_due}
+use Rattle.mq_held.specs.declared.held_groups.HeldGroups.TheInside.{Inside}
+use Rattle.mq_held.specs.Held.{HeldState}
 use Rattle.mq_held.specs.declared.scheduled_head.ScheduledHead.{ScheduledHead}
-use Rattle.mq_held.specs.Groups.{schedules_of}
 use Rattle.mq_held.specs.Moments.{those_of, moments_of}
 use Rattle.mq_held.specs.Restarted.{restarted}
-use Rattle.mq_held.specs.Stored.{IsStored, earliest_of, group_by, group_of, no_head, timer_moments}
+use Rattle.mq_held.specs.Stored.{earliest_of, group_of, timer_moments}
 use Rattle.mq_held.proofs.HeldMoments.{deadlines-row}
-use Rattle.mq_held.proofs.HeldRows.{earliest-by_row, moment-by_row, not_vacant-by_row}
+use Rattle.mq_held.proofs.Located.{Located, Placed, group_in, row_of}
 use Rattle.mq_held.proofs.LeastMoments.{earliest-join, earliest-join_right}
-use Rattle.mq_held.proofs.OrderedItems.{number_of}
 use Rattle.mq_held.proofs.Sorted.{ties, untied}
-use Rattle.mq_held.proofs.StoredEdits.{IsStored-written, schedules_part}
 
 -- what is put again where it is changes nothing
 pub insert-same : {X : Type 0} (m : FinMap nat_cmp X) (n : ℕ) (v : X) → map.get m n ≡ Some v → map.insert m n v ≡ m
@@ -180,61 +177,28 @@ earliest-restarted number h row i y x deadline earliest within here runs up up_t
     ∙ ap earliest_of (sym (append_assoc head parts.front (deadline ∷ parts.back)))
     ∙ after
 
--- what is stored, once a source of the group of a number is heard of again
-module _ {K : Type 0} (number : K → ℕ) {items : List NumberedKey} {heads : List ScheduledHead} {rows : List (List (Source K))} {moments : FinMap nat_cmp ℕ} {schedules : ℕ} (known : IsStored number items heads rows moments schedules) (n : ℕ) (held : set_of number_of items n ≡ true) (rows_within : n < length rows) (i : ℕ) (x : Source K) (within : i < length (get_or rows n [])) (here : x ≡ get_or (get_or rows n []) i x) where
-  abbrev pub row_then : Source K → List (Source K)
-  row_then y = set (get_or rows n []) i y
+-- the group of a number, once a source of it is heard of again
+module _ {K A : Type 0} {number : K → ℕ} {s : Inside K A} {state : HeldState} {n : ℕ} (l : Located number s state n) {source place : ℕ} {x : Source K} (f : Placed number (row_of s n) source place x) where
+  pub timer-held : timer_at (group_in number s n).group source ≡ Some x.timer
+  timer-held =
+      get-found number (row_of s n) place x source l.up f.within (ap (λ (s : Source K). number s.address) (sym f.here) ∙ f.is)
+      ∙ ap (λ (s : Source K). Some s.timer) (sym f.here)
 
-  abbrev pub group_then : ScheduledGroup
-  group_then = group_by number heads rows n
+  module _ {h : ScheduledHead} (here : h ≡ get_or s.heads.items n h) {y : Source K} {deadline : ℕ} (y_is : y ≡ record { address = x.address; timer = Running deadline (sendings_of (Some x.timer)) }) where
+    pub up_then : IsAscending (number_in number) (set (row_of s n) place y)
+    up_then = IsAscending-same (number_in number) (row_of s n) place y x f.within f.here (ap (λ (s : Source K). number s.address) y_is) l.up
 
-  row_up : IsAscending (number_in number) (get_or rows n [])
-  row_up = known.rows_ascend n [] rows_within
-
-  -- it isn't vacant
-  pub not_vacant : is_vacant group_then.group ≡ false
-  not_vacant = not_vacant-by_row number known n held rows_within (omega (arith, within))
-
-  -- so it has a moment, its earliest
-  pub moment-held : map.contains_key moments n ≡ true
-  moment-held = moment-by_row number known n held rows_within (omega (arith, within))
-
-  pub earliest-held : (earliest : ℕ) → map.get moments n ≡ Some earliest → earliest_of (moments_of group_then) ≡ Some earliest
-  earliest-held = earliest-by_row number known n held rows_within
-
-  -- its timer
-  pub timer-held : (source : ℕ) → number x.address ≡ source → timer_at group_then.group source ≡ Some x.timer
-  timer-held source is = get-found number (get_or rows n []) i x source row_up within (ap (λ (s : Source K). number s.address) (sym here) ∙ is) ∙ ap (λ (s : Source K). Some s.timer) (sym here)
-
-  module _ (h : ScheduledHead) (heads_within : n < length heads) (head_here : h ≡ get_or heads n h) (y : Source K) (deadline source : ℕ) (is : number x.address ≡ source) (y_is : y ≡ record { address = x.address; timer = Running deadline (sendings_of (Some x.timer)) }) where
-    head_is : get_or heads n no_head ≡ h
-    head_is = sym (get_or_read heads n h heads_within head_here no_head)
-
-    same : number y.address ≡ number x.address
-    same = ap (λ (s : Source K). number s.address) y_is
-
-    pub up_then : IsAscending (number_in number) (row_then y)
-    up_then = IsAscending-same (number_in number) (get_or rows n []) i y x within here same row_up
-
-    pub group-then : group_of number h (row_then y) ≡ restarted deadline source group_then
+    pub group-then : group_of number h (set (row_of s n) place y) ≡ restarted deadline source (group_in number s n)
     group-then =
-        group-restarted number h (get_or rows n []) i y x deadline source within here is y_is row_up
-        ∙ ap (λ g. restarted deadline source (group_of number g (get_or rows n []))) (sym head_is)
+        group-restarted number h (row_of s n) place y x deadline source f.within f.here f.is y_is l.up
+        ∙ ap (λ g. restarted deadline source (group_of number g (row_of s n))) (sym (l.head h here))
 
-    pub formed_then : IsWellFormed (group_of number h (row_then y)).group
-    formed_then = subst (λ (e : ScheduledGroup). IsWellFormed e.group) (sym group-then) (IsWellFormed-restarted deadline source x.timer group_then (timer-held source is) (known.others_are_held n held not_vacant))
+    pub formed_then : IsWellFormed (group_of number h (set (row_of s n) place y)).group
+    formed_then =
+        subst (λ (e : ScheduledGroup). IsWellFormed e.group) (sym group-then)
+        (IsWellFormed-restarted deadline source x.timer (group_in number s n) timer-held (l.inside.0.others_are_held n l.held (l.other f.some)))
 
-    pub later_then : (earliest : ℕ) → map.get moments n ≡ Some earliest → IfSome (deadline_of (Some x.timer)) (λ d. earliest < d) → earliest_of (moments_of (group_of number h (row_then y))) ≡ Some (min earliest deadline)
+    pub later_then : (earliest : ℕ) → map.get s.moments.moments n ≡ Some earliest → IfSome (deadline_of (Some x.timer)) (λ d. earliest < d) → earliest_of (moments_of (group_of number h (set (row_of s n) place y))) ≡ Some (min earliest deadline)
     later_then earliest first later =
-        earliest-restarted number h (get_or rows n []) i y x deadline earliest within here (ap (λ (s : Source K). deadline_of (Some s.timer)) y_is) row_up up_then
-        (ap (λ g. earliest_of (moments_of (group_of number g (get_or rows n [])))) (sym head_is) ∙ earliest-held earliest first) later
-
-    -- all of it
-    pub IsStored-restarted : (due : ℕ) → earliest_of (moments_of (group_of number h (row_then y))) ≡ Some due → IsStored number items heads (set rows n (row_then y)) (map.insert moments n due) schedules
-    IsStored-restarted due first =
-        let stored = IsStored-written number known n h (row_then y) (group_of number h (row_then y)) due held heads_within rows_within up_then refl formed_then first in
-        let part = schedules_part number known n held in
-        let own : schedules_of group_then ≡ schedules_of (group_of number h (row_then y)) = ap (λ g. schedules_of (group_of number g (get_or rows n []))) head_is in
-        let total : schedules - schedules_of group_then + schedules_of (group_of number h (row_then y)) ≡ schedules = omega (arith, part, own) in
-        subst (λ (hs : List ScheduledHead). IsStored number items hs (set rows n (row_then y)) (map.insert moments n due) schedules) (set-same heads n h heads_within head_here)
-        (subst (IsStored number items (set heads n h) (set rows n (row_then y)) (map.insert moments n due)) total stored)
+        earliest-restarted number h (row_of s n) place y x deadline earliest f.within f.here (ap (λ (s : Source K). deadline_of (Some s.timer)) y_is) l.up up_then
+        (ap (λ g. earliest_of (moments_of (group_of number g (row_of s n)))) (sym (l.head h here)) ∙ l.earliest earliest first) later

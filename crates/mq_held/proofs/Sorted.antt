@@ -43,7 +43,7 @@ untied q k e = grind (arith, nat_tests)
 pub ties : (q k : ℕ) → q ≡ k → eq_by_cmp nat_cmp q k ≡ true
 ties q k e = grind (arith, nat_tests)
 
-is_below : (x y : ℕ) → T (is_lt (nat_cmp x y)) → x < y
+pub is_below : (x y : ℕ) → T (is_lt (nat_cmp x y)) → x < y
 is_below x y h = grind (arith, nat_tests)
 
 tests_below : (x y : ℕ) → x < y → T (is_lt (nat_cmp x y))

@@ -63,10 +63,6 @@ pub row-none : {K : Type 0} (number : K → ℕ) (x : ScheduledHead) (row : List
 row-none number x row up is =
     nil_from_length row (sym (len-timers_in number row up) ∙ ap (λ (e : ScheduledGroup). map.len e.group.sources) is ∙ map.len-empty nat_cmp SourceTimer)
 
--- below the length of one list, and of another as long
-pub within-other : {X Y : Type 0} (n : ℕ) (xs : List X) (ys : List Y) → n < length xs → length xs ≡ length ys → n < length ys
-within-other n xs ys within same = omega (arith, within, same)
-
 -- how many schedules the head of a number has
 pub schedules-read : {K : Type 0} (number : K → ℕ) (heads : List ScheduledHead) (rows : List (List (Source K))) (n : ℕ) (h : ScheduledHead) → n < length heads → h ≡ get_or heads n h
     → one_if (is_some h.schedule.group_query) + one_if (is_some h.schedule.sources_due) ≡ schedules_of (group_by number heads rows n)

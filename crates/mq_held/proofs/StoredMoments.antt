@@ -70,7 +70,7 @@ sizes-row [] n = refl
 sizes-row (row ∷ rows) zero = refl
 sizes-row (row ∷ rows) (suc n) = sizes-row rows n
 
-one_at_most : (b : Bool) → (if b then 1 else 0) ≤ 1
+pub one_at_most : (b : Bool) → (if b then 1 else 0) ≤ 1
 one_at_most true = omega arith
 one_at_most false = omega arith
 

@@ -36,11 +36,13 @@ use Rattle.mq_held.proofs.GroupsInOrder.{IsOrdered, IsOrdered-stored, all-addres
 use Rattle.mq_held.proofs.Inside.{groups_are, items_are, has, numbered, group-of}
 use Rattle.mq_held.proofs.KeysByNumber.{numbers_in, numbers-ascend, map-filter, filter-agree, key-of_item, number-is}
 use Rattle.mq_held.proofs.LeftNumbers.{number-has}
+use Rattle.mq_held.specs.declared.held_groups.HeldGroups.TheInside.{Inside}
+use Rattle.mq_held.proofs.Located.{IsStorage, seen}
 use Rattle.mq_held.proofs.OrderedAmounts.{sum_by-map, times-filter}
 use Rattle.mq_held.proofs.OrderedGroups.{entries-groups}
 use Rattle.mq_held.proofs.OrderedItems.{number_of, has-number, times-in, absent-times}
 use Rattle.mq_held.proofs.StoredEdits.{IsStored-order}
-use Rattle.mq_held.proofs.TakenItems.{is_among, among-none, among-some, contains-filter, fewer-once, items-left, sum-left}
+use Rattle.mq_held.proofs.TakenItems.{is_among, among-none, among-some, contains-filter, fewer-once, items-left, length-left, sum-left}
 
 -- what is found among the entries that pass
 find-filter : {X : Type 0} (a : ℕ) (p : ℕ × X → Bool) (es : List (ℕ × X)) → T (is_sorted nat_cmp es) → find nat_cmp a (filter p es) ≡ option_and_then (λ v. cond (p (a, v)) (Some v) None) (find nat_cmp a es)
@@ -239,6 +241,10 @@ module _ {K : Type 0} (number : K → ℕ) {order : NumberedKeysState} {heads : 
           turned true h = refl
           turned false h = absurd (true≢false h)
 
+  -- the numbers that are given are no more than there are
+  pub given-within : (ns : List ℕ) → All (IsNumber state) ns → ((n : ℕ) → times n ns ≤ 1) → ((n : ℕ) → IsNumber state n → is_vacant_at state n ≡ true → 1 ≤ times n ns) → length ns ≤ length order.items
+  given-within ns there once each = omega (arith, few-given (IsOrdered-stored number known was) ns there once each, ap length (items_are number known was))
+
   -- a group that is left had its number
   pub has-left : {new : List NumberedKey} → new ≡ filter runs order.items → {a n : ℕ} → Contains new (record { number = n; key = a }) → HasNumber state a n
   has-left is {a = a} {n = n} there =
@@ -316,3 +322,16 @@ pub many-moves : (gone given len : ℕ) → len / 32 < gone → gone ≤ given �
 many-moves gone given len many part within =
     let one : min 1 given ≡ 1 = omega (arith, many, part) in
     rw one (omega (arith, many, part, within))
+
+-- the storage without them
+pub inside-left : {K A : Type 0} {number : K → ℕ} (s : Inside K A) {state : HeldState} → IsStorage number s → seen number s ≡ state → (new : NumberedKeysState) → new.items ≡ filter (λ x. not (is_vacant_at state x.number)) s.order.items → new.room ≡ s.order.room
+    → IsStorage number (record s { order = new })
+inside-left {number = number} s {state} inside was new left room = (
+  IsStored-left number inside.0 was left,
+  inside.1,
+  inside.2 ∙ sym room,
+  inside.3 ∙ sym room,
+  inside.4 ∙ sym room,
+  omega (arith, room, inside.5),
+  omega (arith, room, inside.6, length-left (λ (x : NumberedKey). not (is_vacant_at state x.number)) s.order.items left),
+)

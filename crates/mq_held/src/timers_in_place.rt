@@ -118,7 +118,8 @@ pub(crate) fn change_moment<A: Allocator>(
 impl<K: Key, A: Allocator> HeldGroups<K, A> {
     /// Sets the timer of a source of the group of a number to a new deadline; its remaining sendings stay. Returns the
     /// timer before. If the group doesn't have the source, returns None and changes nothing. No row is copied. A row is
-    /// walked over only if the timer had the earliest moment of its group.
+    /// walked over only if the timer had the earliest moment of its group. The row is moved, and so is the group's earliest
+    /// moment if it changes.
     pub fn restart(
         &mut self,
         number: u16,
@@ -140,6 +141,12 @@ impl<K: Key, A: Allocator> HeldGroups<K, A> {
             MatchOption result (Spends (min 1 size) (bitlen size) m.old m.new) (λ _. Spends 2 (bitlen size + size + 5 + bitlen others) m.old m.new) }
         ensures moved { let others = running_in self.old.groups - 1 in
             MatchOption result (moves.new ≡ moves.old) (λ _. Spends 1 (2 + bitlen others) moves.old moves.new) }
+        ensures moment_moved { (address : ℕ) → HasNumber self.old address number →
+            let before = group_at self.old.groups address in
+            let after = group_then.restarted deadline (K.number source) before in
+            let others = running_in self.old.groups - 1 in
+            (earliest_of (moments_of after) ≡ earliest_of (moments_of before) → ⊥) →
+            IfSome result (λ _. Spends 2 (2 + bitlen others) moves.old moves.new) }
     {
         let item = self.heads[number as usize];
         let row = self.sources.row(number);

@@ -1,64 +1,33 @@
 -- No timer that a record sets runs out at its own moment.
-use Rattle.std.proofs.Common.{◌≡◌, ℕ, ◌+◌, ◌<◌, Bool, true, false, cond, refl, Option, None, Some, IfSome, arith}
-use Rattle.std.specs.Prelude.{nat_lt}
+use Rattle.std.proofs.Common.{ℕ, ◌+◌, ◌<◌, Bool, true, false, cond, Option, None, Some, IfSome, arith}
 use Rattle.std.specs.Option.{option_map}
-use Rattle.std.specs.FinSet as set
-use Rattle.mq_table.specs.declared.kind.Kind.{Kind}
-use Rattle.mq_table.specs.declared.kind.Kind.TheVariants.{IsIn, IsEx, ToIn, ToEx, Allow, Block}
-use Rattle.mq_table.specs.declared.timing.Timing.{Timing}
-use Rattle.mq_table.specs.declared.timers.FilterMode.{FilterMode}
-use Rattle.mq_table.specs.declared.timers.FilterMode.TheVariants.{Include, Exclude}
-use Rattle.mq_table.specs.declared.timers.SourceTimer.{SourceTimer}
-use Rattle.mq_table.specs.declared.timers.SourceTimer.TheVariants.{Stopped, Running}
-use Rattle.mq_table.specs.Group.{GroupState, timer_at, deadline_of, group_deadline, running, stopped}
-use Rattle.mq_table.specs.Expiry.{AllAhead}
-use Rattle.mq_table.specs.Sets.{Set}
-use Rattle.mq_table.specs.Table.{NamedSources, GroupChange, table_row, change_of}
-use Rattle.mq_table.specs.OlderHosts.{hosts_of, translated, older_report}
+use Rattle.mq_count.specs.declared.versions.OlderVersion.{OlderVersion, TheVariants.V1, TheVariants.V2}
+use Rattle.mq_table.proofs.{Lower.timer_at-sources_lowered, TableRows.timer_then, TableRows.at_source_of}
+use Rattle.mq_table.specs.{Expiry.AllAhead, Group.GroupState, Group.timer_at, Group.deadline_of, Group.group_deadline, Group.running, Group.stopped}
 use Rattle.mq_table.specs.Lowering.{lowered_to, mode_lowered, source_lowered, lowered_by_query}
-use Rattle.mq_table.specs.Sendings.{source_asked}
-use Rattle.mq_count.specs.declared.versions.OlderVersion.{OlderVersion}
-use Rattle.mq_count.specs.declared.versions.OlderVersion.TheVariants.{V1, V2}
-use Rattle.mq_table.specs.Timing.{membership_interval, older_host_present, last_member_count}
-use Rattle.mq_table.proofs.Lower.{timer_at-sources_lowered}
+use Rattle.mq_table.specs.{OlderHosts.hosts_of, OlderHosts.translated, OlderHosts.older_report, Sendings.source_asked, Sets.Set, Table.NamedSources}
+use Rattle.mq_table.specs.{Table.GroupChange, Table.table_row, Table.change_of, Timing.membership_interval, Timing.older_host_present, Timing.last_member_count}
+use Rattle.mq_table.specs.declared.kind.Kind.{Kind, TheVariants.IsEx, TheVariants.ToIn}
+use Rattle.mq_table.specs.declared.{timers.FilterMode.FilterMode, timers.SourceTimer.SourceTimer, timers.SourceTimer.TheVariants.Running, timing.Timing.Timing}
+use Rattle.mq_sched.proofs.Asked.{timer_at-sources_asked}
 use Rattle.mq_sched.specs.Schedule.{ScheduleState, ScheduledGroup, settled}
 use Rattle.mq_sched.specs.Sending.{group_asked, sources_asked, acted, after_change}
-use Rattle.mq_sched.proofs.Asked.{timer_at-sources_asked}
 use Rattle.mq_link.specs.Record.{Statement, RecordOf, OlderJoin, OlderLeave, change_stated}
-use Rattle.mq_table.proofs.TableRows.{timer_then, each_case, both, at_source_of}
+use Rattle.std.specs.FinSet as set
 
 -- a source's timer
-ahead_then : (now gmi : ℕ) (mode : FilterMode) (kind : Kind) (s : ℕ) (t : Option SourceTimer) (a : Bool) → now < gmi → IfSome (group_deadline mode) (λ e. now < e)
+ahead_then : (now gmi : ℕ) (mode : FilterMode) (kind : Kind) (s : ℕ) (t : Option SourceTimer) (a : Bool) → now < gmi
+    → IfSome (group_deadline mode) (λ e. now < e)
     → IfSome (deadline_of t) (λ e. now < e) → IfSome (deadline_of (timer_then gmi mode kind s t a)) (λ e. now < e)
-ahead_then now gmi Include IsIn s t a later group = each_case (λ t a. IfSome (deadline_of t) (λ e. now < e) → IfSome (deadline_of (timer_then gmi Include IsIn s t a)) (λ e. now < e)) (both _ (λ h. search) (λ h. search)) (both _ (λ h. search) (λ h. search)) (λ e n. both _ (λ h. search) (λ h. search)) t a
-ahead_then now gmi Include IsEx s t a later group = each_case (λ t a. IfSome (deadline_of t) (λ e. now < e) → IfSome (deadline_of (timer_then gmi Include IsEx s t a)) (λ e. now < e)) (both _ (λ h. search) (λ h. search)) (both _ (λ h. search) (λ h. search)) (λ e n. both _ (λ h. search) (λ h. search)) t a
-ahead_then now gmi Include Allow s t a later group = each_case (λ t a. IfSome (deadline_of t) (λ e. now < e) → IfSome (deadline_of (timer_then gmi Include Allow s t a)) (λ e. now < e)) (both _ (λ h. search) (λ h. search)) (both _ (λ h. search) (λ h. search)) (λ e n. both _ (λ h. search) (λ h. search)) t a
-ahead_then now gmi Include Block s t a later group = each_case (λ t a. IfSome (deadline_of t) (λ e. now < e) → IfSome (deadline_of (timer_then gmi Include Block s t a)) (λ e. now < e)) (both _ (λ h. search) (λ h. search)) (both _ (λ h. search) (λ h. search)) (λ e n. both _ (λ h. search) (λ h. search)) t a
-ahead_then now gmi Include ToEx s t a later group = each_case (λ t a. IfSome (deadline_of t) (λ e. now < e) → IfSome (deadline_of (timer_then gmi Include ToEx s t a)) (λ e. now < e)) (both _ (λ h. search) (λ h. search)) (both _ (λ h. search) (λ h. search)) (λ e n. both _ (λ h. search) (λ h. search)) t a
-ahead_then now gmi Include ToIn s t a later group = each_case (λ t a. IfSome (deadline_of t) (λ e. now < e) → IfSome (deadline_of (timer_then gmi Include ToIn s t a)) (λ e. now < e)) (both _ (λ h. search) (λ h. search)) (both _ (λ h. search) (λ h. search)) (λ e n. both _ (λ h. search) (λ h. search)) t a
-ahead_then now gmi (Exclude d) IsIn s t a later group = each_case (λ t a. IfSome (deadline_of t) (λ e. now < e) → IfSome (deadline_of (timer_then gmi (Exclude d) IsIn s t a)) (λ e. now < e)) (both _ (λ h. search) (λ h. search)) (both _ (λ h. search) (λ h. search)) (λ e n. both _ (λ h. search) (λ h. search)) t a
-ahead_then now gmi (Exclude d) IsEx s t a later group = each_case (λ t a. IfSome (deadline_of t) (λ e. now < e) → IfSome (deadline_of (timer_then gmi (Exclude d) IsEx s t a)) (λ e. now < e)) (both _ (λ h. search) (λ h. search)) (both _ (λ h. search) (λ h. search)) (λ e n. both _ (λ h. search) (λ h. search)) t a
-ahead_then now gmi (Exclude d) Allow s t a later group = each_case (λ t a. IfSome (deadline_of t) (λ e. now < e) → IfSome (deadline_of (timer_then gmi (Exclude d) Allow s t a)) (λ e. now < e)) (both _ (λ h. search) (λ h. search)) (both _ (λ h. search) (λ h. search)) (λ e n. both _ (λ h. search) (λ h. search)) t a
-ahead_then now gmi (Exclude d) Block s t a later group = each_case (λ t a. IfSome (deadline_of t) (λ e. now < e) → IfSome (deadline_of (timer_then gmi (Exclude d) Block s t a)) (λ e. now < e)) (both _ (λ h. search) (λ h. search)) (both _ (λ h. search) (λ h. search)) (λ e n. both _ (λ h. search) (λ h. search)) t a
-ahead_then now gmi (Exclude d) ToEx s t a later group = each_case (λ t a. IfSome (deadline_of t) (λ e. now < e) → IfSome (deadline_of (timer_then gmi (Exclude d) ToEx s t a)) (λ e. now < e)) (both _ (λ h. search) (λ h. search)) (both _ (λ h. search) (λ h. search)) (λ e n. both _ (λ h. search) (λ h. search)) t a
-ahead_then now gmi (Exclude d) ToIn s t a later group = each_case (λ t a. IfSome (deadline_of t) (λ e. now < e) → IfSome (deadline_of (timer_then gmi (Exclude d) ToIn s t a)) (λ e. now < e)) (both _ (λ h. search) (λ h. search)) (both _ (λ h. search) (λ h. search)) (λ e n. both _ (λ h. search) (λ h. search)) t a
+ahead_then now gmi mode kind s t a later group h = grind arith
 
 -- the group's
-row_ahead : (now gmi : ℕ) (mode : FilterMode) (kind : Kind) (X Y A : Set) → now < gmi → IfSome (group_deadline mode) (λ e. now < e) → IfSome (group_deadline (table_row gmi mode kind X Y A).mode) (λ e. now < e)
-row_ahead now gmi Include IsIn X Y A later group = tt
-row_ahead now gmi Include IsEx X Y A later group = later
-row_ahead now gmi Include Allow X Y A later group = tt
-row_ahead now gmi Include Block X Y A later group = tt
-row_ahead now gmi Include ToEx X Y A later group = later
-row_ahead now gmi Include ToIn X Y A later group = tt
-row_ahead now gmi (Exclude d) IsIn X Y A later group = group
-row_ahead now gmi (Exclude d) IsEx X Y A later group = later
-row_ahead now gmi (Exclude d) Allow X Y A later group = group
-row_ahead now gmi (Exclude d) Block X Y A later group = group
-row_ahead now gmi (Exclude d) ToEx X Y A later group = later
-row_ahead now gmi (Exclude d) ToIn X Y A later group = group
+row_ahead : (now gmi : ℕ) (mode : FilterMode) (kind : Kind) (X Y A : Set) → now < gmi → IfSome (group_deadline mode) (λ e. now < e)
+    → IfSome (group_deadline (table_row gmi mode kind X Y A).mode) (λ e. now < e)
+row_ahead now gmi mode kind X Y A later group = grind arith
 
-pub change_ahead : (timing : Timing) (now : ℕ) (g : GroupState) (kind : Kind) (named : NamedSources) → now < now + membership_interval timing → AllAhead now g → AllAhead now (change_of timing now g kind named).group
+pub change_ahead : (timing : Timing) (now : ℕ) (g : GroupState) (kind : Kind) (named : NamedSources) → now < now + membership_interval timing → AllAhead now g
+    → AllAhead now (change_of timing now g kind named).group
 change_ahead timing now g kind named later h =
     let gmi = now + membership_interval timing in
     record {
@@ -71,7 +40,8 @@ change_ahead timing now g kind named later h =
     }
 
 -- an older Report
-pub older_ahead : (version : OlderVersion) (timing : Timing) (now : ℕ) (g : GroupState) → now < now + membership_interval timing → now < now + older_host_present timing → AllAhead now g → AllAhead now (older_report version timing now g)
+pub older_ahead : (version : OlderVersion) (timing : Timing) (now : ℕ) (g : GroupState) → now < now + membership_interval timing
+    → now < now + older_host_present timing → AllAhead now g → AllAhead now (older_report version timing now g)
 older_ahead V1 timing now g later present h =
     let changed = change_ahead timing now g IsEx set.empty later h in
     record { group = changed.group; sources = changed.sources; v1 = present; v2 = changed.v2 }
@@ -88,37 +58,33 @@ mapped_ahead : (timing : Timing) (now : ℕ) (g : GroupState) (o : Option (Kind 
 mapped_ahead timing now g None later h = tt
 mapped_ahead timing now g (Some r) later h = change_ahead timing now g r.0 r.1 later h
 
-pub stated_ahead : (mutes muted : Bool) (timing : Timing) (now : ℕ) (statement : Statement) (g : GroupState) → now < now + membership_interval timing → now < now + older_host_present timing → AllAhead now g
+pub stated_ahead : (mutes muted : Bool) (timing : Timing) (now : ℕ) (statement : Statement) (g : GroupState) → now < now + membership_interval timing
+    → now < now + older_host_present timing → AllAhead now g
     → ChangesAhead now (change_stated mutes muted timing now statement g)
-stated_ahead mutes muted timing now (RecordOf kind named) g later present h = mapped_ahead timing now g (translated mutes muted (hosts_of g now) kind named) later h
+stated_ahead mutes muted timing now (RecordOf kind named) g later present h =
+    mapped_ahead timing now g (translated mutes muted (hosts_of g now) kind named) later h
 stated_ahead mutes true timing now (OlderJoin version) g later present h = tt
 stated_ahead mutes false timing now (OlderJoin version) g later present h = older_ahead version timing now g later present h
 stated_ahead mutes muted timing now OlderLeave g later present h = mapped_ahead timing now g (translated mutes muted (hosts_of g now) ToIn set.empty) later h
 
 -- timers that are lowered
-lowered_mode : (now limit : ℕ) (mode : FilterMode) → now < limit → IfSome (group_deadline mode) (λ e. now < e) → IfSome (group_deadline (mode_lowered limit mode)) (λ e. now < e)
-lowered_mode now limit Include later h = tt
-lowered_mode now limit (Exclude d) later h = omega arith
+lowered_mode : (now limit : ℕ) (mode : FilterMode) → now < limit → IfSome (group_deadline mode) (λ e. now < e)
+    → IfSome (group_deadline (mode_lowered limit mode)) (λ e. now < e)
+lowered_mode now limit mode h1 h2 = grind arith
 
-lowered_source : (now limit : ℕ) (asks : Bool) (t : Option SourceTimer) → now < limit → IfSome (deadline_of t) (λ e. now < e) → IfSome (deadline_of (cond asks (option_map (source_lowered limit) t) t)) (λ e. now < e)
-lowered_source now limit true None later h = tt
-lowered_source now limit true (Some Stopped) later h = tt
-lowered_source now limit true (Some (Running d n)) later h = omega arith
-lowered_source now limit false t later h = h
+lowered_source : (now limit : ℕ) (asks : Bool) (t : Option SourceTimer) → now < limit → IfSome (deadline_of t) (λ e. now < e)
+    → IfSome (deadline_of (cond asks (option_map (source_lowered limit) t) t)) (λ e. now < e)
+lowered_source now limit asks t h1 h2 = grind arith
 
 asked_timer : (now limit count d n : ℕ) → now < limit → now < d → IfSome (deadline_of (Some (source_asked limit count (Running d n)))) (λ e. now < e)
-asked_timer now limit count d n later h = elim (nat_lt limit d) as (λ b. nat_lt limit d ≡ b → IfSome (deadline_of (Some (source_asked limit count (Running d n)))) (λ e. now < e)) [
-  | true ↦ λ is. rw is later
-  | false ↦ λ is. rw is h
-] refl
+asked_timer now limit count d n h1 h2 = grind arith
 
-asked_source : (now limit count : ℕ) (asks : Bool) (t : Option SourceTimer) → now < limit → IfSome (deadline_of t) (λ e. now < e) → IfSome (deadline_of (cond asks (option_map (source_asked limit count) t) t)) (λ e. now < e)
-asked_source now limit count true None later h = tt
-asked_source now limit count true (Some Stopped) later h = tt
-asked_source now limit count true (Some (Running d n)) later h = asked_timer now limit count d n later h
-asked_source now limit count false t later h = h
+asked_source : (now limit count : ℕ) (asks : Bool) (t : Option SourceTimer) → now < limit → IfSome (deadline_of t) (λ e. now < e)
+    → IfSome (deadline_of (cond asks (option_map (source_asked limit count) t) t)) (λ e. now < e)
+asked_source now limit count asks t h1 h2 = grind arith
 
-pub query_ahead : (timing : Timing) (now : ℕ) (s : Bool) (asked : Option Set) (g : GroupState) → now < lowered_to timing now → AllAhead now g → AllAhead now (lowered_by_query timing now s asked g)
+pub query_ahead : (timing : Timing) (now : ℕ) (s : Bool) (asked : Option Set) (g : GroupState) → now < lowered_to timing now → AllAhead now g
+    → AllAhead now (lowered_by_query timing now s asked g)
 query_ahead timing now true asked g later h = h
 query_ahead timing now false None g later h = record { group = lowered_mode now (lowered_to timing now) g.mode later h.group; sources = h.sources; v1 = h.v1; v2 = h.v2 }
 query_ahead timing now false (Some asked) g later h = record {
@@ -129,10 +95,12 @@ query_ahead timing now false (Some asked) g later h = record {
 }
 
 -- what the querier asks
-group_asked_ahead : (timing : Timing) (now : ℕ) (e : ScheduledGroup) → now < lowered_to timing now → AllAhead now e.group → AllAhead now (group_asked timing now e).group
+group_asked_ahead : (timing : Timing) (now : ℕ) (e : ScheduledGroup) → now < lowered_to timing now → AllAhead now e.group
+    → AllAhead now (group_asked timing now e).group
 group_asked_ahead timing now e later h = record { group = lowered_mode now (lowered_to timing now) e.group.mode later h.group; sources = h.sources; v1 = h.v1; v2 = h.v2 }
 
-sources_asked_ahead : (timing : Timing) (now : ℕ) (asked : Set) (e : ScheduledGroup) → now < lowered_to timing now → AllAhead now e.group → AllAhead now (sources_asked timing now asked e).group
+sources_asked_ahead : (timing : Timing) (now : ℕ) (asked : Set) (e : ScheduledGroup) → now < lowered_to timing now → AllAhead now e.group
+    → AllAhead now (sources_asked timing now asked e).group
 sources_asked_ahead timing now asked e later h = record {
   group = h.group;
   sources = λ s. rw (timer_at-sources_asked timing now asked e s) (asked_source now (lowered_to timing now) (last_member_count timing) (asked s) (timer_at e.group s) later (h.sources s));
@@ -140,14 +108,17 @@ sources_asked_ahead timing now asked e later h = record {
   v2 = h.v2;
 }
 
-if_asked_ahead : (timing : Timing) (now : ℕ) (query_group : Bool) (e : ScheduledGroup) → now < lowered_to timing now → AllAhead now e.group → AllAhead now (cond query_group (group_asked timing now e) e).group
-if_asked_ahead timing now true e later h = group_asked_ahead timing now e later h
-if_asked_ahead timing now false e later h = h
+if_asked_ahead : (timing : Timing) (now : ℕ) (query_group : Bool) (e : ScheduledGroup) → now < lowered_to timing now → AllAhead now e.group
+    → AllAhead now (cond query_group (group_asked timing now e) e).group
+if_asked_ahead timing now query_group e h1 h2 = grind arith
 
-acted_ahead : (is_querier : Bool) (timing : Timing) (now : ℕ) (query_group : Bool) (query : Set) (e : ScheduledGroup) → now < lowered_to timing now → AllAhead now e.group → AllAhead now (acted is_querier timing now query_group query e).group
+acted_ahead : (is_querier : Bool) (timing : Timing) (now : ℕ) (query_group : Bool) (query : Set) (e : ScheduledGroup) → now < lowered_to timing now
+    → AllAhead now e.group → AllAhead now (acted is_querier timing now query_group query e).group
 acted_ahead false timing now query_group query e later h = h
-acted_ahead true timing now query_group query e later h = sources_asked_ahead timing now query (cond query_group (group_asked timing now e) e) later (if_asked_ahead timing now query_group e later h)
+acted_ahead true timing now query_group query e later h =
+    sources_asked_ahead timing now query (cond query_group (group_asked timing now e) e) later (if_asked_ahead timing now query_group e later h)
 
-pub after_change_ahead : (is_querier : Bool) (timing : Timing) (now : ℕ) (change : GroupChange) (schedule : ScheduleState) → now < lowered_to timing now → AllAhead now change.group → AllAhead now (after_change is_querier timing now change schedule).group
+pub after_change_ahead : (is_querier : Bool) (timing : Timing) (now : ℕ) (change : GroupChange) (schedule : ScheduleState) → now < lowered_to timing now
+    → AllAhead now change.group → AllAhead now (after_change is_querier timing now change schedule).group
 after_change_ahead is_querier timing now change schedule later h =
     acted_ahead is_querier timing now change.query_group change.query (record { group = change.group; schedule = settled change.group schedule }) later h

@@ -1,25 +1,15 @@
 -- The sources of a query ascend.
-use Rattle.std.proofs.Common.{ℕ, zero, suc, ◌+◌, ◌<◌, Bool, true, false, cond, ◌&&◌, List, [], ◌∷◌, ◌++◌, length, drop, arith, add-one}
-use Rattle.std.specs.Prelude.{map as list_map}
+use Rattle.std.proofs.Common.{ℕ, zero, suc, ◌+◌, ◌<◌, Bool, true, false, cond, ◌&&◌, List, [], ◌∷◌, ◌++◌, length, drop, arith, add-one, ◌≡◌, take, length-drop}
+use Rattle.std.proofs.lemmas.{Bool.Decides.nat_tests, List.length-take, List.get_or-take, List.get_or-drop, List.Kept.IsStrictlyIncreasing-filter}
+use Rattle.std.specs.{FinMap.FinMap, FinMap.is_sorted, List.Sorted.IsStrictlyIncreasing, Ordering.nat_cmp, Ordering.is_lt, Prelude.map as list_map}
 use lib.Dec.{T}
-use Rattle.std.proofs.lemmas.List.Kept.{IsStrictlyIncreasing-filter}
-use Rattle.std.proofs.lemmas.Bool.Decides.{nat_tests}
-use Rattle.std.specs.List.Sorted.{IsStrictlyIncreasing}
-use Rattle.std.specs.Ordering.{nat_cmp, is_lt}
-use Rattle.std.specs.FinMap as map
-use Rattle.std.specs.FinMap.{FinMap, is_sorted}
-use Rattle.mq_table.specs.declared.timing.Timing.{Timing}
+use Rattle.mq_table.specs.{Group.GroupState, Group.group_deadline, Group.is_ahead, Lowering.lowered_to, Sendings.has_sendings, Sendings.above}
 use Rattle.mq_table.specs.Sets.{Set, ◌∩◌, ◌∖◌}
-use Rattle.mq_table.specs.Group.{GroupState, group_deadline, is_ahead}
-use Rattle.mq_table.specs.Lowering.{lowered_to}
-use Rattle.mq_table.specs.Sendings.{has_sendings, above}
-use Rattle.mq_sched.specs.Schedule.{ScheduledGroup}
-use Rattle.mq_sched.specs.Sending.{SentQuery, GeneralQuery, GroupQuery, SourcesQuery, is_due, group_due, sources_where, sources_queries, source_messages, group_messages, messages_due}
+use Rattle.mq_table.specs.declared.timing.Timing.{Timing}
+use Rattle.mq_sched.specs.{Portions.portions_within, Schedule.ScheduledGroup, Sending.SentQuery, Sending.GeneralQuery}
+use Rattle.mq_sched.specs.Sending.{GroupQuery, SourcesQuery, is_due, group_due, sources_where, sources_queries, source_messages, group_messages, messages_due}
 use Rattle.mq_laws.specs.Schedules.{AscendIn}
-use Rattle.mq_sched.specs.Portions.{portions_within}
-use Rattle.std.proofs.lemmas.List.{length-take}
-use Rattle.std.proofs.Common.{◌≡◌, take, length-drop}
-use Rattle.std.proofs.lemmas.List.{get_or-take, get_or-drop}
+use Rattle.std.specs.FinMap as map
 
 -- a part of an ascending list ascends
 pub increasing-take : (n : ℕ) (xs : List ℕ) → IsStrictlyIncreasing xs → IsStrictlyIncreasing (take n xs)
@@ -36,12 +26,10 @@ increasing-drop n xs up k within =
     rw (get_or-drop n xs k 0, get_or-drop n xs (k + 1) 0, next) (up (n + k) in_list)
 
 first_part : (a b : Bool) → T (a && b) → T a
-first_part true b h = tt
-first_part false b h = h
+first_part a b h1 = grind arith
 
 second_part : (a b : Bool) → T (a && b) → T b
-second_part true b h = h
-second_part false b h = absurd h
+second_part a b h1 = grind arith
 
 below : (x y : ℕ) → T (is_lt (nat_cmp x y)) → x < y
 below x y h = grind (arith, nat_tests)
@@ -50,7 +38,8 @@ increasing : {X : Type 0} (es : List (ℕ × X)) → T (is_sorted nat_cmp es) �
 increasing [] h k lt = absurd (omega arith)
 increasing (e ∷ []) h k lt = absurd (omega arith)
 increasing (e ∷ f ∷ es) h zero lt = below e.0 f.0 (first_part _ _ (first_part _ _ h))
-increasing (e ∷ f ∷ es) h (suc k) lt = let shorter : k + 1 < length (list_map (λ e. e.0) (f ∷ es)) = omega arith in rw add-one (rw add-one at (increasing (f ∷ es) (second_part _ _ h) k shorter))
+increasing (e ∷ f ∷ es) h (suc k) lt =
+    let shorter : k + 1 < length (list_map (λ e. e.0) (f ∷ es)) = omega arith in rw add-one (rw add-one at (increasing (f ∷ es) (second_part _ _ h) k shorter))
 
 pub keys_ascend : {X : Type 0} (m : FinMap nat_cmp X) → IsStrictlyIncreasing (map.keys m)
 keys_ascend m = increasing (map.entries m) (map.entries_sorted m)
@@ -61,7 +50,8 @@ ascend_append (GeneralQuery ∷ xs) ys a b = ascend_append xs ys a b
 ascend_append (GroupQuery g f ∷ xs) ys a b = ascend_append xs ys a b
 ascend_append (SourcesQuery g f ss ∷ xs) ys a b = (a.0, a.1, ascend_append xs ys a.2 b)
 
-ascend_portions : (most n group : ℕ) (flag : Bool) (xs : List ℕ) → 0 < n → IsStrictlyIncreasing xs → AscendIn (list_map (SourcesQuery group flag) (portions_within most n xs))
+ascend_portions : (most n group : ℕ) (flag : Bool) (xs : List ℕ) → 0 < n → IsStrictlyIncreasing xs
+    → AscendIn (list_map (SourcesQuery group flag) (portions_within most n xs))
 ascend_portions most n group flag [] positive up = tt
 ascend_portions zero n group flag (x ∷ xs) positive up = tt
 ascend_portions (suc most) n group flag (x ∷ xs) positive up =
@@ -69,8 +59,7 @@ ascend_portions (suc most) n group flag (x ∷ xs) positive up =
 
 -- a round has queries or it has none
 ascend_if : (b : Bool) (queries : List SentQuery) → AscendIn queries → AscendIn (cond b queries [])
-ascend_if true queries a = a
-ascend_if false queries a = tt
+ascend_if b queries h1 = grind arith
 
 ascend_where : (n group : ℕ) (flag : Bool) (test : Set) (g : GroupState) → 0 < n → AscendIn (sources_queries n group flag (sources_where test g))
 ascend_where n group flag test g positive = ascend_portions (length (sources_where test g)) n group flag (sources_where test g) positive (IsStrictlyIncreasing-filter test (map.keys g.sources) (keys_ascend g.sources))

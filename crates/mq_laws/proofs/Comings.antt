@@ -8,6 +8,7 @@ use Rattle.std.proofs.lemmas.Bool.{le-ltb, ltb-true, ltb-false, or_right}
 use Rattle.mq_check.specs.declared.asked.Asked.{Asked}
 use Rattle.mq_check.specs.declared.entry.Entry.{Entry}
 use Rattle.mq_check.specs.declared.entry.Entry.TheVariants.{Wanted, Seen, Interval, Silence, Packet}
+use Rattle.mq_check.specs.declared.entry.Unpaired.{Unpaired}
 use Rattle.mq_check.specs.declared.finding.Finding.{Finding}
 use Rattle.mq_check.specs.declared.finding.Finding.TheVariants.{Missing, Differs}
 use Rattle.mq_check.specs.declared.terms.Terms.{Terms}
@@ -204,9 +205,9 @@ no_sent within low moment m asked terms is_optional es x free wanted seen from o
     sent_in_time within moment x _ _ (to_pairs within _ _ _ _ (wanted_here asked (Sent x) (free ++ wanted) near) alone (w.pairs asked)) (seen_from-about moment asked seen from) (omega arith)
 
 -- and neither is one that was seen and has no partner
-no_seen_over : (within low moment : ℕ) (m : ℕ) (asked : Asked ℕ) (terms : Terms ℕ) (is_querier : Bool) (es : List (Entry ℕ)) (free wanted : List Expected) (seen : List Ask)
-    → WantedFrom moment wanted → m + within < moment → Waits within low moment (Seen m asked terms None is_querier ∷ es) free wanted seen → ⊥
-no_seen_over within low moment m asked terms is_querier es free wanted seen from over w =
+no_seen_over : (within low moment : ℕ) (m : ℕ) (asked : Asked ℕ) (terms : Terms ℕ) (alone : Unpaired ℕ) (es : List (Entry ℕ)) (free wanted : List Expected) (seen : List Ask)
+    → WantedFrom moment wanted → m + within < moment → Waits within low moment (Seen m asked terms None alone ∷ es) free wanted seen → ⊥
+no_seen_over within low moment m asked terms alone es free wanted seen from over w =
     let s = ask m asked terms in
     let here = seen_here asked s (free_seen es) (is_same-self asked) in
     let none : wanted_about asked free ≡ [] = elim (w.one_side asked) [
@@ -217,8 +218,8 @@ no_seen_over within low moment m asked terms is_querier es free wanted seen from
     seen_in_time within moment s _ _ (to_pairs within _ _ _ _ alone (seen_here asked s (free_seen es ++ seen) (is_same-self asked)) (w.pairs asked)) (wanted_from-about moment asked wanted from) over
 
 -- what is found of those that are over
-found_of_pair : (within : ℕ) (changed : Option ℕ) (m : ℕ) (asked : Asked ℕ) (terms wanted : Terms ℕ) (is_querier : Bool) → terms_differ terms wanted ≡ [] → findings_of within changed (Seen m asked terms (Some wanted) is_querier) ≡ []
-found_of_pair within changed m asked terms wanted is_querier alike = ap (list_map (Differs m asked)) alike
+found_of_pair : (within : ℕ) (changed : Option ℕ) (m : ℕ) (asked : Asked ℕ) (terms wanted : Terms ℕ) (alone : Unpaired ℕ) → terms_differ terms wanted ≡ [] → findings_of within changed (Seen m asked terms (Some wanted) alone) ≡ []
+found_of_pair within changed m asked terms wanted alone alike = ap (list_map (Differs m asked)) alike
 
 found_of_found : (within : ℕ) (changed : Option ℕ) (m : ℕ) (asked : Asked ℕ) (terms : Terms ℕ) (is_optional : Bool) → findings_of within changed (Wanted m asked terms is_optional true) ≡ []
 found_of_found within changed m asked terms is_optional = rw (or_right is_optional true refl) refl
@@ -274,13 +275,13 @@ comes within low moment changed (Wanted m asked terms is_optional false ∷ es) 
     one_comes within moment changed e es (LeftOut x ∷ free) free wanted seen (Missing x.moment x.asked ∷ []) over
     (found_of_missed within changed m asked terms is_optional x w.holds.0.0 w.holds.0.1) refl (λ b. missed_due within moment m asked terms x free b w.holds.0.0 over) refl
     (comes within m moment changed es free wanted seen later_wanted later_seen (missed_out within low moment m asked terms is_optional es x free wanted seen w)))
-comes within low moment changed (Seen m asked terms None is_querier ∷ es) free wanted seen later_wanted later_seen w =
-    either_comes within low moment changed (Seen m asked terms None is_querier) es free wanted seen w (λ over.
-    absurd (no_seen_over within low moment m asked terms is_querier es free wanted seen later_wanted (ltb-true (m + within) moment over) w))
-comes within low moment changed (Seen m asked terms (Some partner) is_querier ∷ es) free wanted seen later_wanted later_seen w =
-    let e = Seen m asked terms (Some partner) is_querier in
+comes within low moment changed (Seen m asked terms None alone ∷ es) free wanted seen later_wanted later_seen w =
+    either_comes within low moment changed (Seen m asked terms None alone) es free wanted seen w (λ over.
+    absurd (no_seen_over within low moment m asked terms alone es free wanted seen later_wanted (ltb-true (m + within) moment over) w))
+comes within low moment changed (Seen m asked terms (Some partner) alone ∷ es) free wanted seen later_wanted later_seen w =
+    let e = Seen m asked terms (Some partner) alone in
     either_comes within low moment changed e es free wanted seen w (λ over.
-    one_comes within moment changed e es free free wanted seen [] over (found_of_pair within changed m asked terms partner is_querier w.holds.0) refl (λ b. refl) refl
+    one_comes within moment changed e es free free wanted seen [] over (found_of_pair within changed m asked terms partner alone w.holds.0) refl (λ b. refl) refl
     (comes within m moment changed es free wanted seen later_wanted later_seen (plain_out within low moment e es free wanted seen w.holds.1 refl w)))
 comes within low moment changed (Interval m after wanted' ∷ es) free wanted seen later_wanted later_seen w = absurd w.holds
 comes within low moment changed (Silence m after wanted' ∷ es) free wanted seen later_wanted later_seen w = absurd w.holds

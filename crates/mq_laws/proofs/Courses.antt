@@ -9,7 +9,7 @@ use Rattle.mq_check.specs.declared.finding.Finding.{Finding}
 use Rattle.mq_check.specs.declared.phase.Phase.{Phase}
 use Rattle.mq_check.specs.declared.phase.Phase.TheVariants.{Starting, Heard, Returned, NotQuerier}
 use Rattle.mq_check.specs.declared.terms.Terms.{Terms}
-use Rattle.mq_check.specs.Checking.{CheckingValue, is_querier_in, with_wanted, with_seen, with_general, general_compared, general_seen, specific_seen, role_lost, role_returned, settled, told, with_fault}
+use Rattle.mq_check.specs.Checking.{CheckingValue, alone_in, is_querier_in, with_wanted, with_seen, one_seen, with_general, general_compared, general_seen, specific_seen, role_lost, role_returned, settled, told, with_fault}
 use Rattle.mq_check.specs.Entries.{may_be_left_out, terms_differ}
 use Rattle.mq_check.specs.General.{wrong_interval, phase_again, phase_behind, silence_up_to}
 use Rattle.mq_check.specs.Queries.{is_same}
@@ -111,23 +111,23 @@ pub record SeenAll (within now : ℕ) (c after : CheckingValue) (free before wan
   pub phase : after.phase ≡ c.phase
   pub last : after.last_general ≡ c.last_general
 
-sees_free : (now : ℕ) (terms : Terms ℕ) (asked : List (Asked ℕ)) (c : CheckingValue) → (fold (with_seen now terms) c asked).waiting.is_full ≡ false → c.waiting.is_full ≡ false
-sees_free now terms [] c free = free
-sees_free now terms (a ∷ more) c free = (seen_part now terms c a (sees_free now terms more (with_seen now terms c a) free)).was
+sees_free : (now : ℕ) (terms : Terms ℕ) (unheld : Asked ℕ → Option (Terms ℕ)) (asked : List (Asked ℕ)) (c : CheckingValue) → (fold (one_seen now terms unheld) c asked).waiting.is_full ≡ false → c.waiting.is_full ≡ false
+sees_free now terms unheld [] c free = free
+sees_free now terms unheld (a ∷ more) c free = (seen_part now terms (unheld a) c a (sees_free now terms unheld more (with_seen now terms (unheld a) c a) free)).was
 
-sees_all : (within now : ℕ) (terms : Terms ℕ) (asked : List (Asked ℕ)) (c : CheckingValue) (free wanted : List Expected) (rest : List Ask)
-    → (fold (with_seen now terms) c asked).waiting.is_full ≡ false
+sees_all : (within now : ℕ) (terms : Terms ℕ) (unheld : Asked ℕ → Option (Terms ℕ)) (asked : List (Asked ℕ)) (c : CheckingValue) (free wanted : List Expected) (rest : List Ask)
+    → (fold (one_seen now terms unheld) c asked).waiting.is_full ≡ false
     → Stands within now c.waiting.entries free wanted (asks_at now terms asked ++ rest)
-    → SeenAll within now c (fold (with_seen now terms) c asked) free (free ++ wanted) wanted rest (all_seen now asked (general_returns free c.waiting.entries))
-sees_all within now terms [] c free wanted rest room st = record { step = record { left = free; stands = st; missing = refl; returns_are = refl }; phase = refl; last = refl }
-sees_all within now terms (a ∷ more) c free wanted rest room st =
-    let next = with_seen now terms c a in
-    let part = seen_part now terms c a (sees_free now terms more next room) in
+    → SeenAll within now c (fold (one_seen now terms unheld) c asked) free (free ++ wanted) wanted rest (all_seen now asked (general_returns free c.waiting.entries))
+sees_all within now terms unheld [] c free wanted rest room st = record { step = record { left = free; stands = st; missing = refl; returns_are = refl }; phase = refl; last = refl }
+sees_all within now terms unheld (a ∷ more) c free wanted rest room st =
+    let next = with_seen now terms (unheld a) c a in
+    let part = seen_part now terms (unheld a) c a (sees_free now terms unheld more next room) in
     let r = general_returns free c.waiting.entries in
     let one : StepsTo within now next.waiting.entries (free ++ wanted) wanted (asks_at now terms more ++ rest) (if is_same AllGroups a then return_seen now r.due r.early else r) =
     rw part.entries (stepped within now a (return_seen now) _ _ free (free ++ wanted) wanted (asks_at now terms more ++ rest)
-    (see_one within now a terms (is_querier_in c.phase) c.waiting.entries free wanted (asks_at now terms more ++ rest) st)) in
-    let all = sees_all within now terms more next one.left wanted rest room one.stands in
+    (see_one within now a terms (alone_in now terms (unheld a) a c) c.waiting.entries free wanted (asks_at now terms more ++ rest) st)) in
+    let all = sees_all within now terms unheld more next one.left wanted rest room one.stands in
     record {
       step = record {
         left = all.step.left;
@@ -144,7 +144,7 @@ all_free : (within : ℕ) (timing : Timing) (now : ℕ) (events : List CheckEven
 all_free within timing now [] c free = free
 all_free within timing now (Comes moment ∷ es) c free = sym (settled_full within moment c.waiting) ∙ all_free within timing moment es (settled within moment c) free
 all_free within timing now (Wants terms asked ∷ es) c free = wants_free now terms asked c (all_free within timing now es (fold (with_wanted now terms) c asked) free)
-all_free within timing now (Sees terms asked ∷ es) c free = sees_free now terms asked c (all_free within timing now es (specific_seen now terms asked c) free)
+all_free within timing now (Sees terms unheld asked ∷ es) c free = sees_free now terms unheld asked c (all_free within timing now es (specific_seen now terms unheld asked c) free)
 all_free within timing now (SeesGeneral terms wanted ∷ es) c free = general_free within timing now terms wanted c (all_free within timing now es (general_seen within timing now terms wanted c) free)
 all_free within timing now (LosesRole ∷ es) c free = lost_free within timing now c (all_free within timing now es (role_lost within timing now c) free)
 all_free within timing now (HasRoleAgain ∷ es) c free = returned_free within now c (all_free within timing now es (role_returned within now c) free)
@@ -171,7 +171,7 @@ wanted-from : (now : ℕ) (events : List CheckEvent) (end : ℕ) → AreInOrder 
 wanted-from now [] end order = tt
 wanted-from now (Comes moment ∷ es) end order = later-from now moment (wanted_in moment es) order.0 (wanted-from moment es end order.1)
 wanted-from now (Wants terms asked ∷ es) end order = asks-from now terms asked (wanted_in now es) (wanted-from now es end order)
-wanted-from now (Sees terms asked ∷ es) end order = wanted-from now es end order
+wanted-from now (Sees terms unheld asked ∷ es) end order = wanted-from now es end order
 wanted-from now (SeesGeneral terms wanted ∷ es) end order = wanted-from now es end order
 wanted-from now (LosesRole ∷ es) end order = wanted-from now es end order
 wanted-from now (HasRoleAgain ∷ es) end order = wanted-from now es end order
@@ -186,7 +186,7 @@ seen-from : (within : ℕ) (is_querier : Bool) (r : Returns) (now : ℕ) (events
 seen-from within q r now [] end order = tt
 seen-from within q r now (Comes moment ∷ es) end order = later-from now moment _ order.0 (seen-from within q (record r { due = still_due within moment r.due }) moment es end order.1)
 seen-from within q r now (Wants terms asked ∷ es) end order = seen-from within q (all_wanted now asked r) now es end order
-seen-from within q r now (Sees terms asked ∷ es) end order = asks-from now terms asked _ (seen-from within q (all_seen now asked r) now es end order)
+seen-from within q r now (Sees terms unheld asked ∷ es) end order = asks-from now terms asked _ (seen-from within q (all_seen now asked r) now es end order)
 seen-from within q r now (SeesGeneral terms wanted ∷ es) end order = general-from q r.due now terms _ (seen-from within q (general_returned q now r.due r.early) now es end order)
 seen-from within q r now (LosesRole ∷ es) end order = seen-from within false r now es end order
 seen-from within q r now (HasRoleAgain ∷ es) end order = seen-from within true r now es end order
@@ -250,10 +250,10 @@ general_all within timing now terms partner c free wanted rest in_time alike roo
           rw same (record { step = one; phase = part.phase })
       | false ↦ λ is.
           let same = compared_other within timing now terms partner c is in
-          let part = seen_part now terms c AllGroups (ap (λ (d : CheckingValue). d.waiting.is_full) (sym same) ∙ room) in
+          let part = seen_part now terms None c AllGroups (ap (λ (d : CheckingValue). d.waiting.is_full) (sym same) ∙ room) in
           let before : Stands within now c.waiting.entries free wanted (ask now AllGroups terms ∷ rest) = subst (λ (b : Bool). Stands within now c.waiting.entries free wanted (general_ask b r.due now terms ++ rest)) is st in
-          let one : StepsTo within now (with_seen now terms c AllGroups).waiting.entries (free ++ wanted) wanted rest (general_returned false now r.due r.early) =
-          rw part.entries (general_step within now (return_seen now) _ _ free (free ++ wanted) wanted rest (see_one within now AllGroups terms (is_querier_in c.phase) c.waiting.entries free wanted rest before)) in
+          let one : StepsTo within now (with_seen now terms None c AllGroups).waiting.entries (free ++ wanted) wanted rest (general_returned false now r.due r.early) =
+          rw part.entries (general_step within now (return_seen now) _ _ free (free ++ wanted) wanted rest (see_one within now AllGroups terms (alone_in now terms None AllGroups c) c.waiting.entries free wanted rest before)) in
           rw same (record { step = one; phase = part.phase ∙ sym (no_phase_behind within timing now c.phase is) })
     ] refl
 
@@ -316,11 +316,11 @@ course within timing end now (Wants terms asked ∷ es) c free expected asks mis
     (course within timing end now es next all.step.left all.wanted all.asks all.missed order
     (time_as within timing c.phase next.phase c.last_general next.last_general now es end all.phase all.last general) room
     (seen_as within now next.waiting.entries all.step.left all.wanted (is_querier_in c.phase) _ (all_wanted now asked r) _ es (ap is_querier_in all.phase) all.step.returns_are all.step.stands))
-course within timing end now (Sees terms asked ∷ es) c free expected asks missed order general room st =
-    let next = specific_seen now terms asked c in
+course within timing end now (Sees terms unheld asked ∷ es) c free expected asks missed order general room st =
+    let next = specific_seen now terms unheld asked c in
     let r = general_returns free c.waiting.entries in
-    let all = sees_all within now terms asked c free expected (seen_in within (is_querier_in c.phase) (all_seen now asked r) now es) (all_free within timing now es next room) st in
-    ended_behind within timing end now (Sees terms asked) es c (missing_of (free ++ expected)) (missing_of (all.step.left ++ expected)) all.step.missing
+    let all = sees_all within now terms unheld asked c free expected (seen_in within (is_querier_in c.phase) (all_seen now asked r) now es) (all_free within timing now es next room) st in
+    ended_behind within timing end now (Sees terms unheld asked) es c (missing_of (free ++ expected)) (missing_of (all.step.left ++ expected)) all.step.missing
     (course within timing end now es next all.step.left expected asks missed order
     (time_as within timing c.phase next.phase c.last_general next.last_general now es end all.phase all.last general) room
     (seen_as within now next.waiting.entries all.step.left expected (is_querier_in c.phase) _ (all_seen now asked r) _ es (ap is_querier_in all.phase) all.step.returns_are all.step.stands))

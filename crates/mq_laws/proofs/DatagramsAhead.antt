@@ -1,51 +1,32 @@
 -- No datagram makes something due at its own moment or before.
-use Rattle.std.proofs.Common.{◌≡◌, ℕ, ◌+◌, ◌*◌, ◌<◌, Bool, true, false, cond, refl, List, [], ◌∷◌, Option, None, Some, IfSome, Result, Ok, Err, sym, ap, ◌∙◌, subst, arith}
-use Rattle.std.specs.Option.{option_and_then, unwrap_or}
+use Rattle.std.proofs.Common.{◌≡◌, ℕ, ◌+◌, ◌*◌, ◌<◌, Bool, true, false, cond, refl, List, [], ◌∷◌, Option, None, Some, IfSome, Result, Ok, Err, sym, ap, ◌∙◌}
+use Rattle.std.proofs.{Common.arith, Common.subst, Math.Nat.mul-le-mul_right}
+use Rattle.std.specs.{Option.option_and_then, Option.unwrap_or, Ordering.nat_cmp}
 use Rattle.std.specs.Prelude.{nat_lt, ◌==◌, if◌then◌else◌}
-use Rattle.std.proofs.Math.Nat.{mul-le-mul_right}
-use Rattle.std.specs.FinMap as map
-use Rattle.std.specs.FinSet as set
-use Rattle.std.specs.Ordering.{nat_cmp}
 use Rattle.mq_wire.specs.declared.message.Message.{Message}
 use Rattle.mq_wire.specs.declared.message.Message.TheVariants.{Query as QueryMessage, OldReport, Leave as LeaveMessage, Report as ReportMessage}
-use Rattle.mq_wire.specs.declared.message.WireFault.{WireFault}
-use Rattle.mq_wire.specs.declared.query.Query.{Query}
-use Rattle.mq_wire.specs.declared.records.RecordView.{RecordView}
-use Rattle.mq_table.specs.declared.timing.Timing.{Timing}
-use Rattle.mq_table.specs.Variables.{AreInRange}
-use Rattle.mq_table.specs.declared.timers.SourceTimer.{SourceTimer}
-use Rattle.mq_table.specs.declared.timers.SourceTimer.TheVariants.{Stopped, Running}
+use Rattle.mq_wire.specs.declared.{message.WireFault.WireFault, query.Query.Query, records.RecordView.RecordView}
 use Rattle.mq_table.proofs.Maps.{get-kept}
-use Rattle.mq_table.specs.Group.{GroupState, group_deadline, timer_at, deadline_of}
-use Rattle.mq_table.specs.Expiry.{AllAhead}
-use Rattle.mq_table.specs.Sendings.{source_cleared, sendings_counted}
-use Rattle.mq_table.specs.Table.{GroupChange}
-use Rattle.mq_table.specs.Timing.{membership_interval, older_host_present, other_querier_present}
-use Rattle.mq_sched.specs.Schedule.{ScheduledGroup, cleared}
-use Rattle.mq_sched.specs.Sending.{is_due, after_round}
-use Rattle.mq_sched.specs.Election.{Role, Other, is_querier, loses_role, next_moment}
+use Rattle.mq_table.specs.{Expiry.AllAhead, Group.GroupState, Group.group_deadline, Group.timer_at, Group.deadline_of, Sendings.source_cleared}
+use Rattle.mq_table.specs.{Sendings.sendings_counted, Table.GroupChange, Timing.membership_interval, Timing.older_host_present, Timing.other_querier_present}
+use Rattle.mq_table.specs.{Variables.AreInRange, declared.timers.SourceTimer.SourceTimer, declared.timing.Timing.Timing}
 use Rattle.mq_sched.proofs.Rounds.{quiet_after_round, deadlines_stay}
+use Rattle.mq_sched.specs.Election.{Role, Other, is_querier, loses_role, next_moment}
+use Rattle.mq_sched.specs.{Schedule.ScheduledGroup, Schedule.cleared, Sending.is_due, Sending.after_round}
 use Rattle.mq_held.specs.Groups.{Groups, group_at, unheld, with_group}
-use Rattle.mq_link.specs.declared.answers.DropReason.{DropReason}
-use Rattle.mq_link.specs.declared.answers.Refusal.{Refusal}
-use Rattle.mq_link.specs.Configuration.{Configuration}
+use Rattle.mq_link.proofs.{Faultless.timing_in_range, HeldAs.All, HeldAs.all-kept, Later.later_after_tick, Quiet.AllAbove, Quiet.IsBeyond, Quiet.above_least}
+use Rattle.mq_link.proofs.{Quiet.least_above, Quiet.above_values, Quiet.values_above, Quiet.beyond, Quiet.above_beyond, Receipts.carried_where_read}
+use Rattle.mq_link.proofs.{Receipts.IsWellFormed-receipt_after, Recorded.all-with_group, Silent.each-entry, Silent.from-each, Ticked.IsWellFormed-tick_at}
+use Rattle.mq_link.specs.{Configuration.Configuration, Configuration.IsFaultless, Counters.Counters, Family.v1_mutes_leave}
 use Rattle.mq_link.specs.Heard.{groups_cleared, group_lowered, groups_lowered, election_after, suppresses, asked_by, query_heard}
-use Rattle.mq_link.specs.Record.{Setting, Statement, RecordOf, OlderJoin, OlderLeave, Seen, Entrance, Stops, GoesOn, stated, change_in, changed_or_refused, changed_by, after_sending, sent_at_once, limit_passed, unless_passed, judged, judged_from, is_repeated, all_judged, seen_after, entrance, is_muted}
-use Rattle.mq_link.specs.Counters.{Counters}
-use Rattle.mq_link.specs.Configuration.{IsFaultless}
 use Rattle.mq_link.specs.Receive.{Envelope, read_of, pseudo_of, drop_reason, setting_of, taken_in, counting_read, taken_or_dropped, receipt_of}
-use Rattle.mq_link.specs.Family.{v1_mutes_leave}
-use Rattle.mq_link.specs.State.{LinkState, IsWellFormed}
-use Rattle.mq_link.specs.Tick.{Step, moment_of, moments_of, moments_in, next_of, tick_of}
-use Rattle.mq_link.proofs.Faultless.{timing_in_range}
-use Rattle.mq_link.proofs.Later.{later_after_tick}
-use Rattle.mq_link.proofs.Receipts.{carried_where_read, IsWellFormed-receipt_after}
-use Rattle.mq_link.proofs.Ticked.{IsWellFormed-tick_at}
-use Rattle.mq_link.proofs.HeldAs.{All, all-kept}
-use Rattle.mq_link.proofs.Quiet.{AllAbove, IsBeyond, above_least, least_above, above_values, values_above, beyond, above_beyond}
-use Rattle.mq_link.proofs.Recorded.{all-with_group}
-use Rattle.mq_link.proofs.Silent.{each-entry, from-each}
-use Rattle.mq_laws.proofs.AheadChanges.{ChangesAhead, stated_ahead, query_ahead, after_change_ahead}
+use Rattle.mq_link.specs.Record.{Setting, Statement, RecordOf, OlderJoin, OlderLeave, Seen, stated, change_in, changed_or_refused}
+use Rattle.mq_link.specs.Record.{changed_by, after_sending, sent_at_once, limit_passed, unless_passed, judged, all_judged, seen_after}
+use Rattle.mq_link.specs.{Record.is_muted, State.LinkState, State.IsWellFormed, Tick.Step, Tick.moment_of, Tick.moments_of, Tick.moments_in}
+use Rattle.mq_link.specs.{Tick.next_of, Tick.tick_of, declared.answers.DropReason.DropReason, declared.answers.Refusal.Refusal}
+use Rattle.mq_laws.proofs.{AheadChanges.ChangesAhead, AheadChanges.stated_ahead, AheadChanges.query_ahead, AheadChanges.after_change_ahead, Unchanged.judged_by}
+use Rattle.std.specs.FinMap as map
+use Rattle.std.specs.FinSet as set
 
 -- nothing of any group happens up to a moment
 abbrev pub AllBeyond : ℕ → Groups → Type 0
@@ -56,12 +37,13 @@ beyond_all m groups above q e is =
     beyond m e (from-each (λ _ e. AllAbove m (moments_of e)) (map.entries groups) (above_values m moments_of (map.entries groups) above) q e (sym (map.get-entries groups q) ∙ is))
 
 pub above_all : (m : ℕ) (groups : Groups) → AllBeyond m groups → AllAbove m (moments_in groups)
-above_all m groups all = values_above m moments_of (map.entries groups) (each-entry (λ _ e. AllAbove m (moments_of e)) groups (λ q e is. above_beyond m e (all q e is)))
+above_all m groups all =
+    values_above m moments_of (map.entries groups) (each-entry (λ _ e. AllAbove m (moments_of e)) groups (λ q e is. above_beyond m e (all q e is)))
 
 -- a group with what is due for it sent
-heads_stay : (g : GroupState) (due : Bool) (m : ℕ) → AllAhead m g → (let left = cond due (sendings_counted g) g in IfSome (group_deadline left.mode) (λ d. m < d) × IfSome left.v1 (λ d. m < d) × IfSome left.v2 (λ d. m < d))
-heads_stay g true m h = (h.group, h.v1, h.v2)
-heads_stay g false m h = (h.group, h.v1, h.v2)
+heads_stay : (g : GroupState) (due : Bool) (m : ℕ) → AllAhead m g
+    → (let left = cond due (sendings_counted g) g in IfSome (group_deadline left.mode) (λ d. m < d) × IfSome left.v1 (λ d. m < d) × IfSome left.v2 (λ d. m < d))
+heads_stay g due m h1 = grind arith
 
 beyond_sent : (timing : Timing) (m : ℕ) (e : ScheduledGroup) → 0 < timing.last_member_interval → AllAhead m e.group → IsBeyond m (after_round timing m e)
 beyond_sent timing m e positive h =
@@ -104,15 +86,16 @@ met_ahead m None h = record { group = tt; sources = λ s. rw (map.get-empty nat_
 met_ahead m (Some e) h = h.timers
 
 held_beyond : (m group : ℕ) (groups : Groups) → AllBeyond m groups → (held : Option ScheduledGroup) → map.get groups group ≡ held → IfSome held (IsBeyond m)
-held_beyond m group groups all None is = tt
-held_beyond m group groups all (Some e) is = all group e is
+held_beyond m group groups h1 held h2 = grind arith
 
 -- a statement
-unless_beyond : (m : ℕ) (name : Option Refusal) (before after : Groups) (queries : List _) → AllBeyond m before → AllBeyond m after → AllBeyond m (unless_passed name before after queries).groups
+unless_beyond : (m : ℕ) (name : Option Refusal) (before after : Groups) (queries : List _) → AllBeyond m before → AllBeyond m after
+    → AllBeyond m (unless_passed name before after queries).groups
 unless_beyond m (Some name) before after queries b a = b
 unless_beyond m None before after queries b a = a
 
-changed_beyond : (at : Setting) (group : ℕ) (groups : Groups) (change : Option GroupChange) → AreSpans at.election.timing → AllBeyond at.now groups → ChangesAhead at.now change → AllBeyond at.now (changed_or_refused at group groups change).groups
+changed_beyond : (at : Setting) (group : ℕ) (groups : Groups) (change : Option GroupChange) → AreSpans at.election.timing → AllBeyond at.now groups
+    → ChangesAhead at.now change → AllBeyond at.now (changed_or_refused at group groups change).groups
 changed_beyond at group groups None spans all h = all
 changed_beyond at group groups (Some change) spans all h =
     let e = changed_by at group groups change in
@@ -123,31 +106,29 @@ changed_beyond at group groups (Some change) spans all h =
     (λ _. beyond_sent at.election.timing at.now e spans.sending
     (after_change_ahead (is_querier at.election.role) at.election.timing at.now change (group_at groups group).schedule (omega (arith, spans.lowered)) h)) all)
 
-pub stated_beyond : (at : Setting) (group : ℕ) (statement : Statement) (groups : Groups) → AreSpans at.election.timing → AllBeyond at.now groups → AllBeyond at.now (stated at group statement groups).groups
+pub stated_beyond : (at : Setting) (group : ℕ) (statement : Statement) (groups : Groups) → AreSpans at.election.timing → AllBeyond at.now groups
+    → AllBeyond at.now (stated at group statement groups).groups
 unfolding stated
 stated_beyond at group statement groups spans all =
     changed_beyond at group groups (change_in at group statement groups) spans all
     (stated_ahead (v1_mutes_leave at.config.family) (is_muted at.config group statement) at.election.timing at.now statement (group_at groups group).group (omega (arith, spans.membership)) (omega (arith, spans.older))
     (met_ahead at.now (map.get groups group) (held_beyond at.now group groups all (map.get groups group) refl)))
 
-judged_beyond : (at : Setting) (seen : Seen) (r : RecordView ℕ) (groups : Groups) (entered : Entrance) → AreSpans at.election.timing → AllBeyond at.now groups → AllBeyond at.now (judged_from at seen r groups entered).groups
-judged_beyond at seen r groups (Stops verdict) spans all = all
-judged_beyond at seen r groups (GoesOn kind) spans all = elim (is_repeated groups seen r.group) as (λ b. is_repeated groups seen r.group ≡ b → AllBeyond at.now (judged_from at seen r groups (GoesOn kind)).groups) [
-  | true ↦ λ is. rw is all
-  | false ↦ λ is. rw is (stated_beyond at r.group (RecordOf kind (set.from_list r.sources)) groups spans all)
-] refl
+judged_beyond : (at : Setting) (seen : Seen) (r : RecordView ℕ) (groups : Groups) → AreSpans at.election.timing → AllBeyond at.now groups
+    → AllBeyond at.now (judged at seen r groups).groups
+judged_beyond at seen r groups spans all =
+    judged_by (λ outcome. AllBeyond at.now outcome.groups) at seen r groups (λ verdict. all)
+    (λ kind. stated_beyond at r.group (RecordOf kind (set.from_list r.sources)) groups spans all)
 
-all_judged_beyond : (at : Setting) (seen : Seen) (records : List (RecordView ℕ)) (groups : Groups) → AreSpans at.election.timing → AllBeyond at.now groups → AllBeyond at.now (all_judged at seen records groups).groups
-unfolding judged
+all_judged_beyond : (at : Setting) (seen : Seen) (records : List (RecordView ℕ)) (groups : Groups) → AreSpans at.election.timing → AllBeyond at.now groups
+    → AllBeyond at.now (all_judged at seen records groups).groups
 all_judged_beyond at seen [] groups spans all = all
 all_judged_beyond at seen (r ∷ rs) groups spans all =
-    all_judged_beyond at (seen_after at.config r groups seen) rs (judged at seen r groups).groups spans (judged_beyond at seen r groups (entrance at.config r) spans all)
+    all_judged_beyond at (seen_after at.config r groups seen) rs (judged at seen r groups).groups spans (judged_beyond at seen r groups spans all)
 
 -- a query that is heard
 cleared_deadline : (t : Option SourceTimer) → deadline_of (option_and_then (λ timer. Some (source_cleared timer)) t) ≡ deadline_of t
-cleared_deadline None = refl
-cleared_deadline (Some Stopped) = refl
-cleared_deadline (Some (Running d n)) = refl
+cleared_deadline t = grind arith
 
 cleared_beyond : (m : ℕ) (e : ScheduledGroup) → IsBeyond m e → IsBeyond m (cleared e)
 cleared_beyond m e h = record {
@@ -164,15 +145,18 @@ groups_cleared_beyond : (m : ℕ) (groups : Groups) → AllBeyond m groups → A
 unfolding groups_cleared
 groups_cleared_beyond m groups all = all-kept (λ _ e. IsBeyond m e) (λ group e. Some (cleared e)) groups (λ k e h. cleared_beyond m e h) all
 
-lowered_beyond : (m : ℕ) (timing : Timing) (query : Query ℕ) (e : ScheduledGroup) → AreSpans timing → IsBeyond m e → IsBeyond m (group_lowered timing m query.version e)
+lowered_beyond : (m : ℕ) (timing : Timing) (query : Query ℕ) (e : ScheduledGroup) → AreSpans timing → IsBeyond m e
+    → IsBeyond m (group_lowered timing m query.version e)
 lowered_beyond m timing query e spans h =
     record { timers = query_ahead timing m (suppresses query.version) (asked_by query.version) e.group (omega (arith, spans.lowered)) h.timers; schedule = h.schedule }
 
-if_lowered_beyond : (m : ℕ) (timing : Timing) (query : Query ℕ) (e : ScheduledGroup) (b : Bool) → AreSpans timing → IsBeyond m e → IsBeyond m (cond b (group_lowered timing m query.version e) e)
+if_lowered_beyond : (m : ℕ) (timing : Timing) (query : Query ℕ) (e : ScheduledGroup) (b : Bool) → AreSpans timing → IsBeyond m e
+    → IsBeyond m (cond b (group_lowered timing m query.version e) e)
 if_lowered_beyond m timing query e true spans h = lowered_beyond m timing query e spans h
 if_lowered_beyond m timing query e false spans h = h
 
-groups_lowered_beyond : (m : ℕ) (timing : Timing) (query : Query ℕ) (groups : Groups) → AreSpans timing → AllBeyond m groups → AllBeyond m (groups_lowered timing m query groups)
+groups_lowered_beyond : (m : ℕ) (timing : Timing) (query : Query ℕ) (groups : Groups) → AreSpans timing → AllBeyond m groups
+    → AllBeyond m (groups_lowered timing m query groups)
 unfolding groups_lowered
 groups_lowered_beyond m timing query groups spans all =
     all-kept (λ _ e. IsBeyond m e) (λ group e. Some (if group == query.group then group_lowered timing m query.version e else e)) groups
@@ -195,20 +179,23 @@ next_later m state h =
     let parts = above_least m (next_moment state.election.role) (moments_in state.groups) h in
     record { election = parts.0; groups = beyond_all m state.groups parts.1 }
 
-role_later : (m : ℕ) (lower : Bool) (source : ℕ) (timing : Timing) (role : Role) → 0 < other_querier_present timing → m < next_moment role → m < next_moment (cond lower (Other source (m + other_querier_present timing)) role)
-role_later m true source timing role positive h = omega arith
-role_later m false source timing role positive h = h
+role_later : (m : ℕ) (lower : Bool) (source : ℕ) (timing : Timing) (role : Role) → 0 < other_querier_present timing → m < next_moment role
+    → m < next_moment (cond lower (Other source (m + other_querier_present timing)) role)
+role_later m lower source timing role h1 h2 = grind arith
 
-heard_later : (config : Configuration) (m source : ℕ) (query : Query ℕ) (state : LinkState) → AreSpans (query_heard config m source query state).election.timing → IsLater m state → IsLater m (query_heard config m source query state)
+heard_later : (config : Configuration) (m source : ℕ) (query : Query ℕ) (state : LinkState) → AreSpans (query_heard config m source query state).election.timing
+    → IsLater m state → IsLater m (query_heard config m source query state)
 heard_later config m source query state spans h = record {
   election = role_later m (nat_lt source config.own) source (election_after config m source query.version state.election).timing state.election.role spans.other h.election;
   groups = groups_lowered_beyond m (election_after config m source query.version state.election).timing query _ spans (if_cleared_beyond m state.groups (loses_role config.own source state.election.role) h.groups);
 }
 
-outcomes_later : (config : Configuration) (state : LinkState) (groups : Groups) (counters : Counters) → AllBeyond state.last groups → IsLater state.last state → IsLater state.last (record { groups = groups; election = state.election; last = state.last; counters = counters })
+outcomes_later : (config : Configuration) (state : LinkState) (groups : Groups) (counters : Counters) → AllBeyond state.last groups → IsLater state.last state
+    → IsLater state.last (record { groups = groups; election = state.election; last = state.last; counters = counters })
 outcomes_later config state groups counters all h = record { election = h.election; groups = all }
 
-taken_later : (config : Configuration) (envelope : Envelope) (message : Message ℕ) (step : Step) → AreInRange step.state.election.timing → AreInRange (taken_in config envelope message step).step.state.election.timing
+taken_later : (config : Configuration) (envelope : Envelope) (message : Message ℕ) (step : Step) → AreInRange step.state.election.timing
+    → AreInRange (taken_in config envelope message step).step.state.election.timing
     → IsLater step.state.last step.state → IsLater step.state.last (taken_in config envelope message step).step.state
 unfolding taken_in
 taken_later config envelope (QueryMessage query) step before after h = heard_later config step.state.last envelope.source query step.state (spans_of _ after) h
@@ -219,7 +206,8 @@ taken_later config envelope (LeaveMessage group) step before after h =
 taken_later config envelope (ReportMessage records) step before after h =
     outcomes_later config step.state _ _ (all_judged_beyond (setting_of config step.state) map.empty records step.state.groups (spans_of _ before) h.groups) h
 
-decided_later : (config : Configuration) (envelope : Envelope) (step : Step) (read : Result (Message ℕ) WireFault) (reason : Option DropReason) → AreInRange step.state.election.timing
+decided_later : (config : Configuration) (envelope : Envelope) (step : Step) (read : Result (Message ℕ) WireFault) (reason : Option DropReason)
+    → AreInRange step.state.election.timing
     → AreInRange (taken_or_dropped config envelope step read reason).step.state.election.timing
     → IsLater step.state.last step.state → IsLater step.state.last (taken_or_dropped config envelope step read reason).step.state
 decided_later config envelope step read (Some reason) before after h = record { election = h.election; groups = h.groups }
@@ -228,7 +216,8 @@ decided_later config envelope step (Ok message) None before after h =
     taken_later config envelope message (counting_read (Ok message) step) before after (record { election = h.election; groups = h.groups })
 
 -- After a datagram the next moment is later than its own.
-pub later_after_datagram : (config : Configuration) (envelope : Envelope) (bytes : List ℕ) (now : ℕ) (state : LinkState) → IsFaultless config → IsWellFormed config state
+pub later_after_datagram : (config : Configuration) (envelope : Envelope) (bytes : List ℕ) (now : ℕ) (state : LinkState) → IsFaultless config
+    → IsWellFormed config state
     → moment_of state now < next_of (receipt_of config envelope bytes now state).step.state
 later_after_datagram config envelope bytes now state faultless h =
     let own = timing_in_range config faultless in

@@ -1,30 +1,16 @@
 -- What is forwarded doesn't depend on how often one ticks: the sendings to go have no part in it.
-use Rattle.std.proofs.Common.{◌≡◌, ℕ, ◌≤◌, Bool, true, false, cond, ◌&&◌, refl, List, [], ◌∷◌, length, suc, Option, None, Some, sym, ap, ◌∙◌, eqb, ltb}
-use Rattle.std.proofs.lemmas.Bool.{true≢false}
-use Rattle.std.specs.Option.{option_and_then, unwrap_or}
-use Rattle.std.specs.Ordering.{nat_cmp}
-use Rattle.std.specs.FinMap as map
-use Rattle.std.specs.FinMap.{FinMap}
-use Rattle.mq_table.specs.declared.timing.Timing.{Timing}
-use Rattle.mq_table.specs.declared.timers.FilterMode.{FilterMode}
-use Rattle.mq_table.specs.declared.timers.FilterMode.TheVariants.{Include, Exclude}
-use Rattle.mq_table.specs.declared.timers.SourceTimer.{SourceTimer}
-use Rattle.mq_table.specs.declared.timers.SourceTimer.TheVariants.{Stopped, Running}
-use Rattle.mq_table.specs.Maps.{kept}
+use Rattle.std.proofs.Common.{◌≡◌, ℕ, ◌≤◌, Bool, true, false, cond, ◌&&◌, refl, List, [], ◌∷◌, length, suc, Option, None, Some, sym, ap, ◌∙◌, eqb, arith}
+use Rattle.std.specs.{FinMap.FinMap, Option.option_and_then, Option.unwrap_or, Ordering.nat_cmp}
+use Rattle.mq_table.proofs.{Composed.expired-expired, Groups.same_sources, Maps.get-kept}
+use Rattle.mq_table.specs.Expiry.{ahead, mode_expired, source_expired, held_or_vacant, expired}
 use Rattle.mq_table.specs.Group.{GroupState, is_include, vacant, is_vacant, timer_at, wants, forwards_in}
-use Rattle.mq_table.specs.Expiry.{ahead, mode_expired, at_zero, source_expired, held_or_vacant, expired}
-use Rattle.mq_table.proofs.Maps.{get-kept}
-use Rattle.mq_table.proofs.Groups.{same_sources}
-use Rattle.mq_table.proofs.Composed.{expired-expired}
-use Rattle.mq_table.specs.Sendings.{source_cleared, source_counted, sendings_counted}
-use Rattle.mq_sched.specs.Schedule.{ScheduledGroup}
-use Rattle.mq_sched.specs.Sending.{is_due, after_round}
-use Rattle.mq_sched.specs.Election.{ticked}
-use Rattle.mq_link.specs.Configuration.{Configuration}
-use Rattle.mq_link.specs.State.{Groups, LinkState, unheld, group_at, forwards}
+use Rattle.mq_table.specs.{Maps.kept, Sendings.source_cleared, Sendings.source_counted, Sendings.sendings_counted}
+use Rattle.mq_table.specs.declared.{timers.FilterMode.FilterMode, timers.FilterMode.TheVariants.Include, timers.SourceTimer.SourceTimer, timing.Timing.Timing}
+use Rattle.mq_sched.specs.{Election.ticked, Schedule.ScheduledGroup, Sending.is_due, Sending.after_round}
+use Rattle.mq_link.proofs.{Entries.entries-kept, Entries.filtered, HeldAs.vacant_is}
+use Rattle.mq_link.specs.{Configuration.Configuration, State.Groups, State.LinkState, State.unheld, State.group_at, State.forwards}
 use Rattle.mq_link.specs.Tick.{group_expired, if_held, groups_expired, groups_after_round, tick_at}
-use Rattle.mq_link.proofs.Entries.{entries-kept, filtered}
-use Rattle.mq_link.proofs.HeldAs.{vacant_is}
+use Rattle.std.specs.FinMap as map
 
 -- a group without its sendings
 abbrev clear : ℕ → SourceTimer → Option SourceTimer
@@ -34,21 +20,14 @@ abbrev bare : GroupState → GroupState
 bare g = record { mode = g.mode; sources = kept clear g.sources; v1 = g.v1; v2 = g.v2 }
 
 wanted : (mode : FilterMode) (t : Option SourceTimer) → wants mode (option_and_then (clear 0) t) ≡ wants mode t
-wanted Include None = refl
-wanted Include (Some Stopped) = refl
-wanted Include (Some (Running d n)) = refl
-wanted (Exclude e) None = refl
-wanted (Exclude e) (Some Stopped) = refl
-wanted (Exclude e) (Some (Running d n)) = refl
+wanted mode t = grind arith
 
 bare_forwards : (g : GroupState) (s : ℕ) → forwards_in (bare g) s ≡ forwards_in g s
 bare_forwards g s = ap (wants g.mode) (get-kept clear g.sources s) ∙ wanted g.mode (timer_at g s)
 
 -- a round changes sendings alone
 cleared_counted : (t : Option SourceTimer) → option_and_then (clear 0) (option_and_then (λ timer. Some (source_counted timer)) t) ≡ option_and_then (clear 0) t
-cleared_counted None = refl
-cleared_counted (Some Stopped) = refl
-cleared_counted (Some (Running d n)) = refl
+cleared_counted t = grind arith
 
 bare_counted : (g : GroupState) (due : Bool) → bare (cond due (sendings_counted g) g) ≡ bare g
 bare_counted g true = λ i. record {
@@ -85,16 +64,9 @@ expired_vacant now =
     ap (λ m. held_or_vacant (record { mode = Include; sources = m; v1 = None; v2 = None })) (nothing_left (λ s. source_expired Include now))
     ∙ ap (λ b. cond b vacant vacant) vacant_is
 
-cleared_expired : (mode : FilterMode) (now : ℕ) (t : Option SourceTimer) → option_and_then (source_expired mode now) (option_and_then (clear 0) t) ≡ option_and_then (clear 0) (option_and_then (source_expired mode now) t)
-cleared_expired mode now None = refl
-cleared_expired Include now (Some Stopped) = refl
-cleared_expired (Exclude e) now (Some Stopped) = refl
-cleared_expired mode now (Some (Running d n)) = by_mode mode (ltb now d)
-  where
-    by_mode : (mode : FilterMode) (b : Bool) → cond b (Some (Running d 0)) (at_zero mode) ≡ option_and_then (clear 0) (cond b (Some (Running d n)) (at_zero mode))
-    by_mode mode true = refl
-    by_mode Include false = refl
-    by_mode (Exclude e) false = refl
+cleared_expired : (mode : FilterMode) (now : ℕ) (t : Option SourceTimer)
+    → option_and_then (source_expired mode now) (option_and_then (clear 0) t) ≡ option_and_then (clear 0) (option_and_then (source_expired mode now) t)
+cleared_expired mode now t = grind arith
 
 left_at : ℕ → GroupState → GroupState
 left_at now g = record {
@@ -130,10 +102,7 @@ bare_expired now g =
 
 -- a group that is vacant after the end of timers is the vacant one
 is_the_vacant : (g : GroupState) → is_vacant (held_or_vacant g) ≡ true → held_or_vacant g ≡ vacant
-is_the_vacant g h = elim (is_vacant g) as (λ b. is_vacant g ≡ b → is_vacant (cond b vacant g) ≡ true → cond b vacant g ≡ vacant) [
-  | true ↦ λ _ _. refl
-  | false ↦ λ is h. absurd (true≢false (sym h ∙ is))
-] refl h
+is_the_vacant g h1 = grind arith
 
 -- the same of groups
 bare_at : Groups → ℕ → GroupState
@@ -141,26 +110,20 @@ bare_at groups group = bare (group_at groups group).group
 
 round_at : (timing : Timing) (now : ℕ) (groups : Groups) (group : ℕ) → bare_at (groups_after_round timing now groups) group ≡ bare_at groups group
 unfolding bare_at groups_after_round
-round_at timing now groups group = ap (λ e. bare (unwrap_or e unheld).group) (get-kept (λ _ e. Some (after_round timing now e)) groups group) ∙ by_group (map.get groups group)
+round_at timing now groups group =
+    ap (λ e. bare (unwrap_or e unheld).group) (get-kept (λ _ e. Some (after_round timing now e)) groups group) ∙ by_group (map.get groups group)
   where
     by_group : (e : Option ScheduledGroup) → bare (unwrap_or (option_and_then (λ e. Some (after_round timing now e)) e) unheld).group ≡ bare (unwrap_or e unheld).group
     by_group None = refl
     by_group (Some e) = bare_counted e.group (is_due now e.schedule.sources_due)
 
 expired_at : (now : ℕ) (groups : Groups) (group : ℕ) → bare_at (groups_expired now groups) group ≡ expired now (bare_at groups group)
-unfolding bare_at groups_expired
-expired_at now groups group = ap (λ e. bare (unwrap_or e unheld).group) (get-kept (λ _ e. if_held (group_expired now e)) groups group) ∙ by_group (map.get groups group)
+unfolding bare_at groups_expired left_at
+expired_at now groups group =
+    ap (λ e. bare (unwrap_or e unheld).group) (get-kept (λ _ e. if_held (group_expired now e)) groups group) ∙ by_group (map.get groups group)
   where
     by_test : (e : ScheduledGroup) (b : Bool) → is_vacant (expired now e.group) ≡ b → bare (unwrap_or (cond b None (Some (group_expired now e))) unheld).group ≡ expired now (bare e.group)
-    by_test e true is = ap bare (sym (is_the_vacant (left_at_of e) is)) ∙ sym (bare_expired now e.group)
-      where
-        left_at_of : ScheduledGroup → GroupState
-        left_at_of e = record {
-          mode = mode_expired now e.group.mode;
-          sources = kept (λ s. source_expired (mode_expired now e.group.mode) now) e.group.sources;
-          v1 = option_and_then (ahead now) e.group.v1;
-          v2 = option_and_then (ahead now) e.group.v2;
-        }
+    by_test e true is = ap bare (sym (is_the_vacant (left_at now e.group) is)) ∙ sym (bare_expired now e.group)
     by_test e false is = sym (bare_expired now e.group)
 
     by_group : (e : Option ScheduledGroup) → bare (unwrap_or (option_and_then (λ e. if_held (group_expired now e)) e) unheld).group ≡ expired now (bare (unwrap_or e unheld).group)
@@ -168,10 +131,13 @@ expired_at now groups group = ap (λ e. bare (unwrap_or e unheld).group) (get-ke
     by_group (Some e) = by_test e (is_vacant (expired now e.group)) refl
 
 -- and of a tick
-ticked_at : (config : Configuration) (moment : ℕ) (state : LinkState) (group : ℕ) → bare_at (tick_at config moment state).state.groups group ≡ expired moment (bare_at state.groups group)
-ticked_at config moment state group = round_at (ticked config.timing moment state.election).timing moment (groups_expired moment state.groups) group ∙ expired_at moment state.groups group
+ticked_at : (config : Configuration) (moment : ℕ) (state : LinkState) (group : ℕ)
+    → bare_at (tick_at config moment state).state.groups group ≡ expired moment (bare_at state.groups group)
+ticked_at config moment state group =
+    round_at (ticked config.timing moment state.election).timing moment (groups_expired moment state.groups) group ∙ expired_at moment state.groups group
 
-pub same_filters : (config : Configuration) (a b : ℕ) (state : LinkState) (group source : ℕ) → a ≤ b → forwards (tick_at config b (tick_at config a state).state).state group source ≡ forwards (tick_at config b state).state group source
+pub same_filters : (config : Configuration) (a b : ℕ) (state : LinkState) (group source : ℕ) → a ≤ b
+    → forwards (tick_at config b (tick_at config a state).state).state group source ≡ forwards (tick_at config b state).state group source
 unfolding bare_at
 same_filters config a b state group source before =
     sym (bare_forwards (group_at (tick_at config b (tick_at config a state).state).state.groups group).group source)

@@ -174,11 +174,11 @@ follows-ticks (suc most) config within limit r =
     ] refl
 
 -- a query that was seen
-still-came : (within : ℕ) (config : Configuration) (in_force : Timing) (moment to : ℕ) (query : Query ℕ) (c : CheckingValue)
-    → IsStill within config.timing moment (event_of config in_force to query ∷ []) c (query_came within config in_force moment to query c)
+still-came : (within : ℕ) (config : Configuration) (link : LinkState) (moment to : ℕ) (query : Query ℕ) (c : CheckingValue)
+    → IsStill within config.timing moment (event_of config link to query ∷ []) c (query_came within config link moment to query c)
 unfolding query_came
-still-came within config in_force moment to query c =
-    elim (is_general query) as (λ b. is_general query ≡ b → IsStill within config.timing moment (event_of config in_force to query ∷ []) c (query_came within config in_force moment to query c)) [
+still-came within config link moment to query c =
+    elim (is_general query) as (λ b. is_general query ≡ b → IsStill within config.timing moment (event_of config link to query ∷ []) c (query_came within config link moment to query c)) [
       | true ↦ λ is. rw is (record { check = refl; told = refl; moment = refl })
       | false ↦ λ is. rw is (record { check = refl; told = refl; moment = refl })
     ] refl
@@ -191,10 +191,10 @@ unfolding received seen_at
 follows-datagram config within moment number to datagram (Some query) faults r =
     let begun = settled within moment r.checking in
     let c = faults_seen moment number faults begun in
-    let event = event_of config r.link.election.timing to query in
+    let event = event_of config r.link to query in
     follows-still within config.timing moment r.link (fault_events number faults ++ event ∷ []) r (seen_at config within moment to query (with_faults moment number faults (settled_at within moment r))) refl
     (still-append within config.timing moment (fault_events number faults) (event ∷ []) begun c _ (still-faults within config.timing moment number faults begun)
-    (still-came within config r.link.election.timing moment to query c))
+    (still-came within config r.link moment to query c))
 follows-datagram config within moment number to datagram None faults r =
     let step = (receipt_of config datagram.envelope datagram.body moment r.link).step in
     let was = is_querier r.link.election.role in

@@ -2,27 +2,21 @@
 -- named is that of the state.
 use Rattle.std.proofs.Common.{◌≡◌, ℕ, Bool, true, false, cond, not, List, [], ◌∷◌, Option, None, Some, Result, Ok, Err, refl, sym, ap, ◌∙◌}
 use Rattle.std.proofs.lemmas.Bool.{true≢false, or_parts}
-use Rattle.std.specs.Option.{unwrap_or}
-use Rattle.std.specs.Ordering.{nat_cmp}
-use Rattle.std.specs.FinMap as map
-use Rattle.mq_wire.specs.declared.message.Message.{Message}
-use Rattle.mq_wire.specs.declared.message.Message.TheVariants.{Query as QueryMessage, OldReport, Leave as LeaveMessage, Report as ReportMessage}
-use Rattle.mq_wire.specs.declared.message.WireFault.{WireFault}
-use Rattle.mq_wire.specs.declared.records.RecordView.{RecordView}
-use Rattle.mq_table.specs.Group.{GroupState}
-use Rattle.mq_table.specs.Filter.{Filter, filter_of, nothing, forwards_by, are_same, changes_filter}
+use Rattle.std.specs.{Option.unwrap_or, Ordering.nat_cmp}
+use Rattle.mq_wire.specs.declared.message.Message.{Message, TheVariants.Query as QueryMessage, TheVariants.OldReport, TheVariants.Leave as LeaveMessage}
+use Rattle.mq_wire.specs.declared.{message.Message.TheVariants.Report as ReportMessage, message.WireFault.WireFault, records.RecordView.RecordView}
 use Rattle.mq_table.proofs.Filters.{are_same-equal, forwards_by-filter_of}
-use Rattle.mq_link.specs.declared.answers.DropReason.{DropReason}
+use Rattle.mq_table.specs.{Filter.Filter, Filter.filter_of, Filter.nothing, Filter.forwards_by, Filter.are_same, Filter.changes_filter, Group.GroupState}
+use Rattle.mq_link.proofs.KeptFilters.{filter_of_unheld}
 use Rattle.mq_link.specs.Configuration.{Configuration}
 use Rattle.mq_link.specs.Forwarding.{changes, changed_by_tick, changed_by_all, changed_by_message, changed_by_read, changed_by_event}
 use Rattle.mq_link.specs.Receive.{Envelope, read_of, pseudo_of, drop_reason, setting_of, counting_read, taken_in, taken_or_dropped}
 use Rattle.mq_link.specs.Record.{Setting, Seen, judged, seen_after, all_judged}
-use Rattle.mq_link.specs.Run.{Event, Tick, Datagram, Happening, step_of, answered, RunFrom}
-use Rattle.mq_link.specs.State.{Groups, LinkState, unheld, group_at, forwards, link_at}
-use Rattle.mq_link.specs.Tick.{Step, tick_of}
-use Rattle.mq_link.proofs.KeptFilters.{filter_of_unheld}
-use Rattle.mq_laws.specs.Following.{filter_at, FilterTable, taken_over, IsTableOf, AllFollowed}
+use Rattle.mq_link.specs.{Run.Event, Run.Tick, Run.Datagram, Run.Happening, Run.step_of, Run.answered, Run.RunFrom, State.Groups, State.LinkState, State.unheld}
+use Rattle.mq_link.specs.{State.group_at, State.forwards, State.link_at, Tick.Step, Tick.tick_of, declared.answers.DropReason.DropReason}
 use Rattle.mq_laws.proofs.HeardFilters.{heard_keeps_filters}
+use Rattle.mq_laws.specs.Following.{filter_at, FilterTable, taken_over, IsTableOf, AllFollowed}
+use Rattle.std.specs.FinMap as map
 
 -- the filter of a group
 abbrev filter_in : Groups → ℕ → Filter
@@ -50,7 +44,8 @@ records_keep at seen (r ∷ rs) groups group is =
     records_keep at (seen_after at.config r groups seen) rs left group parts.1 ∙ same_in groups left group parts.0
 
 -- a message, by what it says
-message_keeps : (config : Configuration) (envelope : Envelope) (message : Message ℕ) (step : Step) (group : ℕ) → changed_by_message (setting_of config step.state) message step.state.groups group ≡ false
+message_keeps : (config : Configuration) (envelope : Envelope) (message : Message ℕ) (step : Step) (group : ℕ)
+    → changed_by_message (setting_of config step.state) message step.state.groups group ≡ false
     → filter_in (taken_in config envelope message step).step.state.groups group ≡ filter_in step.state.groups group
 unfolding taken_in
 message_keeps config envelope (QueryMessage query) step group is = heard_keeps_filters config step.state.last envelope.source query step.state group
@@ -67,7 +62,8 @@ read_keeps config envelope step (Err fault) None group is = refl
 read_keeps config envelope step (Ok message) None group is = message_keeps config envelope message (counting_read (Ok message) step) group is
 
 -- An event leaves the filter of each group that it doesn't name.
-pub event_keeps : (config : Configuration) (event : Event) (state : LinkState) (group : ℕ) → changed_by_event config event state group ≡ false → filter_at (step_of config event state).state group ≡ filter_at state group
+pub event_keeps : (config : Configuration) (event : Event) (state : LinkState) (group : ℕ) → changed_by_event config event state group ≡ false
+    → filter_at (step_of config event state).state group ≡ filter_at state group
 event_keeps config (Tick now) state group is = same_in state.groups (tick_of config now state).state.groups group is
 event_keeps config (Datagram envelope bytes now) state group is =
     let read = read_of config.family (pseudo_of config.family envelope bytes) bytes in
@@ -76,7 +72,8 @@ event_keeps config (Datagram envelope bytes now) state group is =
     ∙ same_in state.groups (tick_of config now state).state.groups group parts.0
 
 -- and forwards the same of it
-pub alike_forwarded : (before after : LinkState) (group source : ℕ) → filter_at after group ≡ filter_at before group → forwards after group source ≡ forwards before group source
+pub alike_forwarded : (before after : LinkState) (group source : ℕ) → filter_at after group ≡ filter_at before group
+    → forwards after group source ≡ forwards before group source
 alike_forwarded before after group source same =
     sym (forwards_by-filter_of (group_at after.groups group).group source)
     ∙ ap (λ f. forwards_by f source) same
@@ -90,15 +87,18 @@ table_of state table each = record {
 }
 
 -- so it is that of the state after an event
-one_taken_over : (config : Configuration) (event : Event) (before after : LinkState) (answers : List Bool) (table : FilterTable) → after ≡ answered answers (step_of config event before)
-    → ((group : ℕ) → table group ≡ filter_at before group) → (group : ℕ) → taken_over (changed_by_event config event before) after table group ≡ filter_at after group
+one_taken_over : (config : Configuration) (event : Event) (before after : LinkState) (answers : List Bool) (table : FilterTable)
+    → after ≡ answered answers (step_of config event before)
+    → ((group : ℕ) → table group ≡ filter_at before group) → (group : ℕ)
+    → taken_over (changed_by_event config event before) after table group ≡ filter_at after group
 one_taken_over config event before after answers table leaves each group = by_name (changed_by_event config event before group) refl
   where
     by_name : (b : Bool) → changed_by_event config event before group ≡ b → cond b (filter_at after group) (table group) ≡ filter_at after group
     by_name true is = refl
     by_name false is = each group ∙ sym (event_keeps config event before group is) ∙ sym (ap (λ s. filter_at s group) leaves)
 
-pub all_followed : (config : Configuration) (before : LinkState) (table : FilterTable) (hs : List Happening) → ((group : ℕ) → table group ≡ filter_at before group) → RunFrom config before hs → AllFollowed config before table hs
+pub all_followed : (config : Configuration) (before : LinkState) (table : FilterTable) (hs : List Happening)
+    → ((group : ℕ) → table group ≡ filter_at before group) → RunFrom config before hs → AllFollowed config before table hs
 all_followed config before table [] each run = table_of before table each
 all_followed config before table (h ∷ hs) each run =
     let named = changed_by_event config h.event before in

@@ -1,5 +1,5 @@
 -- All that is found of a check whose queries pair up: those that were left out are missing.
-use Rattle.std.proofs.Common.{◌≡◌, ℕ, ◌+◌, ◌<◌, true, false, List, [], ◌∷◌, ◌++◌, refl, ap, sym, ◌∙◌, arith, append_assoc, append-nil}
+use Rattle.std.proofs.Common.{◌≡◌, ℕ, Bool, ◌+◌, ◌<◌, true, false, List, [], ◌∷◌, ◌++◌, refl, ap, sym, ◌∙◌, arith, append_assoc, append-nil}
 use Rattle.std.specs.Prelude.{None, Some, ⊤, flat_map, map as list_map}
 use Rattle.std.specs.List.{AllByRecursion}
 use mathlib.Core.Logic.{inl}
@@ -74,11 +74,11 @@ at_end within timing end c free room silence come =
     let last : flat_map found_of_last (settled within end c).waiting.entries ≡ [] = ap (flat_map found_of_last) (settled_free within end c.waiting room) ∙ none_last (left_of within end c.waiting.entries) come.left come.stands.holds in
     (λ i. (told_now within end c room i ++ last i) ++ silence_found timing end (silence i)) ∙ append-nil (told_of within end c.changed c.waiting.entries ++ []) ∙ append-nil (told_of within end c.changed c.waiting.entries)
 
-pub found_is : (within : ℕ) (timing : Timing) (end : ℕ) (expected : List Expected) (events : List CheckEvent)
-    → AreInOrder 0 events end → IsAsWanted within timing end expected events → HasRoom within timing events → found_by within timing end events ≡ missing_of expected
-found_is within timing end expected events order is room =
-    let start = checking_at_start timing in
-    let c = checked_by within timing events in
+pub found_is : (within : ℕ) (timing : Timing) (strict : Bool) (end : ℕ) (expected : List Expected) (events : List CheckEvent)
+    → AreInOrder 0 events end → IsAsWanted within timing end expected events → HasRoom within timing strict events → found_by within timing strict end events ≡ missing_of expected
+found_is within timing strict end expected events order is room =
+    let start = checking_at_start within timing strict in
+    let c = checked_by within timing strict events in
     let ended : Ended within timing end 0 events start (missing_of expected) = course within timing end 0 events start [] expected is.wanted is.missed order is.on_time room (record {
       holds = tt;
       ascending = omega arith;

@@ -1,50 +1,28 @@
 -- A query that is heard changes no filter: timers are lowered, so those that run do still, and what is dropped with the role
 -- is what was to go.
-use Rattle.std.proofs.Common.{◌≡◌, ℕ, Bool, true, false, cond, Option, None, Some, refl, ap, ◌∙◌, eqb}
-use Rattle.std.specs.FinMap as map
+use Rattle.std.proofs.Common.{◌≡◌, ℕ, Bool, true, false, cond, Option, None, Some, refl, ap, ◌∙◌, eqb, arith}
 use Rattle.std.specs.Option.{option_and_then, option_map, unwrap_or}
-use Rattle.mq_table.specs.declared.timing.Timing.{Timing}
-use Rattle.mq_table.specs.declared.timers.FilterMode.{FilterMode}
-use Rattle.mq_table.specs.declared.timers.FilterMode.TheVariants.{Include, Exclude}
-use Rattle.mq_table.specs.declared.timers.SourceTimer.{SourceTimer}
-use Rattle.mq_table.specs.declared.timers.SourceTimer.TheVariants.{Stopped, Running}
-use Rattle.mq_table.specs.Sets.{Set}
-use Rattle.mq_table.specs.Group.{GroupState, is_include, timer_at}
-use Rattle.mq_table.specs.Filter.{names, filter_of}
-use Rattle.mq_table.specs.Lowering.{lowered_to, mode_lowered, source_lowered, group_lowered, sources_lowered, lowered_by_query}
-use Rattle.mq_table.specs.Sendings.{source_cleared, sendings_cleared}
-use Rattle.mq_table.proofs.Filters.{same_filter, named_alike}
-use Rattle.mq_table.proofs.Lower.{timer_at-sources_lowered}
-use Rattle.mq_table.proofs.Maps.{get-kept}
 use Rattle.mq_wire.specs.declared.query.Query.{Query}
-use Rattle.mq_sched.specs.Schedule.{ScheduledGroup, cleared}
-use Rattle.mq_sched.specs.Election.{loses_role}
-use Rattle.mq_link.specs.Configuration.{Configuration}
-use Rattle.mq_link.specs.State.{Groups, LinkState, unheld, group_at}
-use Rattle.mq_link.specs.Heard.{suppresses, asked_by, election_after, groups_cleared, groups_lowered, query_heard}
-use Rattle.mq_link.specs.Heard.{group_lowered as heard_by}
+use Rattle.mq_table.proofs.{Filters.same_filter, Filters.named_alike, Lower.timer_at-sources_lowered, Maps.get-kept}
+use Rattle.mq_table.specs.{Filter.names, Filter.filter_of, Group.GroupState, Group.is_include, Group.timer_at}
+use Rattle.mq_table.specs.Lowering.{lowered_to, mode_lowered, source_lowered, group_lowered, sources_lowered, lowered_by_query}
+use Rattle.mq_table.specs.{Sendings.source_cleared, Sendings.sendings_cleared, Sets.Set}
+use Rattle.mq_table.specs.declared.{timers.FilterMode.FilterMode, timers.SourceTimer.SourceTimer, timing.Timing.Timing}
+use Rattle.mq_sched.specs.{Election.loses_role, Schedule.ScheduledGroup, Schedule.cleared}
+use Rattle.mq_link.specs.{Configuration.Configuration, Heard.suppresses, Heard.asked_by, Heard.election_after, Heard.groups_cleared, Heard.groups_lowered}
+use Rattle.mq_link.specs.{Heard.query_heard, Heard.group_lowered as heard_by, State.Groups, State.LinkState, State.unheld, State.group_at}
+use Rattle.std.specs.FinMap as map
 
 -- a source is named as before
-lowered_named : (limit : ℕ) (asks : Bool) (mode : FilterMode) (t : Option SourceTimer) → names mode (cond asks (option_map (source_lowered limit) t) t) ≡ names mode t
-lowered_named limit false mode t = refl
-lowered_named limit true Include None = refl
-lowered_named limit true Include (Some Stopped) = refl
-lowered_named limit true Include (Some (Running d n)) = refl
-lowered_named limit true (Exclude e) None = refl
-lowered_named limit true (Exclude e) (Some Stopped) = refl
-lowered_named limit true (Exclude e) (Some (Running d n)) = refl
+lowered_named : (limit : ℕ) (asks : Bool) (mode : FilterMode) (t : Option SourceTimer)
+    → names mode (cond asks (option_map (source_lowered limit) t) t) ≡ names mode t
+lowered_named limit asks mode t = grind arith
 
 cleared_named : (mode : FilterMode) (t : Option SourceTimer) → names mode (option_and_then (λ timer. Some (source_cleared timer)) t) ≡ names mode t
-cleared_named Include None = refl
-cleared_named Include (Some Stopped) = refl
-cleared_named Include (Some (Running d n)) = refl
-cleared_named (Exclude e) None = refl
-cleared_named (Exclude e) (Some Stopped) = refl
-cleared_named (Exclude e) (Some (Running d n)) = refl
+cleared_named mode t = grind arith
 
 mode_stays : (limit : ℕ) (mode : FilterMode) → is_include (mode_lowered limit mode) ≡ is_include mode
-mode_stays limit Include = refl
-mode_stays limit (Exclude d) = refl
+mode_stays limit mode = grind arith
 
 -- a group
 lowered_filter : (timing : Timing) (now : ℕ) (s : Bool) (asked : Option Set) (g : GroupState) → filter_of (lowered_by_query timing now s asked g) ≡ filter_of g
@@ -72,7 +50,8 @@ cleared_at groups group = ap (λ e. filter_of (unwrap_or e unheld).group) (get-k
     by_group None = refl
     by_group (Some e) = cleared_filter e
 
-lowered_at : (timing : Timing) (now : ℕ) (query : Query ℕ) (groups : Groups) (group : ℕ) → filter_of (group_at (groups_lowered timing now query groups) group).group ≡ filter_of (group_at groups group).group
+lowered_at : (timing : Timing) (now : ℕ) (query : Query ℕ) (groups : Groups) (group : ℕ)
+    → filter_of (group_at (groups_lowered timing now query groups) group).group ≡ filter_of (group_at groups group).group
 unfolding groups_lowered
 lowered_at timing now query groups group =
     ap (λ e. filter_of (unwrap_or e unheld).group) (get-kept (λ group e. Some (cond (eqb group query.group) (heard_by timing now query.version e) e)) groups group)

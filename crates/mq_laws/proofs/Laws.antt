@@ -1,5 +1,5 @@
 -- What is found where all was sent, or all but some.
-use Rattle.std.proofs.Common.{◌≡◌, ℕ, List, [], ◌++◌, sym, ◌∙◌}
+use Rattle.std.proofs.Common.{◌≡◌, ℕ, Bool, List, [], ◌++◌, sym, ◌∙◌}
 use Rattle.mq_table.specs.declared.timing.Timing.{Timing}
 use Rattle.mq_check.specs.declared.finding.Finding.{Finding}
 use Rattle.mq_laws.specs.Pairing.{Ask, all_sent, sent_but, seen_about}
@@ -20,18 +20,18 @@ moved_are_found within timing end events on_time are = record {
   missed = missed-sent within end (wanted_in 0 events);
 }
 
-pub none_of_moved : (within : ℕ) (timing : Timing) (end : ℕ) (events : List CheckEvent) → AreInOrder 0 events end → IsOnTime within timing end events → HasRoom within timing events
-    → AreSeenWithin within (wanted_in 0 events) events → found_by within timing end events ≡ []
-none_of_moved within timing end events order on_time room are =
-    found_is within timing end (all_sent (wanted_in 0 events)) events order (moved_are_found within timing end events on_time are) room ∙ missing_of-sent (wanted_in 0 events)
+pub none_of_moved : (within : ℕ) (timing : Timing) (strict : Bool) (end : ℕ) (events : List CheckEvent) → AreInOrder 0 events end → IsOnTime within timing end events → HasRoom within timing strict events
+    → AreSeenWithin within (wanted_in 0 events) events → found_by within timing strict end events ≡ []
+none_of_moved within timing strict end events order on_time room are =
+    found_is within timing strict end (all_sent (wanted_in 0 events)) events order (moved_are_found within timing end events on_time are) room ∙ missing_of-sent (wanted_in 0 events)
 
 pub seen_are_moved : (within : ℕ) (asks : List Ask) (events : List CheckEvent) → AreSeen within asks events → AreSeenWithin within asks events
 seen_are_moved within asks events are asked = rw (are asked) (moved-self within (seen_about asked asks))
 
-pub taken_are_missing : (within : ℕ) (timing : Timing) (end : ℕ) (events : List CheckEvent) (before taken behind : List Ask) → AreInOrder 0 events end → IsOnTime within timing end events → HasRoom within timing events
-    → wanted_in 0 events ≡ before ++ taken ++ behind → TakesOut within end taken behind → AreSeen within (before ++ behind) events → found_by within timing end events ≡ all_missing taken
-taken_are_missing within timing end events before taken behind order on_time room wanted out are =
-    found_is within timing end (sent_but before taken behind) events order (record {
+pub taken_are_missing : (within : ℕ) (timing : Timing) (strict : Bool) (end : ℕ) (events : List CheckEvent) (before taken behind : List Ask) → AreInOrder 0 events end → IsOnTime within timing end events → HasRoom within timing strict events
+    → wanted_in 0 events ≡ before ++ taken ++ behind → TakesOut within end taken behind → AreSeen within (before ++ behind) events → found_by within timing strict end events ≡ all_missing taken
+taken_are_missing within timing strict end events before taken behind order on_time room wanted out are =
+    found_is within timing strict end (sent_but before taken behind) events order (record {
       on_time = on_time;
       wanted = asks_of-sent_but before taken behind ∙ sym wanted;
       pairs = all_but_some_pair_up within end before taken behind (all_seen_in within events) are out;
@@ -40,5 +40,5 @@ taken_are_missing within timing end events before taken behind order on_time roo
     ∙ missing_of-sent_but before taken behind
 
 -- what is told of it
-pub tells_of : (c : CheckedCapture) (found : List (Finding ℕ)) → TellsWhatHappened c → found_by c.within c.config.timing (end_in c) (events_in c) ≡ found → Tells c found
+pub tells_of : (c : CheckedCapture) (found : List (Finding ℕ)) → TellsWhatHappened c → found_by c.within c.config.timing c.strict (end_in c) (events_in c) ≡ found → Tells c found
 tells_of c found told is = rw is at told.tells

@@ -1,29 +1,18 @@
 -- What lowering does to a deadline, and lowering twice.
-use Rattle.std.proofs.Common.{◌≡◌, ℕ, min, Bool, true, false, cond, ◌||◌, Option, None, Some, refl, sym, ap, ◌∙◌, subst, arith}
+use Rattle.std.proofs.Common.{ℕ, Bool, cond, Option, sym, subst, arith}
 use Rattle.std.specs.Option.{option_map}
-use Rattle.mq_table.specs.declared.timing.Timing.{Timing}
-use Rattle.mq_table.specs.Sets.{Set, ◌∪◌}
-use Rattle.mq_table.specs.Group.{GroupState, timer_at, deadline_of, group_deadline}
-use Rattle.mq_table.specs.declared.timers.FilterMode.{FilterMode}
-use Rattle.mq_table.specs.declared.timers.FilterMode.TheVariants.{Include, Exclude}
-use Rattle.mq_table.specs.declared.timers.SourceTimer.{SourceTimer}
-use Rattle.mq_table.specs.declared.timers.SourceTimer.TheVariants.{Stopped, Running}
-use Rattle.mq_table.specs.Lowering.{lowered_to, mode_lowered, source_lowered, sources_lowered}
-use Rattle.mq_laws.specs.Groups.{IsNoLater}
-use Rattle.mq_table.proofs.Groups.{same_group}
 use Rattle.mq_table.proofs.Lower.{timer_at-sources_lowered}
+use Rattle.mq_table.specs.Group.{GroupState, timer_at, deadline_of, group_deadline}
+use Rattle.mq_table.specs.Lowering.{lowered_to, mode_lowered, source_lowered, sources_lowered}
+use Rattle.mq_table.specs.{Sets.Set, declared.timers.FilterMode.FilterMode, declared.timers.SourceTimer.SourceTimer, declared.timing.Timing.Timing}
+use Rattle.mq_laws.specs.Groups.{IsNoLater}
 
 pub group_no_later : (limit : ℕ) (mode : FilterMode) → IsNoLater (group_deadline mode) (group_deadline (mode_lowered limit mode))
-group_no_later limit Include = tt
-group_no_later limit (Exclude d) = omega arith
+group_no_later limit mode = grind arith
 
 source_no_later : (limit : ℕ) (b : Bool) (t : Option SourceTimer) → IsNoLater (deadline_of t) (deadline_of (cond b (option_map (source_lowered limit) t) t))
-source_no_later limit true None = tt
-source_no_later limit false None = tt
-source_no_later limit true (Some Stopped) = tt
-source_no_later limit false (Some Stopped) = tt
-source_no_later limit true (Some (Running d n)) = omega arith
-source_no_later limit false (Some (Running d n)) = omega arith
+source_no_later limit b t = grind arith
 
-pub sources_no_later : (timing : Timing) (now : ℕ) (asked : Set) (g : GroupState) (s : ℕ) → IsNoLater (deadline_of (timer_at g s)) (deadline_of (timer_at (sources_lowered timing now asked g) s))
+pub sources_no_later : (timing : Timing) (now : ℕ) (asked : Set) (g : GroupState) (s : ℕ)
+    → IsNoLater (deadline_of (timer_at g s)) (deadline_of (timer_at (sources_lowered timing now asked g) s))
 sources_no_later timing now asked g s = subst (λ t. IsNoLater (deadline_of (timer_at g s)) (deadline_of t)) (sym (timer_at-sources_lowered timing now asked g s)) (source_no_later (lowered_to timing now) (asked s) (timer_at g s))

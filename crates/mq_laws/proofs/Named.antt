@@ -1,92 +1,57 @@
 -- Exactly where each name of a refusal is given.
 use Rattle.std.proofs.Common.{◌≡◌, ◌↔◌, ℕ, ◌≤◌, Bool, true, false, cond, ◌||◌, refl, List, [], ◌∷◌, Option, None, Some, sym, ap, ◌∙◌, arith, ltb, not, length}
 use Rattle.std.proofs.lemmas.Bool.Decides.{nat_tests}
+use Rattle.mq_wire.specs.declared.records.RecordView.{RecordView}
+use Rattle.mq_table.specs.{Table.GroupChange, declared.kind.Kind.Kind}
+use Rattle.mq_sched.specs.{Schedule.ScheduledGroup, Sending.SentQuery}
+use Rattle.mq_link.specs.{Configuration.Configuration, Counters.Ignored, Counters.Refused, Family.is_admitted}
+use Rattle.mq_link.specs.Record.{Statement, RecordOf, limit_passed, Setting, leaving, unless_passed, sent_at_once, changed_by, changed_or_refused, change_in}
+use Rattle.mq_link.specs.Record.{stated, Seen, Entrance, Stops, GoesOn, entrance, is_repeated, judged_from, judged, entrance_as, kind_named}
+use Rattle.mq_link.specs.{State.Groups, State.sources_of, State.sources_in, State.schedules_in, Tests.first_named, declared.answers.Refusal.Refusal}
+use Rattle.mq_link.specs.declared.answers.Refusal.TheVariants.{Long, Repeated, Groups as TooManyGroups, GroupSources, Sources, Scheduled, Memory}
+use Rattle.mq_link.specs.declared.configuration.Limits.{Limits}
+use Rattle.mq_laws.specs.Laws.{IsGivenWhere, would_be, would_leave}
 use Rattle.std.specs.FinMap as map
 use Rattle.std.specs.FinSet as set
-use Rattle.mq_wire.specs.declared.records.RecordView.{RecordView}
-use Rattle.mq_table.specs.declared.kind.Kind.{Kind}
-use Rattle.mq_table.specs.Table.{GroupChange}
-use Rattle.mq_sched.specs.Schedule.{ScheduledGroup}
-use Rattle.mq_sched.specs.Sending.{SentQuery}
-use Rattle.mq_link.specs.declared.configuration.Limits.{Limits}
-use Rattle.mq_link.specs.declared.answers.Refusal.{Refusal}
-use Rattle.mq_link.specs.declared.answers.Refusal.TheVariants.{Long, Repeated, Groups as TooManyGroups, GroupSources, Sources, Scheduled, Memory}
-use Rattle.mq_link.specs.Tests.{first_named}
-use Rattle.mq_link.specs.Family.{is_admitted}
-use Rattle.mq_link.specs.Configuration.{Configuration}
-use Rattle.mq_link.specs.Counters.{Ignored, Refused}
-use Rattle.mq_link.specs.State.{Groups, sources_of, sources_in, schedules_in}
-use Rattle.mq_link.specs.Record.{Statement, RecordOf, limit_passed, Setting, leaving, unless_passed, sent_at_once, changed_by, changed_or_refused, change_in, stated, Seen, Entrance, Stops, GoesOn, entrance, is_repeated, judged_from, judged, entrance_as, kind_named}
-use Rattle.mq_laws.specs.Laws.{IsGivenWhere, would_be, would_leave}
 
-first_given : (a b c d : Bool) → IsGivenWhere (first_named ((TooManyGroups, a) ∷ (GroupSources, b) ∷ (Sources, c) ∷ (Scheduled, d) ∷ [])) TooManyGroups false a
-first_given true b c d = (λ _. (refl, refl), λ _. refl)
-first_given false true c d = (λ h. cc, λ h. let t = h.1 in cc)
-first_given false false true d = (λ h. cc, λ h. let t = h.1 in cc)
-first_given false false false true = (λ h. cc, λ h. let t = h.1 in cc)
-first_given false false false false = (λ h. cc, λ h. let t = h.1 in cc)
+-- the name that is given where these tests hold
+abbrev given : (a b c d : Bool) → Option Refusal
+given a b c d = first_named ((TooManyGroups, a) ∷ (GroupSources, b) ∷ (Sources, c) ∷ (Scheduled, d) ∷ [])
 
-second_given : (a b c d : Bool) → IsGivenWhere (first_named ((TooManyGroups, a) ∷ (GroupSources, b) ∷ (Sources, c) ∷ (Scheduled, d) ∷ [])) GroupSources a b
-second_given true b c d = (λ h. cc, λ h. let t = h.0 in cc)
-second_given false true c d = (λ _. (refl, refl), λ _. refl)
-second_given false false true d = (λ h. cc, λ h. let t = h.1 in cc)
-second_given false false false true = (λ h. cc, λ h. let t = h.1 in cc)
-second_given false false false false = (λ h. cc, λ h. let t = h.1 in cc)
+-- each name is given exactly where its test is the first to hold, and no other name is
+pub record AreGiven (a b c d : Bool) : Type 0 where
+  pub groups : IsGivenWhere (given a b c d) TooManyGroups false a
+  pub group_sources : IsGivenWhere (given a b c d) GroupSources a b
+  pub sources : IsGivenWhere (given a b c d) Sources (a || b) c
+  pub scheduled : IsGivenWhere (given a b c d) Scheduled (a || b || c) d
+  pub none : a ≡ false → b ≡ false → c ≡ false → d ≡ false → given a b c d ≡ None
+  pub others : (name : Refusal) → given a b c d ≡ Some name → (name ≡ Long → ⊥) × (name ≡ Repeated → ⊥) × (name ≡ Memory → ⊥)
 
-third_given : (a b c d : Bool) → IsGivenWhere (first_named ((TooManyGroups, a) ∷ (GroupSources, b) ∷ (Sources, c) ∷ (Scheduled, d) ∷ [])) Sources (a || b) c
-third_given true b c d = (λ h. cc, λ h. let t = h.0 in cc)
-third_given false true c d = (λ h. cc, λ h. let t = h.0 in cc)
-third_given false false true d = (λ _. (refl, refl), λ _. refl)
-third_given false false false true = (λ h. cc, λ h. let t = h.1 in cc)
-third_given false false false false = (λ h. cc, λ h. let t = h.1 in cc)
+are_given : (a b c d : Bool) → AreGiven a b c d
+are_given a b c d = grind arith
 
-fourth_given : (a b c d : Bool) → IsGivenWhere (first_named ((TooManyGroups, a) ∷ (GroupSources, b) ∷ (Sources, c) ∷ (Scheduled, d) ∷ [])) Scheduled (a || b || c) d
-fourth_given true b c d = (λ h. cc, λ h. let t = h.0 in cc)
-fourth_given false true c d = (λ h. cc, λ h. let t = h.0 in cc)
-fourth_given false false true d = (λ h. cc, λ h. let t = h.0 in cc)
-fourth_given false false false true = (λ _. (refl, refl), λ _. refl)
-fourth_given false false false false = (λ h. cc, λ h. let t = h.1 in cc)
-
-pub groups_given : (limits : Limits) (groups : Groups) (changed : ScheduledGroup) → IsGivenWhere (limit_passed limits groups changed) TooManyGroups false (ltb limits.groups (map.len groups))
-groups_given limits groups changed = first_given (ltb limits.groups (map.len groups)) (ltb limits.group_sources (sources_of changed)) (ltb limits.sources (sources_in groups)) (ltb limits.scheduled (schedules_in groups))
-
-pub group_sources_given : (limits : Limits) (groups : Groups) (changed : ScheduledGroup) → IsGivenWhere (limit_passed limits groups changed) GroupSources (ltb limits.groups (map.len groups)) (ltb limits.group_sources (sources_of changed))
-group_sources_given limits groups changed = second_given (ltb limits.groups (map.len groups)) (ltb limits.group_sources (sources_of changed)) (ltb limits.sources (sources_in groups)) (ltb limits.scheduled (schedules_in groups))
-
-pub sources_given : (limits : Limits) (groups : Groups) (changed : ScheduledGroup) → IsGivenWhere (limit_passed limits groups changed) Sources (ltb limits.groups (map.len groups) || ltb limits.group_sources (sources_of changed)) (ltb limits.sources (sources_in groups))
-sources_given limits groups changed = third_given (ltb limits.groups (map.len groups)) (ltb limits.group_sources (sources_of changed)) (ltb limits.sources (sources_in groups)) (ltb limits.scheduled (schedules_in groups))
-
-pub scheduled_given : (limits : Limits) (groups : Groups) (changed : ScheduledGroup) → IsGivenWhere (limit_passed limits groups changed) Scheduled (ltb limits.groups (map.len groups) || ltb limits.group_sources (sources_of changed) || ltb limits.sources (sources_in groups)) (ltb limits.scheduled (schedules_in groups))
-scheduled_given limits groups changed = fourth_given (ltb limits.groups (map.len groups)) (ltb limits.group_sources (sources_of changed)) (ltb limits.sources (sources_in groups)) (ltb limits.scheduled (schedules_in groups))
-
--- no other name is given for a limit
-other_given : (a b c d : Bool) (name : Refusal) → first_named ((TooManyGroups, a) ∷ (GroupSources, b) ∷ (Sources, c) ∷ (Scheduled, d) ∷ []) ≡ Some name → (name ≡ Long → ⊥) × (name ≡ Repeated → ⊥) × (name ≡ Memory → ⊥)
-other_given true b c d name is = (λ h. cc, λ h. cc, λ h. cc)
-other_given false true c d name is = (λ h. cc, λ h. cc, λ h. cc)
-other_given false false true d name is = (λ h. cc, λ h. cc, λ h. cc)
-other_given false false false true name is = (λ h. cc, λ h. cc, λ h. cc)
-other_given false false false false name is = (λ h. cc, λ h. cc, λ h. cc)
-
-none_given : (a b c d : Bool) → a ≡ false → b ≡ false → c ≡ false → d ≡ false → first_named ((TooManyGroups, a) ∷ (GroupSources, b) ∷ (Sources, c) ∷ (Scheduled, d) ∷ []) ≡ None
-none_given true b c d h k l m = cc
-none_given false true c d h k l m = cc
-none_given false false true d h k l m = cc
-none_given false false false true h k l m = cc
-none_given false false false false h k l m = refl
+pub limits_given : (limits : Limits) (groups : Groups) (changed : ScheduledGroup)
+    → AreGiven (ltb limits.groups (map.len groups)) (ltb limits.group_sources (sources_of changed)) (ltb limits.sources (sources_in groups)) (ltb limits.scheduled (schedules_in groups))
+limits_given limits groups changed = are_given _ _ _ _
 
 at_most : (most n : ℕ) → n ≤ most → ltb most n ≡ false
 at_most most n h = grind (arith, nat_tests)
 
 -- limits that are large enough refuse nothing
-pub none_passed : (limits : Limits) (groups : Groups) (changed : ScheduledGroup) → map.len groups ≤ limits.groups → sources_of changed ≤ limits.group_sources → sources_in groups ≤ limits.sources → schedules_in groups ≤ limits.scheduled → limit_passed limits groups changed ≡ None
-none_passed limits groups changed h k l m = none_given (ltb limits.groups (map.len groups)) (ltb limits.group_sources (sources_of changed)) (ltb limits.sources (sources_in groups)) (ltb limits.scheduled (schedules_in groups)) (at_most limits.groups (map.len groups) h) (at_most limits.group_sources (sources_of changed) k) (at_most limits.sources (sources_in groups) l) (at_most limits.scheduled (schedules_in groups) m)
+pub none_passed : (limits : Limits) (groups : Groups) (changed : ScheduledGroup) → map.len groups ≤ limits.groups → sources_of changed ≤ limits.group_sources
+    → sources_in groups ≤ limits.sources → schedules_in groups ≤ limits.scheduled → limit_passed limits groups changed ≡ None
+none_passed limits groups changed h k l m =
+    (limits_given limits groups changed).none (at_most limits.groups (map.len groups) h) (at_most limits.group_sources (sources_of changed) k)
+    (at_most limits.sources (sources_in groups) l) (at_most limits.scheduled (schedules_in groups) m)
 
 -- the verdict names the limit
-named_so : (passed : Option Refusal) (name : Refusal) (before after : Groups) (queries : List SentQuery) → ((unless_passed passed before after queries).verdict ≡ Refused name) ↔ (passed ≡ Some name)
-named_so None name before after queries = (λ h. cc, λ h. cc)
-named_so (Some other) name before after queries = (λ h. cc, λ h. cc)
+named_so : (passed : Option Refusal) (name : Refusal) (before after : Groups) (queries : List SentQuery)
+    → ((unless_passed passed before after queries).verdict ≡ Refused name) ↔ (passed ≡ Some name)
+named_so passed name before after queries = grind arith
 
-pub verdict_names : (at : Setting) (group : ℕ) (st : Statement) (groups : Groups) (change : GroupChange) (name : Refusal) → change_in at group st groups ≡ Some change → ((stated at group st groups).verdict ≡ Refused name) ↔ (limit_passed at.config.limits (would_leave at group groups change) (would_be at group groups change) ≡ Some name)
+pub verdict_names : (at : Setting) (group : ℕ) (st : Statement) (groups : Groups) (change : GroupChange) (name : Refusal)
+    → change_in at group st groups ≡ Some change
+    → ((stated at group st groups).verdict ≡ Refused name) ↔ (limit_passed at.config.limits (would_leave at group groups change) (would_be at group groups change) ≡ Some name)
 unfolding stated
 verdict_names at group st groups change name is =
     let same = ap (λ c. (changed_or_refused at group groups c).verdict) is in
@@ -94,20 +59,23 @@ verdict_names at group st groups change name is =
     (λ v. h.0 (sym same ∙ v), λ v. same ∙ h.1 v)
 
 -- a statement is refused for a limit alone
-changed_names : (at : Setting) (group : ℕ) (groups : Groups) (change : Option GroupChange) (name : Refusal) → (changed_or_refused at group groups change).verdict ≡ Refused name → (name ≡ Long → ⊥) × (name ≡ Repeated → ⊥) × (name ≡ Memory → ⊥)
+changed_names : (at : Setting) (group : ℕ) (groups : Groups) (change : Option GroupChange) (name : Refusal)
+    → (changed_or_refused at group groups change).verdict ≡ Refused name → (name ≡ Long → ⊥) × (name ≡ Repeated → ⊥) × (name ≡ Memory → ⊥)
 changed_names at group groups None name h = cc
 changed_names at group groups (Some change) name h =
     let after = would_leave at group groups change in
     let e = would_be at group groups change in
     let passed = (named_so (limit_passed at.config.limits after e) name groups after (sent_at_once at group (changed_by at group groups change))).0 h in
-    other_given (ltb at.config.limits.groups (map.len after)) (ltb at.config.limits.group_sources (sources_of e)) (ltb at.config.limits.sources (sources_in after)) (ltb at.config.limits.scheduled (schedules_in after)) name passed
+    (limits_given at.config.limits after e).others name passed
 
-pub stated_names : (at : Setting) (group : ℕ) (st : Statement) (groups : Groups) (name : Refusal) → (stated at group st groups).verdict ≡ Refused name → (name ≡ Long → ⊥) × (name ≡ Repeated → ⊥) × (name ≡ Memory → ⊥)
+pub stated_names : (at : Setting) (group : ℕ) (st : Statement) (groups : Groups) (name : Refusal) → (stated at group st groups).verdict ≡ Refused name
+    → (name ≡ Long → ⊥) × (name ≡ Repeated → ⊥) × (name ≡ Memory → ⊥)
 unfolding stated
 stated_names at group st groups name h = changed_names at group groups (change_in at group st groups) name h
 
 -- a record that goes on is refused as one that is repeated exactly where four records met its group
-repeated_given : (at : Setting) (seen : Seen) (r : RecordView ℕ) (groups : Groups) (kind : Kind) → entrance at.config r ≡ GoesOn kind → ((judged at seen r groups).verdict ≡ Refused Repeated) ↔ (is_repeated groups seen r.group ≡ true)
+repeated_given : (at : Setting) (seen : Seen) (r : RecordView ℕ) (groups : Groups) (kind : Kind) → entrance at.config r ≡ GoesOn kind
+    → ((judged at seen r groups).verdict ≡ Refused Repeated) ↔ (is_repeated groups seen r.group ≡ true)
 unfolding judged
 repeated_given at seen r groups kind is =
     let same = ap (λ e. (judged_from at seen r groups e).verdict) is in
@@ -119,7 +87,8 @@ repeated_given at seen r groups kind is =
     by_test false = (λ h. absurd ((stated_names at r.group (RecordOf kind (set.from_list r.sources)) groups Repeated h).1 refl), λ h. cc)
 
 -- a record that stops early is refused for its length alone
-long_given : (at : Setting) (seen : Seen) (r : RecordView ℕ) (groups : Groups) → ((judged at seen r groups).verdict ≡ Refused Long) ↔ (entrance at.config r ≡ Stops (Refused Long))
+long_given : (at : Setting) (seen : Seen) (r : RecordView ℕ) (groups : Groups)
+    → ((judged at seen r groups).verdict ≡ Refused Long) ↔ (entrance at.config r ≡ Stops (Refused Long))
 unfolding judged
 long_given at seen r groups = by_entrance (entrance at.config r)
   where
@@ -132,33 +101,40 @@ long_given at seen r groups = by_entrance (entrance at.config r)
     by_entrance (GoesOn kind) = (λ h. absurd (by_test (is_repeated groups seen r.group) kind h), λ h. cc)
 
 -- what a record enters with
-enters : (config : Configuration) (r : RecordView ℕ) (kind : Kind) → kind_named r.kind ≡ Some kind → is_admitted config.family r.group ≡ true → entrance config r ≡ cond (ltb config.limits.group_sources (length r.sources)) (Stops (Refused Long)) (GoesOn kind)
+enters : (config : Configuration) (r : RecordView ℕ) (kind : Kind) → kind_named r.kind ≡ Some kind → is_admitted config.family r.group ≡ true
+    → entrance config r ≡ cond (ltb config.limits.group_sources (length r.sources)) (Stops (Refused Long)) (GoesOn kind)
 enters config r kind named admitted =
     ap (entrance_as config r) named
     ∙ ap (λ b. cond (not b) (Stops Ignored) (cond (ltb config.limits.group_sources (length r.sources)) (Stops (Refused Long)) (GoesOn kind))) admitted
 
 stops_if : (b : Bool) (kind : Kind) → (cond b (Stops (Refused Long)) (GoesOn kind) ≡ Stops (Refused Long)) ↔ (b ≡ true)
-stops_if true kind = (λ _. refl, λ _. refl)
-stops_if false kind = (λ h. cc, λ h. cc)
+stops_if b kind = grind arith
 
-pub too_long : (at : Setting) (seen : Seen) (r : RecordView ℕ) (groups : Groups) (kind : Kind) → kind_named r.kind ≡ Some kind → is_admitted at.config.family r.group ≡ true → ((judged at seen r groups).verdict ≡ Refused Long) ↔ (ltb at.config.limits.group_sources (length r.sources) ≡ true)
+pub too_long : (at : Setting) (seen : Seen) (r : RecordView ℕ) (groups : Groups) (kind : Kind) → kind_named r.kind ≡ Some kind
+    → is_admitted at.config.family r.group ≡ true
+    → ((judged at seen r groups).verdict ≡ Refused Long) ↔ (ltb at.config.limits.group_sources (length r.sources) ≡ true)
 too_long at seen r groups kind named admitted =
     let e = enters at.config r kind named admitted in
     let given = long_given at seen r groups in
     let stops = stops_if (ltb at.config.limits.group_sources (length r.sources)) kind in
     (λ v. stops.0 (sym e ∙ given.0 v), λ long. given.1 (e ∙ stops.1 long))
 
-pub repeats : (at : Setting) (seen : Seen) (r : RecordView ℕ) (groups : Groups) (kind : Kind) → kind_named r.kind ≡ Some kind → is_admitted at.config.family r.group ≡ true → ltb at.config.limits.group_sources (length r.sources) ≡ false → ((judged at seen r groups).verdict ≡ Refused Repeated) ↔ (is_repeated groups seen r.group ≡ true)
-repeats at seen r groups kind named admitted short = repeated_given at seen r groups kind (enters at.config r kind named admitted ∙ ap (λ b. cond b (Stops (Refused Long)) (GoesOn kind)) short)
+pub repeats : (at : Setting) (seen : Seen) (r : RecordView ℕ) (groups : Groups) (kind : Kind) → kind_named r.kind ≡ Some kind
+    → is_admitted at.config.family r.group ≡ true → ltb at.config.limits.group_sources (length r.sources) ≡ false
+    → ((judged at seen r groups).verdict ≡ Refused Repeated) ↔ (is_repeated groups seen r.group ≡ true)
+repeats at seen r groups kind named admitted short =
+    repeated_given at seen r groups kind (enters at.config r kind named admitted ∙ ap (λ b. cond b (Stops (Refused Long)) (GoesOn kind)) short)
 
-ignored_if : (at : Setting) (seen : Seen) (r : RecordView ℕ) (groups : Groups) → entrance at.config r ≡ Stops Ignored → (judged at seen r groups).verdict ≡ Ignored
+ignored_if : (at : Setting) (seen : Seen) (r : RecordView ℕ) (groups : Groups) → entrance at.config r ≡ Stops Ignored
+    → (judged at seen r groups).verdict ≡ Ignored
 unfolding judged
 ignored_if at seen r groups is = ap (λ e. (judged_from at seen r groups e).verdict) is
 
 pub unknown_ignored : (at : Setting) (seen : Seen) (r : RecordView ℕ) (groups : Groups) → kind_named r.kind ≡ None → (judged at seen r groups).verdict ≡ Ignored
 unknown_ignored at seen r groups none = ignored_if at seen r groups (ap (entrance_as at.config r) none)
 
-pub unadmitted_ignored : (at : Setting) (seen : Seen) (r : RecordView ℕ) (groups : Groups) → is_admitted at.config.family r.group ≡ false → (judged at seen r groups).verdict ≡ Ignored
+pub unadmitted_ignored : (at : Setting) (seen : Seen) (r : RecordView ℕ) (groups : Groups) → is_admitted at.config.family r.group ≡ false
+    → (judged at seen r groups).verdict ≡ Ignored
 unadmitted_ignored at seen r groups apart = ignored_if at seen r groups (by_kind (kind_named r.kind))
   where
     by_kind : (kind : Option Kind) → entrance_as at.config r kind ≡ Stops Ignored

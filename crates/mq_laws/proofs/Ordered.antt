@@ -44,7 +44,7 @@ order-later : (now later : ℕ) (events : List CheckEvent) (end : ℕ) → now �
 order-later now later [] end before order = omega arith
 order-later now later (Comes moment ∷ es) end before order = (omega (arith, order.0), order.1)
 order-later now later (Wants terms asked ∷ es) end before order = order-later now later es end before order
-order-later now later (Sees terms asked ∷ es) end before order = order-later now later es end before order
+order-later now later (Sees terms unheld asked ∷ es) end before order = order-later now later es end before order
 order-later now later (SeesGeneral terms wanted ∷ es) end before order = order-later now later es end before order
 order-later now later (LosesRole ∷ es) end before order = order-later now later es end before order
 order-later now later (HasRoleAgain ∷ es) end before order = order-later now later es end before order
@@ -54,7 +54,7 @@ order-append : (now middle : ℕ) (xs ys : List CheckEvent) (end : ℕ) → AreI
 order-append now middle [] ys end first second = order-later now middle ys end first second
 order-append now middle (Comes moment ∷ es) ys end first second = (first.0, order-append moment middle es ys end first.1 second)
 order-append now middle (Wants terms asked ∷ es) ys end first second = order-append now middle es ys end first second
-order-append now middle (Sees terms asked ∷ es) ys end first second = order-append now middle es ys end first second
+order-append now middle (Sees terms unheld asked ∷ es) ys end first second = order-append now middle es ys end first second
 order-append now middle (SeesGeneral terms wanted ∷ es) ys end first second = order-append now middle es ys end first second
 order-append now middle (LosesRole ∷ es) ys end first second = order-append now middle es ys end first second
 order-append now middle (HasRoleAgain ∷ es) ys end first second = order-append now middle es ys end first second
@@ -138,8 +138,8 @@ order-faults now number [] = omega arith
 order-faults now number (fault ∷ faults) = order-faults now number faults
 
 -- a query of the querier
-order-event : (now : ℕ) (config : Configuration) (in_force : Timing) (to : ℕ) (query : Query ℕ) → AreInOrder now (event_of config in_force to query ∷ []) now
-order-event now config in_force to query = elim (is_general query) as (λ b. is_general query ≡ b → AreInOrder now (event_of config in_force to query ∷ []) now) [
+order-event : (now : ℕ) (config : Configuration) (link : LinkState) (to : ℕ) (query : Query ℕ) → AreInOrder now (event_of config link to query ∷ []) now
+order-event now config link to query = elim (is_general query) as (λ b. is_general query ≡ b → AreInOrder now (event_of config link to query ∷ []) now) [
   | true ↦ λ is. rw is (omega arith)
   | false ↦ λ is. rw is (omega arith)
 ] refl
@@ -151,7 +151,7 @@ ordered-datagram known config moment number to datagram (Some query) faults link
     record {
       order = (
         omega arith,
-        order-append moment moment (fault_events number faults) (event_of config link.election.timing to query ∷ []) moment (order-faults moment number faults) (order-event moment config link.election.timing to query),
+        order-append moment moment (fault_events number faults) (event_of config link to query ∷ []) moment (order-faults moment number faults) (order-event moment config link to query),
       );
       formed = formed;
       later = later;

@@ -6,6 +6,7 @@ use Rattle.std.proofs.lemmas.Bool.{and_left, and_right, and_from}
 use Rattle.mq_check.specs.declared.asked.Asked.{Asked}
 use Rattle.mq_check.specs.declared.entry.Entry.{Entry}
 use Rattle.mq_check.specs.declared.entry.Entry.TheVariants.{Wanted, Seen, Interval, Silence, Packet}
+use Rattle.mq_check.specs.declared.entry.Unpaired.{Unpaired}
 use Rattle.mq_check.specs.declared.terms.Terms.{Terms}
 use Rattle.mq_check.specs.declared.waiting.Side.TheVariants.{OfWanted, OfSeen}
 use Rattle.mq_check.specs.Entries.{moment_of, first_terms, first_joined, terms_differ}
@@ -133,10 +134,10 @@ find_wanted within now asked other (Wanted moment asked' terms is_optional false
       | true ↦ λ same. inr (either_here within now asked asked' other moment terms is_optional es x xs same holds.0 holds.1 ahead.0)
       | false ↦ λ differs. either_other within now asked asked' other moment terms is_optional es x xs differs holds.0 (find_wanted within now asked other es xs holds.1 ahead.1)
     ] refl
-find_wanted within now asked other (Seen moment asked' terms None is_querier ∷ es) xs holds ahead =
-    either_behind within now asked other (Seen moment asked' terms None is_querier) es xs refl (λ ds ys h. h) (λ ds e. ap (λ (l : List Ask). ask moment asked' terms ∷ l) e) (find_wanted within now asked other es xs holds ahead.1)
-find_wanted within now asked other (Seen moment asked' terms (Some wanted) is_querier ∷ es) xs holds ahead =
-    either_behind within now asked other (Seen moment asked' terms (Some wanted) is_querier) es xs refl (λ ds ys h. (holds.0, h)) (λ ds e. e) (find_wanted within now asked other es xs holds.1 ahead.1)
+find_wanted within now asked other (Seen moment asked' terms None alone ∷ es) xs holds ahead =
+    either_behind within now asked other (Seen moment asked' terms None alone) es xs refl (λ ds ys h. h) (λ ds e. ap (λ (l : List Ask). ask moment asked' terms ∷ l) e) (find_wanted within now asked other es xs holds ahead.1)
+find_wanted within now asked other (Seen moment asked' terms (Some wanted) alone ∷ es) xs holds ahead =
+    either_behind within now asked other (Seen moment asked' terms (Some wanted) alone) es xs refl (λ ds ys h. (holds.0, h)) (λ ds e. e) (find_wanted within now asked other es xs holds.1 ahead.1)
 find_wanted within now asked other (Interval moment after wanted ∷ es) xs holds ahead = absurd holds
 find_wanted within now asked other (Silence moment after wanted ∷ es) xs holds ahead = absurd holds
 find_wanted within now asked other (Packet moment number fault ∷ es) xs holds ahead = absurd holds
@@ -180,19 +181,19 @@ seen_behind now asked other e es xs ys fails holds plain (inr one) =
     })
 
 -- a query without a partner about something else
-seen_elsewhere : (now : ℕ) (asked asked' : Asked ℕ) (other : Terms ℕ) (moment : ℕ) (terms : Terms ℕ) (is_querier : Bool) (es : List (Entry ℕ)) (xs : List Expected)
+seen_elsewhere : (now : ℕ) (asked asked' : Asked ℕ) (other : Terms ℕ) (moment : ℕ) (terms : Terms ℕ) (alone : Unpaired ℕ) (es : List (Entry ℕ)) (xs : List Expected)
     → is_same asked asked' ≡ false → NoneSeen asked es ⊎ OneSeen now asked other es xs
-    → NoneSeen asked (Seen moment asked' terms None is_querier ∷ es) ⊎ OneSeen now asked other (Seen moment asked' terms None is_querier ∷ es) xs
-seen_elsewhere now asked asked' other moment terms is_querier es xs differs (inl none) =
-    let e = Seen moment asked' terms None is_querier in
+    → NoneSeen asked (Seen moment asked' terms None alone ∷ es) ⊎ OneSeen now asked other (Seen moment asked' terms None alone ∷ es) xs
+seen_elsewhere now asked asked' other moment terms alone es xs differs (inl none) =
+    let e = Seen moment asked' terms None alone in
     let fails : is_free OfSeen asked e ≡ false = and_left _ _ differs in
     inl (record {
       terms = passed_terms (is_free OfSeen asked) e es fails ∙ none.terms;
       joined = λ other. passed_joined (is_free OfSeen asked) other e es fails ∙ ap (λ (l : List (Entry ℕ)). e ∷ l) (none.joined other);
       none = seen_other asked (ask moment asked' terms) (free_seen es) differs ∙ none.none;
     })
-seen_elsewhere now asked asked' other moment terms is_querier es xs differs (inr one) =
-    let e = Seen moment asked' terms None is_querier in
+seen_elsewhere now asked asked' other moment terms alone es xs differs (inr one) =
+    let e = Seen moment asked' terms None alone in
     let s = ask moment asked' terms in
     let left = first_joined (is_free OfSeen asked) other es in
     let fails : is_free OfSeen asked e ≡ false = and_left _ _ differs in
@@ -210,11 +211,11 @@ seen_elsewhere now asked asked' other moment terms is_querier es xs differs (inr
       arrived = one.arrived;
     })
 
-seen_found : (now : ℕ) (asked asked' : Asked ℕ) (other : Terms ℕ) (moment : ℕ) (terms : Terms ℕ) (is_querier : Bool) (es : List (Entry ℕ)) (xs : List Expected)
+seen_found : (now : ℕ) (asked asked' : Asked ℕ) (other : Terms ℕ) (moment : ℕ) (terms : Terms ℕ) (alone : Unpaired ℕ) (es : List (Entry ℕ)) (xs : List Expected)
     → is_same asked asked' ≡ true → Holds es xs → moment ≤ now
-    → OneSeen now asked other (Seen moment asked' terms None is_querier ∷ es) xs
-seen_found now asked asked' other moment terms is_querier es xs same holds arrived =
-    let e = Seen moment asked' terms None is_querier in
+    → OneSeen now asked other (Seen moment asked' terms None alone ∷ es) xs
+seen_found now asked asked' other moment terms alone es xs same holds arrived =
+    let e = Seen moment asked' terms None alone in
     let s = ask moment asked' terms in
     let free : is_free OfSeen asked e ≡ true = and_from _ _ same refl in
     let is = met_joined (is_free OfSeen asked) other e es free in
@@ -239,13 +240,13 @@ find_seen low now asked other (Wanted moment asked' terms is_optional true ∷ e
 find_seen low now asked other (Wanted moment asked' terms is_optional false ∷ es) [] holds is = absurd holds
 find_seen low now asked other (Wanted moment asked' terms is_optional false ∷ es) (x ∷ xs) holds is =
     seen_behind now asked other (Wanted moment asked' terms is_optional false) es (x ∷ xs) xs refl (λ ds h. (holds.0, h)) (λ ds. refl) (find_seen moment now asked other es xs holds.1 is.1)
-find_seen low now asked other (Seen moment asked' terms None is_querier ∷ es) xs holds is =
-    elim (is_same asked asked') as (λ b. is_same asked asked' ≡ b → NoneSeen asked (Seen moment asked' terms None is_querier ∷ es) ⊎ OneSeen now asked other (Seen moment asked' terms None is_querier ∷ es) xs) [
-      | true ↦ λ same. inr (seen_found now asked asked' other moment terms is_querier es xs same holds (ascending-low moment es now is.1))
-      | false ↦ λ differs. seen_elsewhere now asked asked' other moment terms is_querier es xs differs (find_seen moment now asked other es xs holds is.1)
+find_seen low now asked other (Seen moment asked' terms None alone ∷ es) xs holds is =
+    elim (is_same asked asked') as (λ b. is_same asked asked' ≡ b → NoneSeen asked (Seen moment asked' terms None alone ∷ es) ⊎ OneSeen now asked other (Seen moment asked' terms None alone ∷ es) xs) [
+      | true ↦ λ same. inr (seen_found now asked asked' other moment terms alone es xs same holds (ascending-low moment es now is.1))
+      | false ↦ λ differs. seen_elsewhere now asked asked' other moment terms alone es xs differs (find_seen moment now asked other es xs holds is.1)
     ] refl
-find_seen low now asked other (Seen moment asked' terms (Some wanted) is_querier ∷ es) xs holds is =
-    seen_behind now asked other (Seen moment asked' terms (Some wanted) is_querier) es xs xs (and_right _ _ refl) (λ ds h. (holds.0, h)) (λ ds. refl) (find_seen moment now asked other es xs holds.1 is.1)
+find_seen low now asked other (Seen moment asked' terms (Some wanted) alone ∷ es) xs holds is =
+    seen_behind now asked other (Seen moment asked' terms (Some wanted) alone) es xs xs (and_right _ _ refl) (λ ds h. (holds.0, h)) (λ ds. refl) (find_seen moment now asked other es xs holds.1 is.1)
 find_seen low now asked other (Interval moment after wanted ∷ es) xs holds is = absurd holds
 find_seen low now asked other (Silence moment after wanted ∷ es) xs holds is = absurd holds
 find_seen low now asked other (Packet moment number fault ∷ es) xs holds is = absurd holds

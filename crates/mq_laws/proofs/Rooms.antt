@@ -7,10 +7,11 @@ use Rattle.mq_check.specs.declared.asked.Asked.{Asked}
 use Rattle.mq_check.specs.declared.asked.Asked.TheVariants.{AllGroups, Group, Source}
 use Rattle.mq_check.specs.declared.entry.Entry.{Entry}
 use Rattle.mq_check.specs.declared.entry.Entry.TheVariants.{Wanted, Seen}
+use Rattle.mq_check.specs.declared.entry.Unpaired.TheVariants.{Extra}
 use Rattle.mq_check.specs.declared.phase.Phase.TheVariants.{NotQuerier}
 use Rattle.mq_check.specs.declared.terms.Terms.{Terms}
 use Rattle.mq_check.specs.declared.waiting.Side.TheVariants.{OfWanted, OfSeen}
-use Rattle.mq_check.specs.Checking.{CheckingValue, is_querier_in, with_wanted, with_seen, with_general, general_compared, role_lost, role_returned, with_interval, with_silence}
+use Rattle.mq_check.specs.Checking.{CheckingValue, alone_in, is_querier_in, with_wanted, with_seen, with_general, general_compared, role_lost, role_returned, with_interval, with_silence}
 use Rattle.mq_check.specs.Checking as checking
 use Rattle.mq_check.specs.Entries.{first_terms, first_joined, may_be_left_out}
 use Rattle.mq_check.specs.General.{phase_again, wrong_interval, phase_behind, silence_up_to}
@@ -78,17 +79,17 @@ required now (Group group) terms entries must = refl
 required now (Source group source) terms entries must = and_left _ _ must
 
 -- something was seen
-pub record SeenPart (now : ℕ) (terms : Terms ℕ) (c : CheckingValue) (asked : Asked ℕ) : Type 0 where
+pub record SeenPart (now : ℕ) (terms : Terms ℕ) (unheld : Option (Terms ℕ)) (c : CheckingValue) (asked : Asked ℕ) : Type 0 where
   pub was : c.waiting.is_full ≡ false
-  pub phase : (with_seen now terms c asked).phase ≡ c.phase
-  pub last : (with_seen now terms c asked).last_general ≡ c.last_general
-  pub entries : (with_seen now terms c asked).waiting.entries
-      ≡ first_joined (is_free OfWanted asked) terms c.waiting.entries ++ Seen now asked terms (first_terms (is_free OfWanted asked) c.waiting.entries) (is_querier_in c.phase) ∷ []
+  pub phase : (with_seen now terms unheld c asked).phase ≡ c.phase
+  pub last : (with_seen now terms unheld c asked).last_general ≡ c.last_general
+  pub entries : (with_seen now terms unheld c asked).waiting.entries
+      ≡ first_joined (is_free OfWanted asked) terms c.waiting.entries ++ Seen now asked terms (first_terms (is_free OfWanted asked) c.waiting.entries) (alone_in now terms unheld asked c) ∷ []
 
-pub seen_part : (now : ℕ) (terms : Terms ℕ) (c : CheckingValue) (asked : Asked ℕ) → (with_seen now terms c asked).waiting.is_full ≡ false → SeenPart now terms c asked
+pub seen_part : (now : ℕ) (terms : Terms ℕ) (unheld : Option (Terms ℕ)) (c : CheckingValue) (asked : Asked ℕ) → (with_seen now terms unheld c asked).waiting.is_full ≡ false → SeenPart now terms unheld c asked
 unfolding with_seen with_partner
-seen_part now terms c asked free =
-    let e = Seen now asked terms (first_terms (is_free OfWanted asked) c.waiting.entries) (is_querier_in c.phase) in
+seen_part now terms unheld c asked free =
+    let e = Seen now asked terms (first_terms (is_free OfWanted asked) c.waiting.entries) (alone_in now terms unheld asked c) in
     let put = entered e (with_partner OfWanted asked terms c.waiting) free in
     record { was = put.was; phase = refl; last = refl; entries = put.entries }
 
@@ -97,13 +98,13 @@ pub record GeneralPart (within : ℕ) (timing : Timing) (now : ℕ) (terms wante
   pub was : c.waiting.is_full ≡ false
   pub phase : (with_general within timing now terms wanted c).phase ≡ phase_behind within timing now c.phase
   pub entries : (with_general within timing now terms wanted c).waiting.entries
-      ≡ first_joined (is_free OfWanted AllGroups) terms c.waiting.entries ++ Seen now AllGroups terms (Some wanted) true ∷ []
+      ≡ first_joined (is_free OfWanted AllGroups) terms c.waiting.entries ++ Seen now AllGroups terms (Some wanted) (Extra true) ∷ []
 
 pub general_part : (within : ℕ) (timing : Timing) (now : ℕ) (terms wanted : Terms ℕ) (c : CheckingValue) → wrong_interval within timing now c.phase ≡ None
     → (with_general within timing now terms wanted c).waiting.is_full ≡ false → GeneralPart within timing now terms wanted c
 unfolding with_general with_partner
 general_part within timing now terms wanted c in_time free =
-    let e = Seen now AllGroups terms (Some wanted) true in
+    let e = Seen now AllGroups terms (Some wanted) (Extra true) in
     let put : Entered e (with_partner OfWanted AllGroups terms c.waiting) = entered e (with_partner OfWanted AllGroups terms c.waiting) (rw in_time at free) in
     record { was = put.was; phase = refl; entries = rw in_time put.entries }
 
@@ -134,13 +135,13 @@ with_general_free within timing now terms wanted c free = interval_free timing n
 pub compared_querier : (within : ℕ) (timing : Timing) (now : ℕ) (terms wanted : Terms ℕ) (c : CheckingValue) → is_querier_in c.phase ≡ true → general_compared within timing now terms wanted c ≡ with_general within timing now terms wanted c
 compared_querier within timing now terms wanted c is = rw is refl
 
-pub compared_other : (within : ℕ) (timing : Timing) (now : ℕ) (terms wanted : Terms ℕ) (c : CheckingValue) → is_querier_in c.phase ≡ false → general_compared within timing now terms wanted c ≡ with_seen now terms c AllGroups
+pub compared_other : (within : ℕ) (timing : Timing) (now : ℕ) (terms wanted : Terms ℕ) (c : CheckingValue) → is_querier_in c.phase ≡ false → general_compared within timing now terms wanted c ≡ with_seen now terms None c AllGroups
 compared_other within timing now terms wanted c is = rw is refl
 
 pub general_free : (within : ℕ) (timing : Timing) (now : ℕ) (terms wanted : Terms ℕ) (c : CheckingValue) → (general_compared within timing now terms wanted c).waiting.is_full ≡ false → c.waiting.is_full ≡ false
 general_free within timing now terms wanted c free = elim (is_querier_in c.phase) as (λ b. is_querier_in c.phase ≡ b → c.waiting.is_full ≡ false) [
   | true ↦ λ is. with_general_free within timing now terms wanted c (ap (λ (d : CheckingValue). d.waiting.is_full) (sym (compared_querier within timing now terms wanted c is)) ∙ free)
-  | false ↦ λ is. (seen_part now terms c AllGroups (ap (λ (d : CheckingValue). d.waiting.is_full) (sym (compared_other within timing now terms wanted c is)) ∙ free)).was
+  | false ↦ λ is. (seen_part now terms None c AllGroups (ap (λ (d : CheckingValue). d.waiting.is_full) (sym (compared_other within timing now terms wanted c is)) ∙ free)).was
 ] refl
 
 pub lost_free : (within : ℕ) (timing : Timing) (now : ℕ) (c : CheckingValue) → (role_lost within timing now c).waiting.is_full ≡ false → c.waiting.is_full ≡ false

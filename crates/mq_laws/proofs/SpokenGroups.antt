@@ -1,26 +1,19 @@
 -- A message changes no group that it doesn't speak of.
-use Rattle.std.proofs.Common.{◌≡◌, ◌==◌, ℕ, Bool, true, false, ◌||◌, List, [], ◌∷◌, Option, None, Some, Result, Ok, Err, refl, sym, ap, ◌∙◌}
-use Rattle.std.specs.Prelude.{map as list_map}
-use Rattle.std.specs.Option.{unwrap_or}
-use Rattle.std.specs.FinMap as map
+use Rattle.std.proofs.Common.{◌≡◌, ◌==◌, ℕ, Bool, false, ◌||◌, List, [], ◌∷◌, Option, None, Some, Result, Ok, Err, refl, sym, ap, ◌∙◌, arith}
 use Rattle.std.proofs.lemmas.Bool.{true≢false, eq-eqb, or_from, or_parts}
+use Rattle.std.specs.{Option.unwrap_or, Prelude.map as list_map}
 use Rattle.mq_sets.specs.Ascending.{set_of}
-use Rattle.mq_wire.specs.declared.message.Message.{Message}
-use Rattle.mq_wire.specs.declared.message.Message.TheVariants.{Query as QueryMessage, OldReport, Leave as LeaveMessage, Report as ReportMessage}
-use Rattle.mq_wire.specs.declared.message.WireFault.{WireFault}
-use Rattle.mq_wire.specs.declared.records.RecordView.{RecordView}
+use Rattle.mq_wire.specs.declared.message.Message.{Message, TheVariants.Query as QueryMessage, TheVariants.OldReport, TheVariants.Leave as LeaveMessage}
+use Rattle.mq_wire.specs.declared.{message.Message.TheVariants.Report as ReportMessage, message.WireFault.WireFault, records.RecordView.RecordView}
 use Rattle.mq_table.specs.Filter.{changes_filter}
-use Rattle.mq_link.specs.declared.answers.DropReason.{DropReason}
-use Rattle.mq_link.specs.Configuration.{Configuration}
-use Rattle.mq_link.specs.Forwarding.{changes, changed_by_tick, changed_by_all, changed_by_message, changed_by_read, changed_by_datagram}
-use Rattle.mq_link.specs.Receive.{Envelope, read_of, pseudo_of, drop_reason, setting_of}
-use Rattle.mq_link.specs.Record.{Setting, Seen, OlderJoin, OlderLeave, judged, seen_after}
-use Rattle.mq_link.specs.State.{Groups, LinkState, unheld, group_at}
-use Rattle.mq_link.specs.Tick.{tick_of}
 use Rattle.mq_link.proofs.KeptFilters.{unchanged}
-use Rattle.mq_laws.specs.Following.{groups_in}
-use Rattle.mq_laws.specs.Laws.{DifferAt}
+use Rattle.mq_link.specs.{Configuration.Configuration, Forwarding.changes, Forwarding.changed_by_tick, Forwarding.changed_by_all, Forwarding.changed_by_message}
+use Rattle.mq_link.specs.{Forwarding.changed_by_read, Forwarding.changed_by_datagram, Receive.Envelope, Receive.read_of, Receive.pseudo_of, Receive.drop_reason}
+use Rattle.mq_link.specs.{Receive.setting_of, Record.Setting, Record.Seen, Record.OlderJoin, Record.OlderLeave, Record.judged, Record.seen_after, State.Groups}
+use Rattle.mq_link.specs.{State.LinkState, State.unheld, State.group_at, Tick.tick_of, declared.answers.DropReason.DropReason}
 use Rattle.mq_laws.proofs.Unchanged.{others_judged, others_stated}
+use Rattle.mq_laws.specs.{Following.groups_in, Laws.DifferAt}
+use Rattle.std.specs.FinMap as map
 
 -- where the groups differ in another one alone, it isn't changed
 other_unchanged : (before left : Groups) (address group : ℕ) → DifferAt address before left → (address == group) ≡ false → changes before left group ≡ false
@@ -28,14 +21,16 @@ other_unchanged before left address group differ apart =
     ap (λ e. changes_filter (group_at before group).group (unwrap_or e unheld).group) (differ group (λ same. true≢false (sym (eq-eqb address group (sym same)) ∙ apart)))
     ∙ unchanged (group_at before group).group
 
-others_of_all : (at : Setting) (seen : Seen) (records : List (RecordView ℕ)) (groups : Groups) (group : ℕ) → set_of (λ a. a) (list_map (λ r. r.group) records) group ≡ false → changed_by_all at seen records groups group ≡ false
+others_of_all : (at : Setting) (seen : Seen) (records : List (RecordView ℕ)) (groups : Groups) (group : ℕ)
+    → set_of (λ a. a) (list_map (λ r. r.group) records) group ≡ false → changed_by_all at seen records groups group ≡ false
 others_of_all at seen [] groups group is = refl
 others_of_all at seen (r ∷ rs) groups group is =
     let left = (judged at seen r groups).groups in
     let parts = or_parts (r.group == group) _ is in
     or_from _ _ (other_unchanged groups left r.group group (others_judged at seen r groups) parts.0) (others_of_all at (seen_after at.config r groups seen) rs left group parts.1)
 
-others_of_message : (at : Setting) (message : Message ℕ) (groups : Groups) (group : ℕ) → set_of (λ a. a) (groups_in message) group ≡ false → changed_by_message at message groups group ≡ false
+others_of_message : (at : Setting) (message : Message ℕ) (groups : Groups) (group : ℕ) → set_of (λ a. a) (groups_in message) group ≡ false
+    → changed_by_message at message groups group ≡ false
 others_of_message at (QueryMessage query) groups group is = refl
 others_of_message at (OldReport version joined) groups group is =
     other_unchanged groups _ joined group (others_stated at joined (OlderJoin version) groups) (or_parts (joined == group) _ is).0
@@ -43,13 +38,13 @@ others_of_message at (LeaveMessage left) groups group is =
     other_unchanged groups _ left group (others_stated at left OlderLeave groups) (or_parts (left == group) _ is).0
 others_of_message at (ReportMessage records) groups group is = others_of_all at map.empty records groups group is
 
-others_of_read : (at : Setting) (message : Message ℕ) (reason : Option DropReason) (groups : Groups) (group : ℕ) → set_of (λ a. a) (groups_in message) group ≡ false → changed_by_read at (Ok message) reason groups group ≡ false
+others_of_read : (at : Setting) (message : Message ℕ) (reason : Option DropReason) (groups : Groups) (group : ℕ)
+    → set_of (λ a. a) (groups_in message) group ≡ false → changed_by_read at (Ok message) reason groups group ≡ false
 others_of_read at message (Some reason) groups group is = refl
 others_of_read at message None groups group is = others_of_message at message groups group is
 
 or_nothing : (a b : Bool) → b ≡ false → (a || b) ≡ a
-or_nothing true b none = refl
-or_nothing false b none = none
+or_nothing a b h1 = grind arith
 
 -- So of such a group a datagram names what the tick at its moment does, and one that spells no message of each group.
 module _ (config : Configuration) (envelope : Envelope) (bytes : List ℕ) (now : ℕ) (state : LinkState) (group : ℕ) where

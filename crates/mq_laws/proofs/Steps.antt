@@ -6,6 +6,8 @@ use Rattle.mq_check.specs.declared.asked.Asked.{Asked}
 use Rattle.mq_check.specs.declared.asked.Asked.TheVariants.{AllGroups}
 use Rattle.mq_check.specs.declared.entry.Entry.{Entry}
 use Rattle.mq_check.specs.declared.entry.Entry.TheVariants.{Wanted, Seen, Interval, Silence, Packet}
+use Rattle.mq_check.specs.declared.entry.Unpaired.TheVariants.{Extra}
+use Rattle.mq_check.specs.declared.entry.Unpaired.{Unpaired}
 use Rattle.mq_check.specs.declared.terms.Terms.{Terms}
 use Rattle.mq_check.specs.declared.waiting.Side.TheVariants.{OfWanted, OfSeen}
 use Rattle.mq_check.specs.Entries.{moment_of, first_terms, first_joined, terms_differ}
@@ -123,11 +125,11 @@ none_here : (now : ℕ) (ws : List Expected) (early after : List ℕ) → ws ≡
 none_here now ws early after none more = rw none (λ i. record { due = []; early = more i })
 
 -- something was seen, and nothing that is wanted waits for it
-see_none : (within now : ℕ) (asked : Asked ℕ) (terms : Terms ℕ) (is_querier : Bool) (es : List (Entry ℕ)) (free wanted : List Expected) (seen : List Ask)
+see_none : (within now : ℕ) (asked : Asked ℕ) (terms : Terms ℕ) (alone : Unpaired ℕ) (es : List (Entry ℕ)) (free wanted : List Expected) (seen : List Ask)
     → NoneWanted asked es free → Stands within now es free wanted (ask now asked terms ∷ seen)
-    → Stepped within now asked (return_seen now) es (es ++ Seen now asked terms None is_querier ∷ []) free (free ++ wanted) wanted seen
-see_none within now asked terms is_querier es free wanted seen none st =
-    let e = Seen now asked terms None is_querier in
+    → Stepped within now asked (return_seen now) es (es ++ Seen now asked terms None alone ∷ []) free (free ++ wanted) wanted seen
+see_none within now asked terms alone es free wanted seen none st =
+    let e = Seen now asked terms None alone in
     let s = ask now asked terms in
     let more : free_seen (es ++ e ∷ []) ≡ free_seen es ++ s ∷ [] = free_seen-append es (e ∷ []) in
     record {
@@ -175,14 +177,14 @@ first_here step gone ws x rest early after first same =
 
 -- Something was seen, and is the partner of the first that is wanted; beside it stands what it is compared with.
 see_partner : (step : (due early : List ℕ) → Returns) → ((d : ℕ) (due early : List ℕ) → step (d ∷ due) early ≡ record { due = due; early = early })
-    → (within now : ℕ) (asked : Asked ℕ) (terms partner : Terms ℕ) (is_querier : Bool) (es : List (Entry ℕ)) (free wanted : List Expected) (seen : List Ask)
+    → (within now : ℕ) (asked : Asked ℕ) (terms partner : Terms ℕ) (alone : Unpaired ℕ) (es : List (Entry ℕ)) (free wanted : List Expected) (seen : List Ask)
     → (one : OneWanted within now asked terms es free) → ((w : Ask) → one.first ≡ Sent w → Answers within w (ask now asked terms) → terms_differ terms partner ≡ [])
     → Stands within now es free wanted (ask now asked terms ∷ seen)
-    → Stepped within now asked step es (first_joined (is_free OfWanted asked) terms es ++ Seen now asked terms (Some partner) is_querier ∷ []) free (free ++ wanted) wanted seen
-see_partner step gone within now asked terms partner is_querier es free wanted seen one alike st =
+    → Stepped within now asked step es (first_joined (is_free OfWanted asked) terms es ++ Seen now asked terms (Some partner) alone ∷ []) free (free ++ wanted) wanted seen
+see_partner step gone within now asked terms partner alone es free wanted seen one alike st =
     let test = is_free OfWanted asked in
     let joined_up = first_joined test terms es in
-    let e = Seen now asked terms (Some partner) is_querier in
+    let e = Seen now asked terms (Some partner) alone in
     let s = ask now asked terms in
     let none : seen_about asked (free_seen es) ≡ [] = no_seen within now asked es free wanted (s ∷ seen) one.first _ one.here st in
     let same : free_seen (joined_up ++ e ∷ []) ≡ free_seen es = free_seen-append joined_up (e ∷ []) ∙ append-nil (free_seen joined_up) ∙ one.seen in
@@ -214,12 +216,12 @@ see_partner step gone within now asked terms partner is_querier es free wanted s
     }
 
 -- something was seen
-pub see_one : (within now : ℕ) (asked : Asked ℕ) (terms : Terms ℕ) (is_querier : Bool) (es : List (Entry ℕ)) (free wanted : List Expected) (seen : List Ask)
+pub see_one : (within now : ℕ) (asked : Asked ℕ) (terms : Terms ℕ) (alone : Unpaired ℕ) (es : List (Entry ℕ)) (free wanted : List Expected) (seen : List Ask)
     → Stands within now es free wanted (ask now asked terms ∷ seen)
-    → Stepped within now asked (return_seen now) es (first_joined (is_free OfWanted asked) terms es ++ Seen now asked terms (first_terms (is_free OfWanted asked) es) is_querier ∷ []) free (free ++ wanted) wanted seen
-see_one within now asked terms is_querier es free wanted seen st = elim (find_wanted within now asked terms es free st.holds st.none_over) [
-  | inl none ↦ rw (none.joined terms, none.terms) (see_none within now asked terms is_querier es free wanted seen none st)
-  | inr one ↦ rw one.terms (see_partner (return_seen now) (λ d due early. refl) within now asked terms (ask_of one.first).terms is_querier es free wanted seen one
+    → Stepped within now asked (return_seen now) es (first_joined (is_free OfWanted asked) terms es ++ Seen now asked terms (first_terms (is_free OfWanted asked) es) alone ∷ []) free (free ++ wanted) wanted seen
+see_one within now asked terms alone es free wanted seen st = elim (find_wanted within now asked terms es free st.holds st.none_over) [
+  | inl none ↦ rw (none.joined terms, none.terms) (see_none within now asked terms alone es free wanted seen none st)
+  | inr one ↦ rw one.terms (see_partner (return_seen now) (λ d due early. refl) within now asked terms (ask_of one.first).terms alone es free wanted seen one
       (λ w is answers. ap (λ (x : Expected). terms_differ terms (ask_of x).terms) is ∙ answers.alike) st)
 ]
 
@@ -342,10 +344,10 @@ none_due now ws early after none same = rw none (λ i. record { due = []; early 
 -- waits for none.
 pub general_one : (within now : ℕ) (terms partner : Terms ℕ) (es : List (Entry ℕ)) (free wanted : List Expected) (seen : List Ask)
     → terms_differ terms partner ≡ [] → Stands within now es free wanted (general_ask true (moments_wanted (wanted_about AllGroups free)) now terms ++ seen)
-    → Stepped within now AllGroups (general_returned true now) es (first_joined (is_free OfWanted AllGroups) terms es ++ Seen now AllGroups terms (Some partner) true ∷ []) free (free ++ wanted) wanted seen
+    → Stepped within now AllGroups (general_returned true now) es (first_joined (is_free OfWanted AllGroups) terms es ++ Seen now AllGroups terms (Some partner) (Extra true) ∷ []) free (free ++ wanted) wanted seen
 general_one within now terms partner es free wanted seen alike st = elim (find_wanted within now AllGroups terms es free st.holds st.none_over) [
   | inl none ↦
-      let e = Seen now AllGroups terms (Some partner) true in
+      let e = Seen now AllGroups terms (Some partner) (Extra true) in
       let before : Stands within now es free wanted seen = subst (λ (l : List Expected). Stands within now es free wanted (general_ask true (moments_wanted l) now terms ++ seen)) none.none st in
       let same : free_seen (es ++ e ∷ []) ≡ free_seen es = free_seen-append es (e ∷ []) ∙ append-nil (free_seen es) in
       rw (none.joined terms) (record {
@@ -357,5 +359,5 @@ general_one within now terms partner es free wanted seen alike st = elim (find_w
       })
   | inr one ↦
       let before : Stands within now es free wanted (ask now AllGroups terms ∷ seen) = subst (λ (l : List Expected). Stands within now es free wanted (general_ask true (moments_wanted l) now terms ++ seen)) one.here st in
-      see_partner (general_returned true now) (λ d due early. refl) within now AllGroups terms partner true es free wanted seen one (λ w is answers. alike) before
+      see_partner (general_returned true now) (λ d due early. refl) within now AllGroups terms partner (Extra true) es free wanted seen one (λ w is answers. alike) before
 ]

@@ -142,8 +142,8 @@ pub tells_what_happened : (k : CheckedCapture) → CameToItsEnd k → TellsWhatH
 tells_what_happened k answered =
     let config = k.config in
     let link = k.form.link in
-    let start = at_the_start config in
-    let course = with_all_packets config k.within k.form k.packets in
+    let start = at_the_start config k.within k.strict in
+    let course = with_all_packets config k.within k.strict k.form k.packets in
     let told = behind_packets k course course.fault k.end (length k.packets + 1) refl answered in
     let all = follows-packets config link k.within None 0 1 k.packets start told.0 in
     let p = packets_passage config link None 0 1 k.packets (link_at config 0) in
@@ -157,8 +157,8 @@ tells_what_happened k answered =
     (subst (λ (m : ℕ). Follows k.within config.timing (ticks_through config m course.checked.link) course.checked done) at (follows-ticks (moment + 1) config k.within (moment + 1) course.checked)) in
     let both = follows-behind k.within config.timing p t start (record { checked = course.checked; found = course.found }) done all.follows ticks in
     let events = events_of config k.until k.form k.packets in
-    let c : done.checked.checking ≡ checked_by k.within config.timing events = both.checking 0 in
-    let found : course.found ++ done.found ++ told_at_end k.within config.timing moment done.checked.checking ≡ found_by k.within config.timing end events =
+    let c : done.checked.checking ≡ checked_by k.within config.timing k.strict events = both.checking 0 in
+    let found : course.found ++ done.found ++ told_at_end k.within config.timing moment done.checked.checking ≡ found_by k.within config.timing k.strict end events =
     λ i. both.found 0 i ++ told_at_end k.within config.timing (at i) (c i) in
     record {
       room = ap (λ (v : CheckingValue). v.waiting.is_full) (sym c) ∙ told.1.room;

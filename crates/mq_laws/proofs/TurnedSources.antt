@@ -1,21 +1,14 @@
 -- Two filters differ exactly where some source is turned: where one of them forwards it alone.
-use Rattle.std.proofs.Common.{◌≡◌, ◌↔◌, ℕ, ◌+◌, ◌<◌, Bool, true, false, cond, not, ◌&&◌, ◌||◌, List, [], ◌∷◌, refl, sym, ap, ◌∙◌, arith}
-use Rattle.std.specs.Bool.{beq}
-use Rattle.std.specs.List.{list_all, list_any, sum_by}
-use Rattle.std.specs.Ordering.{nat_cmp, eq_by_cmp}
-use Rattle.std.specs.Cmp.{nat_cmp_total}
-use Rattle.std.specs.FinSet as set
-use Rattle.std.specs.FinSet.{FinSet}
-use Rattle.std.proofs.lemmas.Bool.{true≢false, or_from, or_left, or_right}
+use Rattle.std.proofs.Common.{◌≡◌, ◌↔◌, ℕ, ◌+◌, ◌<◌, Bool, true, false, cond, not, ◌&&◌, List, [], ◌∷◌, refl, sym, ap, ◌∙◌, arith}
+use Rattle.std.proofs.lemmas.Bool.{true≢false, or_from, or_left, or_right, Decides.nat_tests}
 use Rattle.std.proofs.lemmas.List.Sums.{sum_by-cons}
-use Rattle.std.proofs.lemmas.Bool.Decides.{nat_tests}
-use Rattle.mq_table.specs.Group.{GroupState, forwards_in}
-use Rattle.mq_table.specs.Filter.{Filter, filter_of, forwards_by, are_same, changes_filter}
+use Rattle.std.specs.{Bool.beq, Cmp.nat_cmp_total, FinSet.FinSet, List.list_all, List.list_any, List.sum_by, Ordering.nat_cmp, Ordering.eq_by_cmp}
 use Rattle.mq_table.proofs.Filters.{forwards_by-filter_of}
-use Rattle.mq_held.proofs.RestartedEach.{each_passes}
-use Rattle.mq_held.proofs.Sorted.{ties}
+use Rattle.mq_table.specs.{Filter.Filter, Filter.filter_of, Filter.forwards_by, Filter.are_same, Filter.changes_filter, Group.GroupState, Group.forwards_in}
+use Rattle.mq_held.proofs.{RestartedEach.each_passes, Sorted.ties}
 use Rattle.mq_link.proofs.KeptFilters.{alike_after, unchanged}
 use Rattle.mq_laws.proofs.Following.{same_unless_changed}
+use Rattle.std.specs.FinSet as set
 
 -- a source that one set has alone, where it isn't a part of the other
 one_failing : (test : ℕ → Bool) (ks : List ℕ) → list_all test ks ≡ false → (k : ℕ) × (list_any (eq_by_cmp nat_cmp k) ks ≡ true) × (test k ≡ false)
@@ -57,20 +50,13 @@ in_none a b =
 
 -- which of them is forwarded, by the modes and by who has it
 turned_alike : (m n c d : Bool) → beq m n ≡ true → d ≡ not c → cond n d (not d) ≡ not (cond m c (not c))
-turned_alike true true c d modes is = is
-turned_alike true false c d modes is = absurd (true≢false (sym modes))
-turned_alike false true c d modes is = absurd (true≢false (sym modes))
-turned_alike false false c d modes is = ap not is
+turned_alike m n c d h1 h2 = grind arith
 
 twice : (c : Bool) → c ≡ not (not c)
-twice true = refl
-twice false = refl
+twice c = grind arith
 
 turned_apart : (m n c d : Bool) → beq m n ≡ false → d ≡ c → cond n d (not d) ≡ not (cond m c (not c))
-turned_apart true true c d modes is = absurd (true≢false modes)
-turned_apart true false c d modes is = ap not is
-turned_apart false true c d modes is = is ∙ twice c
-turned_apart false false c d modes is = absurd (true≢false modes)
+turned_apart m n c d h1 h2 = grind arith
 
 one_turned : (f h : Filter) → are_same f h ≡ false → (s : ℕ) × (forwards_by h s ≡ not (forwards_by f s))
 one_turned f h is = by_modes (beq f.is_include h.is_include) refl is
@@ -93,14 +79,13 @@ one_turned f h is = by_modes (beq f.is_include h.is_include) refl is
     by_modes true alike is = by_sources alike (set.is_subset f.sources h.sources) refl is
 
 not_itself : (b : Bool) → b ≡ not b → ⊥
-not_itself true is = true≢false is
-not_itself false is = true≢false (sym is)
+not_itself b h1 = grind arith
 
 not_true : (b : Bool) → not b ≡ true → b ≡ false
-not_true false is = refl
-not_true true is = absurd (true≢false (sym is))
+not_true b h1 = grind arith
 
-pub changes_where_turned : (before after : GroupState) → (changes_filter before after ≡ true) ↔ ((source : ℕ) × (forwards_in after source ≡ not (forwards_in before source)))
+pub changes_where_turned : (before after : GroupState)
+    → (changes_filter before after ≡ true) ↔ ((source : ℕ) × (forwards_in after source ≡ not (forwards_in before source)))
 unfolding changes_filter
 changes_where_turned before after = (there, λ at. by_value (changes_filter before after) refl at)
   where

@@ -1,78 +1,74 @@
 -- What records and datagrams leave as it was.
 use Rattle.std.proofs.Common.{◌≡◌, ℕ, Bool, true, false, cond, refl, List, Option, None, Some, Result, Ok, Err, ap, ◌∙◌, arith, eqb}
-use Rattle.std.proofs.lemmas.Bool.Decides.{nat_tests}
-use Rattle.std.proofs.lemmas.Bool.{eqb-true}
-use Rattle.std.specs.Option.{option_and_then}
-use Rattle.std.specs.Ordering.{nat_cmp, eq_by_cmp}
+use Rattle.std.proofs.lemmas.Bool.{eqb-true, Decides.nat_tests}
+use Rattle.std.specs.{Option.option_and_then, Ordering.nat_cmp, Ordering.eq_by_cmp}
+use Rattle.mq_wire.specs.declared.{message.Message.Message, message.WireFault.WireFault, query.Query.Query, records.RecordView.RecordView}
+use Rattle.mq_table.proofs.Maps.{get-kept}
+use Rattle.mq_table.specs.{Group.is_vacant, Table.GroupChange, declared.kind.Kind.Kind, declared.timing.Timing.Timing}
+use Rattle.mq_sched.specs.{Election.loses_role, Election.heard, Schedule.ScheduledGroup, Sending.SentQuery}
+use Rattle.mq_link.proofs.Recorded.{get-with_group}
+use Rattle.mq_link.specs.{Configuration.Configuration, Counters.Refused, Counters.Verdict, Counters.is_applied, Heard.announced_by, Heard.groups_cleared}
+use Rattle.mq_link.specs.{Heard.group_lowered, Heard.groups_lowered, Heard.query_heard, Receive.Envelope, Receive.counting_read, Receive.taken_in}
+use Rattle.mq_link.specs.{Receive.taken_or_dropped, Record.Outcome, Record.Statement, Record.RecordOf, Record.limit_passed, Record.Setting, Record.leaving}
+use Rattle.mq_link.specs.Record.{unless_passed, changed_by, after_sending, sent_at_once, changed_or_refused, change_in, stated, Seen, Entrance, Stops, GoesOn}
+use Rattle.mq_link.specs.{Record.entrance, Record.is_repeated, Record.judged_from, Record.judged, State.Groups, State.LinkState, State.with_group, Tick.Step}
+use Rattle.mq_link.specs.declared.answers.{DropReason.DropReason, Received.TheVariants.Dropped, Refusal.Refusal, Refusal.TheVariants.Repeated}
+use Rattle.mq_laws.specs.Laws.{ChangesNothing, IsOnlyCounted, DifferAt}
 use Rattle.std.specs.FinMap as map
 use Rattle.std.specs.FinSet as set
-use Rattle.mq_wire.specs.declared.message.Message.{Message}
-use Rattle.mq_wire.specs.declared.message.Message.TheVariants.{Query as QueryMessage, OldReport, Leave as LeaveMessage, Report as ReportMessage}
-use Rattle.mq_wire.specs.declared.message.WireFault.{WireFault}
-use Rattle.mq_wire.specs.declared.query.Query.{Query}
-use Rattle.mq_wire.specs.declared.records.RecordView.{RecordView}
-use Rattle.mq_table.specs.declared.kind.Kind.{Kind}
-use Rattle.mq_table.specs.declared.timing.Timing.{Timing}
-use Rattle.mq_table.specs.Table.{GroupChange}
-use Rattle.mq_table.specs.Group.{is_vacant}
-use Rattle.mq_table.proofs.Maps.{get-kept}
-use Rattle.mq_sched.specs.Schedule.{ScheduledGroup}
-use Rattle.mq_sched.specs.Sending.{SentQuery}
-use Rattle.mq_sched.specs.Election.{loses_role, heard}
-use Rattle.mq_link.specs.declared.answers.Refusal.{Refusal}
-use Rattle.mq_link.specs.declared.answers.Refusal.TheVariants.{Repeated}
-use Rattle.mq_link.specs.declared.answers.DropReason.{DropReason}
-use Rattle.mq_link.specs.declared.answers.Received.TheVariants.{Dropped}
-use Rattle.mq_link.specs.Configuration.{Configuration}
-use Rattle.mq_link.specs.Counters.{Refused, is_applied}
-use Rattle.mq_link.specs.State.{Groups, LinkState, with_group}
-use Rattle.mq_link.specs.Tick.{Step}
-use Rattle.mq_link.specs.Record.{Statement, RecordOf, limit_passed, Setting, leaving, unless_passed, changed_by, after_sending, sent_at_once, changed_or_refused, change_in, stated, Seen, Entrance, Stops, GoesOn, entrance, is_repeated, judged_from, judged}
-use Rattle.mq_link.specs.Heard.{announced_by, groups_cleared, group_lowered, groups_lowered, query_heard}
-use Rattle.mq_link.specs.Receive.{Envelope, counting_read, taken_in, taken_or_dropped}
-use Rattle.mq_laws.specs.Laws.{ChangesNothing, IsOnlyCounted, DifferAt}
-use Rattle.mq_link.proofs.Recorded.{get-with_group}
 
 -- a record that isn't applied
-unpassed : (name : Option Refusal) (before after : Groups) (queries : List SentQuery) → is_applied (unless_passed name before after queries).verdict ≡ false → ChangesNothing before (unless_passed name before after queries)
-unpassed (Some name) before after queries h = record { groups = refl; queries = refl }
-unpassed None before after queries h = cc
+unpassed : (name : Option Refusal) (before after : Groups) (queries : List SentQuery) → is_applied (unless_passed name before after queries).verdict ≡ false
+    → ChangesNothing before (unless_passed name before after queries)
+unpassed name before after queries h1 = grind arith
 
-unchanged : (at : Setting) (group : ℕ) (groups : Groups) (change : Option GroupChange) → is_applied (changed_or_refused at group groups change).verdict ≡ false → ChangesNothing groups (changed_or_refused at group groups change)
+unchanged : (at : Setting) (group : ℕ) (groups : Groups) (change : Option GroupChange) → is_applied (changed_or_refused at group groups change).verdict ≡ false
+    → ChangesNothing groups (changed_or_refused at group groups change)
 unchanged at group groups None h = record { groups = refl; queries = refl }
 unchanged at group groups (Some change) h =
     let left = after_sending at (changed_by at group groups change) in
     let after = with_group groups group left in
     unpassed (limit_passed at.config.limits after left) groups after (sent_at_once at group (changed_by at group groups change)) h
 
-pub unapplied_stated : (at : Setting) (group : ℕ) (st : Statement) (groups : Groups) → is_applied (stated at group st groups).verdict ≡ false → ChangesNothing groups (stated at group st groups)
+pub unapplied_stated : (at : Setting) (group : ℕ) (st : Statement) (groups : Groups) → is_applied (stated at group st groups).verdict ≡ false
+    → ChangesNothing groups (stated at group st groups)
 unfolding stated
 unapplied_stated at group st groups h = unchanged at group groups (change_in at group st groups) h
 
-pub unapplied_judged : (at : Setting) (seen : Seen) (r : RecordView ℕ) (groups : Groups) → is_applied (judged at seen r groups).verdict ≡ false → ChangesNothing groups (judged at seen r groups)
+-- A record leaves the groups, or has the outcome of a statement.
+pub judged_by : (P : Outcome → Type 0) (at : Setting) (seen : Seen) (r : RecordView ℕ) (groups : Groups) → ((verdict : Verdict) → P (leaving groups verdict))
+    → ((kind : Kind) → P (stated at r.group (RecordOf kind (set.from_list r.sources)) groups)) → P (judged at seen r groups)
 unfolding judged
-unapplied_judged at seen r groups h = by_entrance (entrance at.config r) h
+judged_by P at seen r groups leaves goes = by_entrance (entrance at.config r)
   where
-    by_test : (b : Bool) (kind : Kind) → is_applied (cond b (leaving groups (Refused Repeated)) (stated at r.group (RecordOf kind (set.from_list r.sources)) groups)).verdict ≡ false → ChangesNothing groups (cond b (leaving groups (Refused Repeated)) (stated at r.group (RecordOf kind (set.from_list r.sources)) groups))
-    by_test true kind h = record { groups = refl; queries = refl }
-    by_test false kind h = unapplied_stated at r.group (RecordOf kind (set.from_list r.sources)) groups h
+    by_test : (b : Bool) (kind : Kind) → P (cond b (leaving groups (Refused Repeated)) (stated at r.group (RecordOf kind (set.from_list r.sources)) groups))
+    by_test true kind = leaves (Refused Repeated)
+    by_test false kind = goes kind
 
-    by_entrance : (entered : Entrance) → is_applied (judged_from at seen r groups entered).verdict ≡ false → ChangesNothing groups (judged_from at seen r groups entered)
-    by_entrance (Stops verdict) h = record { groups = refl; queries = refl }
-    by_entrance (GoesOn kind) h = by_test (is_repeated groups seen r.group) kind h
+    by_entrance : (entered : Entrance) → P (judged_from at seen r groups entered)
+    by_entrance (Stops verdict) = leaves verdict
+    by_entrance (GoesOn kind) = by_test (is_repeated groups seen r.group) kind
+
+pub unapplied_judged : (at : Setting) (seen : Seen) (r : RecordView ℕ) (groups : Groups)
+    → is_applied (judged at seen r groups).verdict ≡ false → ChangesNothing groups (judged at seen r groups)
+unapplied_judged at seen r groups =
+    judged_by (λ outcome. is_applied outcome.verdict ≡ false → ChangesNothing groups outcome) at seen r groups
+    (λ verdict h. record { groups = refl; queries = refl }) (λ kind h. unapplied_stated at r.group (RecordOf kind (set.from_list r.sources)) groups h)
 
 -- a record and the other groups
 untied : (q k : ℕ) → (q ≡ k → ⊥) → eq_by_cmp nat_cmp q k ≡ false
 untied q k apart = grind (arith, nat_tests)
 
 pub others_with_group : (groups : Groups) (group : ℕ) (e : ScheduledGroup) → DifferAt group groups (with_group groups group e)
-others_with_group groups group e other apart = get-with_group groups group e other ∙ ap (λ b. cond b (cond (is_vacant e.group) None (Some e)) (map.get groups other)) (untied other group apart)
+others_with_group groups group e other apart =
+    get-with_group groups group e other ∙ ap (λ b. cond b (cond (is_vacant e.group) None (Some e)) (map.get groups other)) (untied other group apart)
 
-others_unless : (group : ℕ) (name : Option Refusal) (before after : Groups) (queries : List SentQuery) → DifferAt group before after → DifferAt group before (unless_passed name before after queries).groups
-others_unless group (Some name) before after queries h = λ other apart. refl
-others_unless group None before after queries h = h
+others_unless : (group : ℕ) (name : Option Refusal) (before after : Groups) (queries : List SentQuery) → DifferAt group before after
+    → DifferAt group before (unless_passed name before after queries).groups
+others_unless group name before after queries h1 = grind arith
 
-others_changed : (at : Setting) (group : ℕ) (groups : Groups) (change : Option GroupChange) → DifferAt group groups (changed_or_refused at group groups change).groups
+others_changed : (at : Setting) (group : ℕ) (groups : Groups) (change : Option GroupChange)
+    → DifferAt group groups (changed_or_refused at group groups change).groups
 others_changed at group groups None = λ other apart. refl
 others_changed at group groups (Some change) =
     let left = after_sending at (changed_by at group groups change) in
@@ -84,16 +80,9 @@ unfolding stated
 others_stated at group st groups = others_changed at group groups (change_in at group st groups)
 
 pub others_judged : (at : Setting) (seen : Seen) (r : RecordView ℕ) (groups : Groups) → DifferAt r.group groups (judged at seen r groups).groups
-unfolding judged
-others_judged at seen r groups = by_entrance (entrance at.config r)
-  where
-    by_test : (b : Bool) (kind : Kind) → DifferAt r.group groups (cond b (leaving groups (Refused Repeated)) (stated at r.group (RecordOf kind (set.from_list r.sources)) groups)).groups
-    by_test true kind = λ other apart. refl
-    by_test false kind = others_stated at r.group (RecordOf kind (set.from_list r.sources)) groups
-
-    by_entrance : (entered : Entrance) → DifferAt r.group groups (judged_from at seen r groups entered).groups
-    by_entrance (Stops verdict) = λ other apart. refl
-    by_entrance (GoesOn kind) = by_test (is_repeated groups seen r.group) kind
+others_judged at seen r groups =
+    judged_by (λ outcome. DifferAt r.group groups outcome.groups) at seen r groups
+    (λ verdict other apart. refl) (λ kind. others_stated at r.group (RecordOf kind (set.from_list r.sources)) groups)
 
 -- a query and the other groups
 others_lowered : (timing : Timing) (now : ℕ) (query : Query ℕ) (groups : Groups) → DifferAt query.group groups (groups_lowered timing now query groups)
@@ -107,25 +96,31 @@ others_lowered timing now query groups other apart =
     by_test false is None = refl
     by_test false is (Some e) = ap (λ b. Some (cond b (group_lowered timing now query.version e) e)) is
 
-pub others_heard : (config : Configuration) (now source : ℕ) (query : Query ℕ) (state : LinkState) → loses_role config.own source state.election.role ≡ false → DifferAt query.group state.groups (query_heard config now source query state).groups
-others_heard config now source query state keeps other apart =
-    others_lowered (heard config.timing config.own now source (announced_by query.version) state.election).timing now query (cond (loses_role config.own source state.election.role) (groups_cleared state.groups) state.groups) other apart
-    ∙ ap (λ b. map.get (cond b (groups_cleared state.groups) state.groups) other) keeps
+heard_by_loss : (config : Configuration) (now source : ℕ) (query : Query ℕ) (state : LinkState) (loses : Bool)
+    → loses_role config.own source state.election.role ≡ loses
+    → DifferAt query.group (cond loses (groups_cleared state.groups) state.groups) (query_heard config now source query state).groups
+heard_by_loss config now source query state loses is other apart =
+    others_lowered (heard config.timing config.own now source (announced_by query.version) state.election).timing now query
+    (cond (loses_role config.own source state.election.role) (groups_cleared state.groups) state.groups) other apart
+    ∙ ap (λ b. map.get (cond b (groups_cleared state.groups) state.groups) other) is
 
-pub others_after_loss : (config : Configuration) (now source : ℕ) (query : Query ℕ) (state : LinkState) → loses_role config.own source state.election.role ≡ true → DifferAt query.group (groups_cleared state.groups) (query_heard config now source query state).groups
-others_after_loss config now source query state loses other apart =
-    others_lowered (heard config.timing config.own now source (announced_by query.version) state.election).timing now query (cond (loses_role config.own source state.election.role) (groups_cleared state.groups) state.groups) other apart
-    ∙ ap (λ b. map.get (cond b (groups_cleared state.groups) state.groups) other) loses
+pub others_heard : (config : Configuration) (now source : ℕ) (query : Query ℕ) (state : LinkState) → loses_role config.own source state.election.role ≡ false
+    → DifferAt query.group state.groups (query_heard config now source query state).groups
+others_heard config now source query state = heard_by_loss config now source query state false
+
+pub others_after_loss : (config : Configuration) (now source : ℕ) (query : Query ℕ) (state : LinkState)
+    → loses_role config.own source state.election.role ≡ true
+    → DifferAt query.group (groups_cleared state.groups) (query_heard config now source query state).groups
+others_after_loss config now source query state = heard_by_loss config now source query state true
 
 -- a datagram that is dropped
-not_dropped : (config : Configuration) (envelope : Envelope) (message : Message ℕ) (step : Step) (reason : DropReason) → (taken_in config envelope message step).answer ≡ Dropped reason → ⊥
+not_dropped : (config : Configuration) (envelope : Envelope) (message : Message ℕ) (step : Step) (reason : DropReason)
+    → (taken_in config envelope message step).answer ≡ Dropped reason → ⊥
 unfolding taken_in
-not_dropped config envelope (QueryMessage query) step reason h = cc
-not_dropped config envelope (OldReport version group) step reason h = cc
-not_dropped config envelope (LeaveMessage group) step reason h = cc
-not_dropped config envelope (ReportMessage records) step reason h = cc
+not_dropped config envelope message step reason h1 = grind arith
 
-pub dropped_decided : (config : Configuration) (envelope : Envelope) (tick : Step) (read : Result (Message ℕ) WireFault) (by : Option DropReason) (reason : DropReason) → (taken_or_dropped config envelope tick read by).answer ≡ Dropped reason → IsOnlyCounted tick (taken_or_dropped config envelope tick read by)
+pub dropped_decided : (config : Configuration) (envelope : Envelope) (tick : Step) (read : Result (Message ℕ) WireFault) (by : Option DropReason) (reason : DropReason)
+    → (taken_or_dropped config envelope tick read by).answer ≡ Dropped reason → IsOnlyCounted tick (taken_or_dropped config envelope tick read by)
 dropped_decided config envelope tick read (Some other) reason h = record { state = refl; queries = refl }
 dropped_decided config envelope tick (Err fault) None reason h = record { state = refl; queries = refl }
 dropped_decided config envelope tick (Ok message) None reason h = absurd (not_dropped config envelope message (counting_read (Ok message) tick) reason h)

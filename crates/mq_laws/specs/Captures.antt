@@ -7,7 +7,6 @@ use Rattle.mq_pcap.specs.Capture.{Captured}
 use Rattle.mq_pcap.specs.Frame.{carried_in}
 use Rattle.mq_wire.specs.declared.query.Query.{Query}
 use Rattle.mq_wire.specs.Family.{Family}
-use Rattle.mq_table.specs.declared.timing.Timing.{Timing}
 use Rattle.mq_sched.specs.Election.{is_querier}
 use Rattle.mq_link.specs.Configuration.{Configuration}
 use Rattle.mq_link.specs.Receive.{receipt_of}
@@ -20,6 +19,7 @@ use Rattle.mq_replay.specs.Report.{Datagram, datagram_of, all_sent}
 use Rattle.mq_check.specs.declared.headers.HeaderFault.{HeaderFault}
 use Rattle.mq_check.specs.Check.{destination_in, faults_in}
 use Rattle.mq_check.specs.Queries.{asked_in, is_general, terms_of, general_terms, query_sent, query_seen}
+use Rattle.mq_check.specs.Unheld.{specific_terms, unheld}
 use Rattle.mq_laws.specs.Events.{CheckEvent, Comes, Wants, Sees, SeesGeneral, LosesRole, HasRoleAgain, SeesFault}
 
 -- a link after a part of a capture, and the events of the check
@@ -89,15 +89,15 @@ abbrev pub fault_events : (number : ℕ) → List HeaderFault → List CheckEven
 fault_events number faults = list_map (SeesFault number) faults
 
 -- a query from the querier's address, or any other datagram, which the link receives
-abbrev pub event_of : Configuration → (in_force : Timing) → (to : ℕ) → Query ℕ → CheckEvent
-event_of config in_force to query =
+abbrev pub event_of : Configuration → LinkState → (to : ℕ) → Query ℕ → CheckEvent
+event_of config link to query =
     if is_general query
-    then SeesGeneral (terms_of config.family to query) (general_terms config in_force)
-    else Sees (terms_of config.family to query) (asked_in query)
+    then SeesGeneral (terms_of config.family to query) (general_terms config link.election.timing)
+    else Sees (terms_of config.family to query) (unheld config.family link.groups (specific_terms config link.election.timing query)) (asked_in query)
 
 abbrev pub datagram_passage : Configuration → (moment to : ℕ) → Datagram → Option (Query ℕ) → (faults : List CheckEvent) → LinkState → Passage
 datagram_passage config moment to datagram (Some query) faults link =
-    record { link = link; events = Comes moment ∷ faults ++ event_of config link.election.timing to query ∷ [] }
+    record { link = link; events = Comes moment ∷ faults ++ event_of config link to query ∷ [] }
 datagram_passage config moment to datagram None faults link =
     let step = (receipt_of config datagram.envelope datagram.body moment link).step in
     record {

@@ -1,6 +1,6 @@
 -- A check in which a querier sends one of two queries for the group 5, and leaves the other out. Afterwards another
 -- router has the role for four minutes.
-use Rattle.std.specs.Prelude.{ℕ, false, List, [], ◌∷◌, Some}
+use Rattle.std.specs.Prelude.{ℕ, false, List, [], ◌∷◌, None, Some}
 use Rattle.mq_table.specs.declared.timing.Timing.{Timing}
 use Rattle.mq_check.specs.declared.asked.Asked.TheVariants.{AllGroups, Group}
 use Rattle.mq_check.specs.declared.terms.Terms.{Terms}
@@ -30,7 +30,7 @@ abbrev pub example_events : List CheckEvent
 example_events =
     Comes 500 ∷ SeesGeneral general_terms general_terms
     ∷ Comes 1000 ∷ Wants group_terms (Group 5 ∷ [])
-    ∷ Comes 1100 ∷ Sees group_terms (Group 5 ∷ [])
+    ∷ Comes 1100 ∷ Sees group_terms (λ asked. None) (Group 5 ∷ [])
     ∷ Comes 2000 ∷ Wants group_terms (Group 5 ∷ [])
     ∷ Comes 20000 ∷ LosesRole
     ∷ Comes 260000 ∷ Wants general_terms (AllGroups ∷ []) ∷ HasRoleAgain

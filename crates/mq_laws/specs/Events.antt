@@ -1,5 +1,5 @@
 -- The events of a check, in order, and its findings.
-use Rattle.std.specs.Prelude.{◌≡◌, ℕ, false, List, [], ◌∷◌, ◌++◌, fold}
+use Rattle.std.specs.Prelude.{◌≡◌, ℕ, Bool, false, List, [], ◌∷◌, ◌++◌, Option, fold}
 use Rattle.mq_table.specs.declared.timing.Timing.{Timing}
 use Rattle.mq_check.specs.declared.asked.Asked.{Asked}
 use Rattle.mq_check.specs.declared.finding.Finding.{Finding}
@@ -8,12 +8,13 @@ use Rattle.mq_check.specs.declared.terms.Terms.{Terms}
 use Rattle.mq_check.specs.Checking.{CheckingValue, checking_at_start, told, settled, with_wanted, specific_seen, general_seen, with_fault, role_lost, role_returned, told_at_end}
 
 -- An event of a check. A moment comes, the link sends a query about these things, which is expected, or a query about
--- these was seen. A general query was seen, with the expected one. The router loses the role of querier, or is querier
--- again. A query's packet has a fault in its headers.
+-- these was seen. Then `unheld` has its expected fields for each of them that the link doesn't hold. A general query was
+-- seen, with the expected one. The router loses the role of querier, or is querier again. A query's packet has a fault in
+-- its headers.
 pub data CheckEvent : Type 0 where
   Comes : (moment : ℕ) → CheckEvent
   Wants : Terms ℕ → List (Asked ℕ) → CheckEvent
-  Sees : Terms ℕ → List (Asked ℕ) → CheckEvent
+  Sees : Terms ℕ → (unheld : Asked ℕ → Option (Terms ℕ)) → List (Asked ℕ) → CheckEvent
   SeesGeneral : (terms wanted : Terms ℕ) → CheckEvent
   LosesRole : CheckEvent
   HasRoleAgain : CheckEvent
@@ -23,7 +24,7 @@ pub data CheckEvent : Type 0 where
 abbrev pub moment_behind : (now : ℕ) → CheckEvent → ℕ
 moment_behind now (Comes moment) = moment
 moment_behind now (Wants terms asked) = now
-moment_behind now (Sees terms asked) = now
+moment_behind now (Sees terms unheld asked) = now
 moment_behind now (SeesGeneral terms wanted) = now
 moment_behind now LosesRole = now
 moment_behind now HasRoleAgain = now
@@ -33,7 +34,7 @@ moment_behind now (SeesFault number fault) = now
 abbrev pub check_by : (within : ℕ) → Timing → (now : ℕ) → CheckEvent → CheckingValue → CheckingValue
 check_by within timing now (Comes moment) c = settled within moment c
 check_by within timing now (Wants terms asked) c = fold (with_wanted now terms) c asked
-check_by within timing now (Sees terms asked) c = specific_seen now terms asked c
+check_by within timing now (Sees terms unheld asked) c = specific_seen now terms unheld asked c
 check_by within timing now (SeesGeneral terms wanted) c = general_seen within timing now terms wanted c
 check_by within timing now LosesRole c = role_lost within timing now c
 check_by within timing now HasRoleAgain c = role_returned within now c
@@ -42,7 +43,7 @@ check_by within timing now (SeesFault number fault) c = with_fault now number c 
 abbrev pub told_by : (within : ℕ) → CheckEvent → CheckingValue → List (Finding ℕ)
 told_by within (Comes moment) c = told within moment c
 told_by within (Wants terms asked) c = []
-told_by within (Sees terms asked) c = []
+told_by within (Sees terms unheld asked) c = []
 told_by within (SeesGeneral terms wanted) c = []
 told_by within LosesRole c = []
 told_by within HasRoleAgain c = []
@@ -61,14 +62,16 @@ abbrev pub told_by_all : (within : ℕ) → Timing → (now : ℕ) → List Chec
 told_by_all within timing now [] c = []
 told_by_all within timing now (e ∷ es) c = told_by within e c ++ told_by_all within timing (moment_behind now e) es (check_by within timing now e c)
 
--- the check of a capture with these events up to its end, at a moment, and all its findings
-abbrev pub checked_by : (within : ℕ) → Timing → List CheckEvent → CheckingValue
-checked_by within timing events = check_by_all within timing 0 events (checking_at_start timing)
+-- The check of a capture with these events up to its end, at a moment, and all its findings. It is strict, or accepts
+-- what the standard's words allow.
+abbrev pub checked_by : (within : ℕ) → Timing → (strict : Bool) → List CheckEvent → CheckingValue
+checked_by within timing strict events = check_by_all within timing 0 events (checking_at_start within timing strict)
 
-abbrev pub found_by : (within : ℕ) → Timing → (end : ℕ) → List CheckEvent → List (Finding ℕ)
-found_by within timing end events =
-    told_by_all within timing 0 events (checking_at_start timing) ++ told_at_end within timing end (checked_by within timing events)
+abbrev pub found_by : (within : ℕ) → Timing → (strict : Bool) → (end : ℕ) → List CheckEvent → List (Finding ℕ)
+found_by within timing strict end events =
+    told_by_all within timing 0 events (checking_at_start within timing strict)
+    ++ told_at_end within timing end (checked_by within timing strict events)
 
 -- there was room for all pending entries
-abbrev pub HasRoom : (within : ℕ) → Timing → List CheckEvent → Type 0
-HasRoom within timing events = (checked_by within timing events).waiting.is_full ≡ false
+abbrev pub HasRoom : (within : ℕ) → Timing → (strict : Bool) → List CheckEvent → Type 0
+HasRoom within timing strict events = (checked_by within timing strict events).waiting.is_full ≡ false

@@ -17,6 +17,7 @@ pub record CheckedCapture : Type 0 where
   pub within : ℕ
   pub until : Option ℕ
   pub cite : Bool
+  pub strict : Bool
   pub form : Form
   pub packets : List Captured
   pub end : Option PcapFault
@@ -30,7 +31,7 @@ abbrev pub end_in : CheckedCapture → ℕ
 end_in c = end_of c.until c.packets
 
 abbrev pub verdict_of : CheckedCapture → Verdict
-verdict_of c = check_of c.config c.within c.until c.cite (Ok c.form) c.packets c.end
+verdict_of c = check_of c.config c.within c.until c.cite c.strict (Ok c.form) c.packets c.end
 
 -- Its result is the totals. No fault and no gap ended it before, and there was room for all pending entries.
 abbrev pub CameToItsEnd : CheckedCapture → Type 0
@@ -43,8 +44,8 @@ pub record Tells (c : CheckedCapture) (found : List (Finding ℕ)) : Type 0 wher
 
 -- the text has the findings by the events, and there was room for all pending entries
 pub record TellsWhatHappened (c : CheckedCapture) : Type 0 where
-  pub room : HasRoom c.within c.config.timing (events_in c)
-  pub tells : Tells c (found_by c.within c.config.timing (end_in c) (events_in c))
+  pub room : HasRoom c.within c.config.timing c.strict (events_in c)
+  pub tells : Tells c (found_by c.within c.config.timing c.strict (end_in c) (events_in c))
 
 -- the text says that there is no finding, and no more
 pub record IsClean (c : CheckedCapture) : Type 0 where

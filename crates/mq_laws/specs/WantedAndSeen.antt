@@ -15,7 +15,7 @@ abbrev pub wanted_in : (now : ℕ) → List CheckEvent → List Ask
 wanted_in now [] = []
 wanted_in now (Comes moment ∷ es) = wanted_in moment es
 wanted_in now (Wants terms asked ∷ es) = asks_at now terms asked ++ wanted_in now es
-wanted_in now (Sees terms asked ∷ es) = wanted_in now es
+wanted_in now (Sees terms unheld asked ∷ es) = wanted_in now es
 wanted_in now (SeesGeneral terms wanted ∷ es) = wanted_in now es
 wanted_in now (LosesRole ∷ es) = wanted_in now es
 wanted_in now (HasRoleAgain ∷ es) = wanted_in now es
@@ -72,7 +72,7 @@ abbrev pub seen_in : (within : ℕ) → (is_querier : Bool) → Returns → (now
 seen_in within is_querier r now [] = []
 seen_in within is_querier r now (Comes moment ∷ es) = seen_in within is_querier (record r { due = still_due within moment r.due }) moment es
 seen_in within is_querier r now (Wants terms asked ∷ es) = seen_in within is_querier (all_wanted now asked r) now es
-seen_in within is_querier r now (Sees terms asked ∷ es) = asks_at now terms asked ++ seen_in within is_querier (all_seen now asked r) now es
+seen_in within is_querier r now (Sees terms unheld asked ∷ es) = asks_at now terms asked ++ seen_in within is_querier (all_seen now asked r) now es
 seen_in within is_querier r now (SeesGeneral terms wanted ∷ es) =
     general_ask is_querier r.due now terms ++ seen_in within is_querier (general_returned is_querier now r.due r.early) now es
 seen_in within is_querier r now (LosesRole ∷ es) = seen_in within false r now es

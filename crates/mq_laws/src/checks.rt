@@ -1,5 +1,5 @@
 //! Laws of the check of a capture: its definition (`mq_check`) means what it is for. The functions have no effect at
-//! run time: each contract is a law, for every configuration and tolerance.
+//! run time: each contract is a law, for every configuration and tolerance, strict or not.
 //!
 //! - The text of a check follows from its events: `checks_tell_what_happened`.
 //! - If the queries of a capture are those of the link at their moments: `nothing_is_found`.
@@ -9,7 +9,7 @@
 //! - The text in these cases: `clean_captures_are_told_so`, `what_was_left_out_is_told`.
 //! - The times of general queries: `general_queries_are_on_time_at_these_intervals`.
 //! - The existence of such checks: `a_check_of_two_queries`.
-ghost use Rattle.std.specs.Prelude.{◌≡◌, ◌↔◌, ℕ, ◌+◌, ◌-◌, ◌≤◌, List, [], ◌++◌, None};
+ghost use Rattle.std.specs.Prelude.{◌≡◌, ◌↔◌, ℕ, Bool, ◌+◌, ◌-◌, ◌≤◌, List, [], ◌++◌, None, false};
 ghost use Rattle.mq_table.specs.declared.timing.Timing.{Timing};
 ghost use Rattle.mq_table.specs.Timing.{query_interval};
 ghost use Rattle.mq_check.specs.declared.phase.Phase.TheVariants.{Starting, Heard, Returned};
@@ -48,32 +48,32 @@ pub fn what_happens_comes_in_order()
 /// tolerance of its partner, with the same fields. Each finding is there once, in the order in which the queries are
 /// expected.
 pub fn what_was_left_out_is_missing()
-    ensures { (within : ℕ) (timing : Timing) (end : ℕ) (expected : List Expected) (events : List CheckEvent)
-        → AreInOrder 0 events end → IsAsWanted within timing end expected events → HasRoom within timing events
-        → found_by within timing end events ≡ missing_of expected }
+    ensures { (within : ℕ) (timing : Timing) (strict : Bool) (end : ℕ) (expected : List Expected) (events : List CheckEvent)
+        → AreInOrder 0 events end → IsAsWanted within timing end expected events → HasRoom within timing strict events
+        → found_by within timing strict end events ≡ missing_of expected }
 {}
 
 /// A lemma: nothing is found if the seen queries are the expected ones, at their moments.
 pub fn nothing_is_found()
-    ensures { (within : ℕ) (timing : Timing) (end : ℕ) (events : List CheckEvent)
-        → AreInOrder 0 events end → IsOnTime within timing end events → HasRoom within timing events
-        → AreSeen within (wanted_in 0 events) events → found_by within timing end events ≡ [] }
+    ensures { (within : ℕ) (timing : Timing) (strict : Bool) (end : ℕ) (events : List CheckEvent)
+        → AreInOrder 0 events end → IsOnTime within timing end events → HasRoom within timing strict events
+        → AreSeen within (wanted_in 0 events) events → found_by within timing strict end events ≡ [] }
 {}
 
 /// A lemma: if some of the expected queries are taken out, exactly these are missing.
 pub fn what_is_taken_out_is_missing()
-    ensures { (within : ℕ) (timing : Timing) (end : ℕ) (events : List CheckEvent) (before taken behind : List Ask)
-        → AreInOrder 0 events end → IsOnTime within timing end events → HasRoom within timing events
+    ensures { (within : ℕ) (timing : Timing) (strict : Bool) (end : ℕ) (events : List CheckEvent) (before taken behind : List Ask)
+        → AreInOrder 0 events end → IsOnTime within timing end events → HasRoom within timing strict events
         → wanted_in 0 events ≡ before ++ taken ++ behind → TakesOut within end taken behind
-        → AreSeen within (before ++ behind) events → found_by within timing end events ≡ all_missing taken }
+        → AreSeen within (before ++ behind) events → found_by within timing strict end events ≡ all_missing taken }
 {}
 
 /// A lemma: nothing is found if any of the expected queries are moved within the tolerance. Queries about one thing
 /// keep their order.
 pub fn nothing_is_found_of_moved_queries()
-    ensures { (within : ℕ) (timing : Timing) (end : ℕ) (events : List CheckEvent)
-        → AreInOrder 0 events end → IsOnTime within timing end events → HasRoom within timing events
-        → AreSeenWithin within (wanted_in 0 events) events → found_by within timing end events ≡ [] }
+    ensures { (within : ℕ) (timing : Timing) (strict : Bool) (end : ℕ) (events : List CheckEvent)
+        → AreInOrder 0 events end → IsOnTime within timing end events → HasRoom within timing strict events
+        → AreSeenWithin within (wanted_in 0 events) events → found_by within timing strict end events ≡ [] }
 {}
 
 /// A lemma: the check of a capture with these queries says that nothing is found, and no more.
@@ -114,5 +114,5 @@ pub fn general_queries_are_on_time_at_these_intervals()
 pub fn a_check_of_two_queries()
     ensures in_order { AreInOrder 0 example_events 262000 }
     ensures as_wanted { IsAsWanted 100 example_timing 262000 example_expected example_events }
-    ensures room { HasRoom 100 example_timing example_events }
+    ensures room { HasRoom 100 example_timing false example_events }
 {}

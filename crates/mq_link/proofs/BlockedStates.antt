@@ -1,12 +1,14 @@
 -- What a BLOCK comes to where its group stands.
 use Rattle.std.proofs.Common.{◌≡◌, ℕ, ◌+◌, ◌≤◌, ◌==◌, ◌⊎◌, inl, inr, Bool, true, false, cond, ◌&&◌, not, ◌||◌, List, [], ◌∷◌, Option, None, Some, is_some, refl, sym, ap, ◌∙◌, subst, arith, ltb}
+use Rattle.mq_link.proofs.GrownGroups.{one_at_most}
+use Rattle.mq_link.proofs.HeldAs.{is_from}
 use Rattle.std.specs.FinMap as map
 use Rattle.std.specs.FinSet as set
 use Rattle.std.specs.List.{list_any}
 use Rattle.std.specs.Option.{option_map}
 use Rattle.std.specs.Ordering.{nat_cmp, eq_by_cmp}
-use Rattle.std.proofs.Math.Bool.{or-false}
-use Rattle.std.proofs.lemmas.Bool.{true≢false, cases_eq, eq-eqb, eqb-true, ltb-true, ne_eqb}
+use Rattle.std.proofs.Math.Bool.{or-false, and-true}
+use Rattle.std.proofs.lemmas.Bool.{true≢false, cases_eq, eq-eqb, eqb-true, ltb-true, ne_eqb, and_right}
 use Rattle.mq_sets.specs.Ascending.{set_of}
 use Rattle.mq_table.specs.declared.kind.Kind.{Kind}
 use Rattle.mq_table.specs.declared.kind.Kind.TheVariants.{IsIn, IsEx, ToIn, ToEx, Allow, Block}
@@ -67,11 +69,7 @@ timer_stays gmi (Exclude m) s t a = each_case (TimerThen gmi (Exclude m) s) (bot
 -- it asks for those running ones that it names
 query_of_running : (gmi : ℕ) (mode : FilterMode) (X Y A : Set) (s : ℕ) → X s ≡ true → Y s ≡ false → (table_row gmi mode Block X Y A).query s ≡ A s
 query_of_running gmi Include X Y A s runs none = ap (λ b. b && A s) runs
-query_of_running gmi (Exclude d) X Y A s runs none = ap (λ b. A s && not b) none ∙ and_true (A s)
-  where
-    and_true : (b : Bool) → (b && true) ≡ b
-    and_true true = refl
-    and_true false = refl
+query_of_running gmi (Exclude d) X Y A s runs none = ap (λ b. A s && not b) none ∙ and-true (A s)
 
 mode_stays : (gmi : ℕ) (mode : FilterMode) (X Y A : Set) → (table_row gmi mode Block X Y A).mode ≡ mode
 mode_stays gmi Include X Y A = refl
@@ -80,10 +78,6 @@ mode_stays gmi (Exclude d) X Y A = refl
 group_unasked : (gmi : ℕ) (mode : FilterMode) (X Y A : Set) → (table_row gmi mode Block X Y A).query_group ≡ false
 group_unasked gmi Include X Y A = refl
 group_unasked gmi (Exclude d) X Y A = refl
-
-include_is : (mode : FilterMode) → is_include mode ≡ true → mode ≡ Include
-include_is Include is = refl
-include_is (Exclude d) is = absurd (true≢false (sym is))
 
 -- two sets that agree on the running sources of a group ask for the same
 module _ (timing : Timing) (now : ℕ) (a b : Set) (e : ScheduledGroup) (agree : (s : ℕ) → is_running (timer_at e.group s) ≡ true → a s ≡ b s) where
@@ -159,7 +153,7 @@ module _ (at : Setting) (a : ℕ) (named : NamedSources) (groups : Groups) (soun
   timer_kept : (s : ℕ) → timer_at change.group s ≡ timer_at before.group s
   timer_kept s =
       at_source_of (λ _ _ _ _ t. t ≡ timer_at before.group s) at.election.timing at.now before.group Block named s
-      (timer_stays gmi before.group.mode s (timer_at before.group s) (set.contains named s) (λ include. let formed = held_as.held in formed.none_stopped (include_is before.group.mode include) s) (λ names. there s (sym (is s) ∙ names)))
+      (timer_stays gmi before.group.mode s (timer_at before.group s) (set.contains named s) (λ include. let formed = held_as.held in formed.none_stopped (is_from before.group.mode include) s) (λ names. there s (sym (is s) ∙ names)))
 
   group_kept : change.group ≡ before.group
   group_kept = λ i. record { mode = mode_stays gmi before.group.mode (running before.group) (stopped before.group) (set.contains named) i; sources = same_sources change.group.sources before.group.sources timer_kept i; v1 = before.group.v1; v2 = before.group.v2 }
@@ -186,12 +180,8 @@ module _ (at : Setting) (a : ℕ) (named : NamedSources) (groups : Groups) (soun
 
   change_is : change_said (is_muted at.config a (RecordOf Block named)) ≡ Some change
   change_is =
-      ap change_said (never (is_source_specific at.config a))
+      ap change_said (and_right (is_source_specific at.config a) false refl)
       ∙ ap (λ b. option_map (λ (r : Kind × NamedSources). change_of at.election.timing at.now before.group r.0 r.1) (cond b None (Some (Block, named)))) unmuted
-    where
-      never : (b : Bool) → (b && false) ≡ false
-      never true = refl
-      never false = refl
 
   pub formed : IsHeld after.group
   formed = held_after_round at.election.timing at.now asked_for (held_acted (is_querier at.election.role) at.election.timing at.now false asked before held_as.held)
@@ -205,14 +195,10 @@ module _ (at : Setting) (a : ℕ) (named : NamedSources) (groups : Groups) (soun
       ap (group_counted at.election.timing at.now) (acted_keeps_query (is_querier at.election.role) at.election.timing at.now asked before)
       ∙ same_count at.election.timing at.now before.schedule.group_query quiet.group in
       let same = ap (λ q. one_if (is_some q)) query in
-      let most = one (is_some after.schedule.sources_due) in
+      let most = one_at_most (is_some after.schedule.sources_due) in
       let all = sound.within.scheduled in
       by_due (is_some before.schedule.sources_due) refl same most all
     where
-      one : (b : Bool) → one_if b ≤ 1
-      one true = omega arith
-      one false = omega arith
-
       by_due : (b : Bool) → is_some before.schedule.sources_due ≡ b → one_if (is_some after.schedule.group_query) ≡ one_if (is_some before.schedule.group_query) → one_if (is_some after.schedule.sources_due) ≤ 1 → schedules_in groups ≤ at.config.limits.scheduled → schedules_in groups + schedules_of after ≤ at.config.limits.scheduled + schedules_of before
       by_due true due same most all = let has = ap one_if due in omega (arith, has, same, most, all)
       by_due false due same most all = let few = ltb-true (schedules_in groups) at.config.limits.scheduled (ap (λ b. b || ltb (schedules_in groups) at.config.limits.scheduled) (sym due) ∙ left) in let none = ap one_if due in omega (arith, none, same, most, few)

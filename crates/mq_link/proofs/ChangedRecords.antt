@@ -1,5 +1,6 @@
 -- Which groups records have changed, by the numbers of the groups: a record changes that which it speaks of alone.
 use Rattle.std.proofs.Common.{◌≡◌, ℕ, ◌+◌, ◌<◌, ◌≤◌, Bool, true, false, cond, ◌||◌, List, [], ◌∷◌, length, set, Option, None, Some, IfSome, MatchOption, refl, sym, ap, ◌∙◌, arith, leb, ltb}
+use Rattle.std.proofs.Math.Bool.{or-false}
 use Rattle.std.specs.Prelude.{slice_index}
 use Rattle.std.specs.Option.{option_map_or, unwrap_or}
 use Rattle.std.specs.Ordering.{nat_cmp, eq_by_cmp}
@@ -216,10 +217,6 @@ one_marked at all was before rest r seen s next counts next_counts h first left 
     after : Seen
     after = seen_after at.config r s.groups seen
 
-or_false : (a : Bool) → a ≡ (a || false)
-or_false true = refl
-or_false false = refl
-
 pub all_marked : (at : Setting) (all : List (RecordView ℕ)) (was : Groups) (left : List (RecordView ℕ)) (seen : Seen) (s : HeldState) (counts : List ℕ)
     → AreMarkedSoFar at all was left seen s counts → left ≡ [] → AreMarked s counts (changed_by_all at map.empty all was)
 all_marked at all was left seen s counts h none = record {
@@ -227,7 +224,7 @@ all_marked at all was left seen s counts h none = record {
   are_met = h.marked.are_met;
   each = λ address.
       h.marked.each address
-      ∙ or_false (h.test address)
+      ∙ sym (or-false (h.test address))
       ∙ ap (λ records. h.test address || changed_by_all at seen records s.groups address) (sym none)
       ∙ h.changed address;
 }

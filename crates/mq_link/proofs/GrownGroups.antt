@@ -15,7 +15,7 @@ use Rattle.mq_link.specs.Counters.{Refused}
 use Rattle.mq_link.specs.Record.{Setting, Statement, RecordOf, Seen, Entrance, Stops, GoesOn, after_sending, all_judged, change_in, changed_by, changed_or_refused, entrance, is_repeated, judged, judged_from, leaving, limit_passed, seen_after, sent_at_once, stated, unless_passed}
 use Rattle.mq_link.specs.State.{Groups, with_group}
 
-one_at_most : (b : Bool) → one_if b ≤ 1
+pub one_at_most : (b : Bool) → one_if b ≤ 1
 one_at_most true = omega arith
 one_at_most false = omega arith
 

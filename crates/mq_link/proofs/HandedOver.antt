@@ -1,5 +1,5 @@
 -- What a sender has handed to its outlet after some queries.
-use Rattle.std.proofs.Common.{◌≡◌, ℕ, ◌+◌, Bool, not, List, [], ◌∷◌, ◌++◌, sym, ap, ◌∙◌, subst, arith, cond, length, suc, refl}
+use Rattle.std.proofs.Common.{◌≡◌, ℕ, ◌+◌, Bool, not, List, [], ◌∷◌, ◌++◌, sym, ap, ◌∙◌, subst, arith, cond}
 use Rattle.std.specs.Prelude.{map as list_map}
 use Rattle.std.specs.List.{count_by}
 use Rattle.std.proofs.lemmas.List.Sums.{sum_by-cons}
@@ -10,12 +10,9 @@ use Rattle.mq_sched.specs.Sending.{SentQuery, GeneralQuery, GroupQuery, SourcesQ
 use Rattle.mq_sched.specs.Sink.{Sends}
 use Rattle.mq_link.specs.Family.{per_query}
 use Rattle.mq_link.specs.declared.sender.Sender.{Sender}
-use Rattle.mq_link.specs.Configuration.{Configuration}
-use Rattle.mq_link.specs.Run.{answered, HandsOut}
-use Rattle.mq_link.specs.Tick.{Step}
-use Rattle.mq_link.specs.Handing.{HandsOver, HandsAll, FitsOne, outgoing_on, Tally}
+use Rattle.mq_link.specs.Handing.{HandsOver, HandsAll, FitsOne, outgoing_on}
 use Rattle.mq_link.specs.Sender.{TakesQuery, tally_of}
-use Rattle.mq_link.specs.Sent.{Outgoing, outgoing_of}
+use Rattle.mq_link.specs.Sent.{Outgoing}
 use Rattle.mq_link.specs.State.{one_if}
 
 -- some messages, and then others
@@ -78,26 +75,6 @@ pub same_outlet : {F O K E : Type 0} (takes : O → ℕ → List ℕ → Bool �
     → Sends (TakesQuery takes family) old queries new → new.outlet.ghost_name ≡ old.outlet.ghost_name
 same_outlet takes family old [] new same = ap (λ s. s.outlet.ghost_name) (sym same)
 same_outlet takes family old (query ∷ queries) new sends = same_outlet takes family sends.0 queries new sends.2 ∙ sends.1.same_outlet
-
--- each message is answered
-pub each_answered : {O : Type 0} (takes : O → ℕ → List ℕ → Bool → O → Type 0) (old new : O) (messages : List Outgoing) (answers : List Bool) → HandsOver takes old messages answers new → length answers ≡ length messages
-each_answered takes old new [] [] handed = refl
-each_answered takes old new [] (answer ∷ answers) handed = absurd handed
-each_answered takes old new (message ∷ messages) [] handed = absurd handed
-each_answered takes old new (message ∷ messages) (answer ∷ answers) handed = ap suc (each_answered takes handed.0 new messages answers handed.2)
-
--- What a call hands out is what an outlet was handed that was sent the call's queries on the terms of its router.
-pub hands_out : {O : Type 0} (takes : O → ℕ → List ℕ → Bool → O → Type 0) (config : Configuration) (step : Step) (old new : Tally O)
-    (h : HandsAll takes config.family (record { own = config.own; timing = step.timing }) step.queries old new)
-    → HandsOut config step (outgoing_of config step) h.answers (answered h.answers step) × HandsOver takes old.outlet (outgoing_of config step) h.answers new.outlet
-hands_out takes config step old new h = (
-  record {
-    handed = refl;
-    answered_each = each_answered takes old.outlet new.outlet (outgoing_of config step) h.answers h.handed;
-    leaves = refl;
-  },
-  h.handed,
-)
 
 -- answers that were counted from 0 are counted on
 pub counted_from_none : (old n : ℕ) → counted_on old (counted_on 0 n) ≡ counted_on old n

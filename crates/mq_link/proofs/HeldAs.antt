@@ -159,7 +159,7 @@ sendings_lowered limit true (Some t) = lowered t
     lowered (Running d n) = refl
 sendings_lowered limit false (Some t) = refl
 
-same_tests : (a b : Bool) → (a ≡ true → b ≡ true) → (b ≡ true → a ≡ true) → a ≡ b
+pub same_tests : (a b : Bool) → (a ≡ true → b ≡ true) → (b ≡ true → a ≡ true) → a ≡ b
 same_tests true true f g = refl
 same_tests true false f g = sym (f refl)
 same_tests false true f g = g refl

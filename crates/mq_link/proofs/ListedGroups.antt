@@ -1,5 +1,6 @@
 -- What lists of the addresses of groups that a call changed are lent, and leave.
-use Rattle.std.proofs.Common.{◌≡◌, ℕ, zero, suc, ◌+◌, ◌*◌, ◌/◌, ◌≤◌, min, Bool, false, ◌||◌, true, List, length, refl, ap, ◌∙◌, arith}
+use Rattle.std.proofs.Common.{◌≡◌, ℕ, zero, suc, ◌+◌, ◌*◌, ◌/◌, ◌≤◌, min, Bool, false, ◌||◌, List, length, ap, ◌∙◌, arith, sym}
+use Rattle.std.proofs.Math.Bool.{or-false}
 use Rattle.std.specs.Prelude.{map as list_map, slice_index}
 use Rattle.std.proofs.lemmas.List.{length-map}
 use Rattle.mq_held.specs.Held.{HeldState, IsNumber}
@@ -18,13 +19,9 @@ numbers_marked s counts test marked number some = let used = marked.are_met.unus
 pub those_so : {test other : ℕ → Bool} {addresses : List ℕ} → ((address : ℕ) → test address ≡ other address) → AreThose test addresses → AreThose other addresses
 those_so same are = record { ascending = are.ascending; each = λ address. are.each address ∙ same address }
 
-or_false : (b : Bool) → b ≡ (b || false)
-or_false true = refl
-or_false false = refl
-
 -- with none, they are the same
 pub those_alone : {test : ℕ → Bool} {addresses : List ℕ} → AreThose test addresses → AreThose (λ address. test address || false) addresses
-those_alone {test} are = those_so (λ address. or_false (test address)) are
+those_alone {test} are = those_so (λ address. sym (or-false (test address))) are
 
 -- how many there are in a workspace, by what is inside of it
 pub few_inside : {K A : Type 0} (number : K → ℕ) (lists : Lists K A) (w lent : WorkspaceState) (most : ℕ) → w ≡ lent → w.changed ≡ list_map number lists.changed.items → length lent.changed ≤ most → length lists.changed.items ≤ most

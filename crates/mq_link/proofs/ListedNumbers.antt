@@ -1,10 +1,10 @@
 -- The numbers whose count isn't zero, and the counts.
-use Rattle.std.proofs.Common.{◌≡◌, ◌≢◌, ℕ, suc, ◌+◌, ◌<◌, ◌≤◌, Bool, true, false, cond, ◌⊎◌, inl, inr, List, [], ◌∷◌, ◌++◌, length, get_or, set, replicate, drop, refl, sym, ap, ◌∙◌, arith, ltb, length-set, drop-cons}
+use Rattle.std.proofs.Common.{◌≡◌, ◌≢◌, ℕ, suc, ◌+◌, ◌<◌, ◌≤◌, Bool, true, false, cond, ◌⊎◌, inl, inr, List, [], ◌∷◌, ◌++◌, length, set, drop, refl, sym, ap, ◌∙◌, arith, ltb, length-set}
 use Rattle.std.specs.Prelude.{slice_index}
 use Rattle.std.specs.List.{All, count_by}
 use Rattle.std.specs.Ordering.{nat_cmp, eq_by_cmp}
 use Rattle.std.proofs.lemmas.Bool.{cases_lt, lt-ltb, true≢false}
-use Rattle.std.proofs.lemmas.List.{get_or-set_same, get_or-set_other, get_or-replicate, get_or_past, length-replicate, length-append, drop_all}
+use Rattle.std.proofs.lemmas.List.{get_or-set_same, get_or-set_other, length-append, drop_all}
 use Rattle.std.proofs.lemmas.List.Elements.{All-push}
 use Rattle.std.proofs.lemmas.List.Sums.{sum_by-cons, sum_by-append, sum_by-set, count_by-le-length}
 use Rattle.mq_held.proofs.Sorted.{tied, ties}
@@ -39,13 +39,6 @@ pub listed_each : (counts numbers : List ℕ) → AreListed counts numbers → (
 listed_each counts numbers known number some =
     let one : counts_so (slice_index counts number) ≡ 1 = ap one_or_none (lt-ltb 0 (slice_index counts number) (omega (arith, some))) in
     omega (arith, known.once number, one)
-
-pub none_at_start : (groups : ℕ) → AreNone (replicate groups 0)
-none_at_start groups number = by_room (cases_lt number groups)
-  where
-    by_room : (number < groups) ⊎ (groups ≤ number) → slice_index (replicate groups 0) number ≡ 0
-    by_room (inl within) = get_or-replicate groups number 0 0 within
-    by_room (inr past) = get_or_past (replicate groups 0) number 0 (let nothing : ℕ = 0 in let long = length-replicate groups nothing in omega (arith, past, long))
 
 module _ (counts numbers : List ℕ) (known : AreListed counts numbers) (number : ℕ) (within : number < length counts) (count : ℕ) (some : 1 ≤ count) where
   abbrev pub counted : List ℕ
@@ -127,29 +120,6 @@ module _ (counts numbers : List ℕ) (known : AreListed counts numbers) (number 
 -- Counts are set to zero, one listed number after the other: what isn't zero is of a number that is left.
 abbrev pub IsLeft : (counts numbers : List ℕ) (index : ℕ) → Type 0
 IsLeft counts numbers index = (n : ℕ) → 1 ≤ slice_index counts n → 1 ≤ times n (drop index numbers)
-
-suc_is : (k : ℕ) → suc k ≡ k + 1
-suc_is k = omega arith
-
-pub one_cleared : (counts numbers : List ℕ) (index : ℕ) → IsLeft counts numbers index → index < length numbers → (d : ℕ) → get_or numbers index d < length counts
-    → IsLeft (set counts (get_or numbers index d) 0) numbers (index + 1)
-one_cleared counts numbers index left within d is_within n more = by_number (eq_by_cmp nat_cmp n number) refl
-  where
-    number : ℕ
-    number = get_or numbers index d
-
-    by_number : (b : Bool) → eq_by_cmp nat_cmp n number ≡ b → 1 ≤ times n (drop (index + 1) numbers)
-    by_number true same =
-        let zero_there = ap (slice_index (set counts number 0)) (tied n number same) ∙ get_or-set_same counts number 0 0 is_within in
-        absurd (omega (arith, more, zero_there))
-    by_number false differs =
-        let apart : n ≢ number = λ same. true≢false (sym (ties n number same) ∙ differs) in
-        let there = get_or-set_other counts number n 0 0 apart in
-        let had = left n (omega (arith, more, there)) in
-        let first = ap (times n) (drop-cons numbers index d within) ∙ sum_by-cons (is_cell n) number (drop (suc index) numbers) in
-        let other = is_cell-other n number (λ same. apart (sym same)) in
-        let behind = ap (λ k. times n (drop k numbers)) (suc_is index) in
-        omega (arith, had, first, behind, other)
 
 pub all_cleared : (counts numbers : List ℕ) (index : ℕ) → length numbers ≤ index → IsLeft counts numbers index → AreNone counts
 all_cleared counts numbers index all left n = by_count (cases_lt 0 (slice_index counts n))

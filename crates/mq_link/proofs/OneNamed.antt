@@ -1,5 +1,6 @@
 -- What lists of no source and of one source name.
-use Rattle.std.proofs.Common.{◌≡◌, ℕ, get_or, Bool, true, false, ◌||◌, List, [], ◌∷◌, length, refl, sym, ap, ◌∙◌, arith}
+use Rattle.std.proofs.Common.{◌≡◌, ℕ, get_or, false, List, [], ◌∷◌, length, sym, ap, ◌∙◌, arith}
+use Rattle.std.proofs.Math.Bool.{or-false}
 use Rattle.std.specs.Ordering.{nat_cmp, eq_by_cmp}
 use Rattle.std.specs.Cmp.{nat_cmp_total}
 use Rattle.std.specs.FinSet as set
@@ -9,11 +10,7 @@ pub names-none : {K : Type 0} (number : K → ℕ) (xs : List K) → xs ≡ [] �
 names-none number xs none s = ap (λ ys. set.contains (named_in number ys) s) none ∙ set.contains-from_list nat_cmp_total [] s
 
 pub names-one : {K : Type 0} (number : K → ℕ) (xs : List K) (x : K) → xs ≡ x ∷ [] → (s : ℕ) → set.contains (named_in number xs) s ≡ eq_by_cmp nat_cmp s (number x)
-names-one number xs x one s = ap (λ ys. set.contains (named_in number ys) s) one ∙ set.contains-from_list nat_cmp_total (number x ∷ []) s ∙ or_false (eq_by_cmp nat_cmp s (number x))
-  where
-    or_false : (b : Bool) → (b || false) ≡ b
-    or_false true = refl
-    or_false false = refl
+names-one number xs x one s = ap (λ ys. set.contains (named_in number ys) s) one ∙ set.contains-from_list nat_cmp_total (number x ∷ []) s ∙ or-false (eq_by_cmp nat_cmp s (number x))
 
 -- a list of one item
 pub one_item : {X : Type 0} (xs : List X) (x : X) → length xs ≡ 1 → x ≡ get_or xs 0 x → xs ≡ x ∷ []

@@ -1,10 +1,10 @@
 -- What a group that is put, made or taken out moves is paid by five for each of its sources, and by what is put by.
 use Rattle.std.proofs.Common.{◌≡◌, cond, ℕ, ◌+◌, ◌-◌, ◌*◌, ◌/◌, ◌<◌, ◌≤◌, Bool, true, false, not, min, ⊎_elim, None, Some, IfSome, refl, length, sym, ap, ◌∙◌, arith, leb, ltb, ◌⊎◌, inl, inr}
+use Rattle.mq_held.proofs.DueInOrder.{few-running}
+use Rattle.mq_link.proofs.GrownGroups.{one_at_most}
 use Rattle.std.specs.Prelude.{slice_index}
 use Rattle.std.proofs.Math.Nat.{mul-le-mul_right}
 use Rattle.std.proofs.lemmas.Bool.{cases_lt, le-leb, lt-leb, lt-ltb, le-ltb}
-use Rattle.std.proofs.lemmas.List.{length-map}
-use Rattle.std.proofs.lemmas.List.Sums.{count_by-le-length}
 use Rattle.std.specs.FinMap as map
 use Rattle.mq_count.specs.Spending.{Spends}
 use Rattle.mq_sets.specs.NumberedKeys.{NumberedKeysState, AreFilled, IsSpotFor, moved_by_insert}
@@ -15,7 +15,7 @@ use Rattle.mq_table.specs.Group.{is_vacant}
 use Rattle.mq_sched.specs.Schedule.{ScheduledGroup}
 use Rattle.mq_held.specs.Groups.{Groups, unheld, group_at, if_running, kept_as, one_if, running_in, sources_in, sources_of, without_vacant}
 use Rattle.mq_held.specs.Held.{HeldState, ahead_with, moved_by_packing, moved_by_row, moved_by_new_row}
-use Rattle.mq_held.proofs.Amounts.{no_sources, vacant_sources, own_sources, total-with, total-without, total-entries}
+use Rattle.mq_held.proofs.Amounts.{no_sources, vacant_sources, own_sources, total-with, total-entries}
 use Rattle.mq_link.specs.Storage.{put_by_rows}
 use Rattle.mq_link.specs.Moved.{IsPaid, moved_by_edit}
 use Rattle.mq_link.proofs.Entries.{total-kept}
@@ -41,17 +41,6 @@ module _ (groups : Groups) (a : ℕ) where
       let total = total-with (λ (x : ℕ × ScheduledGroup). runs x.1) groups a unheld_rests e in
       omega (arith, total, total-entries runs groups, total-entries runs (map.insert groups a e))
 
-  sources_gone : sources_in (map.remove groups a) + sources_of (group_at groups a) ≡ sources_in groups
-  sources_gone =
-      let total = total-without (λ (x : ℕ × ScheduledGroup). sources_of x.1) groups a no_sources in
-      omega (arith, total, total-entries sources_of groups, total-entries sources_of (map.remove groups a))
-
-pub few_running : (groups : Groups) → running_in groups ≤ map.len groups
-few_running groups =
-    let few = count_by-le-length (λ (e : ScheduledGroup). not (is_vacant e.group)) (map.values groups) in
-    let all = length-map (map.entries groups) (λ (e : ℕ × ScheduledGroup). e.1) in
-    omega (arith, few, all, map.len-entries groups)
-
 -- what is moved for a row is paid, by numbers alone
 row_paid : (limit room cells running ahead had has named left : ℕ) → named ≤ running + 1 → running ≤ room → had ≤ cells → cells + has ≤ limit + had → left ≤ running + 1
     → (cond (leb has had) has (cond (leb has ahead) has (has + (cells - had + named))))
@@ -73,10 +62,6 @@ row_paid limit room cells running ahead had has named left few within part fits 
 pub few_digits : (n : ℕ) → n ≤ 65535 → bitlen n ≤ 16
 few_digits n few = bitlen-le 16 n (omega (arith, few))
 
-one_few : (b : Bool) → one_if b ≤ 1
-one_few true = omega arith
-one_few false = omega arith
-
 kept_size : (e : ScheduledGroup) → sources_of (kept_as e) ≡ sources_of e
 kept_size e = by_test (is_vacant e.group) refl
   where
@@ -94,8 +79,8 @@ set_paid s after a has named left has_is named_few few own fits groups_are rooms
     let sizes = sources_set s.groups a left in
     let total : sources_in (map.insert s.groups a left) ≡ sources_in s.groups - had + has = omega (arith, sizes, has_is, own) in
     let moments = running_set s.groups a left in
-    let one = one_few (not (is_vacant left.group)) in
-    let all = few_running s.groups in
+    let one = one_at_most (not (is_vacant left.group)) in
+    let all = few-running s.groups in
     let paid = row_paid s.source_room s.order.room (sources_in s.groups) (running_in s.groups) s.ahead had has named (running_in (map.insert s.groups a left)) named_few (omega (arith, all, few)) own fits (omega (arith, moments, one)) in
     let after_is : put_by_rows after ≡ min (4 * (s.source_room / 4 + s.order.room - ahead_with s had has)) (sources_in s.groups - had + has + running_in (map.insert s.groups a left)) =
     λ i. min (4 * (room_is i / 4 + rooms i - ahead_is i)) ((ap sources_in groups_are ∙ total) i + running_in (groups_are i))
@@ -111,10 +96,10 @@ pub put_paid : (s after : HeldState) (a : ℕ) (e : ScheduledGroup) (old new : �
     → IsPaid (5 * sources_of e + 5 + bitlen (map.len s.groups)) (put_by_rows s) (put_by_rows after) old new
 put_paid s after a e old new few fits groups_are order_is room_is ahead_is moved =
     let before = group_at s.groups a in
-    let one = one_few (is_vacant before.group) in
+    let one = one_at_most (is_vacant before.group) in
     let rooms = ap (λ (o : NumberedKeysState). o.room) order_is in
     let paid = set_paid s after a (sources_of e) (running_in s.groups + one_if (is_vacant before.group)) (kept_as e) (kept_size e) (omega (arith, one)) few (own_sources s.groups a) fits groups_are rooms room_is ahead_is in
-    let digits = bitlen-mono (running_in s.groups - one_if (not (is_vacant before.group))) (map.len s.groups) (let all = few_running s.groups in omega (arith, all)) in
+    let digits = bitlen-mono (running_in s.groups - one_if (not (is_vacant before.group))) (map.len s.groups) (let all = few-running s.groups in omega (arith, all)) in
     paid_by (5 * sources_of e + 5 + bitlen (map.len s.groups)) moved (omega (arith, paid, digits))
 
 -- the order of the addresses has few pages, none of which has many
@@ -145,7 +130,7 @@ module _ (s : HeldState) (few : map.len s.groups ≤ 65535) (filled : AreFilled 
           (cases_lt count 511)
 
   digits_few : bitlen (running_in s.groups) ≤ 16
-  digits_few = few_digits (running_in s.groups) (let all = few_running s.groups in omega (arith, all, few))
+  digits_few = few_digits (running_in s.groups) (let all = few-running s.groups in omega (arith, all, few))
 
   -- a group is made
   pub made_paid : (after : HeldState) (a : ℕ) (spot : Spot) (e : ScheduledGroup) (old new : ℕ) → map.len s.groups ≤ s.order.room → group_at s.groups a ≡ unheld
@@ -189,7 +174,7 @@ taken_out_paid s after budget low old new groups_are rooms room_is ahead_is move
 
 -- what is put by is no more than what packing moves
 pub put_by_few : (s : HeldState) → put_by_rows s ≤ sources_in s.groups + map.len s.groups
-put_by_few s = let all = few_running s.groups in omega (arith, all)
+put_by_few s = let all = few-running s.groups in omega (arith, all)
 
 -- what is spent where there is some is no more than where there is much
 pub some_of : (some most : ℕ) → min 1 some * most ≤ most

@@ -1,5 +1,6 @@
 -- What a record leaves of a group whose sources it leaves as they are but for the timers of those that it names.
 use Rattle.std.proofs.Common.{List, [], ◌∷◌, ◌≡◌, ℕ, ◌+◌, Bool, true, false, cond, ◌&&◌, Option, None, Some, is_some, refl, sym, ap, ◌∙◌}
+use Rattle.mq_link.proofs.HeldAs.{is_from, same_tests}
 use Rattle.std.specs.Ordering.{nat_cmp}
 use Rattle.std.specs.FinMap as map
 use Rattle.std.specs.FinMap.{FinMap}
@@ -87,10 +88,6 @@ timer_kept gmi mode ToIn s t a is = absurd (true≢false (sym is))
 timer_kept gmi mode ToEx s t a is = absurd (true≢false (sym is))
 timer_kept gmi mode Block s t a is = absurd (true≢false (sym is))
 
-include_is : (mode : FilterMode) → is_include mode ≡ true → mode ≡ Include
-include_is Include is = refl
-include_is (Exclude d) is = absurd (true≢false (sym is))
-
 -- What such a record changes.
 module _ (timing : Timing) (now : ℕ) (g : GroupState) (kind : Kind) (named : NamedSources) (is : restarts kind ≡ true) (none_stopped : g.mode ≡ Include → (s : ℕ) → stopped g s ≡ false) where
   abbrev pub gmi : ℕ
@@ -99,7 +96,7 @@ module _ (timing : Timing) (now : ℕ) (g : GroupState) (kind : Kind) (named : N
   timers_then : (s : ℕ) → timer_at (change_of timing now g kind named).group s ≡ cond (set.contains named s) (Some (Running gmi (sendings_of (timer_at g s)))) (timer_at g s)
   timers_then s =
       at_source_of (λ _ _ _ _ t. t ≡ cond (set.contains named s) (Some (Running gmi (sendings_of (timer_at g s)))) (timer_at g s)) timing now g kind named s
-      (timer_kept gmi g.mode kind s (timer_at g s) (set.contains named s) is (λ include. none_stopped (include_is g.mode include) s))
+      (timer_kept gmi g.mode kind s (timer_at g s) (set.contains named s) is (λ include. none_stopped (is_from g.mode include) s))
 
   pub changes-to : (timers : FinMap nat_cmp SourceTimer) → ((s : ℕ) → cond (set.contains named s) (Some (Running gmi (sendings_of (timer_at g s)))) (timer_at g s) ≡ map.get timers s) → change_of timing now g kind named ≡ asking_nothing (with_timers g timers)
   changes-to timers each =
@@ -128,14 +125,9 @@ unasked timing now e = λ i. record {
 module _ (timing : Timing) (now : ℕ) (old new : GroupState) (schedule : ScheduleState) (fits : IsScheduleOf old schedule) (mode : new.mode ≡ old.mode) (sendings : (s : ℕ) → has_sendings new s ≡ has_sendings old s) where
   same_some : some_source (has_sendings new) new ≡ some_source (has_sendings old) old
   same_some =
-      by_tests (some_source (has_sendings new) new) (some_source (has_sendings old) old)
+      same_tests (some_source (has_sendings new) new) (some_source (has_sendings old) old)
       (sendings_before old new (λ s some. sym (sendings s) ∙ some))
       (sendings_before new old (λ s some. sendings s ∙ some))
-    where
-      by_tests : (a b : Bool) → (a ≡ true → b ≡ true) → (b ≡ true → a ≡ true) → a ≡ b
-      by_tests true b there back = sym (there refl)
-      by_tests false true there back = back refl
-      by_tests false false there back = refl
 
   query_stays : (m : FilterMode) → new.mode ≡ m → cond (is_include m) None schedule.group_query ≡ schedule.group_query
   query_stays Include is = sym (fits.exclude_only (sym mode ∙ is))

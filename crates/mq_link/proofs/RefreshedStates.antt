@@ -1,16 +1,16 @@
 -- What a record comes to that is heard again of a group for which nothing is due.
-use Rattle.std.proofs.Common.{◌≡◌, ℕ, ◌+◌, ◌-◌, ◌*◌, ◌/◌, Bool, true, false, cond, ◌&&◌, not, List, [], Option, None, Some, is_some, refl, sym, ap, ◌∙◌, subst, arith}
+use Rattle.std.proofs.Common.{◌≡◌, ℕ, ◌+◌, ◌-◌, ◌*◌, ◌/◌, Bool, true, false, cond, not, List, [], Option, None, Some, is_some, refl, sym, ap, ◌∙◌, subst, arith}
+use Rattle.mq_link.proofs.HeldAs.{is_from}
 use Rattle.std.specs.Ordering.{nat_cmp, eq_by_cmp}
 use Rattle.std.specs.Cmp.{nat_cmp_total}
 use Rattle.std.specs.FinMap as map
 use Rattle.std.specs.List.{list_any}
 use Rattle.std.specs.FinSet as set
-use Rattle.std.proofs.lemmas.Bool.{true≢false}
+use Rattle.std.proofs.lemmas.Bool.{true≢false, and_right}
 use Rattle.mq_table.specs.declared.kind.Kind.{Kind}
 use Rattle.mq_table.specs.declared.kind.Kind.TheVariants.{IsIn, IsEx, ToIn, ToEx, Allow, Block}
 use Rattle.mq_table.specs.declared.timing.Timing.{Timing}
-use Rattle.mq_table.specs.declared.timers.FilterMode.{FilterMode}
-use Rattle.mq_table.specs.declared.timers.FilterMode.TheVariants.{Include, Exclude}
+use Rattle.mq_table.specs.declared.timers.FilterMode.TheVariants.{Include}
 use Rattle.mq_table.specs.declared.timers.SourceTimer.{SourceTimer}
 use Rattle.mq_table.specs.declared.timers.SourceTimer.TheVariants.{Running}
 use Rattle.mq_table.specs.Group.{GroupState, is_include, is_vacant, is_stopped, sendings_of, timer_at, IsWellFormed as IsHeld}
@@ -49,16 +49,8 @@ use Rattle.std.specs.Prelude.{min, IfSome, MatchOption, OnSome}
 
 -- such a record is muted nowhere
 unmuted : (config : Configuration) (group : ℕ) (kind : Kind) (named : NamedSources) → restarts kind ≡ true → is_muted config group (RecordOf kind named) ≡ false
-unmuted config group IsIn named is = none (is_source_specific config group)
-  where
-    none : (b : Bool) → (b && false) ≡ false
-    none true = refl
-    none false = refl
-unmuted config group Allow named is = none (is_source_specific config group)
-  where
-    none : (b : Bool) → (b && false) ≡ false
-    none true = refl
-    none false = refl
+unmuted config group IsIn named is = and_right (is_source_specific config group) false refl
+unmuted config group Allow named is = and_right (is_source_specific config group) false refl
 unmuted config group IsEx named is = absurd (true≢false (sym is))
 unmuted config group ToIn named is = absurd (true≢false (sym is))
 unmuted config group ToEx named is = absurd (true≢false (sym is))
@@ -153,10 +145,6 @@ put_by_same s after a e is size formed was =
 pub none_is_stopped : (at : Setting) (a : ℕ) (groups : Groups) (e : ScheduledGroup) → e ≡ group_at groups a → AreSound at groups → is_include e.group.mode ≡ true → (s : ℕ) → is_stopped (timer_at e.group s) ≡ false
 none_is_stopped at a groups e is sound include s = by_found (map.get groups a) refl
   where
-    include_is : (mode : FilterMode) → is_include mode ≡ true → mode ≡ Include
-    include_is Include is = refl
-    include_is (Exclude d) is = absurd (true≢false (sym is))
-
     by_found : (x : Option ScheduledGroup) → map.get groups a ≡ x → is_stopped (timer_at e.group s) ≡ false
     by_found None none =
         ap (λ (e : ScheduledGroup). is_stopped (timer_at e.group s)) (is ∙ ap (λ (x : Option ScheduledGroup). unwrap_or x unheld) none)
@@ -165,7 +153,7 @@ none_is_stopped at a groups e is sound include s = by_found (map.get groups a) r
         let same : e ≡ x = is ∙ ap (λ (x : Option ScheduledGroup). unwrap_or x unheld) found in
         let h = sound.all a x found in
         let formed = h.held in
-        ap (λ (e : ScheduledGroup). is_stopped (timer_at e.group s)) same ∙ formed.none_stopped (include_is x.group.mode (sym (ap (λ (e : ScheduledGroup). is_include e.group.mode) same) ∙ include)) s
+        ap (λ (e : ScheduledGroup). is_stopped (timer_at e.group s)) same ∙ formed.none_stopped (is_from x.group.mode (sym (ap (λ (e : ScheduledGroup). is_include e.group.mode) same) ∙ include)) s
 
 -- what holds by what an option is
 pub on_some : {X P : Type 0} (r : Option X) → (is_some r ≡ true → P) → OnSome r P

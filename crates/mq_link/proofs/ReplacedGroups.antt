@@ -1,5 +1,6 @@
 -- The groups of a link while some of them are replaced, one after the other, each from what it was before.
 use Rattle.std.proofs.Common.{◌≡◌, ◌==◌, cond, ℕ, suc, ◌+◌, ◌<◌, ◌≤◌, Bool, true, false, ◌||◌, refl, List, [], ◌∷◌, length, take, drop, get_or, Option, Some, is_some, sym, ap, ◌∙◌, arith}
+use Rattle.std.proofs.Math.Bool.{or-false}
 use Rattle.std.specs.Prelude.{map as list_map}
 use Rattle.std.specs.List.{sum_by}
 use Rattle.std.specs.Option.{unwrap_or}
@@ -124,10 +125,6 @@ module _ (f : ScheduledGroup → ScheduledGroup) (groups : Groups) (es : GroupEn
         or_true true = refl
         or_true false = refl
 
-        or_false : (b : Bool) → (b || false) ≡ b
-        or_false true = refl
-        or_false false = refl
-
         by_test : (q : ℕ) (b : Bool) → eq_by_cmp nat_cmp q next.0 ≡ b
             → cond b (Some (f (group_at current next.0))) (map.get current q) ≡ cond (among (take (i + 1) (addresses_of es)) q) (Some (f (group_at groups q))) (map.get groups q)
         by_test q true same =
@@ -137,7 +134,7 @@ module _ (f : ScheduledGroup → ScheduledGroup) (groups : Groups) (es : GroupEn
             ∙ ap (λ b. cond b (Some (f (group_at groups q))) (map.get groups q)) (sym there)
         by_test q false other =
             let apart : (next.0 == q) ≡ false = ne_eqb next.0 q (λ same. true≢false (sym (ties q next.0 (sym same)) ∙ other)) in
-            let there : among (take (i + 1) (addresses_of es)) q ≡ among (take i (addresses_of es)) q = more q ∙ ap (λ b. among (take i (addresses_of es)) q || b) apart ∙ or_false (among (take i (addresses_of es)) q) in
+            let there : among (take (i + 1) (addresses_of es)) q ≡ among (take i (addresses_of es)) q = more q ∙ ap (λ b. among (take i (addresses_of es)) q || b) apart ∙ or-false (among (take i (addresses_of es)) q) in
             so_far.at q ∙ ap (λ b. cond b (Some (f (group_at groups q))) (map.get groups q)) (sym there)
 
     -- and the sources of those before the next leave enough for its own

@@ -1,6 +1,6 @@
 -- What keeps room for groups and their sources.
-use Rattle.std.proofs.Common.{◌≡◌, ℕ, ◌*◌, ◌≤◌, List, length, Bool, ◌&&◌, leb, true, false, refl, ◌∙◌, sym, subst, arith}
-use Rattle.std.proofs.lemmas.Bool.{le-leb, leb-true}
+use Rattle.std.proofs.Common.{◌≡◌, ℕ, ◌*◌, ◌≤◌, List, length, ◌&&◌, leb, true, refl, ◌∙◌, sym, subst, arith}
+use Rattle.std.proofs.lemmas.Bool.{le-leb, leb-true, and_parts}
 use Rattle.mq_link.specs.declared.configuration.Limits.{Limits}
 use Rattle.mq_link.specs.declared.storage.Lists.{Lists}
 use Rattle.mq_link.specs.declared.storage.Scratch.{Scratch}
@@ -63,11 +63,6 @@ still_space n {a} {b} space kept =
       by_records = subst (λ xs. n ≤ vec_capacity xs) (sym kept.by_records) space.by_records;
     }
 
-both_true : (a b : Bool) → (a && b) ≡ true → (a ≡ true) × (b ≡ true)
-both_true true true h = (refl, refl)
-both_true true false h = cc
-both_true false b h = cc
-
 -- a workspace suffices for the limits that it was made for
 pub suffices_own : (limits : Limits) (changed : List ℕ) → suffices limits (record { groups = limits.groups; group_sources = limits.group_sources; changed = changed }) ≡ true
 suffices_own limits changed = λ i. le-leb limits.groups limits.groups (omega arith) i && le-leb limits.group_sources limits.group_sources (omega arith) i
@@ -75,10 +70,10 @@ suffices_own limits changed = λ i. le-leb limits.groups limits.groups (omega ar
 -- a workspace that suffices has room for what the limits allow
 module _ (limits : Limits) (groups group_sources : ℕ) (enough : (leb limits.groups groups && leb limits.group_sources group_sources) ≡ true) where
   pub enough_groups : limits.groups ≤ groups
-  enough_groups = leb-true limits.groups groups (both_true _ _ enough).0
+  enough_groups = leb-true limits.groups groups (and_parts _ _ enough).0
 
   pub enough_sources : limits.group_sources ≤ group_sources
-  enough_sources = leb-true limits.group_sources group_sources (both_true _ _ enough).1
+  enough_sources = leb-true limits.group_sources group_sources (and_parts _ _ enough).1
 
   module _ {K A : Type 0} (number : K → ℕ) {scratch : Scratch K A} {lists : Lists K A} (is : IsWorkspace number groups group_sources scratch lists) where
     pub enough_room : HasRoom limits.groups limits.group_sources scratch

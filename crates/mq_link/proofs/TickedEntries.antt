@@ -1,5 +1,6 @@
 -- What a tick leaves of the groups of a link, and what it sends, group by group.
-use Rattle.std.proofs.Common.{◌≡◌, ℕ, Bool, true, false, cond, ◌&&◌, refl, List, [], ◌∷◌, ◌++◌, length, Option, None, Some, sym, ap, ◌∙◌, arith, eqb}
+use Rattle.std.proofs.Common.{◌≡◌, ℕ, Bool, true, false, cond, refl, List, [], ◌∷◌, ◌++◌, length, Option, None, Some, sym, ap, ◌∙◌, arith, eqb}
+use Rattle.std.proofs.lemmas.Bool.{and_parts}
 use Rattle.std.proofs.lemmas.List.{length-map}
 use Rattle.std.proofs.lemmas.Bool.Decides.{nat_tests}
 use Rattle.std.specs.Option.{option_map, option_and_then}
@@ -36,14 +37,9 @@ no_keys : (test : ℕ → Bool) (ks : List ℕ) → length ks ≡ 0 → list_any
 no_keys test [] none = refl
 no_keys test (k ∷ ks) none = absurd (omega arith)
 
-both_true : (a b : Bool) → (a && b) ≡ true → (a ≡ true) × (b ≡ true)
-both_true true true is = (refl, refl)
-both_true true false is = cc
-both_true false b is = cc
-
 pub vacant_settled : (g : GroupState) (schedule : ScheduleState) → is_vacant g ≡ true → settled g schedule ≡ no_schedule
 vacant_settled g schedule vacant =
-    let parts = both_true (is_include g.mode) (eqb (map.len g.sources) 0) vacant in
+    let parts = and_parts (is_include g.mode) (eqb (map.len g.sources) 0) vacant in
     let none : length (map.keys g.sources) ≡ 0 = length-map (map.entries g.sources) (λ (e : ℕ × SourceTimer). e.0) ∙ sym (map.len-entries g.sources) ∙ grind (arith, nat_tests, parts.1) in
     let silent : some_source (has_sendings g) g ≡ false = no_keys (has_sendings g) (map.keys g.sources) none in
     λ i. record { group_query = cond (parts.0 i) None schedule.group_query; sources_due = cond (silent i) schedule.sources_due None }

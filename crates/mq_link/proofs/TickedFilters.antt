@@ -1,11 +1,12 @@
 -- Which groups a tick changes: those that are due and have another filter once they are served.
 use Rattle.std.proofs.Common.{◌≡◌, ◌==◌, ℕ, ◌+◌, ◌<◌, ◌≤◌, Bool, true, false, cond, ◌&&◌, List, [], ◌∷◌, ◌++◌, length, take, filter, get_or, Option, None, Some, refl, sym, ap, ◌∙◌, subst, arith, append-nil}
+use Rattle.std.proofs.Math.Bool.{and-true}
 use Rattle.std.specs.Prelude.{map as list_map}
 use Rattle.std.specs.Bool.{then_some}
 use Rattle.std.specs.Option.{option_map, option_and_then, unwrap_or}
 use Rattle.std.specs.Cmp.{nat_cmp_total}
 use Rattle.std.specs.FinMap as map
-use Rattle.std.proofs.lemmas.Bool.{eqb-true}
+use Rattle.std.proofs.lemmas.Bool.{eqb-true, and_right}
 use Rattle.std.proofs.lemmas.List.{map-append, take_all, take_more, get_or-map, length-map, length-take}
 use Rattle.std.proofs.lemmas.List.Elements.{filter-append}
 use Rattle.std.proofs.lemmas.List.Kept.{AllPairs-filter}
@@ -75,14 +76,6 @@ group_left groups address = ap (λ (found : Option ScheduledGroup). unwrap_or fo
     by_found : (found : Option ScheduledGroup) → unwrap_or (option_and_then (if_running address) found) unheld ≡ kept_as (unwrap_or found unheld)
     by_found None = sym (ap (λ b. cond b unheld unheld) vacant_is)
     by_found (Some e) = by_test e (is_vacant e.group)
-
-and_true : (b : Bool) → (b && true) ≡ b
-and_true true = refl
-and_true false = refl
-
-and_false : (b : Bool) → (b && false) ≡ false
-and_false true = refl
-and_false false = refl
 
 module _ (timing : Timing) (now : ℕ) (groups : Groups) where
   -- those of the first i that do
@@ -154,8 +147,8 @@ module _ (timing : Timing) (now : ℕ) (groups : Groups) where
         ∙ by_test (among (addresses_due now groups) address)
       where
         by_test : (b : Bool) → changes_filter (group_at groups address).group (unwrap_or (cond b (Some (served_as timing now (group_at groups address))) (map.get groups address)) unheld).group ≡ (turned timing now groups address && b)
-        by_test true = sym (and_true (turned timing now groups address))
-        by_test false = unchanged (group_at groups address).group ∙ sym (and_false (turned timing now groups address))
+        by_test true = sym (and-true (turned timing now groups address))
+        by_test false = unchanged (group_at groups address).group ∙ sym (and_right (turned timing now groups address) false refl)
 
     pub those_turned : (after : Groups) (listed : List ℕ) → after ≡ without_vacant current → listed ≡ turned_to i → AreThose (changes groups after) listed
     those_turned after listed after_is listed_is =

@@ -40,6 +40,7 @@ where
         within: settings.within,
         until: settings.end(),
         cite: settings.cite != 0,
+        strict: false,
     };
     let mut reader = Watched::new(capture);
     let mut writer = Watched::new(written);

@@ -2,6 +2,7 @@ pub mod ChangeLines
 pub mod Datagrams
 pub mod Listing
 pub mod NamedSources
+pub mod PlacedPackets
 pub mod Putting
 pub mod PuttingReports
 pub mod QueryLines
@@ -9,3 +10,4 @@ pub mod ReplayLines
 pub mod Replaying
 pub mod Report
 pub mod Steps
+pub mod Walking

@@ -1,14 +1,15 @@
 -- The results of the parts of a listing that go to a writer through a buffer.
-use Rattle.std.specs.Prelude.{ℕ, List, ◌++◌, Option, None, Result, Ok, Err}
+use Rattle.std.specs.Prelude.{◌≡◌, ℕ, ◌||◌, List, ◌++◌, Option, Result, Ok, Err, is_err}
 use Rattle.mq_pcap.specs.declared.fault.PcapFault.{PcapFault}
 use Rattle.mq_pcap.specs.declared.form.Form.{Form}
-use Rattle.mq_pcap.specs.Capture.{Captured, Captures, AreRecords}
+use Rattle.mq_pcap.specs.Capture.{Captured, Captures}
 use Rattle.mq_pcap.specs.Filling.{InputState, Takes}
-use Rattle.mq_pcap.specs.Frame.{Carried}
-use Rattle.mq_text.specs.Printing.{GrowsByBeginning, Passes, Puts}
+use Rattle.mq_pcap.specs.Frame.{Carried, carried_in}
+use Rattle.mq_text.specs.Printing.{GrowsByBeginning, OutputState, Passes, Puts}
 use Rattle.mq_replay.specs.declared.replay_fault.ReplayFault.{ReplayFault}
 use Rattle.mq_replay.specs.declared.replay_fault.ReplayFault.TheVariants as answer
-use Rattle.mq_replay.specs.Listing.{IsSaid, place_text, AreLines, IsListing, IsEndedBy}
+use Rattle.mq_replay.specs.Listing.{IsSaid, place_text, IsListing, IsEndedBy}
+use Rattle.mq_replay.specs.PlacedPackets.{PlacedPacket}
 
 -- the text of a packet was put
 pub record PutsSaid {T E : Type 0} (old new : Option (List ℕ)) (held left : List ℕ) (carried : Carried) (r : Result T E) : Type 0 where
@@ -27,17 +28,23 @@ abbrev pub IsPut : (old new : Option (List ℕ)) → (held left text : List ℕ)
 IsPut old new held left text (Err answer.Write) = GrowsByBeginning old new (held ++ text)
 IsPut old new held left text r = Passes old new held left text
 
--- the lines of the packets after a file's header were put
-pub record PutsPackets (form : Form) (old new : InputState) (before after : Option (List ℕ)) (held left : List ℕ) (r : Result ℕ ReplayFault) : Type 0 where
-  pub bytes : List ℕ
-  pub packets : List Captured
-  pub end : Option PcapFault
-  pub text : List ℕ
-  pub takes : Takes old new bytes
-  pub records : AreRecords form 1 bytes packets end
-  pub lines : AreLines form.link None 0 1 packets text
-  pub ended : IsEndedBy (Ok form) packets end bytes old new r
-  pub put : IsPut before after held left text r
+-- a listing in the code: the text that isn't written yet, and the output
+pub record ListingState : Type 0 where
+  pub held : List ℕ
+  pub output : OutputState
+
+-- the line of a packet was put, unless a write failed
+pub record ListsPacket {E : Type 0} (packet : PlacedPacket) (old new : ListingState) (r : Result Unit E) : Type 0 where
+  pub puts : PutsPacket old.output.held new.output.held old.held new.held packet.number packet.moment (carried_in packet.link packet.frame) r
+  pub failed : new.output.failed ≡ old.output.failed || is_err r
+
+-- the effect of a packet on a listing
+abbrev pub TakesListed : PlacedPacket → ListingState → ListingState → Result Unit ReplayFault → Type 0
+TakesListed packet old new (Ok u) = ListsPacket {E = Unit} packet old new (Ok u)
+TakesListed packet old new (Err answer.Write) = ListsPacket {E = Unit} packet old new (Err tt)
+TakesListed packet old new (Err (answer.Pcap f)) = ⊥
+TakesListed packet old new (Err (answer.Gap number)) = ⊥
+TakesListed packet old new (Err answer.Memory) = ⊥
 
 -- the lines of a capture were put
 pub record PutsListing (old new : InputState) (before after : Option (List ℕ)) (held left : List ℕ) (r : Result ℕ ReplayFault) : Type 0 where

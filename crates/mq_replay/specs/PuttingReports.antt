@@ -4,7 +4,7 @@ use Rattle.std.specs.Io.KnownBytes.{IsAtEnd}
 use Rattle.mq_pcap.specs.declared.fault.PcapFault.{PcapFault}
 use Rattle.mq_pcap.specs.declared.fault.PcapFault.TheVariants as fault
 use Rattle.mq_pcap.specs.declared.form.Form.{Form}
-use Rattle.mq_pcap.specs.Capture.{Captured, Captures, AreRecords}
+use Rattle.mq_pcap.specs.Capture.{Captured, Captures}
 use Rattle.mq_pcap.specs.Filling.{InputState, Takes}
 use Rattle.mq_link.specs.Configuration.{Configuration}
 use Rattle.mq_link.specs.Counters.{Counters}
@@ -44,17 +44,6 @@ pub record PutsReport (config : Configuration) (asked : Asked) (old new : InputS
 -- the capture with these bytes after its header
 abbrev pub behind_header : Form → List ℕ → List Captured → Option PcapFault → ReadCapture
 behind_header form bytes packets end = record { bytes = bytes; header = Ok form; packets = packets; end = end }
-
--- the report of the bytes after a file's header was put
-pub record PutsRecords (config : Configuration) (asked : Asked) (form : Form) (old new : InputState) (before after : Option (List ℕ)) (held left : List ℕ)
-    (r : Result Counters ReplayFault) : Type 0 where
-  pub bytes : List ℕ
-  pub packets : List Captured
-  pub end : Option PcapFault
-  pub takes : Takes old new bytes
-  pub records : AreRecords form 1 bytes packets end
-  pub ended : IsEndedBy config asked (behind_header form bytes packets end) old new r
-  pub put : IsReportPut config asked (behind_header form bytes packets end) new before after held left r
 
 -- the report after the packets of a file that has ended: the moment of the last, and the number of the next
 abbrev pub rest_of : Configuration → Asked → (last number : ℕ) → LinkState → Report

@@ -1,9 +1,14 @@
 -- The effects of the parts of a replay on a link and on the text.
-use Rattle.std.specs.Prelude.{◌≡◌, ℕ, Bool, List, [], Option, Result, IfOk}
+use Rattle.std.specs.Prelude.{◌≡◌, ℕ, Bool, true, false, ◌||◌, List, [], Option, Result, Ok, Err, IfOk, is_err}
+use Rattle.mq_pcap.specs.Frame.{carried_in}
 use Rattle.mq_link.specs.Link.{LinkValue}
 use Rattle.mq_link.specs.State.{LinkState}
-use Rattle.mq_text.specs.Printing.{Puts}
-use Rattle.mq_replay.specs.Report.{Replayed}
+use Rattle.mq_text.specs.Printing.{OutputState, Puts}
+use Rattle.mq_replay.specs.declared.asked.Asked.{Asked}
+use Rattle.mq_replay.specs.declared.replay_fault.ReplayFault.{ReplayFault}
+use Rattle.mq_replay.specs.declared.replay_fault.ReplayFault.TheVariants as answer
+use Rattle.mq_replay.specs.PlacedPackets.{PlacedPacket}
+use Rattle.mq_replay.specs.Report.{Replayed, is_gap, with_packet}
 
 -- a replay of a link in this state, with nothing written
 abbrev pub begun_with : (changes : Bool) → LinkState → Replayed
@@ -15,3 +20,28 @@ pub record PutsReplayed {T E : Type 0} (before after : LinkValue) (replayed : Re
   pub same_config : after.config ≡ before.config
   pub link : IfOk r (λ _. after.state ≡ replayed.link)
   pub text : Puts old new held left replayed.text r
+
+-- A replay in the code: the link, the request, the text that isn't written yet, and the output.
+pub record ReplayState : Type 0 where
+  pub link : LinkValue
+  pub asked : Asked
+  pub held : List ℕ
+  pub output : OutputState
+
+-- a packet was replayed and its lines were put, unless a write failed
+pub record ReplaysPacket {E : Type 0} (packet : PlacedPacket) (old new : ReplayState) (r : Result Unit E) : Type 0 where
+  pub no_gap : is_gap packet.before packet.moment ≡ false
+  pub same_asked : new.asked ≡ old.asked
+  pub puts : PutsReplayed old.link new.link
+      (with_packet old.link.config packet.moment packet.number (carried_in packet.link packet.frame) (begun_with old.asked.changes old.link.state))
+      old.output.held new.output.held old.held new.held r
+  pub failed : new.output.failed ≡ old.output.failed || is_err r
+
+-- the effect of a packet on a replay, which a gap before the packet ends
+abbrev pub TakesReplayed : PlacedPacket → ReplayState → ReplayState → Result Unit ReplayFault → Type 0
+TakesReplayed packet old new (Ok u) = ReplaysPacket {E = Unit} packet old new (Ok u)
+TakesReplayed packet old new (Err answer.Write) = ReplaysPacket {E = Unit} packet old new (Err tt)
+TakesReplayed packet old new (Err (answer.Gap number)) =
+    (is_gap packet.before packet.moment ≡ true) × (number ≡ packet.number) × (new ≡ old)
+TakesReplayed packet old new (Err (answer.Pcap f)) = ⊥
+TakesReplayed packet old new (Err answer.Memory) = ⊥

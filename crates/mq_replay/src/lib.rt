@@ -3,7 +3,9 @@
 //! - The listing of a capture: `show`. Its replay on a link: `replay`, with a request `Asked`. The reason why one ended
 //!   early: `ReplayFault`.
 //! - The families whose datagrams captures carry: `CapturedFamily`, `CapturedDatagram`.
-//! - The moments of a capture's packets: `Stamps` and `first_moment`, and `is_gap` for two that are too far apart.
+//! - A walk over a capture: `walk`, with a `Step` for each packet.
+//! - The packets of a capture: `NumberedPacket`. Their moments: `Stamp`, `Stamps` and `first_moment`, and `is_gap` for two
+//!   that are too far apart.
 #![tactic(auto)]
 
 mod asked;
@@ -15,21 +17,28 @@ mod events;
 mod group_line;
 mod hexadecimal;
 mod listing;
+mod numbered_packet;
 mod one_packet;
 mod query_outlet;
 mod replay_fault;
 mod replay_lines;
 mod replay_pieces;
 mod replaying;
+mod running_replay;
 mod sent_queries;
+mod stamp;
 mod stamps;
 mod ticks;
 mod waiting;
+mod walking;
 
 pub use asked::Asked;
 pub use captured_family::{CapturedDatagram, CapturedFamily};
 pub use ending::is_gap;
 pub use listing::{show, show_in};
+pub use numbered_packet::NumberedPacket;
 pub use replay_fault::ReplayFault;
 pub use replaying::{replay, replay_in};
+pub use stamp::Stamp;
 pub use stamps::{Stamps, first_moment};
+pub use walking::{Step, Walked, walk};

@@ -7,20 +7,19 @@ ghost use Rattle.mq_count.specs.Streams.{inner_of, has_failed};
 ghost use Rattle.mq_pcap.specs.Capture.{most_bytes};
 ghost use Rattle.mq_pcap.specs.Filling.{input_of};
 ghost use Rattle.mq_pcap.specs.Frame.{carried_in, carried_of};
-ghost use Rattle.mq_pcap.specs.Reading.{form_of, number_of, progress_of};
-ghost use Rattle.mq_pcap.specs.declared.reader_state.Progress.TheVariants.{Reading};
 ghost use Rattle.mq_lines.specs.Text.{address_text};
 ghost use Rattle.mq_replay.specs.Listing as spec;
 ghost use Rattle.mq_replay.specs.Listing.{Shows, place_text};
-ghost use Rattle.mq_replay.specs.Putting.{PutsListing, PutsPacket, PutsPackets, PutsSaid};
+ghost use Rattle.mq_replay.specs.Putting.{PutsListing, PutsPacket, PutsSaid};
 
+use crate::numbered_packet::NumberedPacket;
 use crate::replay_fault::{ReplayFault, is_failed_write};
-use crate::stamps::Stamps;
 use crate::waiting::write_before_wait;
+use crate::walking::{Step, walk};
 use mq_arena::{OfAllocator, VectorSource, filled};
 use mq_count::Watched;
 use mq_lines::{LineKey, put_address, put_igmp, put_mld};
-use mq_pcap::{GREATEST_PACKET, Inner, LinkType, PcapReader, Supply, unwrap_frame};
+use mq_pcap::{GREATEST_PACKET, Inner, Supply, unwrap_frame};
 use mq_text::{LineFault, Text, flush, make_room, put, put_decimal};
 use std::alloc::{AllocError, Allocator};
 use std::io::{Read, Write};
@@ -81,20 +80,49 @@ fn show_by<S: Supply, R: Read, W: Write>(
     ensures failed { has_failed writer.new ≡ has_failed writer.old || spec.is_failed_write result }
     ensures no_memory { result ≡ Err ReplayFault.Memory → ⊥ }
 {
-    let mut buffer = Text::new();
-    let answer = put_listing(packet, supply, &mut buffer, reader, writer);
+    let mut listing = Listing {
+        buffer: Text::new(),
+    };
+    let answer = put_listing(&mut listing, packet, supply, reader, writer);
     if is_failed_write(&answer) {
         return answer;
     }
-    flush(&mut buffer, writer)?;
+    flush(&mut listing.buffer, writer)?;
     answer
+}
+
+/// A listing in progress: the text that isn't written yet.
+#[derive(Drop)]
+struct Listing {
+    buffer: Text,
+}
+
+impl<W: Write> Step<Watched<W>> for Listing {
+    ghost use Rattle.mq_text.specs.Printing.{output_of};
+    ghost use Rattle.mq_replay.specs.Putting.{TakesListed};
+
+    type Fault = ReplayFault;
+
+    ghost takes = { λ packet old new r. TakesListed packet
+        (record { held = old.0.buffer.items; output = output_of W.contents old.1 })
+        (record { held = new.0.buffer.items; output = output_of W.contents new.1 }) r };
+
+    fn packet(
+        &mut self,
+        packet: &NumberedPacket<'_>,
+        output: &mut Watched<W>,
+    ) -> Result<(), ReplayFault> {
+        put_packet(packet, &mut self.buffer, output)?;
+        write_before_wait(packet.may_wait, &mut self.buffer, output)?;
+        Ok(())
+    }
 }
 
 /// Puts the lines of a capture.
 fn put_listing<S: Supply, R: Read, W: Write>(
+    listing: &mut Listing,
     packet: &mut [u8],
     supply: &S,
-    buffer: &mut Text,
     reader: &mut Watched<R>,
     writer: &mut Watched<W>,
 ) -> Result<u64, ReplayFault>
@@ -102,62 +130,28 @@ fn put_listing<S: Supply, R: Read, W: Write>(
     ensures puts { PutsListing
         (input_of R.remaining reader.old) (input_of R.remaining reader.new)
         (W.contents (inner_of writer.old)) (W.contents (inner_of writer.new))
-        buffer.old.items buffer.new.items result }
+        listing.old.buffer.items listing.new.buffer.items result }
     ensures failed { has_failed writer.new ≡ has_failed writer.old || spec.is_failed_write result }
     ensures no_memory { result ≡ Err ReplayFault.Memory → ⊥ }
 {
-    let mut capture = PcapReader::open(reader)?;
-    put_packets(&mut capture, packet, supply, buffer, reader, writer)
-}
-
-/// Puts the lines of the packets of a capture before its first packet was read.
-fn put_packets<S: Supply, R: Read, W: Write>(
-    capture: &mut PcapReader,
-    packet: &mut [u8],
-    supply: &S,
-    buffer: &mut Text,
-    reader: &mut Watched<R>,
-    writer: &mut Watched<W>,
-) -> Result<u64, ReplayFault>
-    requires room { most_bytes ≤ length packet.old }
-    requires first { number_of capture.old ≡ 1 }
-    requires reading { progress_of capture.old ≡ Reading }
-    ensures puts { PutsPackets (form_of capture.old)
-        (input_of R.remaining reader.old) (input_of R.remaining reader.new)
-        (W.contents (inner_of writer.old)) (W.contents (inner_of writer.new))
-        buffer.old.items buffer.new.items result }
-    ensures failed { has_failed writer.new ≡ has_failed writer.old || spec.is_failed_write result }
-    ensures no_memory { result ≡ Err ReplayFault.Memory → ⊥ }
-{
-    let mut number = 0;
-    let mut stamps = Stamps::new();
-    while let Some(read) = capture.next(reader, packet)? {
-        number += 1;
-        let moment = stamps.moment_of_next(read.stamp_ms);
-        let frame = &packet[..read.length];
-        put_packet(number, moment, capture.link(), frame, buffer, writer)?;
-        write_before_wait(capture, supply, buffer, writer)?;
-    }
-    Ok(number)
+    let walked = walk(listing, packet, supply, reader, writer)?;
+    Ok(walked.packets)
 }
 
 /// Puts the line of a packet.
 fn put_packet<W: Write>(
-    number: u64,
-    moment: u64,
-    link: LinkType,
-    frame: &[u8],
+    packet: &NumberedPacket<'_>,
     buffer: &mut Text,
     writer: &mut Watched<W>,
 ) -> Result<(), LineFault>
     ensures line { PutsPacket
         (W.contents (inner_of writer.old)) (W.contents (inner_of writer.new))
-        buffer.old.items buffer.new.items number moment (carried_in link frame.now) result }
+        buffer.old.items buffer.new.items packet.now.number packet.now.moment (carried_in packet.now.link packet.now.frame.now) result }
     ensures failed { has_failed writer.new ≡ has_failed writer.old || is_err result }
 {
     make_room(buffer, writer)?;
-    put_place(buffer, number, moment);
-    put_said(unwrap_frame(link, frame), buffer, writer)
+    put_place(buffer, packet.number, packet.moment.ms());
+    put_said(unwrap_frame(packet.link, packet.frame), buffer, writer)
 }
 
 /// Puts the number and the moment of a packet.

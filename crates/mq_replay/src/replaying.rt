@@ -1,33 +1,31 @@
 //! The replay of a capture.
 
-ghost use Rattle.std.specs.Prelude.{◌≡◌, ◌<◌, ◌≤◌, ◌+◌, ◌^◌, ◌||◌, length, IfSome};
+ghost use Rattle.std.specs.Prelude.{◌≡◌, ◌<◌, ◌≤◌, ◌+◌, ◌^◌, ◌||◌, [], length, IfSome};
 ghost use Rattle.std.specs.contracts.vec.Vec as page;
 ghost use denote.Builtin.{u16};
 ghost use Rattle.mq_arena.specs.Vectors.{Takes, bytes_for};
 ghost use Rattle.mq_count.specs.Streams.{inner_of, has_failed};
 ghost use Rattle.mq_link.specs.Sizes.{bytes_of_link, bytes_of_workspace};
 ghost use Rattle.mq_link.specs.State.{link_at};
-ghost use Rattle.mq_pcap.specs.declared.reader_state.Progress.TheVariants.{Reading};
 ghost use Rattle.mq_pcap.specs.Capture.{endless, most_bytes};
 ghost use Rattle.mq_pcap.specs.Filling.{input_of};
-ghost use Rattle.mq_pcap.specs.Reading.{form_of, number_of, progress_of};
 ghost use Rattle.mq_replay.specs.Listing as spec;
-ghost use Rattle.mq_replay.specs.PuttingReports.{IsRestPut, PutsRecords, PutsReport, counted, rest_of};
+ghost use Rattle.mq_replay.specs.PuttingReports.{IsRestPut, PutsReport, counted, rest_of};
 ghost use Rattle.mq_replay.specs.Replaying.{Replays};
 
 use crate::asked::Asked;
 use crate::captured_family::CapturedFamily;
 use crate::ending::{is_gap, last_moment, put_ending};
-use crate::one_packet::replay_packet;
 use crate::replay_fault::{ReplayFault, is_failed_write};
-use crate::stamps::{Stamps, first_moment};
-use crate::waiting::write_before_wait;
+use crate::running_replay::Replay;
+use crate::stamps::first_moment;
+use crate::walking::{Walked, walk};
 use mq_arena::{OfAllocator, VectorSource, filled};
-use mq_count::{Moment, Watched};
+use mq_count::Watched;
 use mq_lines::LineKey;
 use mq_link::{Config, Counts, Link};
-use mq_pcap::{GREATEST_PACKET, PcapReader, Supply, unwrap_frame};
-use mq_text::{Text, flush};
+use mq_pcap::{GREATEST_PACKET, Supply};
+use mq_text::flush;
 use std::alloc::{AllocError, Allocator};
 use std::io::{Read, Write};
 
@@ -96,24 +94,17 @@ where
     let Ok(mut packet) = packet else {
         return Err(ReplayFault::Memory);
     };
-    let Ok(mut link) = Link::new_in(memory, config, first_moment()) else {
+    let Ok(link) = Link::new_in(memory, config, first_moment()) else {
         return Err(ReplayFault::Memory);
     };
-    replay_on(
-        &mut link,
-        asked,
-        packet.as_mut_slice(),
-        supply,
-        reader,
-        writer,
-    )?;
-    Ok(link.into_counts())
+    let mut replay = Replay::new(link, asked);
+    replay_on(&mut replay, packet.as_mut_slice(), supply, reader, writer)?;
+    Ok(replay.link.into_counts())
 }
 
 /// Replays a capture on a link at its start, with memory of the caller for a packet.
 fn replay_on<F: CapturedFamily, A: Allocator, S: Supply, R: Read, W: Write>(
-    link: &mut Link<F, A>,
-    asked: Asked,
+    replay: &mut Replay<F, A>,
     packet: &mut [u8],
     supply: &S,
     reader: &mut Watched<R>,
@@ -122,128 +113,78 @@ fn replay_on<F: CapturedFamily, A: Allocator, S: Supply, R: Read, W: Write>(
 where
     F::Address: LineKey,
     requires room { most_bytes ≤ length packet.old }
-    requires in_range { IfSome asked.until (λ moment. moment ≤ 2 ^ 53) }
-    requires starts { link.old.state ≡ link_at link.old.config 0 }
-    ensures replays { Replays link.old.config asked
+    requires in_range { IfSome replay.old.asked.until (λ moment. moment ≤ 2 ^ 53) }
+    requires starts { replay.old.link.state ≡ link_at replay.old.link.config 0 }
+    requires empty { replay.old.buffer.items ≡ [] }
+    ensures replays { Replays replay.old.link.config replay.old.asked
         (input_of R.remaining reader.old) (input_of R.remaining reader.new)
         (W.contents (inner_of writer.old)) (W.contents (inner_of writer.new))
-        (counted link.new.state.counters result) }
+        (counted replay.new.link.state.counters result) }
     ensures failed { has_failed writer.new ≡ has_failed writer.old || spec.is_failed_write result }
     ensures no_memory { result ≡ Err ReplayFault.Memory → ⊥ }
 {
-    let mut buffer = Text::new();
-    let answer = put_replay(link, asked, packet, supply, &mut buffer, reader, writer);
+    let answer = put_replay(replay, packet, supply, reader, writer);
     if is_failed_write(&answer) {
         return answer;
     }
-    flush(&mut buffer, writer)?;
+    flush(&mut replay.buffer, writer)?;
     answer
 }
 
 /// Puts the lines of a capture.
 fn put_replay<F: CapturedFamily, A: Allocator, S: Supply, R: Read, W: Write>(
-    link: &mut Link<F, A>,
-    asked: Asked,
+    replay: &mut Replay<F, A>,
     packet: &mut [u8],
     supply: &S,
-    buffer: &mut Text,
     reader: &mut Watched<R>,
     writer: &mut Watched<W>,
 ) -> Result<(), ReplayFault>
 where
     F::Address: LineKey,
     requires room { most_bytes ≤ length packet.old }
-    requires in_range { IfSome asked.until (λ moment. moment ≤ 2 ^ 53) }
-    requires starts { link.old.state ≡ link_at link.old.config 0 }
-    ensures puts { PutsReport link.old.config asked
+    requires in_range { IfSome replay.old.asked.until (λ moment. moment ≤ 2 ^ 53) }
+    requires starts { replay.old.link.state ≡ link_at replay.old.link.config 0 }
+    ensures puts { PutsReport replay.old.link.config replay.old.asked
         (input_of R.remaining reader.old) (input_of R.remaining reader.new)
         (W.contents (inner_of writer.old)) (W.contents (inner_of writer.new))
-        buffer.old.items buffer.new.items (counted link.new.state.counters result) }
+        replay.old.buffer.items replay.new.buffer.items (counted replay.new.link.state.counters result) }
     ensures failed { has_failed writer.new ≡ has_failed writer.old || spec.is_failed_write result }
     ensures no_memory { result ≡ Err ReplayFault.Memory → ⊥ }
 {
-    let mut capture = PcapReader::open(reader)?;
-    put_packets(
-        link,
-        asked,
-        &mut capture,
-        packet,
-        supply,
-        buffer,
-        reader,
-        writer,
-    )
-}
-
-/// Puts the lines of the packets of a capture before its first packet was read, and of the end.
-fn put_packets<F: CapturedFamily, A: Allocator, S: Supply, R: Read, W: Write>(
-    link: &mut Link<F, A>,
-    asked: Asked,
-    capture: &mut PcapReader,
-    packet: &mut [u8],
-    supply: &S,
-    buffer: &mut Text,
-    reader: &mut Watched<R>,
-    writer: &mut Watched<W>,
-) -> Result<(), ReplayFault>
-where
-    F::Address: LineKey,
-    requires room { most_bytes ≤ length packet.old }
-    requires first { number_of capture.old ≡ 1 }
-    requires reading { progress_of capture.old ≡ Reading }
-    requires in_range { IfSome asked.until (λ moment. moment ≤ 2 ^ 53) }
-    requires starts { link.old.state ≡ link_at link.old.config 0 }
-    ensures puts { PutsRecords link.old.config asked (form_of capture.old)
-        (input_of R.remaining reader.old) (input_of R.remaining reader.new)
-        (W.contents (inner_of writer.old)) (W.contents (inner_of writer.new))
-        buffer.old.items buffer.new.items (counted link.new.state.counters result) }
-    ensures failed { has_failed writer.new ≡ has_failed writer.old || spec.is_failed_write result }
-    ensures no_memory { result ≡ Err ReplayFault.Memory → ⊥ }
-{
-    let mut number = 0;
-    let mut stamps = Stamps::new();
-    let mut last = first_moment();
-    while let Some(read) = capture.next(reader, packet)? {
-        number += 1;
-        let Some(moment) = Moment::from_ms(stamps.moment_of_next(read.stamp_ms)) else {
-            unreachable!()
-        };
-        if is_gap(last, moment) {
-            return Err(ReplayFault::Gap { number });
-        }
-        last = moment;
-        let inner = unwrap_frame(capture.link(), &packet[..read.length]);
-        replay_packet(link, moment, number, asked.changes, &inner, buffer, writer)?;
-        write_before_wait(capture, supply, buffer, writer)?;
-    }
-    put_rest(link, asked, last, number, buffer, writer)
+    let walked = walk(replay, packet, supply, reader, writer)?;
+    put_rest(replay, walked, writer)
 }
 
 /// Puts the text after the packets of a capture that has ended. It is the state of the link at the end of the replay,
 /// unless there is a gap before that.
 fn put_rest<F: CapturedFamily, A: Allocator, W: Write>(
-    link: &mut Link<F, A>,
-    asked: Asked,
-    last: Moment,
-    number: u64,
-    buffer: &mut Text,
+    replay: &mut Replay<F, A>,
+    walked: Walked,
     writer: &mut Watched<W>,
 ) -> Result<(), ReplayFault>
 where
     F::Address: LineKey,
-    requires few { number < endless }
-    requires last_in_range { last ≤ 2 ^ 53 }
-    requires in_range { IfSome asked.until (λ moment. moment ≤ 2 ^ 53) }
-    ensures rest { IsRestPut (rest_of link.old.config asked last (number + 1) link.old.state)
+    requires few { walked.packets < endless }
+    requires in_range { IfSome replay.old.asked.until (λ moment. moment ≤ 2 ^ 53) }
+    ensures rest { IsRestPut (rest_of replay.old.link.config replay.old.asked walked.last (walked.packets + 1) replay.old.link.state)
         (W.contents (inner_of writer.old)) (W.contents (inner_of writer.new))
-        buffer.old.items buffer.new.items (counted link.new.state.counters result) }
+        replay.old.buffer.items replay.new.buffer.items (counted replay.new.link.state.counters result) }
     ensures failed { has_failed writer.new ≡ has_failed writer.old || spec.is_failed_write result }
     ensures no_memory { result ≡ Err ReplayFault.Memory → ⊥ }
 {
-    let end = last_moment(asked.until, last);
+    let last = walked.last.moment();
+    let end = last_moment(replay.asked.until, last);
     if is_gap(last, end) {
-        return Err(ReplayFault::Gap { number: number + 1 });
+        return Err(ReplayFault::Gap {
+            number: walked.packets + 1,
+        });
     }
-    put_ending(link, end, asked.changes, buffer, writer)?;
+    put_ending(
+        &mut replay.link,
+        end,
+        replay.asked.changes,
+        &mut replay.buffer,
+        writer,
+    )?;
     Ok(())
 }

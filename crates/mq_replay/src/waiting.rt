@@ -5,14 +5,12 @@ ghost use Rattle.mq_count.specs.Streams.{inner_of, has_failed};
 ghost use Rattle.mq_text.specs.Printing.{Puts};
 
 use mq_count::Watched;
-use mq_pcap::{PcapReader, Supply};
 use mq_text::{LineFault, Text, flush};
 use std::io::Write;
 
 /// Writes the lines that the buffer holds if reading the next record may wait.
-pub(crate) fn write_before_wait<S: Supply, W: Write>(
-    capture: &PcapReader,
-    supply: &S,
+pub(crate) fn write_before_wait<W: Write>(
+    may_wait: bool,
     buffer: &mut Text,
     writer: &mut Watched<W>,
 ) -> Result<(), LineFault>
@@ -21,7 +19,7 @@ pub(crate) fn write_before_wait<S: Supply, W: Write>(
         buffer.old.items buffer.new.items [] result }
     ensures failed { has_failed writer.new ≡ has_failed writer.old || is_err result }
 {
-    if capture.may_wait(supply) {
+    if may_wait {
         return flush(buffer, writer);
     }
     Ok(())

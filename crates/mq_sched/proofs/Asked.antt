@@ -1,12 +1,11 @@
 -- What asking for a group or for sources lowers, and that it keeps a schedule fitting its group.
-use Rattle.std.proofs.Common.{◌≡◌, ℕ, Bool, true, false, cond, List, [], ◌∷◌, Option, None, Some, IsSome, refl, sym, ap, ◌∙◌, inl, inr, eqb}
+use Rattle.std.proofs.Common.{◌≡◌, ℕ, Bool, true, cond, List, [], ◌∷◌, IsSome, refl, sym, ap, ◌∙◌, inl, inr, eqb, arith}
 use Rattle.std.proofs.lemmas.Bool.{false≢true, or_left, or_right, or_cases, eqb-true, eq-eqb}
 use Rattle.std.specs.List.{list_any}
-use Rattle.std.specs.Option.{option_and_then, option_map}
+use Rattle.std.specs.Option.{option_map}
 use Rattle.std.specs.FinMap as map
 use Rattle.mq_table.specs.declared.timing.Timing.{Timing}
 use Rattle.mq_table.specs.Sets.{Set}
-use Rattle.mq_table.specs.declared.timers.SourceTimer.{SourceTimer}
 use Rattle.mq_table.specs.Group.{GroupState, timer_at}
 use Rattle.mq_table.specs.Timing.{last_member_count}
 use Rattle.mq_table.specs.Lowering.{lowered_to}
@@ -18,14 +17,7 @@ use Rattle.mq_sched.specs.Sending.{sources_asked}
 
 -- the timer of a source after sources were asked for
 pub timer_at-sources_asked : (timing : Timing) (now : ℕ) (asked : Set) (e : ScheduledGroup) (s : ℕ) → timer_at (sources_asked timing now asked e).group s ≡ cond (asked s) (option_map (source_asked (lowered_to timing now) (last_member_count timing)) (timer_at e.group s)) (timer_at e.group s)
-timer_at-sources_asked timing now asked e s =
-    get-kept (λ s timer. Some (cond (asked s) (source_asked (lowered_to timing now) (last_member_count timing) timer) timer)) e.group.sources s ∙ by_test (asked s) (timer_at e.group s)
-  where
-    by_test : (b : Bool) (t : Option SourceTimer) → option_and_then (λ timer. Some (cond b (source_asked (lowered_to timing now) (last_member_count timing) timer) timer)) t ≡ cond b (option_map (source_asked (lowered_to timing now) (last_member_count timing)) t) t
-    by_test true None = refl
-    by_test false None = refl
-    by_test true (Some t) = refl
-    by_test false (Some t) = refl
+timer_at-sources_asked timing now asked e s = grind (arith, get-kept)
 
 -- a test passes for some source exactly where there is one that the group holds
 any_at : (p : ℕ → Bool) (ks : List ℕ) (q : ℕ) → list_any (λ x. eqb q x) ks ≡ true → p q ≡ true → list_any p ks ≡ true

@@ -3,7 +3,7 @@ use Rattle.std.proofs.Common.{ℕ, zero, suc, ◌+◌, ◌*◌, ◌/◌, ◌<◌
 use Rattle.std.specs.Prelude.{if◌then◌else◌}
 use Rattle.std.proofs.lemmas.Bool.{cases_lt, cases_eq}
 use Rattle.std.proofs.lemmas.List.{get_or-set_same, get_or-set_other}
-use Rattle.mq_sched.specs.DeadlineTree.{HasEarlier, IsTreeBut, IsEarliestLeaf, KeepsOther, first_below}
+use Rattle.mq_sched.specs.DeadlineTree.{HasEarlier, IsTreeBut, IsEarliestLeaf, KeepsOther}
 
 -- a node has the earlier deadline in two lists that agree there and below
 pub earlier-agree : (nodes other : List ℕ) (i : ℕ) (b : Bool) → get_or other i 0 ≡ get_or nodes i 0 → get_or other (2 * i) 0 ≡ get_or nodes (2 * i) 0 → get_or other (2 * i + 1) 0 ≡ get_or nodes (2 * i + 1) 0 → HasEarlier nodes i b → HasEarlier other i b
@@ -13,48 +13,12 @@ earlier-agree nodes other i false at left right known = (omega (arith, known.0),
 -- a node comes to have the earlier of the two deadlines below it
 earlier-written : (nodes : List ℕ) (i : ℕ) (b : Bool) → 1 ≤ i → i < length nodes → (get_or nodes (2 * i) 0 ≤ get_or nodes (2 * i + 1) 0 → b ≡ true) → (b ≡ true → get_or nodes (2 * i) 0 ≤ get_or nodes (2 * i + 1) 0)
     → HasEarlier (set nodes i (cond b (get_or nodes (2 * i) 0) (get_or nodes (2 * i + 1) 0))) i b
-earlier-written nodes i true some within here there =
-    let w = get_or nodes (2 * i) 0 in
-    let at = get_or-set_same nodes i w 0 within in
-    let left = get_or-set_other nodes i (2 * i) w 0 (λ same. absurd (omega arith)) in
-    let right = get_or-set_other nodes i (2 * i + 1) w 0 (λ same. absurd (omega arith)) in
-    let low = there refl in
-    (omega arith, omega arith)
-earlier-written nodes i false some within here there =
-    let w = get_or nodes (2 * i + 1) 0 in
-    let at = get_or-set_same nodes i w 0 within in
-    let left = get_or-set_other nodes i (2 * i) w 0 (λ same. absurd (omega arith)) in
-    let right = get_or-set_other nodes i (2 * i + 1) w 0 (λ same. absurd (omega arith)) in
-    let high : get_or nodes (2 * i + 1) 0 ≤ get_or nodes (2 * i) 0 = ⊎_elim
-    (λ (upto : get_or nodes (2 * i + 1) 0 < get_or nodes (2 * i) 0). omega arith)
-    (λ (le : get_or nodes (2 * i) 0 ≤ get_or nodes (2 * i + 1) 0). absurd (cc (here le)))
-    (cases_lt (get_or nodes (2 * i + 1) 0) (get_or nodes (2 * i) 0)) in
-    (omega arith, omega arith)
+earlier-written nodes i b some within here there = grind (arith, get_or-set_same, get_or-set_other, cases_lt)
 
 -- one node comes to be in order, and the node above it may be out of it
 pub settled_one : (nodes : List ℕ) (lefts : List Bool) (i : ℕ) (b : Bool) → 1 ≤ i → i < length lefts → (get_or nodes (2 * i) 0 ≤ get_or nodes (2 * i + 1) 0 → b ≡ true) → (b ≡ true → get_or nodes (2 * i) 0 ≤ get_or nodes (2 * i + 1) 0)
     → IsTreeBut nodes lefts i → IsTreeBut (set nodes i (cond b (get_or nodes (2 * i) 0) (get_or nodes (2 * i + 1) 0))) (set lefts i b) (i / 2)
-settled_one nodes lefts i b some within here there known =
-    let w = cond b (get_or nodes (2 * i) 0) (get_or nodes (2 * i + 1) 0) in
-    let size = length-set nodes i w in
-    let count = length-set lefts i b in
-    let in_nodes : i < length nodes = omega (arith, known.size) in
-    record {
-      size = omega (arith, size, count, known.size);
-      each =
-          λ j above below other.
-          ⊎_elim
-          (λ (same : j ≡ i).
-          rw (same, get_or-set_same lefts i b false within) (earlier-written nodes i b some in_nodes here there))
-          (λ (differs : j ≡ i → ⊥).
-          rw (get_or-set_other lefts i j b false differs)
-          (earlier-agree nodes (set nodes i w) j (get_or lefts j false)
-          (get_or-set_other nodes i j w 0 differs)
-          (get_or-set_other nodes i (2 * j) w 0 (λ at. other (omega arith)))
-          (get_or-set_other nodes i (2 * j + 1) w 0 (λ at. other (omega arith)))
-          (known.each j above (omega (arith, below, count)) differs)))
-          (cases_eq j i);
-    }
+settled_one nodes lefts i b some within here there known = grind (arith, length-set, get_or-set_same, earlier-written, get_or-set_other, earlier-agree, cases_eq)
 
 -- a node has the deadline of the first of the two below it, and none of the two is earlier
 pub first_has : (nodes : List ℕ) (node : ℕ) (b : Bool) → HasEarlier nodes node b → get_or nodes node 0 ≡ get_or nodes (if b then 2 * node else 2 * node + 1) 0
@@ -71,37 +35,19 @@ one_of_two node false = inr refl
 
 -- above the top there is nothing that could have another deadline
 keeps_at_top : (nodes : List ℕ) (lefts : List Bool) (node : ℕ) → 1 ≤ node → node / 2 ≡ 0 → KeepsOther nodes lefts node
-keeps_at_top nodes lefts node some top differs =
-    rw top (by_side (get_or lefts 0 false) (λ same. differs (rw top same)))
-  where
-    by_side : (b : Bool) → ((if b then 2 * 0 else 2 * 0 + 1) ≡ node → ⊥) → get_or nodes 0 0 ≡ get_or nodes (if b then 2 * 0 else 2 * 0 + 1) 0
-    by_side true off = refl
-    by_side false off = absurd (off (omega arith))
+keeps_at_top nodes lefts node some top = grind arith
 
 -- in a tree each node above another has the deadline of the first below it
 pub KeepsOther-from_tree : (nodes : List ℕ) (lefts : List Bool) (node but : ℕ) → IsTreeBut nodes lefts but → 1 ≤ node → (node / 2 ≡ but → ⊥) ⊎ (node / 2 ≡ 0) → node / 2 < length lefts → KeepsOther nodes lefts node
-KeepsOther-from_tree nodes lefts node but known some off below =
-    ⊎_elim
-    (λ (more : 0 < node / 2).
-    λ (_ : first_below lefts (node / 2) ≡ node → ⊥).
-    first_has nodes (node / 2) (get_or lefts (node / 2) false) (known.each (node / 2) more below (λ same. ⊎_elim (λ (differs : node / 2 ≡ but → ⊥). differs same) (λ (top : node / 2 ≡ 0). absurd (omega arith)) off)))
-    (λ (none : node / 2 ≤ 0). keeps_at_top nodes lefts node some (omega arith))
-    (cases_lt 0 (node / 2))
+KeepsOther-from_tree nodes lefts node but known some off below = grind (arith, first_has, keeps_at_top, cases_lt)
 
 -- and still where the other one gets another deadline
 pub KeepsOther-set : (nodes : List ℕ) (lefts : List Bool) (node w : ℕ) → 1 ≤ node → KeepsOther nodes lefts node → KeepsOther (set nodes node w) lefts node
-KeepsOther-set nodes lefts node w some kept differs =
-    get_or-set_other nodes node (node / 2) w 0 (λ same. absurd (omega arith))
-    ∙ kept differs
-    ∙ sym (get_or-set_other nodes node (first_below lefts (node / 2)) w 0 differs)
+KeepsOther-set nodes lefts node w some kept = grind (arith, get_or-set_other)
 
 -- a node comes to be in order, and that above it has the deadline of the other one below, if it had
 pub next_kept : (nodes : List ℕ) (lefts : List Bool) (i w : ℕ) (b : Bool) → 1 ≤ i → i < length lefts → IsTreeBut nodes lefts i → KeepsOther (set nodes i w) (set lefts i b) i
-next_kept nodes lefts i w b some below known =
-    let told : get_or (set lefts i b) (i / 2) false ≡ get_or lefts (i / 2) false = get_or-set_other lefts i (i / 2) b false (λ same. absurd (omega arith)) in
-    let kept = KeepsOther-set nodes lefts i w some (KeepsOther-from_tree nodes lefts i i known some (inl (λ same. absurd (omega arith))) (omega arith)) in
-    let first = ap (λ (side : Bool). if side then 2 * (i / 2) else 2 * (i / 2) + 1) told in
-    λ differs. kept (λ same. differs (first ∙ same)) ∙ sym (ap (λ k. get_or (set nodes i w) k 0) first)
+next_kept nodes lefts i w b some below known = grind (arith, get_or-set_other, KeepsOther-set, KeepsOther-from_tree)
 
 module _ (nodes : List ℕ) (lefts : List Bool) (known : IsTreeBut nodes lefts 0) where
   here_below : (i : ℕ) → 1 ≤ i → i < length lefts → ((get_or nodes i 0 ≡ get_or nodes (2 * i) 0) ⊎ (get_or nodes i 0 ≡ get_or nodes (2 * i + 1) 0)) × ((get_or nodes i 0 ≤ get_or nodes (2 * i) 0) × (get_or nodes i 0 ≤ get_or nodes (2 * i + 1) 0))

@@ -1,5 +1,5 @@
 -- A tick leaves nothing for the election to do at or before its moment.
-use Rattle.std.proofs.Common.{◌≡◌, ℕ, ◌+◌, ◌<◌, Bool, true, false, cond, refl, arith, ltb}
+use Rattle.std.proofs.Common.{◌≡◌, ℕ, ◌+◌, ◌<◌, Bool, true, false, cond, arith, ltb}
 use Rattle.std.proofs.lemmas.Bool.{leb-false}
 use Rattle.mq_table.specs.declared.timing.Timing.{Timing}
 use Rattle.mq_table.specs.Timing.{query_interval, startup_interval}
@@ -23,11 +23,4 @@ sent_or_not now e positive ended false h = not_due now e.role ended h
 
 -- a router that has just returned is querier, so no other querier's deadline stands
 pub later_moment : (configured : Timing) (now : ℕ) (e : ElectionState) → 0 < configured.query_seconds → 0 < e.timing.query_seconds → now < next_moment (ticked configured now e).role
-later_moment configured now e own_positive positive = by_ended (deadline_ended now e.role) refl
-  where
-    back : ElectionState
-    back = record { role = Querier now 0; timing = configured }
-
-    by_ended : (b : Bool) → deadline_ended now e.role ≡ b → (let r = cond b back e in now < next_moment (cond (general_is_due now r.role) (record { role = after_general r.timing now r.role; timing = r.timing }) r).role)
-    by_ended true h = sent_or_not now back own_positive refl (general_is_due now back.role) refl
-    by_ended false h = sent_or_not now e positive h (general_is_due now e.role) refl
+later_moment configured now e own_positive positive = grind (arith, sent_or_not)

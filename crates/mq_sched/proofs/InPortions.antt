@@ -19,9 +19,7 @@ pub together : (n : ℕ) (xs : List ℕ) → 0 < n → concat (portions_of n xs)
 together n xs positive = together_within (length xs) n xs positive (omega arith)
 
 first_full : (most n : ℕ) (xs ys : List ℕ) → (0 < length ys → length xs ≡ n) → AllButLast (λ portion. length portion ≡ n) (portions_within most n ys) → AllButLast (λ portion. length portion ≡ n) (xs ∷ portions_within most n ys)
-first_full most n xs [] full rest = tt
-first_full zero n xs (y ∷ ys) full rest = tt
-first_full (suc most) n xs (y ∷ ys) full rest = (full (omega arith), rest)
+first_full most n xs ys full rest = grind arith
 
 full_within : (most n : ℕ) (xs : List ℕ) → AllButLast (λ portion. length portion ≡ n) (portions_within most n xs)
 full_within most n [] = tt
@@ -45,9 +43,4 @@ same_within (suc most) (suc more) n (x ∷ xs) positive enough also =
 
 -- a full portion is the first, whatever follows
 pub first_portion : (n : ℕ) (portion rest : List ℕ) → 0 < n → length portion ≡ n → portions_of n (portion ++ rest) ≡ portion ∷ portions_of n rest
-first_portion n [] rest positive long = absurd (omega arith)
-first_portion n (x ∷ xs) rest positive long =
-    let front : take n ((x ∷ xs) ++ rest) ≡ x ∷ xs = take_at (x ∷ xs) rest n long in
-    let behind : drop n ((x ∷ xs) ++ rest) ≡ rest = drop_at (x ∷ xs) rest n long in
-    (λ i. front i ∷ portions_within (length (xs ++ rest)) n (behind i))
-    ∙ ap (λ portions. (x ∷ xs) ∷ portions) (same_within (length (xs ++ rest)) (length rest) n rest positive (omega (arith, length-append xs rest)) (omega arith))
+first_portion n portion rest positive long = grind (arith, take_at, drop_at, same_within, length-append)

@@ -1,5 +1,5 @@
 -- The moments of numbers, at the leaves of a tree.
-use Rattle.std.proofs.Common.{ℕ, suc, ◌+◌, ◌-◌, ◌*◌, ◌<◌, ◌≤◌, ◌≡◌, ◌==◌, Bool, true, false, cond, arith, refl, List, [], ◌∷◌, ◌++◌, length, get_or, set, map as list_map, drop, Option, None, Some, is_some, sym, ap, ◌∙◌, subst, ⊎_elim, ◌⊎◌, inl, inr, length-append, length-set}
+use Rattle.std.proofs.Common.{ℕ, suc, ◌+◌, ◌-◌, ◌*◌, ◌<◌, ◌≤◌, ◌≡◌, ◌==◌, Bool, true, false, cond, arith, refl, List, [], ◌∷◌, ◌++◌, length, get_or, set, map as list_map, drop, Option, None, Some, is_some, sym, ap, ◌∙◌, ⊎_elim, ◌⊎◌, length-append, length-set}
 use Rattle.std.specs.Prelude.{MatchOption, if◌then◌else◌, slice_index, nat_le}
 use Rattle.std.specs.List.{All, count_by}
 use Rattle.std.specs.Ordering.{nat_cmp, eq_by_cmp}
@@ -7,14 +7,14 @@ use Rattle.std.specs.Cmp.{nat_cmp_total}
 use Rattle.std.specs.FinMap as map
 use Rattle.std.proofs.lemmas.Bool.{cases_lt, cases_eq, eq-eqb, ne_eqb, lt-ltb, le-ltb, le-leb, lt-leb, false≢true}
 use Rattle.std.proofs.lemmas.Bool.Decides.{nat_tests}
-use Rattle.std.proofs.lemmas.List.{get_or-drop, length-drop, get_or_default, get_or_past, get_or-set_same, get_or-set_other, get_or_append_left, get_or_push}
+use Rattle.std.proofs.lemmas.List.{get_or_read, get_or-drop, length-drop, get_or_default, get_or_past, get_or-set_same, get_or-set_other, get_or_append_left, get_or_push}
 use Rattle.std.proofs.lemmas.List.Folds.{list_any_at}
 use Rattle.std.proofs.lemmas.List.Sums.{sum_by-cons}
 use Rattle.std.proofs.lemmas.Option.{same_Some}
 use Rattle.mq_sets.specs.Slots.{times}
 use Rattle.mq_table.specs.Maps.{entries_by}
 use Rattle.mq_table.proofs.Maps.{find-entries_by}
-use Rattle.mq_sched.specs.Deadlines.{moment_at, moments_at, AreNumbered, IsEarliestMoment, has_come, is_number_due}
+use Rattle.mq_sched.specs.Deadlines.{DeadlinesState, moment_at, moments_at, AreNumbered, IsEarliestMoment, has_come, is_number_due}
 use Rattle.mq_sched.specs.DeadlineTree.{IsEarliestLeaf, is_leaf_due, leaf_before, leaf_after}
 use Rattle.mq_sched.proofs.Counts.{count-some, count-none, count-map, count-agree}
 use Rattle.mq_sched.proofs.LeafMoves.{after_given_up, before_given_up}
@@ -60,34 +60,14 @@ module _ (nodes leaves numbers : List ℕ) (count : ℕ) (known : AreNumbered le
 
   -- a number has a leaf, or none has it
   pub moment-cases : (q : ℕ) → ((leaf : ℕ) × IsLeafOf numbers count leaf q) ⊎ (((leaf : ℕ) → IsLeafOf numbers count leaf q → ⊥) × (moment_at nodes leaves numbers count q ≡ None))
-  moment-cases q =
-      let told = get_or leaves q 0 in
-      ⊎_elim
-      (λ (low : told < count).
-      inr (λ leaf is. absurd (omega (arith, low, is.from, leaf-told leaf q is)), rw (lt-leb count told low) refl))
-      (λ (from : count ≤ told).
-      ⊎_elim
-      (λ (below : told < 2 * count).
-      ⊎_elim
-      (λ (same : get_or numbers told 0 ≡ q). inl (told, record { from = from; below = below; has = same }))
-      (λ (differs : get_or numbers told 0 ≡ q → ⊥).
-      inr (λ leaf is. differs (ap (λ l. get_or numbers l 0) (leaf-told leaf q is) ∙ is.has), rw (le-leb count told from, lt-ltb told (2 * count) below, ne_eqb (get_or numbers told 0) q differs) refl))
-      (cases_eq (get_or numbers told 0) q))
-      (λ (past : 2 * count ≤ told).
-      inr (λ leaf is. absurd (omega (arith, past, is.below, leaf-told leaf q is)), rw (le-leb count told from, le-ltb told (2 * count) past) refl))
-      (cases_lt told (2 * count)))
-      (cases_lt told count)
+  moment-cases q = grind (arith, leaf-told, lt-leb, le-leb, lt-ltb, ne_eqb, cases_eq, le-ltb, cases_lt)
 
   -- the numbers that are there
   dense-at : (leaf : ℕ) → count ≤ leaf → get_or (drop count numbers) (leaf - count) 0 ≡ get_or numbers leaf 0
   dense-at leaf from = get_or-drop count numbers (leaf - count) 0 ∙ ap (λ l. get_or numbers l 0) (omega (arith, from))
 
   pub dense-leaf : (k d : ℕ) → k < length (drop count numbers) → IsLeafOf numbers count (count + k) (get_or (drop count numbers) k d)
-  dense-leaf k d here = record {
-    from = omega arith;
-    below = omega (arith, here, known.size, length-drop count numbers);
-    has = sym (get_or_default (drop count numbers) k d 0 here ∙ get_or-drop count numbers k 0);
-  }
+  dense-leaf k d here = grind (arith, length-drop, get_or_default, get_or-drop)
 
   pub get-moments_at : (q : ℕ) → map.get (moments_at nodes leaves numbers count) q ≡ moment_at nodes leaves numbers count q
   get-moments_at q =
@@ -117,12 +97,7 @@ module _ (nodes leaves numbers : List ℕ) (count : ℕ) (known : AreNumbered le
 
   -- a number without a leaf has no moment
   moment-none : (q : ℕ) → (IsLeafOf numbers count (get_or leaves q 0) q → ⊥) → map.get (moments_at nodes leaves numbers count) q ≡ None
-  moment-none q absent =
-      get-moments_at q
-      ∙ ⊎_elim
-      (λ (there : (leaf : ℕ) × IsLeafOf numbers count leaf q). absurd (absent (subst (λ leaf. IsLeafOf numbers count leaf q) (sym (leaf-told there.0 q there.1)) there.1)))
-      (λ (none : ((leaf : ℕ) → IsLeafOf numbers count leaf q → ⊥) × (moment_at nodes leaves numbers count q ≡ None)). none.1)
-      (moment-cases q)
+  moment-none q absent = grind (arith, get-moments_at, leaf-told, moment-cases)
 
   pub due-none : (now q : ℕ) → (IsLeafOf numbers count (get_or leaves q 0) q → ⊥) → is_number_due (moments_at nodes leaves numbers count) now q ≡ false
   due-none now q absent = ap (has_come now) (moment-none q absent)
@@ -218,11 +193,7 @@ module _ (nodes after leaves numbers : List ℕ) (count n first due : ℕ) (know
   grown_numbers = (numbers ++ first ∷ []) ++ n ∷ []
 
   first_leaf : 0 < count → IsLeafOf numbers count count first
-  first_leaf some = record {
-    from = omega arith;
-    below = omega (arith, some);
-    has = sym (first_is ∙ get_or_default numbers count n 0 (omega (arith, some, known.size)));
-  }
+  first_leaf some = grind (arith, get_or_default)
 
   sizes : length (numbers ++ first ∷ []) ≡ 2 * count + 1
   sizes = omega (arith, length-append numbers (first ∷ []), known.size)
@@ -309,17 +280,7 @@ module _ (nodes after leaves numbers : List ℕ) (count n first due : ℕ) (know
 
   -- and where a new one was
   left_leaf : (leaf q : ℕ) → IsLeafOf grown_numbers (count + 1) leaf q → (leaf ≡ 2 * count + 1) ⊎ ((old : ℕ) × IsLeafOf numbers count old q)
-  left_leaf leaf q is =
-      ⊎_elim
-      (λ (old : leaf < 2 * count). inr (leaf, record { from = omega (arith, is.from); below = old; has = sym (at_others leaf old) ∙ is.has }))
-      (λ (new : 2 * count ≤ leaf).
-      ⊎_elim
-      (λ (same : leaf ≡ 2 * count).
-      let some : 0 < count = omega (arith, is.from, same) in
-      inr (count, record { from = omega arith; below = omega (arith, some); has = (first_leaf some).has ∙ sym at_first ∙ ap (λ l. get_or grown_numbers l 0) (sym same) ∙ is.has }))
-      (λ (differs : leaf ≡ 2 * count → ⊥). inl (omega (arith, new, is.below, differs)))
-      (cases_eq leaf (2 * count)))
-      (cases_lt leaf (2 * count))
+  left_leaf leaf q is = grind (arith, at_others, first_leaf, at_first, cases_eq, cases_lt)
 
   pub moment-made : (q : ℕ) → map.get (moments_at after grown_leaves grown_numbers (count + 1)) q ≡ map.get (map.insert (moments_at nodes leaves numbers count) n due) q
   moment-made q =
@@ -381,9 +342,7 @@ module _ (nodes after leaves given numbers kept : List ℕ) (last n leaf later :
     (gives : (other : ℕ) → last < other → other < 2 * last + 2 → (other ≡ leaf → ⊥) → get_or given (get_or numbers other 0) 0 ≡ leaf_after last leaf later other) where
   -- where a leaf that is left was
   was_leaf : (other : ℕ) → last ≤ other → other < 2 * last → (old : ℕ) × ((last < old) × (old < 2 * last + 2) × (old ≡ leaf → ⊥) × (leaf_after last leaf later old ≡ other) × (old ≡ leaf_before last leaf later other))
-  was_leaf other from below =
-      let was = before_given_up last leaf later other (omega (arith, own.from)) (omega (arith, own.below)) tail end from below in
-      (leaf_before last leaf later other, (omega (arith, was.0), was.1, was.2, was.3, refl))
+  was_leaf other from below = grind (arith, before_given_up)
 
   kept-at : (other : ℕ) → last ≤ other → other < 2 * last → (old : ℕ) × (IsLeafOf numbers (last + 1) old (get_or kept other 0) × (old ≡ leaf → ⊥) × (leaf_after last leaf later old ≡ other) × (get_or after other 0 ≡ get_or nodes old 0))
   kept-at other from below =
@@ -441,26 +400,29 @@ module _ (nodes after leaves given numbers kept : List ℕ) (last n leaf later :
   pub moments-gone : moments_at after given kept last ≡ map.remove (moments_at nodes leaves numbers (last + 1)) n
   moments-gone = map.same_map nat_cmp_total map.nat_cmp-IsAntisymmetric _ _ moment-gone
 
+-- the leaf of a number that is there, which its place tells
+pub record HasLeaf (leaves numbers : List ℕ) (count n : ℕ) : Type 0 where
+  pub leaf : ℕ
+  pub is : IsLeafOf numbers count leaf n
+  pub within : n < length leaves
+  pub told : (read : ℕ) → read ≡ get_or leaves n read → read ≡ leaf
+
 -- what is known of a number that is there, or isn't
 module _ (nodes leaves numbers : List ℕ) (count n : ℕ) (known : AreNumbered leaves numbers count) where
-  pub leaf-of_there : map.contains_key (moments_at nodes leaves numbers count) n ≡ true → (leaf : ℕ) × IsLeafOf numbers count leaf n
-  leaf-of_there there =
-      ⊎_elim
-      (λ (has : (leaf : ℕ) × IsLeafOf numbers count leaf n). has)
-      (λ (none : ((leaf : ℕ) → IsLeafOf numbers count leaf n → ⊥) × (moment_at nodes leaves numbers count n ≡ None)).
-      absurd (false≢true (sym (ap is_some (get-moments_at nodes leaves numbers count known n ∙ none.1)) ∙ there)))
-      (moment-cases nodes leaves numbers count known n)
+  pub below-room : (leaf : ℕ) → IsLeafOf numbers count leaf n → n < length leaves
+  below-room leaf is = omega (arith, is.has, known.below leaf is.from is.below)
+
+  leaf-of_there : map.contains_key (moments_at nodes leaves numbers count) n ≡ true → HasLeaf leaves numbers count n
+  leaf-of_there there = grind (arith, below-room, get_or_read, leaf-told, false≢true, get-moments_at, moment-cases)
 
   pub none-of_absent : map.contains_key (moments_at nodes leaves numbers count) n ≡ false → (leaf : ℕ) → IsLeafOf numbers count leaf n → ⊥
   none-of_absent absent leaf is =
       absurd (false≢true (sym absent ∙ ap is_some (get-moments_at nodes leaves numbers count known n ∙ moment-there nodes leaves numbers count known leaf n is)))
 
-  pub below-room : (leaf : ℕ) → IsLeafOf numbers count leaf n → n < length leaves
-  below-room leaf is = omega (arith, is.has, known.below leaf is.from is.below)
-
   pub first-below : (first : ℕ) → n < length leaves → first ≡ get_or numbers count n → first < length leaves
-  first-below first within is =
-      ⊎_elim
-      (λ (some : 0 < count). omega (arith, is, get_or_default numbers count n 0 (omega (arith, some, known.size)), known.below count (omega arith) (omega (arith, some))))
-      (λ (none : count ≤ 0). omega (arith, within, is, get_or_past numbers count n (omega (arith, none, known.size))))
-      (cases_lt 0 count)
+  first-below first within is = grind (arith, get_or_default, get_or_past, cases_lt)
+
+-- in an index with these moments
+pub leaf-of_held : (nodes : List ℕ) (n : ℕ) {leaves numbers : List ℕ} {count room : ℕ} {s : DeadlinesState} → AreNumbered leaves numbers count
+    → ◌≡◌ {A = DeadlinesState} (record { moments = moments_at nodes leaves numbers count; room = room }) s → map.contains_key s.moments n ≡ true → HasLeaf leaves numbers count n
+leaf-of_held nodes n known view there = leaf-of_there nodes _ _ _ n known (ap (λ (s : DeadlinesState). map.contains_key s.moments n) view ∙ there)

@@ -1,14 +1,11 @@
 -- How many bytes the sources of a message take: few, where an address is small.
-use Rattle.std.proofs.Common.{ℕ, ◌+◌, ◌-◌, ◌*◌, ◌%◌, ◌≤◌, ◌<◌, max, arith}
+use Rattle.std.proofs.Common.{ℕ, ◌+◌, ◌-◌, ◌*◌, ◌≤◌, ◌<◌, max, arith}
 use Rattle.std.proofs.Math.Nat.{mod-le}
 use prog.Memory.{up}
 
 -- rounded up to a small alignment
 rounded : (k e bound : ℕ) → k ≤ 16 → e ≤ bound → up k e ≤ bound + 16
-rounded k e bound small below = within ((k - e % k) % k) (mod-le (k - e % k) k)
-  where
-    within : (pad : ℕ) → pad ≤ k - e % k → e + pad ≤ bound + 16
-    within pad h = omega (arith, h)
+rounded k e bound small below = grind (arith, mod-le)
 
 plus : (a b c d : ℕ) → a ≤ c → b ≤ d → a + b ≤ c + d
 plus a b c d first second = omega arith

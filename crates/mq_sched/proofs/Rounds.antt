@@ -1,24 +1,22 @@
 -- What a round asks for, counts down and leaves.
-use Rattle.std.proofs.Common.{◌≡◌, ℕ, ◌+◌, ◌-◌, ◌<◌, Bool, true, false, cond, not, ◌&&◌, ◌||◌, List, [], ◌∷◌, ◌++◌, filter, Option, None, Some, IfSome, refl, sym, ap, ◌∙◌, arith, eqb, ltb, leb}
+use Rattle.std.proofs.Common.{◌≡◌, ℕ, ◌+◌, ◌-◌, ◌<◌, Bool, true, false, cond, not, ◌&&◌, ◌||◌, List, [], ◌∷◌, ◌++◌, filter, Option, None, Some, IfSome, refl, sym, ap, ◌∙◌, arith, eqb, ltb}
 use Rattle.std.proofs.lemmas.Bool.{false≢true, true≢false, and_parts, eqb-true, ltb-true, ltb-false, leb-false, lt-leb}
 use Rattle.std.specs.Prelude.{map as list_map}
 use Rattle.std.specs.List.{list_any, concat}
-use Rattle.std.specs.Option.{option_and_then, option_map, is_some}
+use Rattle.std.specs.Option.{option_map, is_some}
 use Rattle.std.specs.Ordering.{nat_cmp}
 use Rattle.std.specs.Cmp.{unsigned_ties}
 use Rattle.std.specs.FinMap as map
 use Rattle.std.specs.FinMap.{FinMap}
 use Rattle.mq_table.specs.declared.timing.Timing.{Timing}
-use Rattle.mq_table.specs.Sets.{Set, ◌∩◌, ◌∖◌}
+use Rattle.mq_table.specs.Sets.{Set}
 use Rattle.mq_table.specs.declared.timers.SourceTimer.{SourceTimer}
-use Rattle.mq_table.specs.declared.timers.SourceTimer.TheVariants.{Stopped, Running}
-use Rattle.mq_table.specs.Group.{GroupState, timer_at, deadline_of, group_deadline, sendings_of, is_ahead}
-use Rattle.mq_table.specs.Lowering.{lowered_to}
+use Rattle.mq_table.specs.Group.{GroupState, timer_at, deadline_of, sendings_of}
 use Rattle.mq_table.proofs.Maps.{get-kept}
 use Rattle.mq_table.proofs.Places.{or_none}
-use Rattle.mq_table.specs.Sendings.{some_source, has_sendings, above, source_counted, sendings_counted}
+use Rattle.mq_table.specs.Sendings.{has_sendings, source_counted, sendings_counted}
 use Rattle.mq_sched.specs.Schedule.{QuerySchedule, query_sendings, ScheduleState, ScheduledGroup, IsScheduleOf}
-use Rattle.mq_sched.specs.Sending.{SentQuery, GeneralQuery, GroupQuery, SourcesQuery, is_due, group_due, sources_where, sources_queries, group_messages, source_messages, messages_due, group_counted, sources_due_next, after_round}
+use Rattle.mq_sched.specs.Sending.{SentQuery, GeneralQuery, GroupQuery, SourcesQuery, is_due, group_due, sources_where, sources_queries, group_messages, source_messages, messages_due, group_counted, after_round}
 use Rattle.mq_sched.specs.Portions.{portions_of}
 use Rattle.mq_sched.proofs.InPortions.{together}
 use Rattle.mq_sched.specs.Rounds.{asked_in, asks_group, is_due_at, IsQuietAt}
@@ -62,10 +60,7 @@ among-filter p (k ∷ ks) s = front (p k) ∙ one_more (eqb s k) _ (p k) (p s) _
     front false = refl
 
     one_more : (t u at_k at_s rest : Bool) → (t ≡ true → at_k ≡ at_s) → u ≡ (at_s && rest) → cond at_k (t || u) u ≡ (at_s && (t || rest))
-    one_more true u at_k true rest same is = ap (λ b. cond b true u) (same refl)
-    one_more true u at_k false rest same is = ap (λ b. cond b true u) (same refl) ∙ is
-    one_more false u true at_s rest same is = is
-    one_more false u false at_s rest same is = is
+    one_more t u at_k at_s rest same is = grind arith
 
 -- among the keys of a map is what it has
 pub among-keys : {X : Type 0} (m : FinMap nat_cmp X) (s : ℕ) → list_any (λ x. eqb s x) (map.keys m) ≡ is_some (map.get m s)
@@ -73,51 +68,24 @@ among-keys m s = (λ i. list_any (λ x. unsigned_ties s x i) (map.keys m)) ∙ s
 
 -- the sources of both queries of a round together are those that have a sending to go
 both_queries : (t : Option SourceTimer) (some up : Bool) → (is_some t ≡ false → some ≡ false) → (((some && up) && is_some t) || ((some && not up) && is_some t)) ≡ some
-both_queries None true up held = absurd (true≢false (held refl))
-both_queries None false up held = refl
-both_queries (Some t) true true held = refl
-both_queries (Some t) true false held = refl
-both_queries (Some t) false up held = refl
+both_queries t some up held = grind (arith, true≢false)
 
 no_sendings : (t : Option SourceTimer) → is_some t ≡ false → ltb 0 (sendings_of t) ≡ false
 no_sendings None e = refl
 no_sendings (Some t) e = absurd (true≢false e)
 
 asked_in-sources_where : (n group : ℕ) (flag : Bool) (test : Set) (g : GroupState) (s : ℕ) → 0 < n → asked_in (sources_queries n group flag (sources_where test g)) s ≡ (test s && is_some (timer_at g s))
-asked_in-sources_where n group flag test g s positive =
-    asked_in-sources_queries n group flag (sources_where test g) s positive
-    ∙ among-filter test (map.keys g.sources) s
-    ∙ ap (λ b. test s && b) (among-keys g.sources s)
+asked_in-sources_where n group flag test g s positive = grind (arith, asked_in-sources_queries, among-filter, among-keys)
 
 asked_in-source_messages : (n : ℕ) (timing : Timing) (now group : ℕ) (e : ScheduledGroup) (s : ℕ) → 0 < n → asked_in (source_messages n timing now group e) s ≡ (is_due now e.schedule.sources_due && has_sendings e.group s)
-asked_in-source_messages n timing now group e s positive =
-    by_due (is_due now e.schedule.sources_due) _
-    (asked_in-append (sources_queries n group true (sources_where (has_sendings g ∩ above timing now g) g)) (sources_queries n group false (sources_where (has_sendings g ∖ above timing now g) g)) s
-    ∙ (λ i. asked_in-sources_where n group true (has_sendings g ∩ above timing now g) g s positive i || asked_in-sources_where n group false (has_sendings g ∖ above timing now g) g s positive i)
-    ∙ both_queries (timer_at g s) (has_sendings g s) (above timing now g s) (no_sendings (timer_at g s)))
-  where
-    g : GroupState
-    g = e.group
-
-    queries : List SentQuery
-    queries = sources_queries n group true (sources_where (has_sendings g ∩ above timing now g) g) ++ sources_queries n group false (sources_where (has_sendings g ∖ above timing now g) g)
-
-    by_due : (due b : Bool) → asked_in queries s ≡ b → asked_in (cond due queries []) s ≡ (due && b)
-    by_due true b is = is
-    by_due false b is = refl
+asked_in-source_messages n timing now group e s positive = grind (arith, asked_in-append, asked_in-sources_where, both_queries, no_sendings)
 
 asked_in-group_messages : (timing : Timing) (now group : ℕ) (e : ScheduledGroup) (s : ℕ) → asked_in (group_messages timing now group e) s ≡ false
-asked_in-group_messages timing now group e s = by_due (is_due now (group_due e.schedule.group_query))
-  where
-    by_due : (b : Bool) → asked_in (cond b (GroupQuery group (is_ahead (lowered_to timing now) (group_deadline e.group.mode)) ∷ []) []) s ≡ false
-    by_due true = refl
-    by_due false = refl
+asked_in-group_messages timing now group e s = grind arith
 
 -- a round asks for the sources that have a sending to go, where they are due
 pub asked_in-messages_due : (n : ℕ) (timing : Timing) (now group : ℕ) (e : ScheduledGroup) (s : ℕ) → 0 < n → asked_in (messages_due n timing now group e) s ≡ (is_due now e.schedule.sources_due && has_sendings e.group s)
-asked_in-messages_due n timing now group e s positive =
-    asked_in-append (group_messages timing now group e) (source_messages n timing now group e) s
-    ∙ (λ i. asked_in-group_messages timing now group e s i || asked_in-source_messages n timing now group e s positive i)
+asked_in-messages_due n timing now group e s positive = grind (arith, asked_in-append, asked_in-group_messages, asked_in-source_messages)
 
 asks_group-append : (xs ys : List SentQuery) → asks_group (xs ++ ys) ≡ (asks_group xs || asks_group ys)
 asks_group-append [] ys = refl
@@ -131,52 +99,23 @@ no_group_query group flag (portion ∷ portions) = no_group_query group flag por
 
 -- a round asks the group where its query is due
 pub asks_group-messages_due : (n : ℕ) (timing : Timing) (now group : ℕ) (e : ScheduledGroup) → asks_group (messages_due n timing now group e) ≡ is_due now (group_due e.schedule.group_query)
-asks_group-messages_due n timing now group e =
-    asks_group-append (group_messages timing now group e) (source_messages n timing now group e)
-    ∙ (λ i. first (is_due now (group_due e.schedule.group_query)) i || second (is_due now e.schedule.sources_due) i)
-    ∙ or-false (is_due now (group_due e.schedule.group_query))
-  where
-    g : GroupState
-    g = e.group
-
-    first : (b : Bool) → asks_group (cond b (GroupQuery group (is_ahead (lowered_to timing now) (group_deadline e.group.mode)) ∷ []) []) ≡ b
-    first true = refl
-    first false = refl
-
-    second : (b : Bool) → asks_group (cond b (sources_queries n group true (sources_where (has_sendings g ∩ above timing now g) g) ++ sources_queries n group false (sources_where (has_sendings g ∖ above timing now g) g)) []) ≡ false
-    second true = asks_group-append (sources_queries n group true (sources_where (has_sendings g ∩ above timing now g) g)) _ ∙ (λ i. no_group_query group true (portions_of n (sources_where (has_sendings g ∩ above timing now g) g)) i || no_group_query group false (portions_of n (sources_where (has_sendings g ∖ above timing now g) g)) i)
-    second false = refl
+asks_group-messages_due n timing now group e = grind (arith, asks_group-append, or-false, no_group_query)
 
 abbrev group_after : Bool → GroupState → GroupState
 group_after due g = cond due (sendings_counted g) g
 
 -- the new timer of a source after a round
 pub timer_at-after_round : (timing : Timing) (now : ℕ) (e : ScheduledGroup) (s : ℕ) → timer_at (after_round timing now e).group s ≡ cond (is_due now e.schedule.sources_due) (option_map source_counted (timer_at e.group s)) (timer_at e.group s)
-timer_at-after_round timing now e s = by_due (is_due now e.schedule.sources_due)
-  where
-    as_map : (t : Option SourceTimer) → option_and_then (λ timer. Some (source_counted timer)) t ≡ option_map source_counted t
-    as_map None = refl
-    as_map (Some t) = refl
-
-    by_due : (b : Bool) → timer_at (group_after b e.group) s ≡ cond b (option_map source_counted (timer_at e.group s)) (timer_at e.group s)
-    by_due true = get-kept (λ s timer. Some (source_counted timer)) e.group.sources s ∙ as_map (timer_at e.group s)
-    by_due false = refl
+timer_at-after_round timing now e s = grind (arith, get-kept)
 
 one_fewer : (t : Option SourceTimer) → ltb 0 (sendings_of t) ≡ true → sendings_of (option_map source_counted t) + 1 ≡ sendings_of t
-one_fewer None e = absurd (false≢true e)
-one_fewer (Some Stopped) e = absurd (false≢true e)
-one_fewer (Some (Running d n)) e = omega (arith, ltb-true 0 n e)
+one_fewer t e = grind (arith, false≢true, ltb-true)
 
 none_fewer : (t : Option SourceTimer) → ltb 0 (sendings_of t) ≡ false → option_map source_counted t ≡ t
-none_fewer None e = refl
-none_fewer (Some Stopped) e = refl
-none_fewer (Some (Running d n)) e = let zero : n - 1 ≡ n = omega (arith, ltb-false 0 n e) in ap (λ k. Some (Running d k)) zero
+none_fewer t e = grind (arith, ltb-false)
 
 same_deadline : (b : Bool) (t : Option SourceTimer) → deadline_of (cond b (option_map source_counted t) t) ≡ deadline_of t
-same_deadline false t = refl
-same_deadline true None = refl
-same_deadline true (Some Stopped) = refl
-same_deadline true (Some (Running d n)) = refl
+same_deadline b t = grind arith
 
 -- a source that a round asks for has one sending fewer
 pub counted_down : (n : ℕ) (timing : Timing) (now group : ℕ) (e : ScheduledGroup) (s : ℕ) → 0 < n → asked_in (messages_due n timing now group e) s ≡ true → sendings_of (timer_at (after_round timing now e).group s) + 1 ≡ sendings_of (timer_at e.group s)
@@ -198,41 +137,17 @@ pub deadlines_stay : (timing : Timing) (now : ℕ) (e : ScheduledGroup) (s : ℕ
 deadlines_stay timing now e s = ap deadline_of (timer_at-after_round timing now e s) ∙ same_deadline (is_due now e.schedule.sources_due) (timer_at e.group s)
 
 group_one_fewer : (timing : Timing) (now : ℕ) (q : Option QuerySchedule) → IfSome q (λ q. 0 < q.sendings) → is_due now (group_due q) ≡ true → query_sendings (group_counted timing now q) + 1 ≡ query_sendings q
-group_one_fewer timing now None some due = absurd (false≢true due)
-group_one_fewer timing now (Some q) some due = ap (λ b. query_sendings (cond b (cond (ltb 1 q.sendings) (Some (record { sendings = q.sendings - 1; due = now + timing.last_member_interval })) None) (Some q)) + 1) due ∙ by_sendings (ltb 1 q.sendings) refl
-  where
-    by_sendings : (b : Bool) → ltb 1 q.sendings ≡ b → query_sendings (cond b (Some (record { sendings = q.sendings - 1; due = now + timing.last_member_interval })) None) + 1 ≡ q.sendings
-    by_sendings true e = omega (arith, ltb-true 1 q.sendings e, some)
-    by_sendings false e = omega (arith, ltb-false 1 q.sendings e, some)
+group_one_fewer timing now q some due = grind (arith, false≢true, ltb-true, ltb-false)
 
 pub group_counted_down : (n : ℕ) (timing : Timing) (now group : ℕ) (e : ScheduledGroup) → IsScheduleOf e.group e.schedule → asks_group (messages_due n timing now group e) ≡ true → query_sendings (after_round timing now e).schedule.group_query + 1 ≡ query_sendings e.schedule.group_query
 group_counted_down n timing now group e fits asked = group_one_fewer timing now e.schedule.group_query fits.group_sendings (sym (asks_group-messages_due n timing now group e) ∙ asked)
 
 pub group_stays : (n : ℕ) (timing : Timing) (now group : ℕ) (e : ScheduledGroup) → asks_group (messages_due n timing now group e) ≡ false → (after_round timing now e).schedule.group_query ≡ e.schedule.group_query
-group_stays n timing now group e unasked = by_query e.schedule.group_query (sym (asks_group-messages_due n timing now group e) ∙ unasked)
-  where
-    by_query : (q : Option QuerySchedule) → is_due now (group_due q) ≡ false → group_counted timing now q ≡ q
-    by_query None e = refl
-    by_query (Some q) e = ap (λ b. cond b (cond (ltb 1 q.sendings) (Some (record { sendings = q.sendings - 1; due = now + timing.last_member_interval })) None) (Some q)) e
+group_stays n timing now group e unasked = grind (arith, asks_group-messages_due)
 
 -- nothing is due after a round
 pub quiet_after_round : (timing : Timing) (now : ℕ) (e : ScheduledGroup) → 0 < timing.last_member_interval → IsQuietAt now (after_round timing now e).schedule
-quiet_after_round timing now e positive = record { group = of_group e.schedule.group_query; sources = of_sources e.schedule.sources_due }
-  where
-    counted_after : (q : QuerySchedule) (b : Bool) → leb q.due now ≡ b → IfSome (cond b (cond (ltb 1 q.sendings) (Some (record { sendings = q.sendings - 1; due = now + timing.last_member_interval })) None) (Some q)) (λ q. now < q.due)
-    counted_after q true e = elim (ltb 1 q.sendings) as (λ b. IfSome (cond b (Some (record { sendings = q.sendings - 1; due = now + timing.last_member_interval })) None) (λ (q : QuerySchedule). now < q.due)) [ true ↦ omega arith | false ↦ tt ]
-    counted_after q false e = leb-false q.due now e
-
-    of_group : (q : Option QuerySchedule) → IfSome (group_counted timing now q) (λ q. now < q.due)
-    of_group None = tt
-    of_group (Some q) = counted_after q (leb q.due now) refl
-
-    of_sources : (due : Option ℕ) → IfSome (cond (is_due now due) (sources_due_next timing now (cond (is_due now due) (sendings_counted e.group) e.group)) due) (λ due. now < due)
-    of_sources None = tt
-    of_sources (Some due) = elim (leb due now) as (λ b. leb due now ≡ b → IfSome (cond b (sources_due_next timing now (cond b (sendings_counted e.group) e.group)) (Some due)) (λ due. now < due)) [
-      | true ↦ λ _. elim (some_source (has_sendings (sendings_counted e.group)) (sendings_counted e.group)) as (λ b. IfSome (cond b (Some (now + timing.last_member_interval)) None) (λ due. now < due)) [ true ↦ omega arith | false ↦ tt ]
-      | false ↦ λ h. leb-false due now h
-    ] refl
+quiet_after_round timing now e positive = grind (arith, leb-false)
 
 -- what is quiet isn't due
 pub group_not_due : (now : ℕ) (q : Option QuerySchedule) → IfSome q (λ q. now < q.due) → is_due now (group_due q) ≡ false
@@ -245,12 +160,7 @@ not_due now (Some due) h = lt-leb due now h
 
 -- so it sends nothing
 pub quiet_is_silent : (n : ℕ) (timing : Timing) (now group : ℕ) (e : ScheduledGroup) → IsQuietAt now e.schedule → messages_due n timing now group e ≡ []
-quiet_is_silent n timing now group e quiet =
-    (λ i. cond (group_not_due now e.schedule.group_query quiet.group i) (GroupQuery group (is_ahead (lowered_to timing now) (group_deadline e.group.mode)) ∷ []) [] ++ source_messages n timing now group e)
-    ∙ silent (is_due now e.schedule.sources_due) _ (not_due now e.schedule.sources_due quiet.sources)
-  where
-    silent : (b : Bool) (queries : List SentQuery) → b ≡ false → cond b queries [] ≡ []
-    silent b queries e = ap (λ b. cond b queries []) e
+quiet_is_silent n timing now group e quiet = grind (arith, group_not_due, not_due)
 
 -- and stays as it is
 pub same_count : (timing : Timing) (now : ℕ) (q : Option QuerySchedule) → IfSome q (λ q. now < q.due) → group_counted timing now q ≡ q
@@ -258,22 +168,8 @@ same_count timing now None h = refl
 same_count timing now (Some q) h = ap (λ b. cond b (cond (ltb 1 q.sendings) (Some (record { sendings = q.sendings - 1; due = now + timing.last_member_interval })) None) (Some q)) (lt-leb q.due now h)
 
 pub same_round : (timing : Timing) (now : ℕ) (e : ScheduledGroup) → IsQuietAt now e.schedule → after_round timing now e ≡ e
-same_round timing now e h = λ i. record {
-  group = cond (not_due now e.schedule.sources_due h.sources i) (sendings_counted e.group) e.group;
-  schedule = record {
-    group_query = same_count timing now e.schedule.group_query h.group i;
-    sources_due = cond (not_due now e.schedule.sources_due h.sources i) (sources_due_next timing now (cond (not_due now e.schedule.sources_due h.sources i) (sendings_counted e.group) e.group)) e.schedule.sources_due;
-  };
-}
+same_round timing now e h = grind (arith, not_due, same_count)
 
 -- where nothing is due
 pub quiet_by : (now : ℕ) (schedule : ScheduleState) → is_due_at now schedule ≡ false → IsQuietAt now schedule
-quiet_by now schedule none = record { group = by_query schedule.group_query (or_none (is_due now (group_due schedule.group_query)) (is_due now schedule.sources_due) none).0; sources = by_due schedule.sources_due (or_none (is_due now (group_due schedule.group_query)) (is_due now schedule.sources_due) none).1 }
-  where
-    by_query : (q : Option QuerySchedule) → is_due now (group_due q) ≡ false → IfSome q (λ q. now < q.due)
-    by_query None is = tt
-    by_query (Some q) is = leb-false q.due now is
-
-    by_due : (due : Option ℕ) → is_due now due ≡ false → IfSome due (λ due. now < due)
-    by_due None is = tt
-    by_due (Some due) is = leb-false due now is
+quiet_by now schedule none = grind (arith, or_none, leb-false)

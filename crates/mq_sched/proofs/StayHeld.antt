@@ -1,5 +1,5 @@
 -- A group that is held stays held, whatever is asked, sent or dropped.
-use Rattle.std.proofs.Common.{◌≡◌, ℕ, Bool, true, false, cond, Some, refl, ltb}
+use Rattle.std.proofs.Common.{◌≡◌, ℕ, Bool, true, false, cond, Some, refl, arith}
 use Rattle.mq_table.specs.declared.timing.Timing.{Timing}
 use Rattle.mq_table.specs.Sets.{Set}
 use Rattle.mq_table.specs.declared.timers.SourceTimer.{SourceTimer}
@@ -10,24 +10,16 @@ use Rattle.mq_table.specs.Lowering.{lowered_to}
 use Rattle.mq_table.proofs.Held.{IsWellFormed-replaced, IsWellFormed-group_lowered}
 use Rattle.mq_table.specs.Sendings.{source_cleared, source_asked, source_counted, sendings_counted}
 use Rattle.mq_sched.specs.Schedule.{ScheduledGroup, cleared}
-use Rattle.mq_sched.specs.Sending.{group_asked, sources_asked, acted, is_due, after_round}
+use Rattle.mq_sched.specs.Sending.{sources_asked, acted, is_due, after_round}
 
 asked_runs : (limit count : ℕ) (b : Bool) (t : SourceTimer) → is_running (Some (cond b (source_asked limit count t) t)) ≡ is_running (Some t)
-asked_runs limit count false t = refl
-asked_runs limit count true Stopped = refl
-asked_runs limit count true (Running d n) = by_test (ltb limit d)
-  where
-    by_test : (b : Bool) → is_running (Some (cond b (Running limit count) (Running d n))) ≡ true
-    by_test true = refl
-    by_test false = refl
+asked_runs limit count b t = grind arith
 
 held_sources_asked : (timing : Timing) (now : ℕ) (asked : Set) (e : ScheduledGroup) → IsWellFormed e.group → IsWellFormed (sources_asked timing now asked e).group
 held_sources_asked timing now asked e = IsWellFormed-replaced e.group e.group.mode (λ s t. cond (asked s) (source_asked (lowered_to timing now) (last_member_count timing) t) t) (λ m. m) (λ s t. asked_runs (lowered_to timing now) (last_member_count timing) (asked s) t)
 
 pub held_acted : (is_querier : Bool) (timing : Timing) (now : ℕ) (query_group : Bool) (query : Set) (e : ScheduledGroup) → IsWellFormed e.group → IsWellFormed (acted is_querier timing now query_group query e).group
-held_acted false timing now query_group query e held = held
-held_acted true timing now false query e held = held_sources_asked timing now query e held
-held_acted true timing now true query e held = held_sources_asked timing now query (group_asked timing now e) (IsWellFormed-group_lowered timing now e.group held)
+held_acted is_querier timing now query_group query e held = grind (arith, held_sources_asked, IsWellFormed-group_lowered)
 
 counted_runs : (t : SourceTimer) → is_running (Some (source_counted t)) ≡ is_running (Some t)
 counted_runs Stopped = refl

@@ -27,10 +27,7 @@ module _ (before after : List Bool) where
 
   one-level : (node : ℕ) → 1 < node → written_above before after node node ≡ cond (stays before after node) 0 (1 + written_above before after (node / 2) (node / 2))
   unfolding written_above
-  one-level node some =
-      same-levels node (suc (node - 1)) node (omega arith) (omega arith)
-      ∙ cond-false (leb node 1) 0 _ (lt-leb node 1 some)
-      ∙ ap (λ n. cond (stays before after node) 0 (1 + n)) (same-levels (node - 1) (node / 2) (node / 2) (omega (arith, some)) (omega arith))
+  one-level node some = grind (arith, same-levels, cond-false, lt-leb)
 
   -- the node above one is written, and those above that
   pub written-next : (node : ℕ) → 1 < node → stays before after node ≡ false → written_above before after node node ≡ 1 + written_above before after (node / 2) (node / 2)
@@ -43,9 +40,7 @@ module _ (before after : List Bool) where
   -- nor above the top
   pub written-top : (node : ℕ) → node ≤ 1 → written_above before after node node ≡ 0
   unfolding written_above
-  written-top node few =
-      same-levels node (suc node) node (omega arith) (omega arith)
-      ∙ cond-true (leb node 1) 0 _ (le-leb node 1 few)
+  written-top node few = grind (arith, same-levels, cond-true, le-leb)
 
   few-levels : (levels node : ℕ) → node ≤ levels → written_above before after levels node ≤ bitlen (node / 2)
   unfolding written_above
@@ -67,48 +62,24 @@ module _ (before after : List Bool) where
 
 -- whether a node has the deadline of the other one below it, by its side
 pub keeps_other-told : (side is_right : Bool) (node : ℕ) → is_right ≡ eqb (node % 2) 1 → not (eqb (cond side (2 * (node / 2)) (2 * (node / 2) + 1)) node) ≡ cond side is_right (not is_right)
-keeps_other-told true true node is = let odd = eqb-true (node % 2) 1 (sym is) in ap not (ne_eqb _ _ (λ same. absurd (omega (arith, odd, same))))
-keeps_other-told true false node is = ap not (eq-eqb _ _ (⊎_elim (λ (low : node % 2 < 1). omega (arith, low)) (λ (high : 1 ≤ node % 2). absurd (eqb-false (node % 2) 1 (sym is) (omega (arith, high)))) (cases_lt (node % 2) 1)))
-keeps_other-told false true node is = let odd = eqb-true (node % 2) 1 (sym is) in ap not (eq-eqb _ _ (omega (arith, odd)))
-keeps_other-told false false node is = ap not (ne_eqb _ _ (λ same. eqb-false (node % 2) 1 (sym is) (omega (arith, same))))
+keeps_other-told side is_right node is = grind (arith, eqb-true, ne_eqb, eq-eqb, eqb-false, cases_lt)
 
 -- a test of two sides says whether they are the same
 pub beq-same : (a b : Bool) → beq a b ≡ true → a ≡ b
-beq-same true true is = refl
-beq-same false false is = refl
-beq-same true false is = absurd (false≢true is)
-beq-same false true is = absurd (false≢true is)
+beq-same a b is = grind (arith, false≢true)
 
 pub beq-other : (a b : Bool) → beq a b ≡ false → a ≡ b → ⊥
-beq-other true true differs same = false≢true (sym differs)
-beq-other false false differs same = false≢true (sym differs)
-beq-other true false differs same = false≢true (sym same)
-beq-other false true differs same = false≢true same
+beq-other a b differs same = grind (arith, false≢true)
 
 both-keep : (side before is_right : Bool) → side ≡ is_right → side ≡ before → (cond before is_right (not is_right) && cond side is_right (not is_right)) ≡ true
-both-keep true true true right same = refl
-both-keep false false false right same = refl
-both-keep true false _ right same = absurd (false≢true (sym same))
-both-keep false true _ right same = absurd (false≢true same)
-both-keep true true false right same = absurd (false≢true (sym right))
-both-keep false false true right same = absurd (false≢true right)
+both-keep side before is_right right same = grind (arith, false≢true)
 
 one-does_not : (side before is_right : Bool) → (side ≡ is_right → side ≡ before → ⊥) → (cond before is_right (not is_right) && cond side is_right (not is_right)) ≡ false
-one-does_not true true true differs = absurd (differs refl refl)
-one-does_not true true false differs = refl
-one-does_not true false true differs = refl
-one-does_not true false false differs = refl
-one-does_not false true true differs = refl
-one-does_not false true false differs = refl
-one-does_not false false true differs = refl
-one-does_not false false false differs = absurd (differs refl refl)
+one-does_not side before is_right differs = grind arith
 
 module _ (before after : List Bool) (node : ℕ) (side : Bool) (told : get_or after (node / 2) false ≡ side) where
   both : stays before after node ≡ (cond (get_or before (node / 2) false) (eqb (node % 2) 1) (not (eqb (node % 2) 1)) && cond side (eqb (node % 2) 1) (not (eqb (node % 2) 1)))
-  both =
-      ap (λ b. b && keeps_other after (node / 2) node) (keeps_other-told (get_or before (node / 2) false) (eqb (node % 2) 1) node refl)
-      ∙ ap (λ b. cond (get_or before (node / 2) false) (eqb (node % 2) 1) (not (eqb (node % 2) 1)) && b) (keeps_other-told (get_or after (node / 2) false) (eqb (node % 2) 1) node refl)
-      ∙ ap (λ b. cond (get_or before (node / 2) false) (eqb (node % 2) 1) (not (eqb (node % 2) 1)) && cond b (eqb (node % 2) 1) (not (eqb (node % 2) 1))) told
+  both = grind (arith, keeps_other-told)
 
   -- the writing ends at a node with the deadline of the other one below it, which it had
   pub ends : side ≡ eqb (node % 2) 1 → side ≡ get_or before (node / 2) false → stays before after node ≡ true
@@ -124,8 +95,4 @@ pub written-more : (before lefts : List Bool) (from node written : ℕ) (side : 
     → (side ≡ eqb (node % 2) 1 → side ≡ get_or lefts (node / 2) false → ⊥)
     → ((after : List Bool) → ((i : ℕ) → node ≤ i → get_or after i false ≡ get_or lefts i false) → written_above before after from from ≡ written + written_above before after node node)
     → (after : List Bool) → ((i : ℕ) → node / 2 ≤ i → get_or after i false ≡ get_or (set lefts (node / 2) side) i false) → written_above before after from from ≡ written + 1 + written_above before after (node / 2) (node / 2)
-written-more before lefts from node written side some within same differs so_far after agrees =
-    let told : get_or after (node / 2) false ≡ side = agrees (node / 2) (omega arith) ∙ get_or-set_same lefts (node / 2) side false within in
-    let above = so_far after (λ i high. agrees i (omega (arith, high)) ∙ get_or-set_other lefts (node / 2) i side false (λ is. absurd (omega (arith, high, is, some)))) in
-    let next = written-next before after node some (goes-on before after node side told (λ right is. differs right (is ∙ sym same))) in
-    omega (arith, above, next)
+written-more before lefts from node written side some within same differs so_far after agrees = grind (arith, get_or-set_same, get_or-set_other, written-next, goes-on)

@@ -29,9 +29,7 @@ is_cell-other cell other differs =
 
 -- a cell that stands in a list of cells is counted, and one past all of them is not
 pub times-some : (cells : List ℕ) (cell k d : ℕ) → k < length cells → get_or cells k d ≡ cell → 1 ≤ times cell cells
-times-some cells cell k d in_list same =
-    let part = get_or-le-sum_by (is_cell cell) cells k d in_list in
-    omega (arith, part, is_cell-same cell (get_or cells k d) same)
+times-some cells cell k d in_list same = grind (arith, get_or-le-sum_by, is_cell-same)
 
 times-past : (cells : List ℕ) (bound cell : ℕ) → All (λ other. other < bound) cells → bound ≤ cell → times cell cells ≡ 0
 times-past cells bound cell below past =

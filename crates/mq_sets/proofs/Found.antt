@@ -1,5 +1,5 @@
 -- What a number finds in a list.
-use Rattle.std.proofs.Common.{ℕ, ◌<◌, ◌≤◌, ◌≡◌, ◌==◌, arith, refl, List, [], ◌∷◌, map, ◌∙◌, ⊎_elim}
+use Rattle.std.proofs.Common.{ℕ, ◌≡◌, ◌==◌, arith, refl, List, [], ◌∷◌, map, ◌∙◌, ⊎_elim}
 use Rattle.std.specs.Option.{option_map}
 use Rattle.std.specs.Ordering.{nat_cmp, eq_by_cmp}
 use Rattle.std.specs.FinMap as map_of
@@ -28,15 +28,7 @@ module _ {X : Type 0} (number : X → ℕ) where
 
 -- the order of numbers tests their equality
 eq_by_nat_cmp : (q m : ℕ) → eq_by_cmp nat_cmp q m ≡ (m == q)
-eq_by_nat_cmp q m =
-    ⊎_elim
-    (λ (below : q < m). rw (lt-ltb q m below, above-eqb m q below) refl)
-    (λ (from : m ≤ q).
-    ⊎_elim
-    (λ (above : m < q). rw (le-ltb q m from, above-eqb q m above, below-eqb m q above) refl)
-    (λ (upto : q ≤ m). rw (le-ltb q m from, eq-eqb q m (omega arith), eq-eqb m q (omega arith)) refl)
-    (cases_lt m q))
-    (cases_lt q m)
+eq_by_nat_cmp q m = grind (arith, lt-ltb, above-eqb, le-ltb, below-eqb, eq-eqb, cases_lt)
 
 module _ {X V : Type 0} (number : X → ℕ) (value : X → V) where
   found_entry : (xs : List X) (n : ℕ) → map_of.find nat_cmp n (map (λ x. (number x, value x)) xs) ≡ option_map value (item_with number xs n)

@@ -71,8 +71,4 @@ spent_to_found number xs n {low = low} {high = high} known some one =
 
 -- the place for an item that was not found
 pub place_left : {X : Type 0} (number : X → ℕ) (xs : List X) (n : ℕ) {old m low high : ℕ} → IsNarrowed number xs n old m low high → high ≤ low → IsPlaceFor number xs n low
-place_left number xs n known none = record {
-  within = omega (arith, known.ordered, known.within);
-  below = known.below;
-  above = λ k d from upto. known.above k d (omega arith) upto;
-}
+place_left number xs n known none = grind arith

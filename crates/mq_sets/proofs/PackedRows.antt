@@ -1,5 +1,5 @@
 -- Rows that are packed in the order in which a list names them.
-use Rattle.std.proofs.Common.{ℕ, suc, ◌+◌, ◌<◌, ◌≤◌, ◌≡◌, arith, refl, List, [], ◌∷◌, ◌++◌, length, map, take, set, get_or, sym, ap, ◌∙◌, subst, ⊎_elim, inr, length-append}
+use Rattle.std.proofs.Common.{ℕ, suc, ◌+◌, ◌<◌, ◌≤◌, ◌≡◌, arith, refl, List, [], ◌∷◌, ◌++◌, length, map, take, set, get_or, sym, ap, ◌∙◌, subst, ⊎_elim, length-append}
 use Rattle.std.specs.List.{All, sum_by}
 use Rattle.std.proofs.lemmas.Bool.{cases_lt, cases_eq}
 use Rattle.std.proofs.Math.Seq.{map-set_same}
@@ -98,25 +98,13 @@ module _ {T : Type 0} (cells : List T) (from : List Extent) where
     longer = omega (arith, length-append packed (cells_of cells e), size_more)
 
     y_within : IsWithin (packed ++ cells_of cells e) y
-    y_within =
-        ⊎_elim
-        (λ (some : 0 < y.length). omega (arith, longer, size_is, start_is some))
-        (λ (empty : y.length ≤ 0). let at_first : y.start ≡ 0 = placed_is (omega (arith, empty)) in omega (arith, at_first, empty))
-        (cases_lt 0 y.length)
+    y_within = grind (arith, longer, cases_lt)
 
     y_row : cells_of (packed ++ cells_of cells e) y ≡ cells_of cells e
-    y_row =
-        ⊎_elim
-        (λ (some : 0 < y.length). cells_of-end packed (cells_of cells e) y (start_is some) (size_is ∙ sym size_more))
-        (λ (empty : y.length ≤ 0). cells_of-empty (packed ++ cells_of cells e) y (omega (arith, empty)) ∙ sym (cells_of-empty cells e (omega (arith, empty, size_is))))
-        (cases_lt 0 y.length)
+    y_row = grind (arith, cells_of-end, size_more, cells_of-empty, cases_lt)
 
     y_apart : (z : Extent) → IsWithin packed z → IsApart y z
-    y_apart z within =
-        ⊎_elim
-        (λ (some : 0 < y.length). inr (omega (arith, start_is some, within)))
-        (λ (empty : y.length ≤ 0). let size : y.length ≡ 0 = omega (arith, empty) in apart-none y z (placed_is size) size)
-        (cases_lt 0 y.length)
+    y_apart z within = grind (arith, apart-none, cases_lt)
 
     at_x : (d : Extent) → get_or (set extents x y) x d ≡ y
     at_x d = get_or-set_same extents x y d in_extents
@@ -203,28 +191,10 @@ module _ {T : Type 0} (cells : List T) (from : List Extent) where
         ∙ sym (get_or-map (cells_of cells) from k none d in_from))
 
     pub packed-within : All (IsWithin packed) extents
-    packed-within = λ k d in_list.
-        let in_from : k < length from = omega (arith, in_list, known.size) in
-        ⊎_elim
-        (λ (absent : times k numbers < 1).
-        omega (arith, unnamed k d in_from (omega (arith, absent)), at_first k d in_from (omega (arith, absent))))
-        (λ (some : 1 ≤ times k numbers). known.within k d in_from some)
-        (cases_lt (times k numbers) 1)
+    packed-within = grind (arith, unnamed, at_first, cases_lt)
 
     pub packed-apart : AreApart extents
-    packed-apart = AreApart-from_pairs extents (λ a b d below in_list.
-        let in_a : a < length from = omega (arith, below, in_list, known.size) in
-        let in_b : b < length from = omega (arith, in_list, known.size) in
-        ⊎_elim
-        (λ (absent : times a numbers < 1).
-        apart-none (get_or extents a d) (get_or extents b d) (at_first a d in_a (omega (arith, absent))) (unnamed a d in_a (omega (arith, absent))))
-        (λ (some_a : 1 ≤ times a numbers).
-        ⊎_elim
-        (λ (absent : times b numbers < 1).
-        apart-turned (get_or extents b d) (get_or extents a d) (apart-none (get_or extents b d) (get_or extents a d) (at_first b d in_b (omega (arith, absent))) (unnamed b d in_b (omega (arith, absent)))))
-        (λ (some_b : 1 ≤ times b numbers). known.apart a b d in_a in_b (λ same. absurd (omega (arith, same, below))) some_a some_b)
-        (cases_lt (times b numbers) 1))
-        (cases_lt (times a numbers) 1))
+    packed-apart = grind (arith, AreApart-from_pairs, apart-none, at_first, unnamed, apart-turned, cases_lt)
 
   -- the list names all cells
   pub named-all : (numbers : List ℕ) → NamesRows (map (λ (e : Extent). e.length) from) numbers → sum_by (size_of from) numbers ≡ cells_said from

@@ -53,11 +53,7 @@ abbrev pub halved : List (List ℕ) → ℕ → List (List ℕ)
 halved pages i = take i pages ++ take 255 (get_or pages i []) ∷ drop 255 (get_or pages i []) ∷ drop (suc i) pages
 
 pub halved-is : (pages : List (List ℕ)) (i : ℕ) → i < length pages → insert (set pages i (take 255 (get_or pages i []))) (i + 1) (drop 255 (get_or pages i [])) ≡ halved pages i
-halved-is pages i within =
-    let page = get_or pages i [] in
-    let front = take_more_set pages i (take 255 page) within in
-    let behind = drop-set-lt (suc i) pages i (take 255 page) (omega arith) in
-    rw (front, add-one i, behind) (append_assoc (take i pages) (take 255 page ∷ []) (drop 255 page ∷ drop (suc i) pages))
+halved-is pages i within = grind (arith, take_more_set, drop-set-lt, add-one, append_assoc)
 
 pub numbers-halved : (pages : List (List ℕ)) (i : ℕ) → i < length pages → numbers_in (halved pages i) ≡ numbers_in pages
 numbers-halved pages i within =
@@ -112,9 +108,7 @@ length-later : (pages : List (List ℕ)) (i : ℕ) → i < length pages → leng
 length-later pages i within = let n = length-append (take i pages) (take 255 (get_or pages i []) ∷ []) in omega (arith, n, length-take i pages, within)
 
 pub second-halved : (pages : List (List ℕ)) (i : ℕ) → i < length pages → get_or (halved pages i) (i + 1) [] ≡ drop 255 (get_or pages i [])
-second-halved pages i within =
-    ap (λ xs. get_or xs (i + 1) []) (halved-later pages i)
-    ∙ get_or_at (take i pages ++ take 255 (get_or pages i []) ∷ []) (drop 255 (get_or pages i [])) (drop (suc i) pages) [] (i + 1) (length-later pages i within)
+second-halved pages i within = grind (arith, halved-later, get_or_at, length-later)
 
 pub rank-halved : (pages : List (List ℕ)) (i : ℕ) → i < length pages → sum (take i (map length (halved pages i))) ≡ sum (take i (map length pages))
 rank-halved pages i within = ap sum (take-map length i (halved pages i) ∙ ap (map length) (front-halved pages i within) ∙ sym (take-map length i pages))
@@ -160,21 +154,14 @@ module _ (pages : List (List ℕ)) (i place number : ℕ) (after : List (List �
   in-halved = omega (arith, length-append (take i pages) (take 255 (get_or pages i []) ∷ drop 255 (get_or pages i []) ∷ drop (suc i) pages), length-take i pages, within)
 
   pub numbers-first : after ≡ set (halved pages i) i (insert (get_or (halved pages i) i []) place number) → place ≤ 255 → numbers_in after ≡ insert (numbers_in pages) (sum (take i (map length pages)) + place) number
-  numbers-first is fits =
-      ap numbers_in is
-      ∙ numbers-insert (halved pages i) i place number (omega (arith, in-halved)) (first-fits fits)
-      ∙ rw (numbers-halved pages i within, rank-halved pages i within) refl
+  numbers-first is fits = grind (arith, numbers-insert, in-halved, first-fits, numbers-halved, rank-halved)
 
   pub filled-first : after ≡ set (halved pages i) i (insert (get_or (halved pages i) i []) place number) → place ≤ 255 → AreFilled (map length after)
   filled-first is fits =
       subst (λ xs. AreFilled (map length xs)) (sym is) (filled-insert (halved pages i) i place number (omega (arith, in-halved)) (first-fits fits) first-room (filled-halved pages i within full known))
 
   pub numbers-second : after ≡ set (halved pages i) (i + 1) (insert (get_or (halved pages i) (i + 1) []) (place - 255) number) → 255 < place → place ≤ 511 → numbers_in after ≡ insert (numbers_in pages) (sum (take i (map length pages)) + place) number
-  numbers-second is behind fits =
-      let rank : sum (take (i + 1) (map length (halved pages i))) + (place - 255) ≡ sum (take i (map length pages)) + place = omega (arith, rank-halved_later pages i within full, behind) in
-      ap numbers_in is
-      ∙ numbers-insert (halved pages i) (i + 1) (place - 255) number in-halved (second-fits fits)
-      ∙ rw (numbers-halved pages i within, rank) refl
+  numbers-second is behind fits = grind (arith, rank-halved_later, numbers-insert, in-halved, second-fits, numbers-halved)
 
   pub filled-second : after ≡ set (halved pages i) (i + 1) (insert (get_or (halved pages i) (i + 1) []) (place - 255) number) → place ≤ 511 → AreFilled (map length after)
   filled-second is fits =

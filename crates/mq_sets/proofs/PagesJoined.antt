@@ -12,22 +12,10 @@ use Rattle.mq_sets.proofs.PagedNumbers.{in_parts, numbers-parts, numbers-set, le
 
 -- two neighbours in a list
 pub in_pair : {X : Type 0} (xs : List X) (i : ℕ) (d : X) → i + 1 < length xs → xs ≡ take i xs ++ get_or xs i d ∷ get_or xs (i + 1) d ∷ drop (i + 1 + 1) xs
-in_pair xs i d within =
-    sym (take-append-drop i xs)
-    ∙ ap (λ ys. take i xs ++ ys) (drop_more xs i d (omega arith) ∙ ap (λ ys. get_or xs i d ∷ ys) (drop_more xs (i + 1) d within))
+in_pair xs i d within = grind (arith, take-append-drop, drop_more)
 
 pub joined-is : (pages : List (List ℕ)) (i : ℕ) → i + 1 < length pages → joined pages i ≡ take i pages ++ (get_or pages i [] ++ get_or pages (i + 1) []) ∷ drop (i + 1 + 1) pages
-joined-is pages i within =
-    let both = get_or pages i [] ++ get_or pages (i + 1) [] in
-    let rest = drop (suc (i + 1)) pages in
-    let size : length (take (i + 1) pages) ≡ i + 1 = omega (arith, length-take (i + 1) pages, within) in
-    let fewer : i < length (remove pages (i + 1)) = omega (arith, length-append (take (i + 1) pages) rest, size) in
-    let front : take i (take (i + 1) pages ++ rest) ≡ take i pages = take-append-le i (take (i + 1) pages) rest (omega (arith, size)) ∙ take-take i (i + 1) pages (omega arith) in
-    let behind : drop (suc i) (take (i + 1) pages ++ rest) ≡ rest = drop_at (take (i + 1) pages) rest (suc i) (size ∙ add-one i) in
-    let last : rest ≡ drop (i + 1 + 1) pages = ap (λ k. drop k pages) (sym (add-one (i + 1))) in
-    set_split (remove pages (i + 1)) i both fewer
-    ∙ ap (λ xs. xs ++ both ∷ drop (suc i) (take (i + 1) pages ++ rest)) front
-    ∙ ap (λ xs. take i pages ++ both ∷ xs) (behind ∙ last)
+joined-is pages i within = grind (arith, length-take, length-append, take-append-le, take-take, drop_at, add-one, set_split)
 
 pub numbers-joined : (pages : List (List ℕ)) (i : ℕ) → i + 1 < length pages → numbers_in (joined pages i) ≡ numbers_in pages
 numbers-joined pages i within =
@@ -40,13 +28,7 @@ numbers-joined pages i within =
     ∙ sym (ap numbers_in (in_pair pages i [] within) ∙ flat_map-append (λ p. p) (take i pages) (first ∷ second ∷ behind))
 
 pub sizes-joined : (pages : List (List ℕ)) (i : ℕ) → i + 1 < length pages → map length (joined pages i) ≡ take i (map length pages) ++ (length (get_or pages i []) + length (get_or pages (i + 1) [])) ∷ drop (i + 1 + 1) (map length pages)
-sizes-joined pages i within =
-    let first = get_or pages i [] in
-    let second = get_or pages (i + 1) [] in
-    let size : length (first ++ second) ≡ length first + length second = length-append first second in
-    ap (map length) (joined-is pages i within)
-    ∙ map-append length (take i pages) ((first ++ second) ∷ drop (i + 1 + 1) pages)
-    ∙ rw (size, take-map length i pages, drop-map length (i + 1 + 1) pages) refl
+sizes-joined pages i within = grind (arith, length-append, joined-is, map-append, take-map, drop-map)
 
 pub numbers-remove : (pages : List (List ℕ)) (i place : ℕ) → i < length pages → place < length (get_or pages i []) → numbers_in (set pages i (remove (get_or pages i []) place)) ≡ remove (numbers_in pages) (sum (take i (map length pages)) + place)
 numbers-remove pages i place within inside =
@@ -138,10 +120,7 @@ module _ (pages : List (List ℕ)) (i place : ℕ) (within : i < length pages) (
 
 -- what tells whether two neighbours have to become one page
 pub least-is : (pages : List (List ℕ)) (k : ℕ) → k + 1 < length pages → above_least (map length pages) k ≡ min (min (length (get_or pages k [])) (length (get_or pages (k + 1) []))) (length (get_or pages k []) + length (get_or pages (k + 1) []) - 255)
-least-is pages k within =
-    let a : get_or (map length pages) k 0 ≡ length (get_or pages k []) = get_or-map length pages k [] 0 (omega arith) in
-    let b : get_or (map length pages) (k + 1) 0 ≡ length (get_or pages (k + 1) []) = get_or-map length pages (k + 1) [] 0 within in
-    rw (a, b) refl
+least-is pages k within = grind (arith, get_or-map)
 
 pub page-within : (pages : List (List ℕ)) (k : ℕ) → AreFilled (map length pages) → length (get_or pages k []) ≤ 511
 page-within pages k known =
@@ -152,8 +131,4 @@ page-within pages k known =
 
 -- no page has more than its room when one has lost a number
 pub left-within : (pages : List (List ℕ)) (i place k : ℕ) → i < length pages → place < length (get_or pages i []) → AreFilled (map length pages) → length (get_or (set pages i (remove (get_or pages i []) place)) k []) ≤ 511
-left-within pages i place k within inside known =
-    ⊎_elim
-    (λ same. omega (arith, ap (λ m. length (get_or (set pages i (remove (get_or pages i []) place)) m [])) same.1, ap length (get_or-set_same pages i (remove (get_or pages i []) place) [] within), length-remove (get_or pages i []) place inside, page-within pages i known))
-    (λ other. omega (arith, ap length (get_or-set_other pages i k (remove (get_or pages i []) place) [] other.1), page-within pages k known))
-    (eqb_tells k i)
+left-within pages i place k within inside known = grind (arith, get_or-set_same, length-remove, page-within, get_or-set_other, eqb_tells)

@@ -1,5 +1,5 @@
 -- How many items are moved where a number leaves its page.
-use Rattle.std.proofs.Common.{ℕ, ◌+◌, ◌-◌, ◌<◌, ◌≤◌, ◌≡◌, min, List, [], length, map, set, get_or, sym, ap, ◌∙◌, arith, ⊎_elim}
+use Rattle.std.proofs.Common.{ℕ, ◌+◌, ◌-◌, ◌<◌, ◌≤◌, ◌≡◌, min, List, [], length, map, set, get_or, arith, ⊎_elim}
 use Rattle.std.specs.Prelude.{cond}
 use Rattle.std.specs.List.{remove}
 use Rattle.std.proofs.lemmas.Bool.{cases_lt, lt-ltb, le-ltb}
@@ -14,38 +14,25 @@ module _ (pages : List ℕ) (i : ℕ) where
       ⊎_elim (λ (more : i + 1 < length pages). omega (arith, enough more)) (λ (last : length pages ≤ i + 1). omega (arith, last)) (cases_lt (i + 1) (length pages))
 
   pub joins-behind : i + 1 < length pages → above_least pages i ≡ 0 → moved_by_joins pages i ≡ moved_by_join pages i
-  joins-behind two small =
-      ap (λ b. cond b (moved_by_join pages i) (cond (have_to_join pages (i - 1)) (moved_by_join pages (i - 1)) 0))
-      (lt-ltb (above_least pages i) (min 1 (length pages - 1 - i)) (omega (arith, two, small)))
+  joins-behind two small = grind (arith, lt-ltb)
 
   pub joins-other : (i + 1 < length pages → 1 ≤ above_least pages i) → moved_by_joins pages i ≡ cond (have_to_join pages (i - 1)) (moved_by_join pages (i - 1)) 0
-  joins-other enough =
-      ap (λ b. cond b (moved_by_join pages i) (cond (have_to_join pages (i - 1)) (moved_by_join pages (i - 1)) 0))
-      (le-ltb (above_least pages i) (min 1 (length pages - 1 - i)) (neither enough))
+  joins-other enough = grind (arith, le-ltb, neither)
 
 module _ (pages : List ℕ) (i : ℕ) (enough : i + 1 < length pages → 1 ≤ above_least pages i) where
   pub joins-before : i - 1 + 1 < length pages → above_least pages (i - 1) ≡ 0 → moved_by_joins pages i ≡ moved_by_join pages (i - 1)
-  joins-before two small =
-      joins-other pages i enough
-      ∙ ap (λ b. cond b (moved_by_join pages (i - 1)) 0) (lt-ltb (above_least pages (i - 1)) (min 1 (length pages - 1 - (i - 1))) (omega (arith, two, small)))
+  joins-before two small = grind (arith, joins-other, lt-ltb)
 
   pub joins-none : (i - 1 + 1 < length pages → 1 ≤ above_least pages (i - 1)) → moved_by_joins pages i ≡ 0
-  joins-none enough_before =
-      joins-other pages i enough
-      ∙ ap (λ b. cond b (moved_by_join pages (i - 1)) 0) (le-ltb (above_least pages (i - 1)) (min 1 (length pages - 1 - (i - 1))) (neither pages (i - 1) enough_before))
+  joins-none enough_before = grind (arith, joins-other, le-ltb, neither)
 
 -- the sizes of the pages where a number has left one
 pub sizes-left : (pages : List (List ℕ)) (i place : ℕ) → i < length pages → place < length (get_or pages i []) → map length (set pages i (remove (get_or pages i []) place)) ≡ set (map length pages) i (get_or (map length pages) i 0 - 1)
-sizes-left pages i place within inside =
-    let size : length (remove (get_or pages i []) place) ≡ get_or (map length pages) i 0 - 1 = omega (arith, length-remove (get_or pages i []) place inside, get_or-map length pages i [] 0 within) in
-    map-set length pages i (remove (get_or pages i []) place) ∙ ap (set (map length pages) i) size
+sizes-left pages i place within inside = grind (arith, length-remove, get_or-map, map-set)
 
 -- what is moved by a removal, with what its joins move
 pub moved-remove : (pages left : List (List ℕ)) (spot : Spot) → spot.page < length pages → spot.place < length (get_or pages spot.page []) → left ≡ set pages spot.page (remove (get_or pages spot.page []) spot.place) → moved_by_remove (map length pages) spot ≡ length (get_or pages spot.page []) - spot.place + moved_by_joins (map length left) spot.page
-moved-remove pages left spot within inside is =
-    let sizes = sym (sizes-left pages spot.page spot.place within inside) ∙ ap (map length) (sym is) in
-    ap (λ xs. get_or (map length pages) spot.page 0 - spot.place + moved_by_joins xs spot.page) sizes
-    ∙ ap (λ n. n - spot.place + moved_by_joins (map length left) spot.page) (get_or-map length pages spot.page [] 0 within)
+moved-remove pages left spot within inside is = grind (arith, sizes-left, get_or-map)
 
 -- what a join moves, by the pages themselves
 pub moved-join : (pages : List (List ℕ)) (i : ℕ) → i + 1 < length pages → moved_by_join (map length pages) i ≡ length (get_or pages (i + 1) []) + (length pages - 1 - i)

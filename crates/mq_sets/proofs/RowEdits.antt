@@ -1,5 +1,5 @@
 -- Rows that are kept by number: what an edit leaves.
-use Rattle.std.proofs.Common.{ℕ, zero, suc, ◌+◌, ◌-◌, ◌*◌, ◌/◌, ◌<◌, ◌≤◌, ◌≡◌, arith, refl, List, [], ◌∷◌, length, map, set, get_or, ap, ◌∙◌, ⊎_elim, ◌⊎◌, inl, inr, min}
+use Rattle.std.proofs.Common.{ℕ, zero, suc, ◌+◌, ◌-◌, ◌*◌, ◌/◌, ◌<◌, ◌≤◌, ◌≡◌, arith, refl, List, [], ◌∷◌, length, map, set, get_or, ap, ◌∙◌, min}
 use Rattle.std.specs.Prelude.{replicate, nat_le, if◌then◌else◌}
 use Rattle.std.specs.List.{All}
 use Rattle.std.proofs.lemmas.Bool.{cases_eq, cases_lt, le-leb, lt-leb}
@@ -8,7 +8,7 @@ use Rattle.std.proofs.lemmas.List.{get_or-replicate, length-replicate, get_or-se
 use Rattle.std.proofs.lemmas.List.Elements.{All-head, All-tail, All-set}
 use Rattle.std.proofs.lemmas.List.Folds.{sum_by-replicate}
 use Rattle.std.proofs.lemmas.List.Sums.{sum_by-set}
-use Rattle.mq_sets.specs.Pools.{cells_of, rows_of, cells_in, cells_said, IsWithin, AreApart, IsStored, PoolState, NamesRows, IsPlaced, MovesArePaid, size_at}
+use Rattle.mq_sets.specs.Pools.{cells_of, rows_of, cells_said, IsWithin, AreApart, IsStored, PoolState, NamesRows, IsPlaced, MovesArePaid}
 use Rattle.mq_sets.specs.declared.extents.Extent.{Extent}
 use Rattle.mq_sets.proofs.Apart.{apart-none, apart-set}
 use Rattle.mq_sets.proofs.PackedRows.{none, AreApart-from_pairs}
@@ -21,15 +21,7 @@ IsPlaced-none rows k d in_list empty =
 
 module _ {T : Type 0} (rows : ℕ) where
   pub IsStored-none : (limit : ℕ) → IsStored {T = T} (replicate rows none) [] 0 limit
-  IsStored-none limit = record {
-    within =
-        λ k d in_list. rw (get_or-replicate rows k none d (omega (arith, in_list, length-replicate rows none))) (omega arith);
-    apart =
-        AreApart-from_pairs (replicate rows none)
-        (λ a b d below in_list. rw (get_or-replicate rows a none d (omega (arith, below, in_list, length-replicate rows none))) (apart-none none (get_or (replicate rows none) b d) refl refl));
-    used_is = omega (arith, sum_by-replicate (λ (e : Extent). e.length) rows none);
-    cells_fit = omega arith;
-  }
+  IsStored-none limit = grind (arith, get_or-replicate, length-replicate, AreApart-from_pairs, apart-none, sum_by-replicate)
 
   pub rows_of-none : rows_of {T = T} [] (replicate rows none) ≡ replicate rows []
   rows_of-none = all rows
@@ -65,31 +57,10 @@ module _ {T : Type 0} (cells : List T) (extents : List Extent) (place : ℕ) (d 
       omega (arith, sum_by-set (λ (e : Extent). e.length) extents place empty d in_list, ap (λ (e : Extent). e.length) here, no_cells)
 
   pub emptied-named : (numbers : List ℕ) → NamesRows (map (λ (e : Extent). e.length) extents) numbers → NamesRows (map (λ (e : Extent). e.length) (set extents place empty)) numbers
-  emptied-named numbers named =
-      let l : Extent → ℕ = λ e. e.length in
-      let sizes = map-set l extents place empty in
-      record {
-        within =
-            λ k n in_numbers. omega (arith, named.within k n in_numbers, length-map (set extents place empty) l, length-set extents place empty, length-map extents l);
-        once = named.once;
-        each =
-            λ n some.
-            ⊎_elim
-            (λ (same : n ≡ place).
-            let zero_there : get_or (set (map l extents) place (l empty)) place 0 ≡ l empty = get_or-set_same (map l extents) place (l empty) 0 (omega (arith, in_list, length-map extents l)) in
-            absurd (omega (arith, some, ap (λ xs. get_or xs n 0) sizes, ap (λ m. get_or (set (map l extents) place (l empty)) m 0) same, zero_there, no_cells)))
-            (λ (differs : n ≡ place → ⊥).
-            named.each n (omega (arith, some, ap (λ xs. get_or xs n 0) sizes, get_or-set_other (map l extents) place n (l empty) 0 differs)))
-            (cases_eq n place);
-      }
+  emptied-named numbers named = grind (arith, map-set, length-map, length-set, get_or-set_same, get_or-set_other, cases_eq)
 
   pub IsStored-emptied : {used limit : ℕ} → IsStored extents cells used limit → IsStored (set extents place empty) cells (used - d.length) limit
-  IsStored-emptied known = record {
-    within = emptied-within known.within;
-    apart = emptied-apart known.apart;
-    used_is = omega (arith, known.used_is, emptied-said);
-    cells_fit = omega (arith, known.cells_fit);
-  }
+  IsStored-emptied known = grind (arith, emptied-within, emptied-apart, emptied-said)
 
 -- the rows with other parts
 pub with_parts : {T : Type 0} (before : PoolState T) (old rows new : List (List T)) (limit was_ahead ahead left : ℕ) → record { rows = old; cell_limit = limit; ahead = was_ahead } ≡ before → rows ≡ new → ahead ≡ left → record { rows = rows; cell_limit = limit; ahead = ahead } ≡ record before { rows = new; ahead = left }
@@ -109,22 +80,7 @@ paid : (old_size row_size rows limit ahead cells named all : ℕ) → named ≤ 
     → (if nat_le row_size old_size then row_size else if nat_le row_size ahead then row_size else row_size + (cells - old_size + named))
     + min (4 * (limit / 4 + rows - (if nat_le row_size old_size then ahead else if nat_le row_size ahead then ahead - row_size else limit + limit / 4 + rows - all))) (all + named)
     ≤ min (4 * (limit / 4 + rows - ahead)) (cells + named) + 5 * row_size
-paid old_size row_size rows limit ahead cells named all few within sums fits =
-    ⊎_elim
-    (λ (shorter : row_size ≤ old_size). rw (le-leb row_size old_size shorter) (omega arith))
-    (λ (longer : old_size < row_size).
-    ⊎_elim
-    (λ (behind : row_size ≤ ahead). rw (lt-leb row_size old_size longer, le-leb row_size ahead behind) (omega arith))
-    (λ (past : ahead < row_size). rw (lt-leb row_size old_size longer, lt-leb row_size ahead past) (omega arith))
-    (cases_lt_or ahead row_size))
-    (cases_lt_or old_size row_size)
-  where
-    cases_lt_or : (a b : ℕ) → (b ≤ a) ⊎ (a < b)
-    cases_lt_or a b = ⊎_elim (λ (below : a < b). inr below) (λ (from : b ≤ a). inl from) (cases_lt a b)
+paid old_size row_size rows limit ahead cells named all few within sums fits = grind (arith, le-leb, lt-leb, cases_lt)
 
 pub moves-paid : {T : Type 0} → MovesArePaid T
-moves-paid state number row named in_list few within fits =
-    let sums = sum_by-set length state.rows number row [] in_list in
-    let same = length-set state.rows number row in
-    rw same
-    (paid (size_at state number) (length row) (length state.rows) state.cell_limit state.ahead (cells_in state.rows) named (cells_in (set state.rows number row)) few within (omega (arith, sums)) (omega (arith, sums, fits)))
+moves-paid = grind (arith, sum_by-set, length-set, paid)

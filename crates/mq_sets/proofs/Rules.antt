@@ -24,9 +24,7 @@ module _ {X Y : Type 0} (number_x : X → ℕ) (number_y : Y → ℕ) (rule : X 
 
   -- what the rule makes of an ascending list is ascending
   IsAscending-made : (x : X) (xs : List X) (made : Option Y) → rule x ≡ made → All (λ y. number_x x < number_y y) (filter_map rule xs) → IsAscending number_y (filter_map rule xs) → IsAscending number_y (cons_option made (filter_map rule xs))
-  IsAscending-made x xs None is above up = up
-  IsAscending-made x xs (Some y) is above up =
-      IsAscending-cons number_y y (filter_map rule xs) (rw (keeps x y is) above) up
+  IsAscending-made x xs made is above up = grind (arith, IsAscending-cons)
 
   pub IsAscending-filter_map : (xs : List X) → IsAscending number_x xs → IsAscending number_y (filter_map rule xs)
   IsAscending-filter_map [] up = λ i j d before in_list. absurd (omega arith)

@@ -40,11 +40,7 @@ module _ (pages : List (List ℕ)) (known : AreFilled (map length pages)) where
 
   -- the search among the first numbers
   pub spent-directory : {old new : ℕ} → 2 ≤ length pages → Spends (min 1 (length pages - 1)) (bitlen (length pages - 1)) old new → Spends (min 1 (length (numbers_in pages))) (bitlen (length (numbers_in pages)) + 2) old new
-  spent-directory two counted =
-      let many = several two in
-      let few = directory in
-      let less = bitlen-128th (length pages - 1) (length (numbers_in pages)) (omega (arith, many)) (omega (arith, few)) in
-      Spends-within _ _ counted (omega (arith, two)) (omega (arith, less))
+  spent-directory two counted = grind (arith, several, directory, bitlen-128th, Spends-within)
 
   page-size : (i : ℕ) → i < length pages → (length (get_or pages i []) ≤ 511) × (length (get_or pages i []) ≤ length (numbers_in pages))
   page-size i within =

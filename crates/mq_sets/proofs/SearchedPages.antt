@@ -1,5 +1,5 @@
 -- A search among the first numbers of pages and one in a page: together a search among all numbers.
-use Rattle.std.proofs.Common.{ℕ, zero, suc, ◌+◌, ◌-◌, ◌<◌, ◌≤◌, ◌≡◌, refl, List, [], ◌∷◌, ◌++◌, length, map, take, drop, get_or, sum, sym, ap, ◌∙◌, subst, arith, append_assoc, length-append, length-take, length-drop}
+use Rattle.std.proofs.Common.{ℕ, zero, suc, ◌+◌, ◌-◌, ◌<◌, ◌≤◌, ◌≡◌, List, [], ◌∷◌, ◌++◌, length, map, take, drop, get_or, sum, sym, ap, ◌∙◌, subst, arith, append_assoc, length-append, length-take, length-drop}
 use Rattle.std.specs.List.{All, HoldsAt}
 use Rattle.std.specs.Prelude.{slice_index}
 use Rattle.std.proofs.lemmas.List.Concat.{flat_map-append}
@@ -22,9 +22,7 @@ module _ {X : Type 0} (number : X → ℕ) where
   IsAscending-back (x ∷ xs) ys up = IsAscending-back xs ys (IsAscending-tail number x (xs ++ ys) up)
 
   pub IsAscending-front : (xs ys : List X) → IsAscending number (xs ++ ys) → IsAscending number xs
-  IsAscending-front xs ys up i j d before in_list =
-      let step = up i j d before (omega (arith, length-append xs ys, in_list)) in
-      omega (arith, step, ap number (get_or_append_left xs ys d i (omega arith)), ap number (get_or_append_left xs ys d j in_list))
+  IsAscending-front xs ys up = grind (arith, length-append, get_or_append_left)
 
   -- what stands before an item is below it
   before_one : (xs : List X) (y : X) (ys : List X) → IsAscending number (xs ++ y ∷ ys) → All (λ x. number x < number y) xs
@@ -37,26 +35,13 @@ module _ {X : Type 0} (number : X → ℕ) where
 
   -- a place between what is below and what is above
   pub place-between : (n : ℕ) (xs ys : List X) → All (λ x. number x < n) xs → All (λ x. n < number x) ys → IsPlaceFor number (xs ++ ys) n (length xs)
-  place-between n xs ys below above = record {
-    within = omega (arith, length-append xs ys);
-    below = λ k d from upto. let at = below k d upto in omega (arith, at, ap number (get_or_append_left xs ys d k upto));
-    above =
-        λ k d from upto.
-        let at = above (k - length xs) d (omega (arith, length-append xs ys)) in
-        omega (arith, at, ap number (get_or-append_right xs ys (length xs) k d refl from));
-  }
+  place-between n xs ys below above = grind (arith, length-append, get_or_append_left, get_or-append_right)
 
   pub below-place : (n j : ℕ) (xs : List X) → IsPlaceFor number xs n j → All (λ x. number x < n) (take j xs)
-  below-place n j xs place k d in_list =
-      let size = length-take j xs in
-      let at = place.below k d (omega arith) (omega arith) in
-      omega (arith, at, ap number (get_or-take j xs k d (omega arith)))
+  below-place n j xs place = grind (arith, length-take, get_or-take)
 
   pub above-place : (n j : ℕ) (xs : List X) → IsPlaceFor number xs n j → All (λ x. n < number x) (drop j xs)
-  above-place n j xs place k d in_list =
-      let size = length-drop j xs in
-      let at = place.above (j + k) d (omega arith) (omega arith) in
-      omega (arith, at, ap number (get_or-drop j xs k d))
+  above-place n j xs place = grind (arith, length-drop, get_or-drop)
 
 -- the first numbers of pages
 module _ (key_of : ℕ → ℕ) where

@@ -1,20 +1,17 @@
 -- Rows in a list of cells: what an append, an edit of the rows and a copy leave.
 use Rattle.std.proofs.Common.{ℕ, suc, ◌+◌, ◌-◌, ◌<◌, ◌≤◌, ◌≡◌, arith, refl, List, [], ◌∷◌, ◌++◌, length, map, take, drop, set, get_or, sym, ap, ◌∙◌, subst, length-append, length-take, length-drop}
 use Rattle.std.specs.List.{All, sum_by, insert, remove}
-use Rattle.std.proofs.lemmas.List.{append-nil, drop_all, drop-append-le, take-append-le, drop_at, take_all, map-append, take-map, drop-map, get_or-map, map-set, set-set}
+use Rattle.std.proofs.lemmas.List.{append-nil, drop_all, drop-append-le, take-append-le, drop_at, take_all, map-append, take-map, drop-map, get_or-map, length-map, map-set, set-set}
 use Rattle.std.proofs.lemmas.List.Elements.{All-head, All-tail, All-weaker, All-set}
 use Rattle.std.proofs.lemmas.List.Sums.{sum_by-cons, sum_by-set, get_or-le-sum_by, sum-map}
-use Rattle.mq_sets.specs.Pools.{cells_of, rows_of, IsWithin, AreApart, cells_in, cells_said, IsStored}
+use Rattle.mq_sets.specs.Pools.{PoolState, cells_of, rows_of, IsWithin, AreApart, cells_in, cells_said, IsStored}
 use Rattle.mq_sets.specs.declared.extents.Extent.{Extent}
 use Rattle.mq_sets.proofs.Apart.{apart-set, apart-behind}
 
 module _ {T : Type 0} where
   -- a row that lies within the cells is the same when cells are appended
   pub cells_of-append : (cells more : List T) (e : Extent) → IsWithin cells e → cells_of (cells ++ more) e ≡ cells_of cells e
-  cells_of-append cells more e within =
-      let start : e.start ≤ length cells = omega arith in
-      let fits : e.length ≤ length (drop e.start cells) = omega (arith, length-drop e.start cells) in
-      rw (drop-append-le e.start cells more start) (take-append-le e.length (drop e.start cells) more fits)
+  cells_of-append cells more e within = grind (arith, length-drop, drop-append-le, take-append-le)
 
   pub rows_of-append : (cells more : List T) (extents : List Extent) → All (IsWithin cells) extents → rows_of (cells ++ more) extents ≡ rows_of cells extents
   rows_of-append cells more [] within = refl
@@ -66,9 +63,7 @@ module _ {T : Type 0} (cells copied row : List T) (extents emptied kept : List E
       rw (map-set (cells_of (copied ++ row)) kept place y, rows_of-append copied row kept within, cells_of-end copied row y start size, same_rows, emptied_is, map-set (cells_of cells) extents place none) (set-set (rows_of cells extents) place (cells_of cells none) row)
 
   lengths_after : map (λ (e : Extent). e.length) (set kept place y) ≡ map (λ (e : Extent). e.length) (set extents place y)
-  lengths_after =
-      let l = λ (e : Extent). e.length in
-      rw (map-set l kept place y, same_lengths, emptied_is, map-set l extents place none, map-set l extents place y) (set-set (map l extents) place none.length y.length)
+  lengths_after = grind (arith, map-set, set-set)
 
   pub IsStored-replace : {used cells_limit : ℕ} → used + length row ≤ cells_limit + d.length → IsStored extents cells used cells_limit → IsStored (set kept place y) (copied ++ row) (used - d.length + length row) cells_limit
   IsStored-replace fits known =
@@ -88,6 +83,19 @@ module _ {T : Type 0} (cells copied row : List T) (extents emptied kept : List E
 pub length-row : {T : Type 0} (cells : List T) (extents : List Extent) (place : ℕ) (d : Extent) → place < length extents → d ≡ get_or extents place d → All (IsWithin cells) extents → length (get_or (rows_of cells extents) place []) ≡ d.length
 length-row cells extents place d in_list here within =
     rw (get_or-map (cells_of cells) extents place d [] in_list, ← here) (length-cells_of cells d (subst (IsWithin cells) (sym here) (within place d in_list)))
+
+-- what the state of a pool says of its extents, and of the one at a place
+pub record Shows {T : Type 0} (state : PoolState T) (extents : List Extent) (limit ahead place : ℕ) (d : Extent) : Type 0 where
+  pub count : length state.rows ≡ length extents
+  pub in_list : place < length extents
+  pub limit_is : state.cell_limit ≡ limit
+  pub ahead_is : state.ahead ≡ ahead
+  pub used : cells_in state.rows ≡ cells_said extents
+  pub size : length (get_or state.rows place []) ≡ d.length
+
+pub shows : {T : Type 0} (cells : List T) (extents : List Extent) (place : ℕ) (d : Extent) {used limit cell_limit ahead : ℕ} {state : PoolState T} → ◌≡◌ {A = PoolState T} (record { rows = rows_of cells extents; cell_limit = cell_limit; ahead = ahead }) state
+    → IsStored extents cells used limit → place < length state.rows → d ≡ get_or extents place d → Shows state extents cell_limit ahead place d
+shows cells extents place d is stored in_rows here = grind (arith, length-map, cells_in-rows_of, length-row)
 
 -- a row that is written over the front of the one at its place
 pub IsStored-over : {T : Type 0} (cells written : List T) (row_length : ℕ) (extents kept : List Extent) (place : ℕ) (d : Extent) {used cells_limit : ℕ} → place < length extents → d ≡ get_or extents place d

@@ -24,12 +24,7 @@ module _ {T : Type 0} (cells row : List T) (e y : Extent) (start : y.start ≡ e
 
   -- the row itself
   pub written-here : cells_of written y ≡ row
-  written-here =
-      let n = front_length in
-      let both = length-append front row in
-      ap (λ xs. cells_of xs y) (sym in_parts)
-      ∙ cells_of-append (front ++ row) (drop (e.start + length row) cells) y (omega (arith, n, both, start, size))
-      ∙ cells_of-end front row y (omega (arith, n, start)) size
+  written-here = grind (arith, front_length, length-append, in_parts, cells_of-append, cells_of-end)
 
   -- a row that has no cell in common with it
   written-apart : (x : Extent) → IsApart e x → cells_of written x ≡ cells_of cells x

@@ -53,9 +53,7 @@ module _ {K : Type 0} (number : K → ℕ) (limit count : ℕ) (q : K) where
   test = is_asked_above number limit (set_of number (q ∷ []))
 
   alone : (x : Source K) → (number_in number x ≡ number q → ⊥) → (made x ≡ x) × (test x ≡ false)
-  alone x other =
-      let is : (number q == number x.address) ≡ false = ne_eqb (number q) (number x.address) (λ same. other (sym same)) in
-      (ap (λ b. record { address = x.address; timer = cond (b || false) (source_asked limit count x.timer) x.timer }) is, ap (λ b. (b || false) && is_ahead limit (deadline_of (Some x.timer))) is)
+  alone x other = grind (arith, ne_eqb)
 
   pub asked_absent : (xs : List (Source K)) → set_of (number_in number) xs (number q) ≡ false → (xs ≡ list_map made xs) × (false ≡ list_any test xs)
   asked_absent xs absent = let stay = absent_stays (number_in number) (number q) made test alone xs absent in (sym stay.0, sym stay.1)

@@ -14,7 +14,6 @@ use Rattle.mq_sets.specs.Rules.{KeepsNumbers}
 use Rattle.mq_sets.proofs.Found.{found_where_member}
 use Rattle.mq_sets.proofs.Rules.{rules_keep_order, rules_act_at_each_number}
 use Rattle.mq_table.specs.declared.kind.Kind.{Kind}
-use Rattle.mq_table.specs.declared.kind.Kind.TheVariants.{IsIn, IsEx, ToIn, ToEx, Allow, Block}
 use Rattle.mq_table.specs.declared.rules.Rule.{Rule}
 use Rattle.mq_table.specs.declared.sources.Source.{Source}
 use Rattle.mq_table.specs.declared.timing.Timing.{Timing}
@@ -33,76 +32,21 @@ use Rattle.mq_table.proofs.SourceLists.{get-timers_in}
 
 -- Of each source a row of the tables sees its timer before and whether it is named.
 row-timer : (gmi : ℕ) (mode : FilterMode) (kind : Kind) (g : GroupState) (A : Set) (s : ℕ) → timer_by (table_row gmi mode kind (running g) (stopped g) A) gmi mode s (timer_at g s) ≡ timer_after gmi mode kind (timer_at g s) (A s)
-row-timer gmi Include IsIn g A s = refl
-row-timer gmi Include IsEx g A s = refl
-row-timer gmi Include Allow g A s = refl
-row-timer gmi Include Block g A s = refl
-row-timer gmi Include ToEx g A s = refl
-row-timer gmi Include ToIn g A s = refl
-row-timer gmi (Exclude d) IsIn g A s = refl
-row-timer gmi (Exclude d) IsEx g A s = refl
-row-timer gmi (Exclude d) Allow g A s = refl
-row-timer gmi (Exclude d) Block g A s = refl
-row-timer gmi (Exclude d) ToEx g A s = refl
-row-timer gmi (Exclude d) ToIn g A s = refl
+row-timer gmi mode kind g A s = grind arith
 
 row-query : (gmi : ℕ) (mode : FilterMode) (kind : Kind) (g : GroupState) (A : Set) (s : ℕ) → (let l = table_row gmi mode kind (running g) (stopped g) A in l.query s) ≡ is_asked_after gmi mode kind (timer_at g s) (A s)
-row-query gmi Include IsIn g A s = refl
-row-query gmi Include IsEx g A s = refl
-row-query gmi Include Allow g A s = refl
-row-query gmi Include Block g A s = refl
-row-query gmi Include ToEx g A s = refl
-row-query gmi Include ToIn g A s = refl
-row-query gmi (Exclude d) IsIn g A s = refl
-row-query gmi (Exclude d) IsEx g A s = refl
-row-query gmi (Exclude d) Allow g A s = refl
-row-query gmi (Exclude d) Block g A s = refl
-row-query gmi (Exclude d) ToEx g A s = refl
-row-query gmi (Exclude d) ToIn g A s = refl
+row-query gmi mode kind g A s = grind arith
 
 -- its mode and its query to the group are the same for all sets
 row-mode : (gmi : ℕ) (mode : FilterMode) (kind : Kind) (X Y A : Set) → (let l = table_row gmi mode kind X Y A in l.mode) ≡ mode_after gmi mode kind
-row-mode gmi Include IsIn X Y A = refl
-row-mode gmi Include IsEx X Y A = refl
-row-mode gmi Include Allow X Y A = refl
-row-mode gmi Include Block X Y A = refl
-row-mode gmi Include ToEx X Y A = refl
-row-mode gmi Include ToIn X Y A = refl
-row-mode gmi (Exclude d) IsIn X Y A = refl
-row-mode gmi (Exclude d) IsEx X Y A = refl
-row-mode gmi (Exclude d) Allow X Y A = refl
-row-mode gmi (Exclude d) Block X Y A = refl
-row-mode gmi (Exclude d) ToEx X Y A = refl
-row-mode gmi (Exclude d) ToIn X Y A = refl
+row-mode gmi mode kind X Y A = grind arith
 
 row-query_group : (gmi : ℕ) (mode : FilterMode) (kind : Kind) (X Y A : Set) → (let l = table_row gmi mode kind X Y A in l.query_group) ≡ asks_group_after gmi mode kind
-row-query_group gmi Include IsIn X Y A = refl
-row-query_group gmi Include IsEx X Y A = refl
-row-query_group gmi Include Allow X Y A = refl
-row-query_group gmi Include Block X Y A = refl
-row-query_group gmi Include ToEx X Y A = refl
-row-query_group gmi Include ToIn X Y A = refl
-row-query_group gmi (Exclude d) IsIn X Y A = refl
-row-query_group gmi (Exclude d) IsEx X Y A = refl
-row-query_group gmi (Exclude d) Allow X Y A = refl
-row-query_group gmi (Exclude d) Block X Y A = refl
-row-query_group gmi (Exclude d) ToEx X Y A = refl
-row-query_group gmi (Exclude d) ToIn X Y A = refl
+row-query_group gmi mode kind X Y A = grind arith
 
 -- a source that is neither held nor named isn't asked for
 asked-nothing : (gmi : ℕ) (mode : FilterMode) (kind : Kind) → is_asked_after gmi mode kind None false ≡ false
-asked-nothing gmi Include IsIn = refl
-asked-nothing gmi Include IsEx = refl
-asked-nothing gmi Include Allow = refl
-asked-nothing gmi Include Block = refl
-asked-nothing gmi Include ToEx = refl
-asked-nothing gmi Include ToIn = refl
-asked-nothing gmi (Exclude d) IsIn = refl
-asked-nothing gmi (Exclude d) IsEx = refl
-asked-nothing gmi (Exclude d) Allow = refl
-asked-nothing gmi (Exclude d) Block = refl
-asked-nothing gmi (Exclude d) ToEx = refl
-asked-nothing gmi (Exclude d) ToIn = refl
+asked-nothing gmi mode kind = grind arith
 
 -- a source with a timer has that timer and the source's address
 pub timer-source_with : {K : Type 0} (address : K) (timer : Option SourceTimer) → option_map (λ (x : Source K). x.timer) (source_with address timer) ≡ timer
@@ -123,25 +67,17 @@ some-if address false = refl
 
 module _ {K : Type 0} (number : K → ℕ) (rule : Rule) where
   made_keeps : KeepsNumbers (number_of (number_in number) number) (number_in number) (source_made rule)
-  made_keeps (Some x, named) y is = ap number (address-source_with x.address _ y is)
-  made_keeps (None, Some a) y is = ap number (address-source_with a _ y is)
-  made_keeps (None, None) y is = cc
+  made_keeps = grind (arith, address-source_with)
 
   asked_keeps : KeepsNumbers (number_of (number_in number) number) number (source_asked rule)
-  asked_keeps (Some x, named) y is = ap number (address-if x.address _ y is)
-  asked_keeps (None, Some a) y is = ap number (address-if a _ y is)
-  asked_keeps (None, None) y is = cc
+  asked_keeps = grind (arith, address-if)
 
   -- what the rules make of what both sides have at one number
   made_at : (held : Option (Source K)) (named : Option K) → option_map (λ (x : Source K). x.timer) (option_and_then (source_made rule) (paired held named)) ≡ timer_after rule.interval_end rule.mode rule.kind (option_map (λ (x : Source K). x.timer) held) (is_some named)
-  made_at None None = sym (timer_by-nothing rule.interval_end rule.mode rule.kind (λ _. false) (λ _. false) (λ _. false) 0 refl refl refl)
-  made_at None (Some a) = timer-source_with a _
-  made_at (Some x) named = timer-source_with x.address _
+  made_at held named = grind (arith, timer_by-nothing, timer-source_with)
 
   asked_at : (held : Option (Source K)) (named : Option K) → is_some (option_and_then (source_asked rule) (paired held named)) ≡ is_asked_after rule.interval_end rule.mode rule.kind (option_map (λ (x : Source K). x.timer) held) (is_some named)
-  asked_at None None = sym (asked-nothing rule.interval_end rule.mode rule.kind)
-  asked_at None (Some a) = some-if a _
-  asked_at (Some x) named = some-if x.address _
+  asked_at held named = grind (arith, asked-nothing, some-if)
 
   -- the address of a source that is turned
   abbrev turned_source : Option (Source K) × Option K → Option K
@@ -150,23 +86,17 @@ module _ {K : Type 0} (number : K → ℕ) (rule : Rule) where
   turned_source (None, None) = None
 
   turned_keeps : KeepsNumbers (number_of (number_in number) number) number turned_source
-  turned_keeps (Some x, named) y is = ap number (address-if x.address _ y is)
-  turned_keeps (None, Some a) y is = ap number (address-if a _ y is)
-  turned_keeps (None, None) y is = cc
+  turned_keeps = grind (arith, address-if)
 
   turned_nothing : (mode : FilterMode) (after : Option SourceTimer) → after ≡ None → turns mode None after ≡ false
   turned_nothing Include after is = rw is refl
   turned_nothing (Exclude d) after is = rw is refl
 
   turned_at : (held : Option (Source K)) (named : Option K) → is_some (option_and_then turned_source (paired held named)) ≡ turns rule.mode (option_map (λ (x : Source K). x.timer) held) (timer_after rule.interval_end rule.mode rule.kind (option_map (λ (x : Source K). x.timer) held) (is_some named))
-  turned_at None None = sym (turned_nothing rule.mode _ (timer_by-nothing rule.interval_end rule.mode rule.kind (λ _. false) (λ _. false) (λ _. false) 0 refl refl refl))
-  turned_at None (Some a) = some-if a _
-  turned_at (Some x) named = some-if x.address _
+  turned_at held named = grind (arith, turned_nothing, timer_by-nothing, some-if)
 
   turned_none : (p : Option (Source K) × Option K) → source_turned rule p ≡ false → turned_source p ≡ None
-  turned_none (Some x, named) e = ap (λ b. cond b (Some x.address) None) e
-  turned_none (None, Some a) e = ap (λ b. cond b (Some a) None) e
-  turned_none (None, None) e = refl
+  turned_none p e = grind arith
 
   turned_some : (p : Option (Source K) × Option K) → source_turned rule p ≡ true → (a : K) × (turned_source p ≡ Some a)
   turned_some (Some x, named) e = (x.address, ap (λ b. cond b (Some x.address) None) e)

@@ -1,5 +1,5 @@
 -- To let timers end at one moment and then at a later one is to let them end at the later one.
-use Rattle.std.proofs.Common.{◌≡◌, ℕ, ◌≤◌, true, false, cond, ◌&&◌, Option, None, Some, refl, sym, ap, ◌∙◌, arith, eqb}
+use Rattle.std.proofs.Common.{◌≡◌, ℕ, ◌≤◌, true, false, cond, Option, None, Some, refl, sym, ap, ◌∙◌, arith, eqb}
 use Rattle.std.proofs.lemmas.Bool.{and_parts}
 use Rattle.std.proofs.lemmas.Bool.Decides.{nat_tests}
 use Rattle.std.specs.Option.{option_and_then}
@@ -7,7 +7,7 @@ use Rattle.std.specs.Ordering.{nat_cmp}
 use Rattle.std.specs.FinMap as map
 use Rattle.std.specs.FinMap.{FinMap}
 use Rattle.mq_table.specs.Maps.{kept}
-use Rattle.mq_table.specs.Group.{GroupState, FilterMode, Include, Exclude, SourceTimer, Stopped, Running, is_include, vacant, is_vacant}
+use Rattle.mq_table.specs.Group.{GroupState, FilterMode, Include, Exclude, SourceTimer, is_include, vacant, is_vacant}
 use Rattle.mq_table.specs.Expiry.{ahead, mode_expired, source_expired, held_or_vacant, expired}
 use Rattle.mq_table.proofs.Maps.{get-kept}
 use Rattle.mq_table.proofs.Groups.{same_sources}
@@ -31,11 +31,7 @@ mode_twice a b le Include = refl
 mode_twice a b le (Exclude d) = grind (arith, nat_tests)
 
 source_twice : (a b : ℕ) → a ≤ b → (mode : FilterMode) (t : Option SourceTimer) → option_and_then (source_expired (mode_expired b mode) b) (option_and_then (source_expired (mode_expired a mode) a) t) ≡ option_and_then (source_expired (mode_expired b mode) b) t
-source_twice a b le mode None = refl
-source_twice a b le Include (Some Stopped) = refl
-source_twice a b le Include (Some (Running e n)) = grind (arith, nat_tests)
-source_twice a b le (Exclude d) (Some Stopped) = grind (arith, nat_tests)
-source_twice a b le (Exclude d) (Some (Running e n)) = grind (arith, nat_tests)
+source_twice a b le mode t = grind (arith, nat_tests)
 
 ended_twice : (a b : ℕ) → a ≤ b → (g : GroupState) → ended_at b (ended_at a g) ≡ ended_at b g
 ended_twice a b le g =
@@ -57,12 +53,7 @@ empty_has_no_keys m none = ap (λ n. eqb (map.len n) 0) (nothing_held m none) �
 
 -- what the end of timers makes of a group that is vacant is vacant
 vacant_stays : (b : ℕ) (g : GroupState) → is_vacant g ≡ true → is_vacant (ended_at b g) ≡ true
-vacant_stays b g e =
-    let parts = and_parts (is_include g.mode) (eqb (map.len g.sources) 0) e in
-    let empty = empty_has_no_keys (ended_at b g).sources (λ s.
-    get-kept (λ _. source_expired (mode_expired b g.mode) b) g.sources s
-    ∙ ap (λ t. option_and_then (source_expired (mode_expired b g.mode) b) t) (get_of_empty g.sources parts.1 s)) in
-    λ i. include_stays b g.mode parts.0 i && empty i
+vacant_stays b g e = grind (arith, and_parts, empty_has_no_keys, get-kept, get_of_empty, include_stays)
 
 vacant_is_vacant : is_vacant vacant ≡ true
 vacant_is_vacant = ap (λ n. eqb n 0) (map.len-empty nat_cmp SourceTimer)

@@ -1,5 +1,5 @@
 -- What the end of timers leaves of a list of sources.
-use Rattle.std.proofs.Common.{◌≡◌, ℕ, List, Option, ap}
+use Rattle.std.proofs.Common.{◌≡◌, ℕ, List, Option, ap, arith}
 use Rattle.std.specs.List.{filter_map}
 use Rattle.std.specs.Option.{option_and_then}
 use Rattle.mq_sets.specs.Ascending.{IsAscending}
@@ -27,6 +27,4 @@ module _ {K : Type 0} (number : K → ℕ) (now : ℕ) (mode : FilterMode) (v1 v
       → new_mode ≡ mode_expired now mode → left ≡ filter_map (source_left new_mode now) xs → left_v1 ≡ option_and_then (ahead now) v1 → left_v2 ≡ option_and_then (ahead now) v2
       → after ≡ held_or_vacant (record { mode = new_mode; sources = timers_in number left; v1 = left_v1; v2 = left_v2 })
       → after ≡ expired now g
-  expired_of g is_before new_mode left left_v1 left_v2 after is_mode is_left is_v1 is_v2 is_after =
-      rw (is_after, is_left, is_mode, is_v1, is_v2, ← is_before)
-      (ap (λ m. held_or_vacant (record { mode = mode_expired now mode; sources = m; v1 = option_and_then (ahead now) v1; v2 = option_and_then (ahead now) v2 })) (timers_left number (mode_expired now mode) now xs up))
+  expired_of g is_before new_mode left left_v1 left_v2 after is_mode is_left is_v1 is_v2 is_after = grind (arith, timers_left)

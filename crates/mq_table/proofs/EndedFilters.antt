@@ -1,5 +1,5 @@
 -- The end of timers changes a filter where a timer of a source runs out, or that of the group.
-use Rattle.std.proofs.Common.{◌≡◌, ℕ, ◌==◌, Bool, true, false, not, cond, ◌||◌, List, [], ◌∷◌, Option, None, Some, is_some, nat_lt, refl, sym, ap, ◌∙◌, arith}
+use Rattle.std.proofs.Common.{◌≡◌, ℕ, ◌==◌, Bool, true, false, not, cond, ◌||◌, List, [], ◌∷◌, Option, None, Some, is_some, refl, sym, ap, ◌∙◌, arith}
 use Rattle.std.specs.Bool.{beq}
 use Rattle.std.specs.List.{filter_map, cons_option, list_any}
 use Rattle.std.specs.Option.{option_map, option_and_then}
@@ -11,8 +11,8 @@ use Rattle.mq_sets.specs.Ascending.{IsAscending, item_with}
 use Rattle.mq_sets.specs.Rules.{KeepsNumbers}
 use Rattle.mq_sets.proofs.Rules.{item_with-filter_map}
 use Rattle.mq_table.specs.declared.sources.Source.{Source}
-use Rattle.mq_table.specs.Group.{GroupState, FilterMode, Include, Exclude, SourceTimer, Stopped, Running, is_include, timer_at, vacant, is_vacant}
-use Rattle.mq_table.specs.Filter.{filter_of, are_same, names, changes_filter}
+use Rattle.mq_table.specs.Group.{GroupState, FilterMode, Include, Exclude, SourceTimer, is_include, timer_at, vacant, is_vacant}
+use Rattle.mq_table.specs.Filter.{filter_of, names, changes_filter}
 use Rattle.mq_table.specs.Expiry.{mode_expired, source_expired, held_or_vacant, expired}
 use Rattle.mq_table.specs.MadeSources.{runs_out, timer_runs_out}
 use Rattle.mq_table.specs.Stored.{number_in, timers_in}
@@ -36,28 +36,11 @@ filter_of_vacant g e =
     ∙ sym (ap (names g.mode) (get_of_empty g.sources parts.1 s) ∙ none_named g.mode))
 
 filter_of_held : (g : GroupState) → filter_of (held_or_vacant g) ≡ filter_of g
-filter_of_held g = by_case (is_vacant g) refl
-  where
-    by_case : (b : Bool) → is_vacant g ≡ b → filter_of (cond b vacant g) ≡ filter_of g
-    by_case true e = filter_of_vacant g e
-    by_case false e = refl
+filter_of_held g = grind (arith, filter_of_vacant)
 
 -- of each source, where the mode stays alike
 at_one_source : (mode after : FilterMode) (now : ℕ) → is_include mode ≡ is_include after → (timer : SourceTimer) → not (beq (names mode (Some timer)) (names after (source_expired after now timer))) ≡ timer_runs_out now timer
-at_one_source Include Include now e Stopped = refl
-at_one_source Include Include now e (Running d n) = by_test (nat_lt now d)
-  where
-    by_test : (b : Bool) → not (beq true (names Include (cond b (Some (Running d n)) None))) ≡ not b
-    by_test true = refl
-    by_test false = refl
-at_one_source Include (Exclude f) now e timer = absurd (true≢false e)
-at_one_source (Exclude f) Include now e timer = absurd (true≢false (sym e))
-at_one_source (Exclude f) (Exclude h) now e Stopped = refl
-at_one_source (Exclude f) (Exclude h) now e (Running d n) = by_test (nat_lt now d)
-  where
-    by_test : (b : Bool) → not (beq false (names (Exclude h) (cond b (Some (Running d n)) (Some Stopped)))) ≡ not b
-    by_test true = refl
-    by_test false = refl
+at_one_source mode after now e timer = grind (arith, true≢false)
 
 module _ {K : Type 0} (number : K → ℕ) (now : ℕ) where
   -- a source whose timer runs out
@@ -106,13 +89,7 @@ module _ {K : Type 0} (number : K → ℕ) (now : ℕ) where
     after = ended_at now before
 
     turned_where_out : is_include mode ≡ is_include after.mode → (s : ℕ) → not (beq (names mode (timer_at before s)) (names after.mode (timer_at after s))) ≡ runs_out_at (timer_at before s)
-    turned_where_out e s =
-        ap (λ t. not (beq (names mode (timer_at before s)) (names after.mode t))) (get-kept (λ s. source_expired after.mode now) before.sources s)
-        ∙ by_timer (timer_at before s)
-      where
-        by_timer : (timer : Option SourceTimer) → not (beq (names mode timer) (names after.mode (option_and_then (source_expired after.mode now) timer))) ≡ runs_out_at timer
-        by_timer None = λ i. not (beq (none_named mode i) (none_named after.mode i))
-        by_timer (Some timer) = at_one_source mode after.mode now e timer
+    turned_where_out e s = grind (arith, get-kept, none_named, at_one_source)
 
     ended_changes : changes_filter before after ≡ (list_any (runs_out now) xs || not (beq (is_include mode) (is_include after.mode)))
     ended_changes =
@@ -123,6 +100,4 @@ module _ {K : Type 0} (number : K → ℕ) (now : ℕ) where
     -- The same of what is left when the group may not be held any more, of values that are known by equations.
     pub expired_changes : (g : GroupState) → before ≡ g → (ran_out unlike : Bool) (left : GroupState) → left ≡ expired now g → ran_out ≡ list_any (runs_out now) xs → unlike ≡ not (beq (is_include mode) (is_include (mode_expired now mode))) → changes_filter g left ≡ (ran_out || unlike)
     unfolding changes_filter
-    expired_changes g is_before ran_out unlike left is_left is_out is_unlike =
-        rw (is_left, is_out, is_unlike, ← is_before)
-        (ap (λ f. not (are_same (filter_of before) f)) (filter_of_held after) ∙ ended_changes)
+    expired_changes g is_before ran_out unlike left is_left is_out is_unlike = grind (arith, filter_of_held, ended_changes)

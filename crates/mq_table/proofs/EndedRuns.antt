@@ -1,6 +1,5 @@
 -- Runs of sources whose timers run on, in a pass over a list that leaves what the end of timers leaves.
-use Rattle.std.proofs.Common.{◌≡◌, ℕ, zero, suc, ◌+◌, ◌<◌, ◌≤◌, Bool, true, false, cond, ◌||◌, refl, List, [], ◌∷◌, ◌++◌, length, length-append, get_or, take, drop, Option, None, Some, sym, ap, subst, ◌∙◌, arith, nat_lt}
-use Rattle.std.specs.Prelude.{not}
+use Rattle.std.proofs.Common.{◌≡◌, ℕ, zero, suc, ◌+◌, ◌<◌, ◌≤◌, Bool, true, false, ◌||◌, refl, List, [], ◌∷◌, ◌++◌, length, length-append, get_or, take, drop, Option, None, Some, sym, ap, subst, ◌∙◌, arith}
 use Rattle.std.specs.List.{AllWithin, filter_map, list_any}
 use Rattle.std.proofs.lemmas.Bool.{true≢false}
 use Rattle.std.proofs.lemmas.List.Elements.{filter_map-append}
@@ -12,9 +11,9 @@ use Rattle.mq_count.specs.Timed.{compared, lies_ahead, moments_by}
 use Rattle.mq_count.proofs.TimedMoments.{moments-more}
 use Rattle.mq_table.specs.declared.sources.Source.{Source}
 use Rattle.mq_table.specs.Group.{FilterMode, SourceTimer, Stopped, Running, deadline_of}
-use Rattle.mq_table.specs.Expiry.{at_zero, source_expired}
+use Rattle.mq_table.specs.Expiry.{at_zero}
 use Rattle.mq_table.specs.MergedRecord.{source_with}
-use Rattle.mq_table.specs.MadeSources.{running_among, runs_out, timer_runs_out, source_left}
+use Rattle.mq_table.specs.MadeSources.{running_among, runs_out, source_left}
 
 take_none : {X : Type 0} (n : ℕ) → take {A = X} n [] ≡ []
 take_none zero = refl
@@ -40,15 +39,7 @@ all_stay rule (suc n) (x ∷ xs) within stay =
 
 -- a source whose timer runs on stays
 runs_stay : {K : Type 0} (mode : FilterMode) (now : ℕ) (x : Source K) → lies_ahead now (deadline_of (Some x.timer)) ≡ true → source_left mode now x ≡ Some x
-runs_stay mode now x is = by_timer x.timer is
-  where
-    by_test : (b : Bool) (d n : ℕ) → b ≡ true → source_with x.address (cond b (Some (Running d n)) (at_zero mode)) ≡ Some (record { address = x.address; timer = Running d n })
-    by_test true d n is = refl
-    by_test false d n is = absurd (true≢false (sym is))
-
-    by_timer : (timer : SourceTimer) → lies_ahead now (deadline_of (Some timer)) ≡ true → source_with x.address (source_expired mode now timer) ≡ Some (record { address = x.address; timer = timer })
-    by_timer Stopped is = absurd (true≢false (sym is))
-    by_timer (Running d n) is = by_test (nat_lt now d) d n is
+runs_stay mode now x is = grind (arith, true≢false)
 
 -- so do those of a run that lies ahead
 pub run_stays : {K : Type 0} (mode : FilterMode) (now : ℕ) (row rest : List (Source K)) (run : ℕ) → row ≡ rest → AllWithin (λ x. lies_ahead now (deadline_of (Some x.timer)) ≡ true) row 0 run → AllWithin (λ x. source_left mode now x ≡ Some x) rest 0 run
@@ -58,11 +49,7 @@ run_stays mode now row rest run same ahead k d low high =
 -- A run of items that stay has been moved behind what is left of those before.
 module _ {X : Type 0} (rule : X → Option X) (initial xs moved : List X) (left place run : ℕ) (made : take left xs ≡ filter_map rule (take place initial)) (rest : drop place xs ≡ drop place initial) (within : run ≤ length (drop place xs)) (stay : AllWithin (λ x. rule x ≡ Some x) (drop place xs) 0 run) (is_moved : take (left + run) moved ≡ take left xs ++ take run (drop place xs)) (as_before : drop (place + run) moved ≡ drop (place + run) xs) where
   pub run_made : take (left + run) moved ≡ filter_map rule (take (place + run) initial)
-  run_made =
-      is_moved
-      ∙ ap (λ ys. ys ++ take run (drop place xs)) made
-      ∙ ap (λ ys. filter_map rule (take place initial) ++ ys) (sym (all_stay rule run (drop place xs) within stay) ∙ ap (λ ys. filter_map rule (take run ys)) rest)
-      ∙ sym (ap (filter_map rule) (take_parts place run initial) ∙ filter_map-append rule (take place initial) (take run (drop place initial)))
+  run_made = grind (arith, all_stay, take_parts, filter_map-append)
 
   pub run_rest : drop (place + run) moved ≡ drop (place + run) initial
   run_rest = as_before ∙ sym (drop-drop run place xs) ∙ ap (drop run) rest ∙ drop-drop run place initial
@@ -78,11 +65,7 @@ behind_run xs moved place run d as_before =
 
 -- a source whose timer doesn't run on becomes what its mode says
 pub ended_leaves : {K : Type 0} (mode : FilterMode) (now : ℕ) (x : Source K) → lies_ahead now (deadline_of (Some x.timer)) ≡ false → source_left mode now x ≡ source_with x.address (at_zero mode)
-ended_leaves mode now x is = by_timer x.timer is
-  where
-    by_timer : (timer : SourceTimer) → lies_ahead now (deadline_of (Some timer)) ≡ false → source_with x.address (source_expired mode now timer) ≡ source_with x.address (at_zero mode)
-    by_timer Stopped is = refl
-    by_timer (Running d n) is = ap (λ (b : Bool). source_with x.address (cond b (Some (Running d n)) (at_zero mode))) is
+ended_leaves mode now x is = grind arith
 
 one_or_none : (o : Option ℕ) → length (option_to_list o) ≡ compared o
 one_or_none None = refl
@@ -97,9 +80,7 @@ running_among-more sources place x within here =
 
 -- and where a list is counted in two parts
 running_among-append : {K : Type 0} (front back : List (Source K)) → running_among (front ++ back) ≡ running_among front + running_among back
-running_among-append front back =
-    ap length (flat_map-append (λ x. option_to_list (deadline_of (Some x.timer))) front back)
-    ∙ length-append (moments_by (λ x. deadline_of (Some x.timer)) front) (moments_by (λ x. deadline_of (Some x.timer)) back)
+running_among-append front back = grind (arith, flat_map-append, length-append)
 
 -- each of a run that lies ahead runs
 all_run : {K : Type 0} (now run : ℕ) (row : List (Source K)) → run ≤ length row → AllWithin (λ x. lies_ahead now (deadline_of (Some x.timer)) ≡ true) row 0 run → running_among (take run row) ≡ run
@@ -124,18 +105,10 @@ running_among-run now place run xs row is within ahead =
 
 -- a timer that runs on doesn't run out, and another runs out where it runs
 stays_ahead : {K : Type 0} (now : ℕ) (x : Source K) → lies_ahead now (deadline_of (Some x.timer)) ≡ true → runs_out now x ≡ false
-stays_ahead now x is = by_timer x.timer is
-  where
-    by_timer : (timer : SourceTimer) → lies_ahead now (deadline_of (Some timer)) ≡ true → timer_runs_out now timer ≡ false
-    by_timer Stopped is = refl
-    by_timer (Running d n) is = ap not is
+stays_ahead now x is = grind arith
 
 runs_out_here : {K : Type 0} (now : ℕ) (x : Source K) → lies_ahead now (deadline_of (Some x.timer)) ≡ false → runs_out now x ≡ is_some (deadline_of (Some x.timer))
-runs_out_here now x is = by_timer x.timer is
-  where
-    by_timer : (timer : SourceTimer) → lies_ahead now (deadline_of (Some timer)) ≡ false → timer_runs_out now timer ≡ is_some (deadline_of (Some timer))
-    by_timer Stopped is = refl
-    by_timer (Running d n) is = ap not is
+runs_out_here now x is = grind arith
 
 -- of a run that lies ahead none runs out
 none_out : {K : Type 0} (now run : ℕ) (row : List (Source K)) → run ≤ length row → AllWithin (λ x. lies_ahead now (deadline_of (Some x.timer)) ≡ true) row 0 run → list_any (runs_out now) (take run row) ≡ false
@@ -151,11 +124,7 @@ nothing_more false = refl
 
 -- whether one of those that were passed ran out, with such a run behind them
 pub any_out-run : {K : Type 0} (now place run : ℕ) (xs row : List (Source K)) → row ≡ drop place xs → run ≤ length row → AllWithin (λ x. lies_ahead now (deadline_of (Some x.timer)) ≡ true) row 0 run → list_any (runs_out now) (take (place + run) xs) ≡ list_any (runs_out now) (take place xs)
-any_out-run now place run xs row is within ahead =
-    ap (list_any (runs_out now)) (take_parts place run xs)
-    ∙ list_any-append (runs_out now) (take place xs) (take run (drop place xs))
-    ∙ ap (λ b. list_any (runs_out now) (take place xs) || b) (ap (λ ys. list_any (runs_out now) (take run ys)) (sym is) ∙ none_out now run row within ahead)
-    ∙ nothing_more (list_any (runs_out now) (take place xs))
+any_out-run now place run xs row is within ahead = grind (arith, take_parts, list_any-append, none_out, nothing_more)
 
 -- and with one more, whose timer doesn't run on
 pub any_out-more : {K : Type 0} (now place : ℕ) (sources : List (Source K)) (x : Source K) → place < length sources → x ≡ get_or sources place x → lies_ahead now (deadline_of (Some x.timer)) ≡ false → list_any (runs_out now) (take (place + 1) sources) ≡ (list_any (runs_out now) (take place sources) || is_some (deadline_of (Some x.timer)))

@@ -1,5 +1,5 @@
 -- What the filter of a group names, and when two states of a group have the same one.
-use Rattle.std.proofs.Common.{◌≡◌, ℕ, Bool, true, false, not, cond, ◌&&◌, ◌||◌, List, [], ◌∷◌, Option, None, Some, is_some, refl, sym, ap, ◌∙◌}
+use Rattle.std.proofs.Common.{◌≡◌, ℕ, Bool, true, false, not, cond, ◌&&◌, ◌||◌, List, [], ◌∷◌, Option, is_some, refl, sym, ap, ◌∙◌, arith}
 use Rattle.std.specs.Prelude.{filter}
 use Rattle.std.specs.Bool.{beq}
 use Rattle.std.specs.List.{list_any}
@@ -8,17 +8,14 @@ use Rattle.std.specs.Cmp.{nat_cmp_total}
 use Rattle.std.specs.FinMap as map
 use Rattle.std.specs.FinSet as set
 use Rattle.std.proofs.lemmas.Bool.{true≢false, and_parts}
-use Rattle.mq_table.specs.Group.{GroupState, FilterMode, Include, Exclude, SourceTimer, Stopped, Running, is_include, timer_at, wants, forwards_in}
+use Rattle.mq_table.specs.Group.{GroupState, FilterMode, SourceTimer, is_include, timer_at, forwards_in}
 use Rattle.mq_table.specs.Filter.{Filter, names, filter_of, forwards_by, are_same, changes_filter}
 use Rattle.mq_table.proofs.Maps.{tied}
 
 -- among the keys that pass a test are those that are there and pass it
 module _ (p : ℕ → Bool) (s : ℕ) where
   any-front : (k : ℕ) (xs : List ℕ) (passes ties here rest : Bool) → eq_by_cmp nat_cmp s k ≡ ties → (ties ≡ true → here ≡ passes) → list_any (eq_by_cmp nat_cmp s) xs ≡ (here && rest) → list_any (eq_by_cmp nat_cmp s) (cond passes (k ∷ xs) xs) ≡ (here && (ties || rest))
-  any-front k xs true true here rest is same so_far = rw (is, same refl) refl
-  any-front k xs true false here rest is same so_far = rw is so_far
-  any-front k xs false true here rest is same so_far = rw (same refl) (so_far ∙ ap (λ b. b && rest) (same refl))
-  any-front k xs false false here rest is same so_far = so_far
+  any-front k xs passes ties here rest is same so_far = grind arith
 
   nothing_there : (b : Bool) → false ≡ (b && false)
   nothing_there true = refl
@@ -29,12 +26,7 @@ module _ (p : ℕ → Bool) (s : ℕ) where
   any-filter (k ∷ ks) = any-front k (filter p ks) (p k) _ (p s) _ refl (λ e. ap p (tied s k e)) (any-filter ks)
 
 named_is_there : (mode : FilterMode) (timer : Option SourceTimer) → (names mode timer && is_some timer) ≡ names mode timer
-named_is_there Include None = refl
-named_is_there Include (Some Stopped) = refl
-named_is_there Include (Some (Running d n)) = refl
-named_is_there (Exclude e) None = refl
-named_is_there (Exclude e) (Some Stopped) = refl
-named_is_there (Exclude e) (Some (Running d n)) = refl
+named_is_there mode timer = grind arith
 
 pub contains-filter_of : (g : GroupState) (s : ℕ) → set.contains (filter_of g).sources s ≡ names g.mode (timer_at g s)
 contains-filter_of g s =
@@ -45,28 +37,18 @@ contains-filter_of g s =
 
 -- it forwards what the group forwards
 pub forwards_by-filter_of : (g : GroupState) (s : ℕ) → forwards_by (filter_of g) s ≡ forwards_in g s
-forwards_by-filter_of g s = by_mode g.mode (set.contains (filter_of g).sources s) (timer_at g s) (contains-filter_of g s)
-  where
-    by_mode : (mode : FilterMode) (b : Bool) (timer : Option SourceTimer) → b ≡ names mode timer → cond (is_include mode) b (not b) ≡ wants mode timer
-    by_mode Include b timer is = is
-    by_mode (Exclude d) b timer is = ap not is
+forwards_by-filter_of g s = grind (arith, contains-filter_of)
 
 beq-itself : (b : Bool) → beq b b ≡ true
 beq-itself true = refl
 beq-itself false = refl
 
 beq-equal : (a b : Bool) → beq a b ≡ true → a ≡ b
-beq-equal true true e = refl
-beq-equal true false e = absurd (true≢false (sym e))
-beq-equal false true e = absurd (true≢false (sym e))
-beq-equal false false e = refl
+beq-equal a b e = grind (arith, true≢false)
 
 -- what isn't unlike is equal
 pub not_unlike : (a b : Bool) → not (beq a b) ≡ false → a ≡ b
-not_unlike true true e = refl
-not_unlike true false e = absurd (true≢false e)
-not_unlike false true e = absurd (true≢false e)
-not_unlike false false e = refl
+not_unlike a b e = grind (arith, true≢false)
 
 are_same-itself : (f : Filter) → are_same f f ≡ true
 are_same-itself f =
@@ -86,9 +68,7 @@ are_same-equal f h e =
     λ i. record { is_include = mode i; sources = sources i }
   where
     both : (a b : Bool) → (a ≡ true → b ≡ true) → (b ≡ true → a ≡ true) → a ≡ b
-    both true b there back = sym (there refl)
-    both false true there back = back refl
-    both false false there back = refl
+    both a b h1 h2 = grind arith
 
 -- States of a group whose modes are alike, and of whose sources each is named by both or by none, have one filter.
 pub same_filter : (a b : GroupState) → is_include a.mode ≡ is_include b.mode → ((s : ℕ) → names a.mode (timer_at a s) ≡ names b.mode (timer_at b s)) → filter_of a ≡ filter_of b
@@ -104,11 +84,7 @@ changes-same a b mode each =
 -- where the modes aren't alike they have two
 pub changes-mode : (a b : GroupState) → not (beq (is_include a.mode) (is_include b.mode)) ≡ true → changes_filter a b ≡ true
 unfolding changes_filter
-changes-mode a b e = by_modes (beq (is_include a.mode) (is_include b.mode)) _ e
-  where
-    by_modes : (x y : Bool) → not x ≡ true → not (x && y) ≡ true
-    by_modes true y e = absurd (true≢false (sym e))
-    by_modes false y e = refl
+changes-mode a b e = grind (arith, true≢false)
 
 -- and where one of them alone names a source
 pub changes-at : (a b : GroupState) (s : ℕ) → not (beq (names a.mode (timer_at a s)) (names b.mode (timer_at b s))) ≡ true → changes_filter a b ≡ true
@@ -126,23 +102,8 @@ changes-at a b s e = by_value (are_same (filter_of a) (filter_of b)) refl
 pub changes-by : (a b : GroupState) (turned : Bool) → (not (beq (is_include a.mode) (is_include b.mode)) ≡ false → turned ≡ false → (s : ℕ) → names a.mode (timer_at a s) ≡ names b.mode (timer_at b s))
     → (not (beq (is_include a.mode) (is_include b.mode)) ≡ false → turned ≡ true → (s : ℕ) × (not (beq (names a.mode (timer_at a s)) (names b.mode (timer_at b s))) ≡ true))
     → changes_filter a b ≡ (turned || not (beq (is_include a.mode) (is_include b.mode)))
-changes-by a b turned none one = by_case turned (not (beq (is_include a.mode) (is_include b.mode))) refl none one
-  where
-    Pairwise : Type 0
-    Pairwise = (s : ℕ) → names a.mode (timer_at a s) ≡ names b.mode (timer_at b s)
-
-    Somewhere : Type 0
-    Somewhere = (s : ℕ) × (not (beq (names a.mode (timer_at a s)) (names b.mode (timer_at b s))) ≡ true)
-
-    by_case : (turned other : Bool) → not (beq (is_include a.mode) (is_include b.mode)) ≡ other → (other ≡ false → turned ≡ false → Pairwise) → (other ≡ false → turned ≡ true → Somewhere) → changes_filter a b ≡ (turned || other)
-    by_case true true is none one = changes-mode a b is
-    by_case false true is none one = changes-mode a b is
-    by_case true false is none one = let at = one refl refl in changes-at a b at.0 at.1
-    by_case false false is none one = changes-same a b (not_unlike (is_include a.mode) (is_include b.mode) is) (none refl refl)
+changes-by a b turned none one = grind (arith, changes-mode, changes-at, changes-same, not_unlike)
 
 -- modes that are alike name the same
 pub named_alike : (a b : FilterMode) → is_include a ≡ is_include b → (timer : Option SourceTimer) → names a timer ≡ names b timer
-named_alike Include Include e timer = refl
-named_alike Include (Exclude d) e timer = absurd (true≢false e)
-named_alike (Exclude d) Include e timer = absurd (true≢false (sym e))
-named_alike (Exclude d) (Exclude f) e timer = refl
+named_alike a b e timer = grind (arith, true≢false)

@@ -1,5 +1,5 @@
 -- When a group is held, and that records and the end of timers leave one that is, or nothing.
-use Rattle.std.proofs.Common.{◌≡◌, ◌≢◌, ℕ, ◌+◌, Bool, true, false, cond, not, ◌&&◌, inl, inr, List, [], ◌∷◌, length, Option, None, Some, IsSome, refl, sym, ap, ◌∙◌, subst, arith, eqb, ltb}
+use Rattle.std.proofs.Common.{◌≡◌, ◌≢◌, ℕ, ◌+◌, Bool, true, false, cond, not, inl, inr, List, [], ◌∷◌, length, Option, None, Some, IsSome, refl, sym, ap, ◌∙◌, arith, eqb}
 use Rattle.std.proofs.lemmas.Option.{none-some}
 use Rattle.std.proofs.lemmas.Bool.{not-true, not-false, true_from_ne_false, false≢true, true≢false, eqb-true, cases_Bool, or_left}
 use Rattle.std.proofs.lemmas.Bool.Decides.{nat_tests}
@@ -13,7 +13,7 @@ use Rattle.std.specs.FinMap.{FinMap}
 use Rattle.mq_table.specs.declared.kind.Kind.{Kind}
 use Rattle.mq_table.specs.declared.kind.Kind.TheVariants.{IsIn, IsEx, ToIn, ToEx, Allow, Block}
 use Rattle.mq_table.specs.declared.timing.Timing.{Timing}
-use Rattle.mq_table.specs.Group.{GroupState, FilterMode, Include, Exclude, running, SourceTimer, Stopped, Running, is_include, is_running, is_stopped, stopped, timer_at, vacant, is_vacant, IsWellFormed, IsAnyGroup}
+use Rattle.mq_table.specs.Group.{GroupState, FilterMode, Include, Exclude, running, SourceTimer, is_running, is_stopped, stopped, vacant, is_vacant, IsWellFormed, IsAnyGroup}
 use Rattle.mq_count.specs.declared.versions.OlderVersion.{OlderVersion}
 use Rattle.mq_count.specs.declared.versions.OlderVersion.TheVariants.{V1, V2}
 use Rattle.mq_table.specs.Sets.{Set}
@@ -22,7 +22,7 @@ use Rattle.mq_table.specs.Timing.{membership_interval}
 use Rattle.mq_table.specs.Table.{NamedSources, table_row, change_of}
 use Rattle.mq_table.specs.OlderHosts.{older_report}
 use Rattle.mq_table.specs.Lowering.{lowered_to, mode_lowered, source_lowered, group_lowered, sources_lowered}
-use Rattle.mq_table.specs.Expiry.{mode_expired, source_expired, held_or_vacant, expired}
+use Rattle.mq_table.specs.Expiry.{source_expired, held_or_vacant, expired}
 use Rattle.mq_table.proofs.Maps.{get-kept}
 use Rattle.mq_table.proofs.Groups.{same_sources}
 use Rattle.mq_table.proofs.TableRows.{none_stopped_of, was_included, runs_on}
@@ -48,9 +48,7 @@ pub get_of_empty : {X : Type 0} (m : FinMap nat_cmp X) → eqb (map.len m) 0 ≡
 get_of_empty m e s = ap (λ n. map.get n s) (map.empty_of_len m (eqb-true _ _ e)) ∙ map.get-empty nat_cmp s
 
 running_if_held : (t : Option SourceTimer) → is_stopped t ≡ false → IsSome t → is_running t ≡ true
-running_if_held None runs held = absurd (false≢true held)
-running_if_held (Some Stopped) runs held = absurd (true≢false runs)
-running_if_held (Some (Running d n)) runs held = refl
+running_if_held t runs held = grind (arith, false≢true, true≢false)
 
 -- where no source of an INCLUDE group is stopped and it has no host-present timer, it is held or vacant
 pub held_if_included : (m : FinMap nat_cmp SourceTimer) (v1 v2 : Option ℕ) → ((s : ℕ) → is_stopped (map.get m s) ≡ false) → (eqb (map.len m) 0 ≡ true → (v1 ≡ None) × (v2 ≡ None)) → IsAnyGroup (record { mode = Include; sources = m; v1 = v1; v2 = v2 })
@@ -61,10 +59,7 @@ held_if_included m v1 v2 none alone = elim (cases_Bool (eqb (map.len m) 0)) [
 
 -- A record leaves a held group held.
 pub IsWellFormed-change_of : (timing : Timing) (now : ℕ) (g : GroupState) (kind : Kind) (named : NamedSources) → IsWellFormed g → IsWellFormed (change_of timing now g kind named).group
-IsWellFormed-change_of timing now g kind named held = record {
-  has_source = λ e. let k = held.has_source (was_included timing now g kind named e) in (k.0, runs_on timing now g kind named k.0 e k.1);
-  none_stopped = none_stopped_of timing now g kind named;
-}
+IsWellFormed-change_of timing now g kind named held = grind (arith, was_included, runs_on, none_stopped_of)
 
 -- and of one that isn't held it makes one that is, or none
 vacant_after : (timing : Timing) (now : ℕ) (kind : Kind) (named : NamedSources) → IsAnyGroup (change_of timing now vacant kind named).group
@@ -76,41 +71,24 @@ vacant_after timing now IsEx named = inr (record { has_source = λ e. cc; none_s
 vacant_after timing now ToEx named = inr (record { has_source = λ e. cc; none_stopped = λ e. cc })
 
 pub IsAnyGroup-change_of : (timing : Timing) (now : ℕ) (g : GroupState) (kind : Kind) (named : NamedSources) → IsAnyGroup g → IsAnyGroup (change_of timing now g kind named).group
-IsAnyGroup-change_of timing now g kind named any = elim any [
-  | inl e ↦ subst (λ (v : GroupState). IsAnyGroup (change_of timing now v kind named).group) (sym e) (vacant_after timing now kind named)
-  | inr held ↦ inr (IsWellFormed-change_of timing now g kind named held)
-]
+IsAnyGroup-change_of timing now g kind named any = grind (arith, vacant_after, IsWellFormed-change_of)
 
 well_formed : (g : GroupState) → is_vacant g ≡ false → (g.mode ≡ Include → (s : ℕ) → stopped g s ≡ false) → IsWellFormed g
-well_formed g some none = record {
-  has_source = λ e.
-      let filled = ap (λ b. b && eqb (map.len g.sources) 0) (sym (ap is_include e)) ∙ some in
-      let k = some_key g.sources filled in
-      (k.0, running_if_held (timer_at g k.0) (none e k.0) k.1);
-  none_stopped = none;
-}
+well_formed g some none = grind (arith, some_key, running_if_held)
 
 pub IsAnyGroup-held_or_vacant : (g : GroupState) → (g.mode ≡ Include → (s : ℕ) → stopped g s ≡ false) → IsAnyGroup (held_or_vacant g)
 IsAnyGroup-held_or_vacant g none = elim (is_vacant g) as (λ b. is_vacant g ≡ b → IsAnyGroup (cond b vacant g)) [ true ↦ λ _. inl refl | false ↦ λ some. inr (well_formed g some none) ] refl
 
 -- in INCLUDE the end of timers leaves no source stopped
 none_stopped_at : (now : ℕ) (t : Option SourceTimer) → is_stopped (option_and_then (source_expired Include now) t) ≡ false
-none_stopped_at now None = refl
-none_stopped_at now (Some Stopped) = refl
-none_stopped_at now (Some (Running d n)) = elim (ltb now d) as (λ b. is_stopped (cond b (Some (Running d n)) None) ≡ false) [ true ↦ refl | false ↦ refl ]
+none_stopped_at now t = grind arith
 
 pub IsAnyGroup-expired : (now : ℕ) (g : GroupState) → IsAnyGroup (expired now g)
-IsAnyGroup-expired now g = IsAnyGroup-held_or_vacant _ (λ e s.
-    ap is_stopped (get-kept (λ _. source_expired (mode_expired now g.mode) now) g.sources s)
-    ∙ ap (λ mode. is_stopped (option_and_then (source_expired mode now) (timer_at g s))) e
-    ∙ none_stopped_at now (timer_at g s))
+IsAnyGroup-expired now g = grind (arith, IsAnyGroup-held_or_vacant, get-kept, none_stopped_at)
 
 -- An INCLUDE group with a source stays; one that has none is vacant.
 pub held_or_vacant-some : (m n : FinMap nat_cmp SourceTimer) (v1 v2 : Option ℕ) (k : ℕ) (t : SourceTimer) → map.get n k ≡ Some t → ((s : ℕ) → map.get m s ≡ map.get n s) → held_or_vacant (record { mode = Include; sources = m; v1 = v1; v2 = v2 }) ≡ record { mode = Include; sources = n; v1 = v1; v2 = v2 }
-held_or_vacant-some m n v1 v2 k t some alike =
-    let filled = true_from_ne_false (not (eqb (map.len n) 0)) (λ e. none-some t (sym (get_of_empty n (not-false _ e) k) ∙ some)) in
-    ap (λ x. held_or_vacant (record { mode = Include; sources = x; v1 = v1; v2 = v2 })) (same_sources m n alike)
-    ∙ ap (λ b. cond b vacant (record { mode = Include; sources = n; v1 = v1; v2 = v2 })) (not-true _ filled)
+held_or_vacant-some m n v1 v2 k t some alike = grind (arith, true_from_ne_false, none-some, get_of_empty, not-false, same_sources, not-true)
 
 pub held_or_vacant-none : (m : FinMap nat_cmp SourceTimer) (v1 v2 : Option ℕ) → ((s : ℕ) → map.get m s ≡ None) → held_or_vacant (record { mode = Include; sources = m; v1 = v1; v2 = v2 }) ≡ vacant
 held_or_vacant-none m v1 v2 none =
@@ -122,22 +100,10 @@ replaced_runs f same None = refl
 replaced_runs f same (Some t) = same t
 
 replaced_stops : (f : SourceTimer → SourceTimer) → ((t : SourceTimer) → is_running (Some (f t)) ≡ is_running (Some t)) → (t : Option SourceTimer) → is_stopped (option_and_then (λ t. Some (f t)) t) ≡ is_stopped t
-replaced_stops f same None = refl
-replaced_stops f same (Some t) = by_sides (f t) t (same t)
-  where
-    by_sides : (u v : SourceTimer) → is_running (Some u) ≡ is_running (Some v) → is_stopped (Some u) ≡ is_stopped (Some v)
-    by_sides Stopped Stopped e = refl
-    by_sides Stopped (Running d n) e = absurd (false≢true e)
-    by_sides (Running d n) Stopped e = absurd (true≢false e)
-    by_sides (Running d n) (Running c m) e = refl
+replaced_stops f same t = grind (arith, false≢true, true≢false)
 
 pub IsWellFormed-replaced : (g : GroupState) (mode : FilterMode) (f : ℕ → SourceTimer → SourceTimer) → (mode ≡ Include → g.mode ≡ Include) → ((s : ℕ) (t : SourceTimer) → is_running (Some (f s t)) ≡ is_running (Some t)) → IsWellFormed g → IsWellFormed (record { mode = mode; sources = kept (λ s t. Some (f s t)) g.sources; v1 = g.v1; v2 = g.v2 })
-IsWellFormed-replaced g mode f was same held = record {
-  has_source = λ e.
-      let k = held.has_source (was e) in
-      (k.0, ap is_running (get-kept (λ s t. Some (f s t)) g.sources k.0) ∙ replaced_runs (f k.0) (same k.0) (timer_at g k.0) ∙ k.1);
-  none_stopped = λ e s. ap is_stopped (get-kept (λ s t. Some (f s t)) g.sources s) ∙ replaced_stops (f s) (same s) (timer_at g s) ∙ held.none_stopped (was e) s;
-}
+IsWellFormed-replaced g mode f was same held = grind (arith, get-kept, replaced_runs, replaced_stops)
 
 -- so does one whose mode alone changes
 pub IsWellFormed-mode : (g : GroupState) (mode : FilterMode) → (mode ≡ Include → g.mode ≡ Include) → IsWellFormed g → IsWellFormed (record { mode = mode; sources = g.sources; v1 = g.v1; v2 = g.v2 })
@@ -148,9 +114,7 @@ was_include limit Include e = refl
 was_include limit (Exclude d) e = cc
 
 lowered_runs : (limit : ℕ) (b : Bool) (t : SourceTimer) → is_running (Some (cond b (source_lowered limit t) t)) ≡ is_running (Some t)
-lowered_runs limit true Stopped = refl
-lowered_runs limit true (Running d n) = refl
-lowered_runs limit false t = refl
+lowered_runs limit b t = grind arith
 
 pub IsWellFormed-group_lowered : (timing : Timing) (now : ℕ) (g : GroupState) → IsWellFormed g → IsWellFormed (group_lowered timing now g)
 IsWellFormed-group_lowered timing now g = IsWellFormed-mode g (mode_lowered (lowered_to timing now) g.mode) (was_include (lowered_to timing now) g.mode)

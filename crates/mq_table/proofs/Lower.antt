@@ -1,35 +1,23 @@
 -- The timer of a source once sources were lowered.
-use Rattle.std.proofs.Common.{◌≡◌, ℕ, min, Bool, true, false, cond, ◌||◌, Option, None, Some, refl, sym, ap, ◌∙◌, arith}
-use Rattle.std.specs.Option.{option_and_then, option_map}
+use Rattle.std.proofs.Common.{◌≡◌, ℕ, Bool, cond, ◌||◌, Option, sym, ap, ◌∙◌, arith}
+use Rattle.std.specs.Option.{option_map}
 use Rattle.mq_table.specs.declared.timing.Timing.{Timing}
 use Rattle.mq_table.specs.Sets.{Set, ◌∪◌}
-use Rattle.mq_table.specs.Group.{GroupState, SourceTimer, Stopped, Running, timer_at}
+use Rattle.mq_table.specs.Group.{GroupState, SourceTimer, timer_at}
 use Rattle.mq_table.specs.Lowering.{lowered_to, source_lowered, sources_lowered}
 use Rattle.mq_table.proofs.Maps.{get-kept}
 use Rattle.mq_table.proofs.Groups.{same_group}
 
 -- the timer of a source after the sources asked for were lowered
 pub timer_at-sources_lowered : (timing : Timing) (now : ℕ) (asked : Set) (g : GroupState) (s : ℕ) → timer_at (sources_lowered timing now asked g) s ≡ cond (asked s) (option_map (source_lowered (lowered_to timing now)) (timer_at g s)) (timer_at g s)
-timer_at-sources_lowered timing now asked g s =
-    get-kept (λ s timer. Some (cond (asked s) (source_lowered (lowered_to timing now) timer) timer)) g.sources s ∙ by_test (asked s) (timer_at g s)
-  where
-    by_test : (b : Bool) (t : Option SourceTimer) → option_and_then (λ timer. Some (cond b (source_lowered (lowered_to timing now) timer) timer)) t ≡ cond b (option_map (source_lowered (lowered_to timing now)) t) t
-    by_test true None = refl
-    by_test false None = refl
-    by_test true (Some t) = refl
-    by_test false (Some t) = refl
+timer_at-sources_lowered timing now asked g s = grind (arith, get-kept)
 
 -- lowered twice is lowered once
 lowered_twice : (limit : ℕ) (t : Option SourceTimer) → option_map (source_lowered limit) (option_map (source_lowered limit) t) ≡ option_map (source_lowered limit) t
-lowered_twice limit None = refl
-lowered_twice limit (Some Stopped) = refl
-lowered_twice limit (Some (Running d n)) = let same : min (min d limit) limit ≡ min d limit = omega arith in ap (λ e. Some (Running e n)) same
+lowered_twice limit t = grind arith
 
 lowered_in_turn : (limit : ℕ) (a b : Bool) (t : Option SourceTimer) → (let u = cond a (option_map (source_lowered limit) t) t in cond b (option_map (source_lowered limit) u) u) ≡ cond (a || b) (option_map (source_lowered limit) t) t
-lowered_in_turn limit true true t = lowered_twice limit t
-lowered_in_turn limit true false t = refl
-lowered_in_turn limit false true t = refl
-lowered_in_turn limit false false t = refl
+lowered_in_turn limit a b t = grind (arith, lowered_twice)
 
 pub lowered_both : (timing : Timing) (now : ℕ) (A B : Set) (g : GroupState) → sources_lowered timing now B (sources_lowered timing now A g) ≡ sources_lowered timing now (A ∪ B) g
 lowered_both timing now A B g =

@@ -57,16 +57,10 @@ module _ {K : Type 0} (number : K → ℕ) (limit n : ℕ) where
 -- A group in which the source of a number was lowered.
 module _ {K : Type 0} (number : K → ℕ) (timing : Timing) (now : ℕ) (mode : FilterMode) (v1 v2 : Option ℕ) (xs : List (Source K)) (up : IsAscending (number_in number) xs) (n : ℕ) where
   lowered_keeps : (limit : ℕ) → KeepsNumbers (number_in number) (number_in number) (source_lowered_at number limit n)
-  lowered_keeps limit x y is =
-      let lowered : Source K = record { address = x.address; timer = cond (number x.address == n) (source_lowered limit x.timer) x.timer } in
-      let same : y ≡ lowered = cc in
-      ap (λ (z : Source K). number z.address) same
+  lowered_keeps limit = grind arith
 
   pub lowered_state : (g : GroupState) → record { mode = mode; sources = timers_in number xs; v1 = v1; v2 = v2 } ≡ g → (limit : ℕ) (ys : List (Source K)) → limit ≡ lowered_to timing now → ys ≡ filter_map (source_lowered_at number limit n) xs → record { mode = mode; sources = timers_in number ys; v1 = v1; v2 = v2 } ≡ sources_lowered timing now (λ s. s == n) g
-  lowered_state g is_before limit ys is_limit is =
-      rw (is, is_limit, ← is_before)
-      (ap (λ m. record { mode = mode; sources = m; v1 = v1; v2 = v2 })
-      (timers_in-filter_map number (source_lowered_at number (lowered_to timing now) n) (λ s timer. Some (cond (s == n) (source_lowered (lowered_to timing now) timer) timer)) (lowered_keeps (lowered_to timing now)) (λ x. refl) xs up))
+  lowered_state g is_before limit ys is_limit is = grind (arith, timers_in-filter_map, lowered_keeps)
 
 -- a group without the source stays
 pub unlowered : (timing : Timing) (now n : ℕ) (g : GroupState) → timer_at g n ≡ None → g ≡ sources_lowered timing now (λ s. s == n) g

@@ -3,7 +3,7 @@ use Rattle.std.proofs.Common.{◌≡◌, ℕ, Bool, true, false, cond, ◌||◌,
 use Rattle.std.specs.Prelude.{map as list_map}
 use lib.Dec.{T}
 use Rattle.std.specs.List.{list_any}
-use Rattle.std.specs.Option.{option_and_then, is_some}
+use Rattle.std.specs.Option.{option_and_then}
 use Rattle.std.specs.Ordering.{nat_cmp, eq_by_cmp}
 use Rattle.std.specs.Cmp.{nat_cmp_total}
 use Rattle.std.specs.FinMap as map
@@ -19,11 +19,7 @@ tied q k e = grind (arith, nat_tests)
 
 -- one entry more: the rule's value at its key, where the rest has the rule's values or nothing
 find-with_entry : {X : Type 0} (q k : ℕ) (at_q at_k : Option X) (es : List (ℕ × X)) (b t : Bool) → (t ≡ true → at_q ≡ at_k) → eq_by_cmp nat_cmp q k ≡ t → find nat_cmp q es ≡ cond b at_q None → find nat_cmp q (with_entry k at_k es) ≡ cond (t || b) at_q None
-find-with_entry q k at_q None es true true same e rest = rest ∙ same refl ∙ sym (same refl)
-find-with_entry q k at_q None es false true same e rest = rest ∙ sym (same refl)
-find-with_entry q k at_q None es b false same e rest = rest
-find-with_entry q k at_q (Some x) es b true same e rest = rw e (sym (same refl))
-find-with_entry q k at_q (Some x) es b false same e rest = rw e rest
+find-with_entry q k at_q at_k es b t same e rest = grind arith
 
 pub find-entries_by : {X : Type 0} (rule : ℕ → Option X) (ks : List ℕ) (q : ℕ) → find nat_cmp q (entries_by rule ks) ≡ cond (list_any (eq_by_cmp nat_cmp q) ks) (rule q) None
 find-entries_by rule [] q = refl
@@ -43,12 +39,7 @@ get-by_rule old named rule q =
 
 -- a rule that gives nothing elsewhere is the map
 pub get-by_rule_everywhere : {X : Type 0} (old : FinMap nat_cmp X) (named : FinSet nat_cmp) (rule : ℕ → Option X) (q : ℕ) → (map.get old q ≡ None → set.contains named q ≡ false → rule q ≡ None) → map.get (by_rule old named rule) q ≡ rule q
-get-by_rule_everywhere old named rule q nothing = get-by_rule old named rule q ∙ both (map.get old q) (set.contains named q) (rule q) nothing
-  where
-    both : {X : Type 0} (v : Option X) (b : Bool) (r : Option X) → (v ≡ None → b ≡ false → r ≡ None) → cond (is_some v || b) r None ≡ r
-    both None true r h = refl
-    both None false r h = sym (h refl refl)
-    both (Some x) b r h = refl
+get-by_rule_everywhere old named rule q nothing = grind (arith, get-by_rule)
 
 pub get-kept : {X : Type 0} (f : ℕ → X → Option X) (old : FinMap nat_cmp X) (q : ℕ) → map.get (kept f old) q ≡ option_and_then (f q) (map.get old q)
 unfolding kept

@@ -12,8 +12,8 @@ use Rattle.std.proofs.Math.Seq.{take-add}
 use Rattle.std.proofs.lemmas.List.Folds.{list_any-append, list_any_more}
 use Rattle.mq_table.specs.declared.sources.Source.{Source}
 use Rattle.mq_table.specs.declared.sendings.Recount.{Recount}
-use Rattle.mq_table.specs.declared.sendings.Recount.TheVariants.{OneFewer, NoneLeft}
-use Rattle.mq_table.specs.Group.{GroupState, SourceTimer, Stopped, Running, sendings_of}
+use Rattle.mq_table.specs.declared.sendings.Recount.TheVariants.{OneFewer}
+use Rattle.mq_table.specs.Group.{GroupState, SourceTimer, sendings_of}
 use Rattle.mq_table.specs.SendingPlaces.{item_has_sendings, PassesBetween, SendsBetween}
 use Rattle.mq_table.specs.Stored.{number_in, timers_in}
 use Rattle.mq_table.specs.MadeSources.{item_counted, timer_recounted, source_recounted}
@@ -22,10 +22,7 @@ use Rattle.mq_table.proofs.MadeLists.{made_of_all}
 
 -- without a sending, a timer stays as its sendings are counted anew
 timer_stays : (recount : Recount) (t : SourceTimer) → ltb 0 (sendings_of (Some t)) ≡ false → timer_recounted recount t ≡ t
-timer_stays OneFewer Stopped none = refl
-timer_stays NoneLeft Stopped none = refl
-timer_stays OneFewer (Running d n) none = let same : n - 1 ≡ n = omega (arith, ltb-false 0 n none) in ap (λ k. Running d k) same
-timer_stays NoneLeft (Running d n) none = let same : 0 ≡ n = omega (arith, ltb-false 0 n none) in ap (λ k. Running d k) same
+timer_stays recount t none = grind (arith, ltb-false)
 
 pub source_stays : {K : Type 0} (recount : Recount) (x : Source K) → item_has_sendings x ≡ false → source_recounted recount x ≡ x
 source_stays recount x none = ap (λ t. record { address = x.address; timer = t }) (timer_stays recount x.timer none)
@@ -48,10 +45,7 @@ made_of_none recount xs none = made_of_all (source_recounted recount) xs ∙ sou
 
 -- whether an item passes a test, one place on: where it is another item then, and where it stays
 pub any_with_set : {X : Type 0} (p : X → Bool) (xs : List X) (place : ℕ) (y : X) → place < length xs → list_any p (take (place + 1) (set xs place y)) ≡ (list_any p (take place xs) || p y)
-any_with_set p xs place y within =
-    ap (list_any p) (take_more_set xs place y within)
-    ∙ list_any-append p (take place xs) (y ∷ [])
-    ∙ ap (λ b. list_any p (take place xs) || b) (or-false (p y))
+any_with_set p xs place y within = grind (arith, take_more_set, list_any-append, or-false)
 
 pub any_without : {X : Type 0} (p : X → Bool) (xs : List X) (place : ℕ) (held : X) → place < length xs → held ≡ get_or xs place held → p held ≡ false → list_any p (take (place + 1) xs) ≡ list_any p (take place xs)
 any_without p xs place held within is none =
@@ -82,10 +76,7 @@ all_between test xs count is = record { ordered = omega arith; within = omega (a
 
 -- a list in which none passes a test, and a part of it more in front or behind
 pub none_in_front : {X : Type 0} (p : X → Bool) (xs : List X) (n k : ℕ) → list_any p (take n xs) ≡ false → list_any p (take k (drop n xs)) ≡ false → list_any p (take (n + k) xs) ≡ false
-none_in_front p xs n k none more =
-    ap (list_any p) (take-add n k xs)
-    ∙ list_any-append p (take n xs) (take k (drop n xs))
-    ∙ (λ i. none i || more i)
+none_in_front p xs n k none more = grind (arith, take-add, list_any-append)
 
 pub none_behind_more : {X : Type 0} (p : X → Bool) (xs : List X) (start k : ℕ) → list_any p (drop (start + k) xs) ≡ false → list_any p (take k (drop start xs)) ≡ false → list_any p (drop start xs) ≡ false
 none_behind_more p xs start k none more =

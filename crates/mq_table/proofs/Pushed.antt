@@ -3,7 +3,6 @@ use Rattle.std.proofs.Common.{◌≡◌, ℕ, ◌+◌, ◌≤◌, Bool, true, fa
 use Rattle.std.specs.List.{filter_map, cons_option, list_any}
 use Rattle.std.specs.Option.{option_to_list}
 use Rattle.mq_sets.specs.declared.merge_state.Merged.{Merged}
-use Rattle.mq_sets.specs.declared.merge_state.Merged.TheVariants.{Left, Both, Right}
 use Rattle.mq_sets.specs.Merging.{left_of, right_of}
 
 -- what the rule makes of the first pair is pushed; what it makes of the others is still ahead
@@ -26,9 +25,7 @@ tested_next f so_far now p ahead rest all is first before =
 
 -- a call of a merge that hands out something hands out one item or two
 one_or_two : {L R : Type 0} (p : Merged L R) → 1 ≤ length (left_of (Some p)) + length (right_of (Some p))
-one_or_two (Left x) = omega arith
-one_or_two (Both x y) = omega arith
-one_or_two (Right y) = omega arith
+one_or_two p = grind arith
 
 at_most_one : {X : Type 0} (made : Option X) → length (option_to_list made) ≤ 1
 at_most_one None = omega arith

@@ -1,5 +1,5 @@
 -- What a group holds, by the list of its sources.
-use Rattle.std.proofs.Common.{◌≡◌, ℕ, ◌<◌, Bool, true, false, cond, ◌||◌, List, [], ◌∷◌, take, drop, filter, Option, None, Some, is_some, IsSome, refl, sym, ap, ◌∙◌, subst}
+use Rattle.std.proofs.Common.{◌≡◌, ℕ, ◌<◌, Bool, true, false, cond, ◌||◌, List, [], ◌∷◌, take, drop, filter, Option, None, Some, is_some, IsSome, refl, sym, ap, ◌∙◌, subst, arith}
 use lib.Dec.{T}
 use Rattle.std.proofs.lemmas.Bool.{lt-ltb}
 use Rattle.std.specs.Prelude.{map as list_map}
@@ -65,10 +65,7 @@ module _ {K : Type 0} (number : K → ℕ) where
   keys-timers_in xs up = keys-from_entries (entries_in xs) (subst T (sym (sorted_entries xs up)) tt) ∙ map-map _ _ xs
 
   each_found : (p : ℕ → Option SourceTimer → Bool) (xs : List (Source K)) → IsAscending (number_in number) xs → All (λ x. p (number_in number x) (map.get (timers_in number xs) (number_in number x)) ≡ p (number_in number x) (Some x.timer)) xs
-  each_found p xs up i d within = ap (p (number_in number (get_at i d))) (get-found number xs i d (number_in number (get_at i d)) up within refl)
-    where
-      get_at : ℕ → Source K → Source K
-      get_at i d = Rattle.std.proofs.Common.get_or xs i d
+  each_found p xs up = grind (arith, get-found)
 
   -- a test of a source's number and timer: whether some source of the group passes, and which do
   pub any_in_row : (p : ℕ → Option SourceTimer → Bool) (xs : List (Source K)) → IsAscending (number_in number) xs → list_any (λ s. p s (map.get (timers_in number xs) s)) (map.keys (timers_in number xs)) ≡ list_any (λ (x : Source K). p (number x.address) (Some x.timer)) xs

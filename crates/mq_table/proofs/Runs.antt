@@ -108,14 +108,7 @@ none_alone f (x ∷ run) all =
 -- a run that is kept, and what is made of the pair behind it, are pushed; what is made of the others is still ahead
 pub run_pushed : {L R : Type 0} (f : Option L × Option R → Option L) (xs with_run pushed run : List L) (p : Option L × Option R) (ahead rest : List (Option L × Option R)) (all : List L) → All (λ x. f (Some x, None) ≡ Some x) run
     → with_run ≡ xs ++ run → pushed ≡ with_run ++ option_to_list (f p) → ahead ≡ map (λ x. (Some x, None)) run ++ p ∷ rest → xs ++ filter_map f ahead ≡ all → pushed ++ filter_map f rest ≡ all
-run_pushed f xs with_run pushed run p ahead rest all kept is_run is_pushed is_ahead so_far =
-    pushed_next f with_run pushed p (p ∷ rest) rest all is_pushed refl
-    (ap (λ ys. ys ++ filter_map f (p ∷ rest)) is_run
-    ∙ append_assoc xs run (filter_map f (p ∷ rest))
-    ∙ ap (λ ys. xs ++ (ys ++ filter_map f (p ∷ rest))) (sym (kept_alone f run kept))
-    ∙ ap (λ ys. xs ++ ys) (sym (filter_map-append f (map (λ x. (Some x, None)) run) (p ∷ rest)))
-    ∙ ap (λ ps. xs ++ filter_map f ps) (sym is_ahead)
-    ∙ so_far)
+run_pushed f xs with_run pushed run p ahead rest all kept is_run is_pushed is_ahead so_far = grind (arith, pushed_next, append_assoc, kept_alone, filter_map-append)
 
 pub run_passed : {L R Y : Type 0} (f : Option L × Option R → Option Y) (xs pushed : List Y) (run : List L) (p : Option L × Option R) (ahead rest : List (Option L × Option R)) (all : List Y) → All (λ x. f (Some x, None) ≡ None) run
     → pushed ≡ xs ++ option_to_list (f p) → ahead ≡ map (λ x. (Some x, None)) run ++ p ∷ rest → xs ++ filter_map f ahead ≡ all → pushed ++ filter_map f rest ≡ all

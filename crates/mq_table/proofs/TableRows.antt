@@ -1,5 +1,5 @@
 -- What a row of the tables does to one source.
-use Rattle.std.proofs.Common.{◌≡◌, ℕ, ◌+◌, Bool, true, false, Option, None, Some, IsSome, refl, sym, ap, ◌∙◌, subst}
+use Rattle.std.proofs.Common.{◌≡◌, ℕ, ◌+◌, Bool, true, false, Option, None, Some, IsSome, sym, subst, arith}
 use Rattle.std.proofs.lemmas.Bool.{false≢true}
 use Rattle.std.specs.FinSet as set
 use Rattle.mq_table.specs.declared.kind.Kind.{Kind}
@@ -30,25 +30,11 @@ both P t f false = f
 
 -- nothing comes of a source that is neither held nor named
 pub timer_by-nothing : (gmi : ℕ) (mode : FilterMode) (kind : Kind) (X Y A : Set) (s : ℕ) → X s ≡ false → Y s ≡ false → A s ≡ false → timer_by (table_row gmi mode kind X Y A) gmi mode s None ≡ None
-timer_by-nothing gmi Include IsIn X Y A s x y a = rw (x, a) refl
-timer_by-nothing gmi Include IsEx X Y A s x y a = rw (x, a) refl
-timer_by-nothing gmi Include Allow X Y A s x y a = rw (x, a) refl
-timer_by-nothing gmi Include Block X Y A s x y a = rw x refl
-timer_by-nothing gmi Include ToEx X Y A s x y a = rw (x, a) refl
-timer_by-nothing gmi Include ToIn X Y A s x y a = rw (x, a) refl
-timer_by-nothing gmi (Exclude d) IsIn X Y A s x y a = rw (x, a, y) refl
-timer_by-nothing gmi (Exclude d) IsEx X Y A s x y a = rw (a, y) refl
-timer_by-nothing gmi (Exclude d) Allow X Y A s x y a = rw (x, a, y) refl
-timer_by-nothing gmi (Exclude d) Block X Y A s x y a = rw (x, a, y) refl
-timer_by-nothing gmi (Exclude d) ToEx X Y A s x y a = rw (a, y) refl
-timer_by-nothing gmi (Exclude d) ToIn X Y A s x y a = rw (x, a, y) refl
+timer_by-nothing gmi mode kind X Y A s x y a = grind arith
 
 -- what the new group has of a source: what the one rule says of it
 pub timer_at-change_of : (timing : Timing) (now : ℕ) (g : GroupState) (kind : Kind) (named : NamedSources) (s : ℕ) → timer_at (change_of timing now g kind named).group s ≡ timer_by (table_row_met timing now g kind named) (now + membership_interval timing) g.mode s (timer_at g s)
-timer_at-change_of timing now g kind named s =
-    get-by_rule_everywhere g.sources named _ s (λ none unnamed.
-    ap (λ t. timer_by (table_row_met timing now g kind named) (now + membership_interval timing) g.mode s t) none
-    ∙ timer_by-nothing (now + membership_interval timing) g.mode kind (running g) (stopped g) (set.contains named) s (ap is_running none) (ap is_stopped none) unnamed)
+timer_at-change_of timing now g kind named s = grind (arith, get-by_rule_everywhere, timer_by-nothing)
 
 -- What one source sees of a row depends on that source alone: on its timer, and whether it is named.
 pub at_source : (P : Bool → Bool → Bool → FilterMode → Option SourceTimer → Type 0) → (gmi : ℕ) (mode : FilterMode) (kind : Kind) (g : GroupState) (A : Set) (s : ℕ)
@@ -77,18 +63,7 @@ at_source_of P timing now g kind named s p =
 
 -- a source that a record asks for is one that the new group has
 asked_then : (gmi : ℕ) (mode : FilterMode) (kind : Kind) (s : ℕ) (t : Option SourceTimer) (a : Bool) → (table_row_at gmi mode kind t a).query s ≡ true → IsSome (timer_then gmi mode kind s t a)
-asked_then gmi Include IsIn s t a = each_case (λ t a. (table_row_at gmi Include IsIn t a).query s ≡ true → IsSome (timer_then gmi Include IsIn s t a)) (both _ (λ q. cc) (λ q. cc)) (both _ (λ q. cc) (λ q. cc)) (λ d n. both _ (λ q. cc) (λ q. cc)) t a
-asked_then gmi Include IsEx s t a = each_case (λ t a. (table_row_at gmi Include IsEx t a).query s ≡ true → IsSome (timer_then gmi Include IsEx s t a)) (both _ (λ q. cc) (λ q. cc)) (both _ (λ q. cc) (λ q. cc)) (λ d n. both _ (λ q. cc) (λ q. cc)) t a
-asked_then gmi Include Allow s t a = each_case (λ t a. (table_row_at gmi Include Allow t a).query s ≡ true → IsSome (timer_then gmi Include Allow s t a)) (both _ (λ q. cc) (λ q. cc)) (both _ (λ q. cc) (λ q. cc)) (λ d n. both _ (λ q. cc) (λ q. cc)) t a
-asked_then gmi Include Block s t a = each_case (λ t a. (table_row_at gmi Include Block t a).query s ≡ true → IsSome (timer_then gmi Include Block s t a)) (both _ (λ q. cc) (λ q. cc)) (both _ (λ q. cc) (λ q. cc)) (λ d n. both _ (λ q. cc) (λ q. cc)) t a
-asked_then gmi Include ToEx s t a = each_case (λ t a. (table_row_at gmi Include ToEx t a).query s ≡ true → IsSome (timer_then gmi Include ToEx s t a)) (both _ (λ q. cc) (λ q. cc)) (both _ (λ q. cc) (λ q. cc)) (λ d n. both _ (λ q. cc) (λ q. cc)) t a
-asked_then gmi Include ToIn s t a = each_case (λ t a. (table_row_at gmi Include ToIn t a).query s ≡ true → IsSome (timer_then gmi Include ToIn s t a)) (both _ (λ q. cc) (λ q. cc)) (both _ (λ q. cc) (λ q. cc)) (λ d n. both _ (λ q. cc) (λ q. cc)) t a
-asked_then gmi (Exclude d) IsIn s t a = each_case (λ t a. (table_row_at gmi (Exclude d) IsIn t a).query s ≡ true → IsSome (timer_then gmi (Exclude d) IsIn s t a)) (both _ (λ q. cc) (λ q. cc)) (both _ (λ q. cc) (λ q. cc)) (λ d n. both _ (λ q. cc) (λ q. cc)) t a
-asked_then gmi (Exclude d) IsEx s t a = each_case (λ t a. (table_row_at gmi (Exclude d) IsEx t a).query s ≡ true → IsSome (timer_then gmi (Exclude d) IsEx s t a)) (both _ (λ q. cc) (λ q. cc)) (both _ (λ q. cc) (λ q. cc)) (λ d n. both _ (λ q. cc) (λ q. cc)) t a
-asked_then gmi (Exclude d) Allow s t a = each_case (λ t a. (table_row_at gmi (Exclude d) Allow t a).query s ≡ true → IsSome (timer_then gmi (Exclude d) Allow s t a)) (both _ (λ q. cc) (λ q. cc)) (both _ (λ q. cc) (λ q. cc)) (λ d n. both _ (λ q. cc) (λ q. cc)) t a
-asked_then gmi (Exclude d) Block s t a = each_case (λ t a. (table_row_at gmi (Exclude d) Block t a).query s ≡ true → IsSome (timer_then gmi (Exclude d) Block s t a)) (both _ (λ q. cc) (λ q. cc)) (both _ (λ q. cc) (λ q. cc)) (λ d n. both _ (λ q. cc) (λ q. cc)) t a
-asked_then gmi (Exclude d) ToEx s t a = each_case (λ t a. (table_row_at gmi (Exclude d) ToEx t a).query s ≡ true → IsSome (timer_then gmi (Exclude d) ToEx s t a)) (both _ (λ q. cc) (λ q. cc)) (both _ (λ q. cc) (λ q. cc)) (λ d n. both _ (λ q. cc) (λ q. cc)) t a
-asked_then gmi (Exclude d) ToIn s t a = each_case (λ t a. (table_row_at gmi (Exclude d) ToIn t a).query s ≡ true → IsSome (timer_then gmi (Exclude d) ToIn s t a)) (both _ (λ q. cc) (λ q. cc)) (both _ (λ q. cc) (λ q. cc)) (λ d n. both _ (λ q. cc) (λ q. cc)) t a
+asked_then gmi mode kind s t a h1 = grind arith
 
 pub asked_is_held : (timing : Timing) (now : ℕ) (g : GroupState) (kind : Kind) (named : NamedSources) (s : ℕ) → (change_of timing now g kind named).query s ≡ true → IsSome (timer_at (change_of timing now g kind named).group s)
 asked_is_held timing now g kind named s =
@@ -97,43 +72,15 @@ asked_is_held timing now g kind named s =
 
 -- no source is stopped where the new group is INCLUDE
 none_stopped_then : (gmi : ℕ) (mode : FilterMode) (kind : Kind) (s : ℕ) (t : Option SourceTimer) (a : Bool) → (table_row_at gmi mode kind t a).mode ≡ Include → is_stopped (timer_then gmi mode kind s t a) ≡ false
-none_stopped_then gmi Include IsIn s t a = each_case (λ t a. Include ≡ Include → is_stopped (timer_then gmi Include IsIn s t a) ≡ false) (both _ (λ _. refl) (λ _. refl)) (both _ (λ _. refl) (λ _. refl)) (λ d n. both _ (λ _. refl) (λ _. refl)) t a
-none_stopped_then gmi Include IsEx s t a = λ e. cc
-none_stopped_then gmi Include Allow s t a = each_case (λ t a. Include ≡ Include → is_stopped (timer_then gmi Include Allow s t a) ≡ false) (both _ (λ _. refl) (λ _. refl)) (both _ (λ _. refl) (λ _. refl)) (λ d n. both _ (λ _. refl) (λ _. refl)) t a
-none_stopped_then gmi Include Block s t a = each_case (λ t a. Include ≡ Include → is_stopped (timer_then gmi Include Block s t a) ≡ false) (both _ (λ _. refl) (λ _. refl)) (both _ (λ _. refl) (λ _. refl)) (λ d n. both _ (λ _. refl) (λ _. refl)) t a
-none_stopped_then gmi Include ToEx s t a = λ e. cc
-none_stopped_then gmi Include ToIn s t a = each_case (λ t a. Include ≡ Include → is_stopped (timer_then gmi Include ToIn s t a) ≡ false) (both _ (λ _. refl) (λ _. refl)) (both _ (λ _. refl) (λ _. refl)) (λ d n. both _ (λ _. refl) (λ _. refl)) t a
-none_stopped_then gmi (Exclude d) IsIn s t a = λ e. cc
-none_stopped_then gmi (Exclude d) IsEx s t a = λ e. cc
-none_stopped_then gmi (Exclude d) Allow s t a = λ e. cc
-none_stopped_then gmi (Exclude d) Block s t a = λ e. cc
-none_stopped_then gmi (Exclude d) ToEx s t a = λ e. cc
-none_stopped_then gmi (Exclude d) ToIn s t a = λ e. cc
+none_stopped_then gmi mode kind s t a h1 = grind arith
 
 -- a source that runs in INCLUDE runs on where the new group is INCLUDE
 runs_on_then : (gmi : ℕ) (mode : FilterMode) (kind : Kind) (s : ℕ) (t : Option SourceTimer) (a : Bool) → (table_row_at gmi mode kind t a).mode ≡ Include → is_running t ≡ true → is_running (timer_then gmi mode kind s t a) ≡ true
-runs_on_then gmi Include IsIn s t a = each_case (λ t a. Include ≡ Include → is_running t ≡ true → is_running (timer_then gmi Include IsIn s t a) ≡ true) (λ _ _ e. absurd (false≢true e)) (λ _ _ e. absurd (false≢true e)) (λ d n. both _ (λ _ _. refl) (λ _ _. refl)) t a
-runs_on_then gmi Include IsEx s t a = λ e _. cc
-runs_on_then gmi Include Allow s t a = each_case (λ t a. Include ≡ Include → is_running t ≡ true → is_running (timer_then gmi Include Allow s t a) ≡ true) (λ _ _ e. absurd (false≢true e)) (λ _ _ e. absurd (false≢true e)) (λ d n. both _ (λ _ _. refl) (λ _ _. refl)) t a
-runs_on_then gmi Include Block s t a = each_case (λ t a. Include ≡ Include → is_running t ≡ true → is_running (timer_then gmi Include Block s t a) ≡ true) (λ _ _ e. absurd (false≢true e)) (λ _ _ e. absurd (false≢true e)) (λ d n. both _ (λ _ _. refl) (λ _ _. refl)) t a
-runs_on_then gmi Include ToEx s t a = λ e _. cc
-runs_on_then gmi Include ToIn s t a = each_case (λ t a. Include ≡ Include → is_running t ≡ true → is_running (timer_then gmi Include ToIn s t a) ≡ true) (λ _ _ e. absurd (false≢true e)) (λ _ _ e. absurd (false≢true e)) (λ d n. both _ (λ _ _. refl) (λ _ _. refl)) t a
-runs_on_then gmi (Exclude m) IsIn s t a = λ e _. cc
-runs_on_then gmi (Exclude m) IsEx s t a = λ e _. cc
-runs_on_then gmi (Exclude m) Allow s t a = λ e _. cc
-runs_on_then gmi (Exclude m) Block s t a = λ e _. cc
-runs_on_then gmi (Exclude m) ToEx s t a = λ e _. cc
-runs_on_then gmi (Exclude m) ToIn s t a = λ e _. cc
+runs_on_then gmi mode kind s t a h1 h2 = grind (arith, false≢true)
 
 -- only a group that is INCLUDE becomes INCLUDE by a record
 included_before : (gmi : ℕ) (mode : FilterMode) (kind : Kind) (X Y A : Set) → (table_row gmi mode kind X Y A).mode ≡ Include → mode ≡ Include
-included_before gmi Include kind X Y A e = refl
-included_before gmi (Exclude m) IsIn X Y A e = cc
-included_before gmi (Exclude m) IsEx X Y A e = cc
-included_before gmi (Exclude m) Allow X Y A e = cc
-included_before gmi (Exclude m) Block X Y A e = cc
-included_before gmi (Exclude m) ToEx X Y A e = cc
-included_before gmi (Exclude m) ToIn X Y A e = cc
+included_before gmi mode kind X Y A e = grind arith
 
 pub none_stopped_of : (timing : Timing) (now : ℕ) (g : GroupState) (kind : Kind) (named : NamedSources) → (change_of timing now g kind named).group.mode ≡ Include → (s : ℕ) → stopped (change_of timing now g kind named).group s ≡ false
 none_stopped_of timing now g kind named e s =

@@ -2,5 +2,6 @@ pub mod Checkings
 pub mod Conversions
 pub mod Lines
 pub mod Replayed
+pub mod Takings
 pub mod Telling
 pub mod Worked

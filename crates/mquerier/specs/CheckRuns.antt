@@ -1,5 +1,5 @@
 -- The requested check, and the program's runs of it.
-use Rattle.std.specs.Prelude.{◌≡◌, ◌≤◌, ℕ, true, Bool, List, Option, Result, Ok, Err, unwrap_or}
+use Rattle.std.specs.Prelude.{◌≡◌, ℕ, true, Bool, List, Option, Result, Ok, Err, unwrap_or}
 use Rattle.mq_check.specs.declared.check_fault.CheckFault.{CheckFault}
 use Rattle.mq_check.specs.declared.check_fault.CheckFault.TheVariants as answer
 use Rattle.mq_check.specs.declared.check_terms.CheckTerms.{CheckTerms}
@@ -13,9 +13,10 @@ use Rattle.mquerier.specs.declared.failure.Failure.TheVariants.{Capture, Gap, Wa
 use Rattle.mquerier.specs.Changes.{Input, Output}
 use Rattle.mquerier.specs.Replays.{SpellsAddress, IsAcceptedAt, asked_configuration, family_of}
 
--- the requested tolerance, end and citations; the default tolerance is 100 milliseconds
-abbrev pub asked_terms : (within until : Option ℕ) → (cite : Bool) → CheckTerms
-asked_terms within until cite = record { within = unwrap_or within 100; until = until; cite = cite }
+-- the requested tolerance, end, citations and readings; the default tolerance is 100 milliseconds
+abbrev pub asked_terms : (within until : Option ℕ) → (cite strict : Bool) → CheckTerms
+asked_terms within until cite strict =
+    record { within = unwrap_or within 100; until = until; cite = cite; strict = strict }
 
 -- the capture was checked as requested, with this result
 abbrev pub IsCheckedAt : Family → (querier : ℕ) → Settings → CheckTerms → Input → Output → Result Totals CheckFault → Type 0

@@ -83,17 +83,22 @@ unread_line unread =
     codes "mquerier: " ++ decimal unread.count ++ codes " packets of link types that aren't read"
     ++ flat_map link_text unread.links.items ++ others_text (others unread.count unread.links.items) ++ codes "\n"
 
--- The lines after a conversion: the number of repeated packets, and the number of packets whose link type isn't read. A
+-- The lines after a conversion: the number of repeated packets, the number of packets that the file records as dropped,
+-- and the number of packets whose link type isn't read. A
 -- line with 0 is left out.
 abbrev pub repeated_line : (repeated : ℕ) → List ℕ
 repeated_line zero = []
 repeated_line (suc n) = codes "mquerier: " ++ decimal (suc n) ++ codes " packets that came again are left out\n"
 
+abbrev pub dropped_line : (dropped : ℕ) → List ℕ
+dropped_line zero = []
+dropped_line (suc n) = codes "mquerier: the file records " ++ decimal (suc n) ++ codes " dropped packets\n"
+
 abbrev pub unread_part : Unread → List ℕ
 unread_part unread = if unread.count == 0 then [] else unread_line unread
 
 abbrev pub counts_lines : ConvertCounts → List ℕ
-counts_lines counts = repeated_line counts.repeated ++ unread_part counts.unread
+counts_lines counts = (repeated_line counts.repeated ++ dropped_line counts.dropped) ++ unread_part counts.unread
 
 -- the line of a check that had nothing to judge
 abbrev pub unjudged_line : Unjudged → List ℕ
@@ -102,6 +107,14 @@ unjudged_line NotUnderstood =
 unjudged_line NoMessage = codes "mquerier: nothing judged: there is no message of this family\n"
 unjudged_line NoQuery =
     codes "mquerier: nothing judged: no query from this address was seen, and none is missing\n"
+
+-- the line of a check that found no querier in the capture
+abbrev pub no_querier_line : List ℕ
+no_querier_line = codes "mquerier: nothing judged: there is no general query of this family\n"
+
+-- the line of a check that can't take its querier from standard input
+abbrev pub unnamed_line : List ℕ
+unnamed_line = codes "mquerier: --querier auto needs a FILE, which is read twice\n"
 
 abbrev pub failure_text : Failure → List ℕ
 failure_text NoAddresses = codes "--from and --to are needed for mld"

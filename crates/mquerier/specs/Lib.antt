@@ -6,4 +6,5 @@ pub mod Failures
 pub mod HexLine
 pub mod Replays
 pub mod Status
+pub mod Taking
 pub mod Working

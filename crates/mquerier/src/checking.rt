@@ -53,7 +53,7 @@ pub(crate) fn check_capture<S: Supply, R: Read, W: Write>(
 }
 
 /// Checks the querier of the family `F` with the address `querier`.
-fn check_at<F: CheckedFamily, S: Supply, R: Read, W: Write>(
+pub(crate) fn check_at<F: CheckedFamily, S: Supply, R: Read, W: Write>(
     alloc: Global,
     querier: F::Address,
     settings: &Settings,

@@ -17,6 +17,8 @@ mod foreign;
 mod program;
 mod replaying;
 mod source;
+mod taken_line;
+mod taking;
 mod unopened;
 mod unread;
 mod work;
@@ -33,7 +35,8 @@ use std::fs::File;
 use std::io::{BufReader, ErrorKind, IsTerminal, Read, Write};
 use std::process::ExitCode;
 use std::{env, io};
-pub use unopened::refuse_file;
+pub use taking::{Taking, perform_taking, taking_of};
+pub use unopened::{refuse_file, refuse_stream};
 
 /// The number of bytes that are read at once.
 const INPUT: usize = 65_536;
@@ -63,20 +66,69 @@ fn run_on_host(rt: &HostRuntime) -> io::Result<u8> {
     let mut output = Watched::new(rt.stdout());
     let mut errors = Watched::new(rt.stderr());
     let asked = request_of(alloc, &words);
+    let taking = taking_of(&asked);
     let Some(name) = named_file(&asked) else {
+        if taking.is_some() {
+            return Ok(refuse_stream(&mut errors));
+        }
         let reader = BufReader::with_capacity(alloc, INPUT, Beginning::new(rt.stdin()))?;
+        return Ok(run_on(alloc, asked, in_words, reader, &mut output, &mut errors));
+    };
+    let reader = match File::open(rt, name) {
+        Ok(file) => BufReader::with_capacity(alloc, INPUT, Beginning::new(file))?,
+        Err(error) => {
+            let reason = format!(in alloc; "{error}")?;
+            return Ok(refuse_file(name, &reason, &mut errors));
+        }
+    };
+    let Some(taking) = taking else {
         return Ok(run_on(alloc, asked, in_words, reader, &mut output, &mut errors));
     };
     match File::open(rt, name) {
         Ok(file) => {
-            let reader = BufReader::with_capacity(alloc, INPUT, Beginning::new(file))?;
-            Ok(run_on(alloc, asked, in_words, reader, &mut output, &mut errors))
+            let again = BufReader::with_capacity(alloc, INPUT, Beginning::new(file))?;
+            Ok(run_twice(
+                alloc,
+                &taking,
+                in_words,
+                reader,
+                again,
+                &mut output,
+                &mut errors,
+            ))
         }
         Err(error) => {
             let reason = format!(in alloc; "{error}")?;
             Ok(refuse_file(name, &reason, &mut errors))
         }
     }
+}
+
+/// Runs a check of the querier that the capture names. `reader` and `again` read the same file.
+fn run_twice<R: Read + Drop, W: Write, E: Write>(
+    alloc: Global,
+    taking: &Taking,
+    in_words: bool,
+    reader: BufReader<Beginning<R>>,
+    again: BufReader<Beginning<R>>,
+    output: &mut Watched<W>,
+    errors: &mut Watched<E>,
+) -> u8 {
+    let first = Source::new(reader);
+    let mut beginning = Watched::new(&first);
+    let status = run_again(
+        alloc,
+        taking,
+        in_words,
+        &mut beginning,
+        again,
+        output,
+        errors,
+    );
+    if in_words && status == FAULTY {
+        tell_kind(first.first(), false, errors);
+    }
+    status
 }
 
 /// Runs on this input. If a file is of another kind, it also tells a person how to read it.
@@ -96,6 +148,23 @@ fn run_on<R: Read + Drop, W: Write, E: Write>(
         tell_kind(source.first(), converts, errors);
     }
     status
+}
+
+/// Runs a check of the querier that the capture names, after the first reader of the file.
+fn run_again<Q: Read, R: Read + Drop, W: Write, E: Write>(
+    alloc: Global,
+    taking: &Taking,
+    in_words: bool,
+    first: &mut Watched<Q>,
+    again: BufReader<Beginning<R>>,
+    output: &mut Watched<W>,
+    errors: &mut Watched<E>,
+) -> u8 {
+    let source = Source::new(again);
+    let mut input = Watched::new(&source);
+    perform_taking(
+        alloc, taking, in_words, first, &source, &mut input, output, errors,
+    )
 }
 
 /// Returns the file that the request names in place of standard input.

@@ -4,9 +4,10 @@ ghost use Rattle.std.specs.Prelude.{◌≡◌, ◌≤◌, ◌||◌, ◌++◌, Ma
 ghost use Rattle.mq_count.specs.Streams.{inner_of, has_failed};
 ghost use Rattle.mq_text.specs.Printing.{Prints};
 ghost use Rattle.mquerier.specs.Changes.{BreaksOff, Writes, input_by, output_by};
+ghost use Rattle.mquerier.specs.CheckRuns.{asked_terms};
 ghost use Rattle.mquerier.specs.Choosing.{choice_of as asked_choice};
 ghost use Rattle.mquerier.specs.Failures.{status_of, unjudged_line, version_line};
-ghost use Rattle.mquerier.specs.Status.{IsCheck, IsConversion, IsOfMessage, IsTold, IsWordless, PrintsVersion, TellsLines, TellsCounts, Told, Performs, PerformsCheck, PerformsConversion, Runs};
+ghost use Rattle.mquerier.specs.Status.{Concludes, IsCheck, IsConversion, IsOfMessage, IsTold, IsWordless, PrintsVersion, TellsLines, TellsCounts, Told, Performs, PerformsCheck, PerformsConversion, Runs};
 
 use crate::checking::check_capture;
 use crate::converting::convert_capture;
@@ -15,7 +16,7 @@ use crate::failure::{DONE, FAULTY, FOUND, Failure, REFUSED, UNJUDGED, line_of, s
 use crate::work::{flush, work};
 use clap::Error;
 use clap::error::ErrorKind;
-use mq_check::{CheckTerms, Unjudged};
+use mq_check::{CheckTerms, Totals, Unjudged};
 use mq_command::{Interface, Protocol, Request, Settings, VERSION};
 use mq_convert::{Choice, ConvertCounts, Which, name_of};
 use mq_count::Watched;
@@ -98,7 +99,7 @@ fn version_line_of() -> Text
 }
 
 /// Prints a text, and flushes the output.
-fn print_whole<W: Write>(text: &[u8], output: &mut Watched<W>) -> Result<(), Failure>
+pub(crate) fn print_whole<W: Write>(text: &[u8], output: &mut Watched<W>) -> Result<(), Failure>
     ensures { MatchResult result
         (λ _. Writes (output_by W.contents output.old output.new) text.now)
         (λ failure. (failure ≡ Failure.Write)
@@ -166,11 +167,12 @@ pub fn perform<S: Supply, R: Read, W: Write, E: Write>(
             settings,
             within,
             cite,
+            strict,
             until,
             ..
         } => perform_check(
-            alloc, *protocol, querier, settings, *within, *until, *cite, in_words, supply, input,
-            output, errors,
+            alloc, *protocol, querier, settings, *within, *until, *cite, *strict, in_words, supply,
+            input, output, errors,
         ),
         _ => perform_work(alloc, request, in_words, supply, input, output, errors),
     }
@@ -248,6 +250,23 @@ fn perform_conversion<S: Supply, R: Read, W: Write, E: Write>(
 /// The default tolerance of a check in milliseconds.
 const WITHIN: u32 = 100;
 
+/// Returns the terms of a check with the default tolerance if none is given.
+pub(crate) fn terms_of(
+    within: Option<u32>,
+    until: Option<u64>,
+    cite: bool,
+    strict: bool,
+) -> CheckTerms
+    ensures { result ≡ asked_terms within until cite strict }
+{
+    CheckTerms {
+        within: within.unwrap_or(WITHIN),
+        until,
+        cite,
+        strict,
+    }
+}
+
 /// Performs a check.
 fn perform_check<S: Supply, R: Read, W: Write, E: Write>(
     alloc: Global,
@@ -257,13 +276,14 @@ fn perform_check<S: Supply, R: Read, W: Write, E: Write>(
     within: Option<u32>,
     until: Option<u64>,
     cite: bool,
+    strict: bool,
     in_words: bool,
     supply: &S,
     input: &mut Watched<R>,
     output: &mut Watched<W>,
     errors: &mut Watched<E>,
 ) -> u8
-    ensures performs { PerformsCheck protocol querier.now settings.now within until cite in_words
+    ensures performs { PerformsCheck protocol querier.now settings.now within until cite strict in_words
         (input_by R.remaining input.old input.new)
         (output_by W.contents output.old output.new)
         (output_by E.contents errors.old errors.new)
@@ -271,32 +291,35 @@ fn perform_check<S: Supply, R: Read, W: Write, E: Write>(
     ensures refused { result ≡ 2 → output.new ≡ output.old }
     ensures unasked { result ≡ 2 → input.new ≡ input.old }
 {
-    let terms = CheckTerms {
-        within: within.unwrap_or(WITHIN),
-        until,
-        cite,
-    };
+    let terms = terms_of(within, until, cite, strict);
     match check_capture(
         alloc, protocol, querier, settings, terms, supply, input, output,
     ) {
-        Ok(totals) => match totals.unjudged() {
-            Some(why) => {
-                tell_unjudged(why, errors);
-                UNJUDGED
-            }
-            None if totals.findings > 0 => FOUND,
-            None => DONE,
-        },
+        Ok(totals) => status_of_totals(&totals, errors),
         Err(failure) => told(failure, in_words, errors),
     }
 }
 
-/// Reports on standard error the numbers of repeated packets and of packets whose link type isn't read.
+/// Reports on standard error the counts of a conversion that are not 0.
 fn tell_counts<E: Write>(counts: &ConvertCounts, errors: &mut Watched<E>)
     ensures { TellsCounts (output_by E.contents errors.old errors.new) counts.now }
 {
-    if counts.repeated > 0 || counts.unread.count > 0 {
+    if counts.repeated > 0 || counts.dropped > 0 || counts.unread.count > 0 {
         let _ = print(counts_lines_of(counts).as_slice(), errors);
+    }
+}
+
+/// Returns the status of a check that reached its end. If nothing was judged, it reports the reason on standard error.
+pub(crate) fn status_of_totals<E: Write>(totals: &Totals, errors: &mut Watched<E>) -> u8
+    ensures { Concludes totals.now (output_by E.contents errors.old errors.new) result }
+{
+    match totals.unjudged() {
+        Some(why) => {
+            tell_unjudged(why, errors);
+            UNJUDGED
+        }
+        None if totals.findings > 0 => FOUND,
+        None => DONE,
     }
 }
 
@@ -323,7 +346,7 @@ fn unjudged_line_of(why: Unjudged) -> &'static [u8]
 }
 
 /// Reports a failure on standard error, and returns its status.
-fn told<E: Write>(failure: Failure, in_words: bool, errors: &mut Watched<E>) -> u8
+pub(crate) fn told<E: Write>(failure: Failure, in_words: bool, errors: &mut Watched<E>) -> u8
     ensures status { result ≡ status_of failure }
     ensures line { Told in_words (output_by E.contents errors.old errors.new) failure }
 {

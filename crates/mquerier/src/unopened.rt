@@ -1,11 +1,11 @@
-//! Files that can't be opened.
+//! Files that can't be opened, and checks that can't name their querier.
 
 ghost use Rattle.std.specs.Prelude.{◌≡◌, ◌≤◌, length, take};
 ghost use Rattle.mquerier.specs.Changes.{output_by};
-ghost use Rattle.mquerier.specs.Failures.{unopened_line};
+ghost use Rattle.mquerier.specs.Failures.{no_querier_line, unnamed_line, unopened_line};
 ghost use Rattle.mquerier.specs.Status.{IsTold};
 
-use crate::failure::FAULTY;
+use crate::failure::{FAULTY, REFUSED};
 use mq_count::Watched;
 use mq_text::{Text, print, put};
 use std::io::Write;
@@ -23,6 +23,24 @@ pub fn refuse_file<E: Write>(name: &str, reason: &str, errors: &mut Watched<E>) 
 {
     let _ = print(unopened_line_of(name, reason).as_slice(), errors);
     FAULTY
+}
+
+/// Reports on standard error that a check can't take its querier from standard input, and returns the status.
+pub fn refuse_stream<E: Write>(errors: &mut Watched<E>) -> u8
+    ensures status { result ≡ 2 }
+    ensures line { IsTold (output_by E.contents errors.old errors.new) unnamed_line }
+{
+    let line = b"mquerier: --querier auto needs a FILE, which is read twice\n";
+    let _ = print(line, errors);
+    REFUSED
+}
+
+/// Reports on standard error that a check found no querier in the capture.
+pub(crate) fn tell_no_querier<E: Write>(errors: &mut Watched<E>)
+    ensures { IsTold (output_by E.contents errors.old errors.new) no_querier_line }
+{
+    let line = b"mquerier: nothing judged: there is no general query of this family\n";
+    let _ = print(line, errors);
 }
 
 /// Returns the line for a file that can't be opened.

@@ -10,7 +10,7 @@ use mq_text::{Text, put, put_decimal};
 
 /// Appends the lines of packets whose link type isn't read.
 pub(crate) fn put_unread(line: &mut Text, unread: &Unread)
-    requires { array_vec_len line.old ≤ 100 }
+    requires { array_vec_len line.old ≤ 160 }
     ensures { line.new.items ≡ line.old.items ++ unread_line unread.now }
 {
     let rows = unread.links.as_slice();
@@ -24,7 +24,7 @@ pub(crate) fn put_unread(line: &mut Text, unread: &Unread)
 
 /// Appends a line for each link type.
 fn put_links(line: &mut Text, rows: &[LinkCount])
-    requires start { array_vec_len line.old ≤ 200 }
+    requires start { array_vec_len line.old ≤ 300 }
     requires few { length rows.now ≤ 16 }
     ensures text { line.new.items ≡ line.old.items ++ flat_map link_text rows.now }
     ensures room { array_vec_len line.new ≤ 2000 }

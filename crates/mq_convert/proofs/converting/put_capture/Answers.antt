@@ -4,7 +4,7 @@ use Rattle.std.proofs.Math.Bool.{or-false}
 use Rattle.mq_text.specs.declared.printing.LineFault.{LineFault}
 use Rattle.mq_text.proofs.Passing.{nothing_passed}
 use Rattle.mq_convert.specs.Contexts.{context_of}
-use Rattle.mq_convert.proofs.SoFar.{nothing_read, ended_faulty, ended_within, next_put, next_broken}
+use Rattle.mq_convert.proofs.SoFar.{nothing_read, ended_well, ended_faulty, ended_within, next_put, next_broken}
 use Rattle.mq_convert.proofs.WrittenEarly.{then_nothing}
 use Rattle.mq_convert.proofs.converting.put_capture.Goals as goal
 
@@ -44,6 +44,12 @@ returns-in_err-write_before_wait-clause-puts g c =
     let next = rw c.in-Some.is at c.in_ok-size.ensures.next in
     rw (p.1, p.2) (next_broken (Unit {0}) LineFault _ _ _ _ _ _ _ _ _ _ _ _ _ _ _ _ _ _ c.in_err-write_before_wait.field-0.0 now.put.0 now.put.1 next c.min.ensures c.in_ok-held.ensures
     (then_nothing (Unit {0}) LineFault _ _ _ _ _ [] _ (Err c.in_err-write_before_wait.field-0.0) c.in_ok-put_held.ensures.text c.in_err-write_before_wait.ensures.text))
+
+pub returns-clause-puts : goal.returns-clause-puts
+returns-clause-puts g c =
+    let now = c.loop-sieve.invariant in
+    let next = rw c.in_default.is at c.in_ok-size.ensures.next in
+    rw c.into_counts.ensures (ended_well _ _ _ _ _ _ _ _ (context_of c.loop-sieve.context) _ _ _ now.put.0 now.put.1 now.read now.few next)
 
 pub loop-sieve-preserved : goal.loop-sieve-preserved
 loop-sieve-preserved g c =

@@ -1,13 +1,9 @@
-use Rattle.std.proofs.Common.{◌∙◌, [], ◌∷◌, arith}
-use Rattle.std.proofs.lemmas.Bool.Decides.{nat_tests}
-use Rattle.std.specs.FinMap.{gets}
-use Rattle.std.specs.FinSet as set
-use Rattle.std.specs.FinSet.{members}
-use Rattle.mq_table.specs.declared.timers.FilterMode.TheVariants.{Include}
-use Rattle.mq_table.specs.Examples.{default_timing, until}
+use Rattle.std.proofs.{Common.◌∙◌, Common.[], Common.◌∷◌, Common.arith, lemmas.Bool.Decides.nat_tests}
+use Rattle.std.specs.{FinMap.gets, FinSet.members}
+use Rattle.mq_table.specs.{declared.timers.FilterMode.TheVariants.Include, Examples.default_timing, Examples.until}
 use Rattle.mq_examples.specs.Groups.{group_in, naming}
-use Rattle.mq_table.proofs.Lower.{timer_at-sources_lowered}
-use Rattle.mq_table.proofs.Groups.{same_group}
+use Rattle.mq_table.proofs.{Lower.timer_at-sources_lowered, Groups.same_group}
+use Rattle.std.specs.FinSet as set
 use Rattle.mq_examples.proofs.groups.queries_received.Goals as goal
 
 pub returns-clause-source : goal.returns-clause-source

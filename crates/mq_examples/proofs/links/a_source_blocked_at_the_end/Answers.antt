@@ -4,13 +4,10 @@ use Rattle.mq_link.specs.Receive.{read_of}
 use Rattle.mq_examples.proofs.Worked.{comes, ticks_to}
 use Rattle.mq_examples.proofs.links.a_source_blocked_at_the_end.Goals as goal
 
-pub returns-clause-excluded : goal.returns-clause-excluded
+pub returns : goal.returns
 unfolding read_of fault_of
-returns-clause-excluded c = comes _ _ _ _ _ _ _ _ refl refl refl refl refl
-
-pub returns-clause-blocked : goal.returns-clause-blocked
-unfolding read_of fault_of
-returns-clause-blocked c = comes _ _ _ _ _ _ _ _ refl refl refl refl refl
-
-pub returns-clause-gone : goal.returns-clause-gone
-returns-clause-gone c = ticks_to _ _ _ _ _ refl refl refl refl
+returns c = record {
+  excluded = comes _ _ _ _ _ _ _ _ refl refl refl refl refl;
+  blocked = comes _ _ _ _ _ _ _ _ refl refl refl refl refl;
+  gone = ticks_to _ _ _ _ _ refl refl refl refl;
+}

@@ -4,19 +4,12 @@ use Rattle.mq_link.specs.Receive.{read_of}
 use Rattle.mq_examples.proofs.Worked.{comes, ticks_to}
 use Rattle.mq_examples.proofs.links.a_source_outlives_its_group.Goals as goal
 
-pub returns-clause-excluded : goal.returns-clause-excluded
+pub returns : goal.returns
 unfolding read_of fault_of
-returns-clause-excluded c = comes _ _ _ _ _ _ _ _ refl refl refl refl refl
-
-pub returns-clause-allowed : goal.returns-clause-allowed
-unfolding read_of fault_of
-returns-clause-allowed c = comes _ _ _ _ _ _ _ _ refl refl refl refl refl
-
-pub returns-clause-included : goal.returns-clause-included
-returns-clause-included c = ticks_to _ _ _ _ _ refl refl refl refl
-
-pub returns-clause-gone : goal.returns-clause-gone
-returns-clause-gone c = ticks_to _ _ _ _ _ refl refl refl refl
-
-pub returns-clause-gone_at_once : goal.returns-clause-gone_at_once
-returns-clause-gone_at_once c = ticks_to _ _ _ _ _ refl refl refl refl
+returns c = record {
+  excluded = comes _ _ _ _ _ _ _ _ refl refl refl refl refl;
+  allowed = comes _ _ _ _ _ _ _ _ refl refl refl refl refl;
+  included = ticks_to _ _ _ _ _ refl refl refl refl;
+  gone = ticks_to _ _ _ _ _ refl refl refl refl;
+  gone_at_once = ticks_to _ _ _ _ _ refl refl refl refl;
+}

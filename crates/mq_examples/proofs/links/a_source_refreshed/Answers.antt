@@ -4,16 +4,11 @@ use Rattle.mq_link.specs.Receive.{read_of}
 use Rattle.mq_examples.proofs.Worked.{comes, ticks_to}
 use Rattle.mq_examples.proofs.links.a_source_refreshed.Goals as goal
 
-pub returns-clause-blocked : goal.returns-clause-blocked
+pub returns : goal.returns
 unfolding read_of fault_of
-returns-clause-blocked c = comes _ _ _ _ _ _ _ _ refl refl refl refl refl
-
-pub returns-clause-refreshed : goal.returns-clause-refreshed
-unfolding read_of fault_of
-returns-clause-refreshed c = comes _ _ _ _ _ _ _ _ refl refl refl refl refl
-
-pub returns-clause-asked_again : goal.returns-clause-asked_again
-returns-clause-asked_again c = ticks_to _ _ _ _ _ refl refl refl refl
-
-pub returns-clause-one_left : goal.returns-clause-one_left
-returns-clause-one_left c = ticks_to _ _ _ _ _ refl refl refl refl
+returns c = record {
+  blocked = comes _ _ _ _ _ _ _ _ refl refl refl refl refl;
+  refreshed = comes _ _ _ _ _ _ _ _ refl refl refl refl refl;
+  asked_again = ticks_to _ _ _ _ _ refl refl refl refl;
+  one_left = ticks_to _ _ _ _ _ refl refl refl refl;
+}

@@ -2,20 +2,12 @@ use Rattle.std.proofs.Common.{refl}
 use Rattle.mq_examples.proofs.KnownMoments.{forwards_so}
 use Rattle.mq_examples.proofs.links.what_is_forwarded.Goals as goal
 
-pub returns-clause-held : goal.returns-clause-held
-returns-clause-held c = forwards_so _ _ _ _ refl
-
-pub returns-clause-unnamed : goal.returns-clause-unnamed
-returns-clause-unnamed c = forwards_so _ _ _ _ refl
-
-pub returns-clause-running : goal.returns-clause-running
-returns-clause-running c = forwards_so _ _ _ _ refl
-
-pub returns-clause-stopped : goal.returns-clause-stopped
-returns-clause-stopped c = forwards_so _ _ _ _ refl
-
-pub returns-clause-unexcluded : goal.returns-clause-unexcluded
-returns-clause-unexcluded c = forwards_so _ _ _ _ refl
-
-pub returns-clause-unheld : goal.returns-clause-unheld
-returns-clause-unheld c = forwards_so _ _ _ _ refl
+pub returns : goal.returns
+returns c = record {
+  held = forwards_so _ _ _ _ refl;
+  unnamed = forwards_so _ _ _ _ refl;
+  running = forwards_so _ _ _ _ refl;
+  stopped = forwards_so _ _ _ _ refl;
+  unexcluded = forwards_so _ _ _ _ refl;
+  unheld = forwards_so _ _ _ _ refl;
+}

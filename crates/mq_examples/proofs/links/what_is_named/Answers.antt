@@ -1,6 +1,5 @@
 use Rattle.std.proofs.Common.{ℕ, List, [], ◌∷◌, refl}
-use Rattle.mq_table.specs.declared.timers.FilterMode.TheVariants.{Include}
-use Rattle.mq_table.specs.Examples.{until}
+use Rattle.mq_table.specs.{declared.timers.FilterMode.TheVariants.Include, Examples.until}
 use Rattle.mq_wire.specs.Spelling.{fault_of}
 use Rattle.mq_sched.specs.Examples.{the_group}
 use Rattle.mq_link.specs.Receive.{read_of}
@@ -30,17 +29,11 @@ blocks : Reports igmp (from 1) blocking 2000 held the_group (saying the_group 6 
 unfolding read_of fault_of
 blocks = record { read = refl; taken = refl; quiet = refl }
 
-pub returns-clause-joined : goal.returns-clause-joined
-returns-clause-joined c = record_names igmp (from 1) allowing 1000 (early 0 []) the_group (saying the_group 5 (host 1 ∷ [])) (host 1) first refl
-
-pub returns-clause-joined_again : goal.returns-clause-joined_again
-returns-clause-joined_again c = record_leaves igmp (from 1) allowing 1500 held the_group (saying the_group 5 (host 1 ∷ [])) again refl
-
-pub returns-clause-blocked : goal.returns-clause-blocked
-returns-clause-blocked c = record_leaves igmp (from 1) blocking 2000 held the_group (saying the_group 6 (host 1 ∷ [])) blocks refl
-
-pub returns-clause-gone : goal.returns-clause-gone
-returns-clause-gone c = tick_names _ _ _ _ (host 1) refl
-
-pub returns-clause-excluded : goal.returns-clause-excluded
-returns-clause-excluded c = tick_names _ _ _ _ (host 1) refl
+pub returns : goal.returns
+returns c = record {
+  joined = record_names igmp (from 1) allowing 1000 (early 0 []) the_group (saying the_group 5 (host 1 ∷ [])) (host 1) first refl;
+  joined_again = record_leaves igmp (from 1) allowing 1500 held the_group (saying the_group 5 (host 1 ∷ [])) again refl;
+  blocked = record_leaves igmp (from 1) blocking 2000 held the_group (saying the_group 6 (host 1 ∷ [])) blocks refl;
+  gone = tick_names _ _ _ _ (host 1) refl;
+  excluded = tick_names _ _ _ _ (host 1) refl;
+}

@@ -1,15 +1,11 @@
 use Rattle.std.proofs.Common.{◌∷◌, [], None, Ok, refl, ap, ◌∙◌, take, drop, arith}
-use Rattle.mq_wire.specs.Spelling.{fault_of}
-use Rattle.mq_pcap.specs.Capture.{header_in, header_of}
-use Rattle.mq_pcap.specs.Frame.{in_ethernet, in_ipv4, in_type}
+use Rattle.mq_wire.specs.{Spelling.fault_of, Codes.code_of}
+use Rattle.mq_pcap.specs.{Capture.header_in, Capture.header_of, Frame.in_ethernet, Frame.in_ipv4, Frame.in_type}
 use Rattle.std.specs.Fmt.{digits}
 use Rattle.hex.specs.Hex.{encode_with}
-use Rattle.mq_wire.specs.Codes.{code_of}
-use Rattle.mq_examples.specs.Links.{igmp}
+use Rattle.mq_examples.specs.{Links.igmp, Replays.one_report, Replays.totals_of}
 use Rattle.mq_link.specs.Receive.{read_of}
-use Rattle.mq_examples.specs.Replays.{one_report, totals_of}
-use Rattle.mq_examples.proofs.KnownReplays.{within_known, packets_known, report-known}
-use Rattle.mq_examples.proofs.Captures.{the_form, the_packet}
+use Rattle.mq_examples.proofs.{KnownReplays.within_known, KnownReplays.packets_known, KnownReplays.report-known, Captures.the_form, Captures.the_packet}
 use Rattle.mq_examples.proofs.replays.a_report.Goals as goal
 
 pub returns : goal.returns

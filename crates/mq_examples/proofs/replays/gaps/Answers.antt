@@ -1,13 +1,10 @@
 use Rattle.std.proofs.Common.{◌∷◌, [], None, Some, Ok, refl, ap, ◌∙◌, take, drop, arith}
-use Rattle.mq_pcap.specs.Capture.{Captured, header_in, header_of}
-use Rattle.mq_pcap.specs.Frame.{in_ethernet}
+use Rattle.mq_pcap.specs.{Capture.Captured, Capture.header_in, Capture.header_of, Frame.in_ethernet}
 use Rattle.std.specs.Fmt.{digits}
 use Rattle.hex.specs.Hex.{encode_with}
 use Rattle.mq_wire.specs.Codes.{code_of}
-use Rattle.mq_examples.specs.Links.{igmp}
-use Rattle.mq_examples.specs.Replays.{two_packets, totals_of}
-use Rattle.mq_examples.proofs.Captures.{the_form}
-use Rattle.mq_examples.proofs.KnownReplays.{within_known, packets_known, report-known}
+use Rattle.mq_examples.specs.{Links.igmp, Replays.two_packets, Replays.totals_of}
+use Rattle.mq_examples.proofs.{Captures.the_form, KnownReplays.within_known, KnownReplays.packets_known, KnownReplays.report-known}
 use Rattle.mq_examples.proofs.replays.gaps.Goals as goal
 
 pub returns-clause-packet : goal.returns-clause-packet

@@ -1,34 +1,23 @@
 use Rattle.std.proofs.Common.{[], None, Some, Ok, Err, refl, ap, ◌∙◌}
-use Rattle.mq_pcap.specs.declared.fault.PcapFault.TheVariants.{CutHeader}
-use Rattle.mq_pcap.specs.Capture.{header_in, header_of}
+use Rattle.mq_pcap.specs.{declared.fault.PcapFault.TheVariants.CutHeader, Capture.header_in, Capture.header_of}
 use Rattle.std.specs.Fmt.{digits}
 use Rattle.hex.specs.Hex.{encode_with}
 use Rattle.mq_wire.specs.Codes.{code_of}
-use Rattle.mq_examples.specs.Links.{igmp}
-use Rattle.mq_examples.specs.Replays.{totals_of}
-use Rattle.mq_examples.proofs.Captures.{the_form}
-use Rattle.mq_examples.proofs.KnownReplays.{within_known, packets_known, report-known}
+use Rattle.mq_examples.specs.{Links.igmp, Replays.totals_of}
+use Rattle.mq_examples.proofs.{Captures.the_form, KnownReplays.within_known, KnownReplays.packets_known, KnownReplays.report-known}
 use Rattle.mq_examples.proofs.replays.no_packets.Goals as goal
 
-pub returns-clause-header : goal.returns-clause-header
+pub returns : goal.returns
 unfolding header_of header_in within_known packets_known digits encode_with code_of
-returns-clause-header c =
-    let is = report-known igmp None the_form [] None in
-    record { header = Ok the_form; packets = []; end = None; capture = (refl, refl); text_is = ap (λ r. r.text) is ∙ refl; answer_is = ap (λ r. totals_of r.answer) is ∙ refl }
-
-pub returns-clause-until : goal.returns-clause-until
-unfolding header_of header_in within_known packets_known digits encode_with code_of
-returns-clause-until c =
-    let is = report-known igmp (Some 156250) the_form [] None in
-    record { header = Ok the_form; packets = []; end = None; capture = (refl, refl); text_is = ap (λ r. r.text) is ∙ refl; answer_is = ap (λ r. totals_of r.answer) is ∙ refl }
-
-pub returns-clause-cut : goal.returns-clause-cut
-unfolding header_of header_in packets_known
-returns-clause-cut c =
-    let is = report-known igmp None the_form [] (Some (CutHeader 1)) in
-    record { header = Ok the_form; packets = []; end = Some (CutHeader 1); capture = (refl, refl); text_is = ap (λ r. r.text) is ∙ refl; answer_is = ap (λ r. totals_of r.answer) is ∙ refl }
-
-pub returns-clause-nothing : goal.returns-clause-nothing
-unfolding header_of
-returns-clause-nothing c =
-    record { header = Err (CutHeader 0); packets = []; end = Some (CutHeader 0); capture = (refl, refl, refl); text_is = refl; answer_is = refl }
+returns c = record {
+  header =
+      let is = report-known igmp None the_form [] None in
+      record { header = Ok the_form; packets = []; end = None; capture = (refl, refl); text_is = ap (λ r. r.text) is ∙ refl; answer_is = ap (λ r. totals_of r.answer) is ∙ refl };
+  until =
+      let is = report-known igmp (Some 156250) the_form [] None in
+      record { header = Ok the_form; packets = []; end = None; capture = (refl, refl); text_is = ap (λ r. r.text) is ∙ refl; answer_is = ap (λ r. totals_of r.answer) is ∙ refl };
+  cut =
+      let is = report-known igmp None the_form [] (Some (CutHeader 1)) in
+      record { header = Ok the_form; packets = []; end = Some (CutHeader 1); capture = (refl, refl); text_is = ap (λ r. r.text) is ∙ refl; answer_is = ap (λ r. totals_of r.answer) is ∙ refl };
+  nothing = record { header = Err (CutHeader 0); packets = []; end = Some (CutHeader 0); capture = (refl, refl, refl); text_is = refl; answer_is = refl };
+}

@@ -1,18 +1,11 @@
-use Rattle.std.proofs.Common.{true, [], refl, arith}
-use Rattle.std.proofs.lemmas.Bool.Decides.{nat_tests}
-use Rattle.std.specs.FinMap.{gets}
-use Rattle.std.specs.FinSet as set
-use Rattle.std.specs.FinSet.{members}
-use Rattle.mq_table.specs.declared.kind.Kind.TheVariants.{ToIn}
-use Rattle.mq_table.specs.declared.timers.FilterMode.TheVariants.{Exclude}
-use Rattle.mq_table.specs.Examples.{default_timing}
+use Rattle.std.proofs.{Common.true, Common.[], Common.refl, Common.arith, lemmas.Bool.Decides.nat_tests}
+use Rattle.std.specs.{FinMap.gets, FinSet.members}
+use Rattle.mq_table.specs.{declared.kind.Kind.TheVariants.ToIn, declared.timers.FilterMode.TheVariants.Exclude, Examples.default_timing, Table.change_of}
 use Rattle.mq_examples.specs.Groups.{heard_v2}
-use Rattle.mq_table.proofs.Maps.{get-by_rule, get-kept}
-use Rattle.mq_table.specs.Table.{change_of}
-use Rattle.mq_table.proofs.Held.{held_or_vacant-none}
-use Rattle.mq_table.proofs.Groups.{same_group}
+use Rattle.mq_table.proofs.{Maps.get-by_rule, Maps.get-kept, Held.held_or_vacant-none, Groups.same_group}
 use Rattle.mq_sched.specs.Schedule.{no_schedule}
 use Rattle.mq_examples.proofs.Explicit.{change_sends}
+use Rattle.std.specs.FinSet as set
 use Rattle.mq_examples.proofs.schedules.a_leave.Goals as goal
 
 pub returns-clause-first_sending : goal.returns-clause-first_sending

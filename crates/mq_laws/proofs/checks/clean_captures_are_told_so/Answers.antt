@@ -7,5 +7,5 @@ pub returns : goal.returns
 returns c k faultless answered on_time are =
     let told = tells_what_happened k answered in
     let order = c.what_happens_comes_in_order.ensures k faultless in
-    let tells = tells_of k _ told (none_of_moved k.within k.config.timing (end_in k) (events_in k) order on_time told.room are) in
+    let tells = tells_of k _ told (none_of_moved k.within k.config.timing k.strict (end_in k) (events_in k) order on_time told.room are) in
     record { text = tells.text; none = tells.counted }

@@ -8,4 +8,4 @@ pub returns : goal.returns
 returns c k expected faultless answered is =
     let told = tells_what_happened k answered in
     let order = c.what_happens_comes_in_order.ensures k faultless in
-    tells_of k _ told (found_is k.within k.config.timing (end_in k) expected (events_in k) order is told.room)
+    tells_of k _ told (found_is k.within k.config.timing k.strict (end_in k) expected (events_in k) order is told.room)

@@ -1,5 +1,4 @@
-use Rattle.mq_table.proofs.Held.{IsAnyGroup-expired}
-use Rattle.mq_table.proofs.Ahead.{AllAhead-expired}
+use Rattle.mq_table.proofs.{Ahead.AllAhead-expired, Held.IsAnyGroup-expired}
 use Rattle.mq_laws.proofs.groups.expiry_keeps_form.Goals as goal
 
 pub returns-clause-form : goal.returns-clause-form

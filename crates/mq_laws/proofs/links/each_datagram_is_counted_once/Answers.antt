@@ -1,11 +1,9 @@
 use Rattle.std.proofs.Common.{◌≡◌, Ok, ap, sym, ◌∙◌, subst, length}
 use Rattle.std.proofs.lemmas.List.{length-map}
 use Rattle.mq_link.specs.Counters.{counted_at, kind_number}
-use Rattle.mq_link.specs.Tick.{tick_of}
-use Rattle.mq_link.specs.Receive.{read_of, pseudo_of, drop_reason, receipt_after, kind_of}
-use Rattle.mq_link.specs.Sent.{outgoing}
-use Rattle.mq_laws.specs.Laws.{records_in, CountsRecords}
+use Rattle.mq_link.specs.{Receive.read_of, Receive.pseudo_of, Receive.drop_reason, Receive.receipt_after, Receive.kind_of, Sent.outgoing, Tick.tick_of}
 use Rattle.mq_laws.proofs.Counting.{decided_received, decided_counted, decided_records, decided_spelled, two_answers}
+use Rattle.mq_laws.specs.Laws.{records_in, CountsRecords}
 use Rattle.mq_laws.proofs.links.each_datagram_is_counted_once.Goals as goal
 
 pub returns-clause-received : goal.returns-clause-received

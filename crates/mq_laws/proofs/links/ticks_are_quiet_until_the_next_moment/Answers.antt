@@ -1,14 +1,11 @@
 use Rattle.std.proofs.Common.{◌≡◌, ℕ, ◌<◌, max, ap, ◌∙◌, arith}
-use Rattle.mq_link.specs.Configuration.{Configuration, IsFaultless}
-use Rattle.mq_link.specs.State.{LinkState, IsWellFormed}
+use Rattle.mq_link.proofs.{Faultless.timing_in_range, Later.later_after_tick, Quiet.quiet_tick, Ticked.IsWellFormed-tick_at}
+use Rattle.mq_link.specs.{Configuration.Configuration, Configuration.IsFaultless, State.LinkState, State.IsWellFormed}
 use Rattle.mq_link.specs.Tick.{moment_of, tick_at, tick_of, next_of}
-use Rattle.mq_link.proofs.Faultless.{timing_in_range}
-use Rattle.mq_link.proofs.Ticked.{IsWellFormed-tick_at}
-use Rattle.mq_link.proofs.Quiet.{quiet_tick}
-use Rattle.mq_link.proofs.Later.{later_after_tick}
 use Rattle.mq_laws.proofs.links.ticks_are_quiet_until_the_next_moment.Goals as goal
 
-later : (config : Configuration) (now : ℕ) (state : LinkState) → IsFaultless config → IsWellFormed config state → moment_of state now < next_of (tick_of config now state).state
+later : (config : Configuration) (now : ℕ) (state : LinkState) → IsFaultless config → IsWellFormed config state
+    → moment_of state now < next_of (tick_of config now state).state
 later config now state faultless h = later_after_tick config (moment_of state now) state (timing_in_range config faultless) h
 
 -- the moment of a second tick

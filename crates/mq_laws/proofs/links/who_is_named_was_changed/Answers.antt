@@ -1,9 +1,7 @@
 use Rattle.std.proofs.Common.{sym, ◌∙◌}
 use Rattle.mq_sets.proofs.KnownBySet.{known_by_set}
-use Rattle.mq_link.specs.State.{group_at}
-use Rattle.mq_link.specs.Tick.{tick_of}
-use Rattle.mq_laws.proofs.TurnedSources.{changes_where_turned, changes_where_apart}
-use Rattle.mq_laws.proofs.SpokenGroups.{as_the_tick, as_the_tick_unread}
+use Rattle.mq_link.specs.{State.group_at, Tick.tick_of}
+use Rattle.mq_laws.proofs.{SpokenGroups.as_the_tick, SpokenGroups.as_the_tick_unread, TurnedSources.changes_where_turned, TurnedSources.changes_where_apart}
 use Rattle.mq_laws.proofs.links.who_is_named_was_changed.Goals as goal
 
 pub returns-clause-filter : goal.returns-clause-filter

@@ -1,6 +1,4 @@
-use Rattle.mq_link.specs.Receive.{receipt_of}
-use Rattle.mq_link.specs.Run.{Tick, Datagram}
-use Rattle.mq_link.specs.Tick.{tick_of}
+use Rattle.mq_link.specs.{Receive.receipt_of, Run.Tick, Run.Datagram, Tick.tick_of}
 use Rattle.mq_laws.proofs.Following.{event_keeps, alike_forwarded}
 use Rattle.mq_laws.proofs.links.who_is_not_named_is_as_before.Goals as goal
 

@@ -12,4 +12,5 @@ pub returns-clause-later : goal.returns-clause-later
 returns-clause-later c r is = quiet_after_round r.timing r.now r.before (positive c r.timing is)
 
 pub returns-clause-silent : goal.returns-clause-silent
-returns-clause-silent c r is = quiet_is_silent r.per_query r.timing r.now r.address (state_after r) (quiet_after_round r.timing r.now r.before (positive c r.timing is))
+returns-clause-silent c r is =
+    quiet_is_silent r.per_query r.timing r.now r.address (state_after r) (quiet_after_round r.timing r.now r.before (positive c r.timing is))

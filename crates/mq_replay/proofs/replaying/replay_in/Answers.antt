@@ -1,4 +1,4 @@
-use Rattle.std.proofs.Common.{Err, ap, sym, ◌∙◌}
+use Rattle.std.proofs.Common.{◌≡◌, Err, ap, sym, subst, ◌∙◌}
 use Rattle.std.proofs.Math.Bool.{or-false}
 use Rattle.std.proofs.lemmas.Result.{err_from_is_err_and}
 use Rattle.mq_arena.proofs.Takes.{both}
@@ -20,7 +20,16 @@ returns-in_default-new_in-clause-replays g c = nothing_replayed _ _ _ _
 pub returns-in_err-replay_on-clause-replays : goal.returns-in_err-replay_on-clause-replays
 returns-in_err-replay_on-clause-replays g c =
     let p = err_from_is_err_and c.from_residual.result c.from_residual.ensures.1 in
-    rw (p.1, p.2, ← ap (λ (l : LinkValue). l.config) c.in-Ok-new_in.ensures.link) (c.in_err-replay_on.ensures.replays)
+    let config = ap (λ (l : LinkValue). l.config) c.new-replay.ensures.link ∙ ap (λ (l : LinkValue). l.config) c.in-Ok-new_in.ensures.link in
+    rw (p.1, p.2, ← config, ← c.new-replay.ensures.asked) c.in_err-replay_on.ensures.replays
+
+pub returns-clause-replays : goal.returns-clause-replays
+returns-clause-replays g c =
+    let config = ap (λ (l : LinkValue). l.config) c.new-replay.ensures.link ∙ ap (λ (l : LinkValue). l.config) c.in-Ok-new_in.ensures.link in
+    rw (c.into_counts.ensures, ← config, ← c.new-replay.ensures.asked) c.in_ok-replay_on.ensures.replays
+
+pub replay_on-requires-clause-in_range : goal.replay_on-requires-clause-in_range
+replay_on-requires-clause-in_range g c = rw c.new-replay.ensures.asked c.requires
 
 pub returns-in_default-clause-failed : goal.returns-in_default-clause-failed
 returns-in_default-clause-failed g c = sym (or-false _)
@@ -39,7 +48,8 @@ replay_on-requires-clause-room g c = room_of_filled most_bytes _ _ c.as_mut_slic
 pub replay_on-requires-clause-starts : goal.replay_on-requires-clause-starts
 replay_on-requires-clause-starts g c =
     let is = c.in-Ok-new_in.ensures.link in
-    ap (λ (l : LinkValue). l.state) is ∙ (λ i. link_at (sym (ap (λ (l : LinkValue). l.config) is) i) (c.first_moment.ensures i))
+    let starts = ap (λ (l : LinkValue). l.state) is ∙ (λ i. link_at (sym (ap (λ (l : LinkValue). l.config) is) i) (c.first_moment.ensures i)) in
+    subst (λ (l : LinkValue). l.state ≡ link_at l.config 0) (sym c.new-replay.ensures.link) starts
 
 pub returns-in_default-new_in-clause-takes : goal.returns-in_default-new_in-clause-takes
 returns-in_default-new_in-clause-takes g c = both c.in-Ok.ensures.memory c.in_default-new_in.ensures.memory

@@ -1,4 +1,4 @@
-use Rattle.std.proofs.Common.{◌+◌, ◌-◌, length, refl, ap, sym, ◌∙◌, subst, arith, slice_set}
+use Rattle.std.proofs.Common.{◌+◌, ◌-◌, length, refl, ap, sym, ◌∙◌, subst, arith, slice_set, rules}
 use Rattle.std.proofs.lemmas.List.{map-set}
 use Rattle.std.proofs.lemmas.List.Edits.{paste_all}
 use Rattle.std.proofs.lemmas.Slice.{put_mid-paste}
@@ -9,25 +9,20 @@ use Rattle.mq_sets.proofs.Apart.{apart-shorter}
 use Rattle.mq_sets.proofs.WrittenOver.{rows-written}
 use Rattle.mq_sets.proofs.extents.write_over.Goals as goal
 
-pub returns-clause-rows : goal.returns-clause-rows
-returns-clause-rows g c =
-    let before = c.args.before in
-    let row = c.args.row.now in
-    let cells = c.args.cells.now in
-    let y : Extent = record { start = before.start; length = length row } in
-    let same = put_mid-paste before.start (before.start + length row - before.start) cells c.copy_from_slice.new.self row (length row) c.copy_from_slice.ensures.after (omega arith) refl ∙ paste_all cells before.start row (length row) refl in
-    let inside = subst (IsWithin cells) (sym c.requires.here) (c.requires.within c.args.place before c.requires.place) in
-    ap (λ xs. rows_of xs (slice_set c.args.extents.now c.args.place y)) same
-    ∙ rows-written cells row before y refl refl c.requires.fits inside c.args.extents.now c.args.place c.requires.place c.requires.here c.requires.apart
-
-pub returns-clause-apart : goal.returns-clause-apart
-returns-clause-apart g c =
-    apart-shorter c.args.extents.now c.args.place c.args.before (record { start = c.args.before.start; length = length c.args.row.now }) c.requires.place c.requires.here refl c.requires.fits c.requires.apart
-
-pub returns-clause-lengths : goal.returns-clause-lengths
-returns-clause-lengths g c =
-    map-set (λ (e : Extent). e.length) c.args.extents.now c.args.place (record { start = c.args.before.start; length = length c.args.row.now })
-
-pub returns-clause-placed : goal.returns-clause-placed
-returns-clause-placed g c some placed =
-    All-set IsPlaced c.args.extents.now c.args.place (record { start = c.args.before.start; length = length c.args.row.now }) (λ none. absurd (omega (arith, some, none))) placed
+pub returns : goal.returns
+returns g c = record {
+  rows =
+      let before = c.args.before in
+      let row = c.args.row.now in
+      let cells = c.args.cells.now in
+      let y : Extent = record { start = before.start; length = length row } in
+      let same = put_mid-paste before.start (before.start + length row - before.start) cells c.copy_from_slice.new.self row (length row) c.copy_from_slice.ensures.after (omega arith) refl ∙ paste_all cells before.start row (length row) refl in
+      let inside = subst (IsWithin cells) (sym c.requires.here) (c.requires.within c.args.place before c.requires.place) in
+      ap (λ xs. rows_of xs (slice_set c.args.extents.now c.args.place y)) same
+      ∙ rows-written cells row before y refl refl c.requires.fits inside c.args.extents.now c.args.place c.requires.place c.requires.here c.requires.apart;
+  apart = apart-shorter c.args.extents.now c.args.place c.args.before (record { start = c.args.before.start; length = length c.args.row.now }) c.requires.place c.requires.here refl c.requires.fits c.requires.apart;
+  lengths = map-set (λ (e : Extent). e.length) c.args.extents.now c.args.place (record { start = c.args.before.start; length = length c.args.row.now });
+  placed = λ some placed. All-set IsPlaced c.args.extents.now c.args.place (record { start = c.args.before.start; length = length c.args.row.now }) (λ none. absurd (omega (arith, some, none))) placed;
+  within = search rules;
+  len = search rules;
+}

@@ -73,40 +73,22 @@ loop-number-preserved g c =
       capacity = omega (arith, c.extend_from_slice.ensures.capacity, c.loop-number.invariant.capacity);
     }
 
-pub returns-clause-rows : goal.returns-clause-rows
-returns-clause-rows g c =
+pub returns : goal.returns
+returns g c =
     let numbers = c.args.numbers.now in
     let k = c.loop-number.number-index in
     let known = rw (take_all k numbers (omega arith)) at c.loop-number.invariant.packed in
-    packed-rows c.args.cells.now c.args.extents.now c.loop-number.packed.items c.loop-number.extents numbers c.requires.within c.requires.named known
-
-pub returns-clause-within : goal.returns-clause-within
-returns-clause-within g c =
-    let numbers = c.args.numbers.now in
-    let k = c.loop-number.number-index in
-    let known = rw (take_all k numbers (omega arith)) at c.loop-number.invariant.packed in
-    packed-within c.args.cells.now c.args.extents.now c.loop-number.packed.items c.loop-number.extents numbers c.requires.within c.requires.named known
-
-pub returns-clause-apart : goal.returns-clause-apart
-returns-clause-apart g c =
-    let numbers = c.args.numbers.now in
-    let k = c.loop-number.number-index in
-    let known = rw (take_all k numbers (omega arith)) at c.loop-number.invariant.packed in
-    packed-apart c.args.cells.now c.args.extents.now c.loop-number.packed.items c.loop-number.extents numbers c.requires.within c.requires.named known
-
-pub returns-clause-filled : goal.returns-clause-filled
-returns-clause-filled g c =
-    let numbers = c.args.numbers.now in
-    let k = c.loop-number.number-index in
-    let known = rw (take_all k numbers (omega arith)) at c.loop-number.invariant.packed in
-    omega (arith, known.filled, named-all c.args.cells.now c.args.extents.now numbers c.requires.named)
-
-pub returns-clause-moves : goal.returns-clause-moves
-returns-clause-moves g c =
-    let numbers = c.args.numbers.now in
-    let k = c.loop-number.number-index in
-    let known = rw (take_all k numbers (omega arith)) at c.loop-number.invariant.packed in
-    let all = named-all c.args.cells.now c.args.extents.now numbers c.requires.named in
-    let size : c.len.result ≡ cells_said c.args.extents.now = omega (arith, known.filled, all, c.len.ensures, c.loop-number.packed.ok.0) in
-    let first = rw size at c.count.ensures in
-    Spends-join first c.count-2.ensures
+    record {
+      rows = packed-rows c.args.cells.now c.args.extents.now c.loop-number.packed.items c.loop-number.extents numbers c.requires.within c.requires.named known;
+      within = packed-within c.args.cells.now c.args.extents.now c.loop-number.packed.items c.loop-number.extents numbers c.requires.within c.requires.named known;
+      apart = packed-apart c.args.cells.now c.args.extents.now c.loop-number.packed.items c.loop-number.extents numbers c.requires.within c.requires.named known;
+      filled = omega (arith, known.filled, named-all c.args.cells.now c.args.extents.now numbers c.requires.named);
+      moves =
+          let all = named-all c.args.cells.now c.args.extents.now numbers c.requires.named in
+          let size : c.len.result ≡ cells_said c.args.extents.now = omega (arith, known.filled, all, c.len.ensures, c.loop-number.packed.ok.0) in
+          let first = rw size at c.count.ensures in
+          Spends-join first c.count-2.ensures;
+      placed = search rules;
+      lengths = search rules;
+      capacity = search rules;
+    }

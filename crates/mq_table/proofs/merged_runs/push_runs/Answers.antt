@@ -1,4 +1,4 @@
-use Rattle.std.proofs.Common.{◌≡◌, ◌||◌, false, ◌+◌, ◌<◌, [], ◌∷◌, ◌++◌, ◌∙◌, length, drop, take, sym, ap, arith, Some, None}
+use Rattle.std.proofs.Common.{◌≡◌, ◌||◌, false, ◌+◌, ◌<◌, [], ◌∷◌, ◌++◌, ◌∙◌, length, drop, take, sym, ap, arith, Some, None, rules}
 use Rattle.std.proofs.lemmas.List.{drop_more, length-drop, length-take, drop_all}
 use Rattle.std.proofs.lemmas.List.Elements.{All-drop, All-take}
 use Rattle.mq_count.proofs.Spent.{Spends-join_within}
@@ -69,26 +69,17 @@ loop-name-preserved g c =
           })
     ]
 
-pub returns-clause-sources : goal.returns-clause-sources
-returns-clause-sources g c =
+pub returns : goal.returns
+returns g c =
     let number = number_in g.K.Key.number in
     let so_far = c.loop-name.invariant in
     let left = c.loop-name.left.now in
     let none : drop c.loop-name.name-index c.args.named.now ≡ [] = drop_all c.loop-name.name-index c.args.named.now c.loop-name-test.false in
-    last_run_pushed (source_made c.args.rule.now) c.loop-name.sources.items c.push_run-2.new.list.items left (merged_lists number g.K.Key.number left (drop c.loop-name.name-index c.args.named.now)) _ so_far.alone.made c.push_run-2.ensures.items (rw none (merged-alone number g.K.Key.number left)) so_far.sources
-
-pub returns-clause-asked : goal.returns-clause-asked
-returns-clause-asked g c =
-    let number = number_in g.K.Key.number in
-    let so_far = c.loop-name.invariant in
-    let left = c.loop-name.left.now in
-    let none : drop c.loop-name.name-index c.args.named.now ≡ [] = drop_all c.loop-name.name-index c.args.named.now c.loop-name-test.false in
-    last_run_passed (source_asked c.args.rule.now) c.loop-name.asked.items left (merged_lists number g.K.Key.number left (drop c.loop-name.name-index c.args.named.now)) _ so_far.alone.asked (rw none (merged-alone number g.K.Key.number left)) so_far.asked
-
-pub returns-clause-turned : goal.returns-clause-turned
-returns-clause-turned g c =
-    let number = number_in g.K.Key.number in
-    let so_far = c.loop-name.invariant in
-    let left = c.loop-name.left.now in
-    let none : drop c.loop-name.name-index c.args.named.now ≡ [] = drop_all c.loop-name.name-index c.args.named.now c.loop-name-test.false in
-    last_run_tested (source_turned c.args.rule.now) c.loop-name.turned left (merged_lists number g.K.Key.number left (drop c.loop-name.name-index c.args.named.now)) _ so_far.alone.turned (rw none (merged-alone number g.K.Key.number left)) so_far.turned
+    record {
+      sources = last_run_pushed (source_made c.args.rule.now) c.loop-name.sources.items c.push_run-2.new.list.items left (merged_lists number g.K.Key.number left (drop c.loop-name.name-index c.args.named.now)) _ so_far.alone.made c.push_run-2.ensures.items (rw none (merged-alone number g.K.Key.number left)) so_far.sources;
+      asked = last_run_passed (source_asked c.args.rule.now) c.loop-name.asked.items left (merged_lists number g.K.Key.number left (drop c.loop-name.name-index c.args.named.now)) _ so_far.alone.asked (rw none (merged-alone number g.K.Key.number left)) so_far.asked;
+      turned = last_run_tested (source_turned c.args.rule.now) c.loop-name.turned left (merged_lists number g.K.Key.number left (drop c.loop-name.name-index c.args.named.now)) _ so_far.alone.turned (rw none (merged-alone number g.K.Key.number left)) so_far.turned;
+      compares = search rules;
+      sources_room = search rules;
+      asked_room = search rules;
+    }

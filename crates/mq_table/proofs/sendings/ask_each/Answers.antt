@@ -1,4 +1,4 @@
-use Rattle.std.proofs.Common.{◌≡◌, true, false, ◌<◌, ◌≤◌, ◌∙◌, ap, sym, [], length, drop, refl, arith}
+use Rattle.std.proofs.Common.{◌≡◌, true, false, ◌<◌, ◌≤◌, ◌∙◌, ap, sym, [], length, drop, refl, arith, rules}
 use Rattle.std.proofs.Math.ListN.{length-set}
 use Rattle.std.proofs.Math.Bool.{or-true, or-false}
 use Rattle.std.proofs.lemmas.Bool.{false≢true}
@@ -92,20 +92,16 @@ returns-clause-spent g c =
     let over : length c.args.sources.now.items ≤ c.loop-place.place = omega (arith, so_far.len, c.loop-place-test.false, c.len-place-end.ensures, c.args.sources.now.ok.0) in
     Spends-within _ _ so_far.spent (omega (arith, some, over)) (omega arith)
 
-pub returns-then-next-asked-clause-items : goal.returns-then-next-asked-clause-items
-returns-then-next-asked-clause-items g c =
+pub returns-then-next-asked : goal.returns-then-next-asked
+returns-then-next-asked g c =
     let so_far = c.loop-place.invariant in
     let asked = c.args.asked.now in
     let initial = c.args.sources.now.items in
     let over : drop c.loop-place.next asked ≡ [] = drop_all c.loop-place.next asked (omega arith) in
     let none = none_ahead g.K.Key.number c.args.limit c.args.count asked (drop c.loop-place.place initial) (rw over at so_far.ahead) in
-    all_asked (source_if_asked g.K.Key.number c.args.limit c.args.count (set_of g.K.Key.number asked)) initial c.loop-place.sources.items c.loop-place.place so_far.made so_far.rest none.0
-
-pub returns-then-next-asked-clause-some : goal.returns-then-next-asked-clause-some
-returns-then-next-asked-clause-some g c =
-    let so_far = c.loop-place.invariant in
-    let asked = c.args.asked.now in
-    let initial = c.args.sources.now.items in
-    let over : drop c.loop-place.next asked ≡ [] = drop_all c.loop-place.next asked (omega arith) in
-    let none = none_ahead g.K.Key.number c.args.limit c.args.count asked (drop c.loop-place.place initial) (rw over at so_far.ahead) in
-    so_far.some ∙ some_asked (is_asked_above g.K.Key.number c.args.limit (set_of g.K.Key.number asked)) initial c.loop-place.place none.1
+    record {
+      items = all_asked (source_if_asked g.K.Key.number c.args.limit c.args.count (set_of g.K.Key.number asked)) initial c.loop-place.sources.items c.loop-place.place so_far.made so_far.rest none.0;
+      some = so_far.some ∙ some_asked (is_asked_above g.K.Key.number c.args.limit (set_of g.K.Key.number asked)) initial c.loop-place.place none.1;
+      capacity = search rules;
+      spent = search rules;
+    }

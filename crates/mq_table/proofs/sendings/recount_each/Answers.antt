@@ -1,4 +1,4 @@
-use Rattle.std.proofs.Common.{Option, Some, ◌≡◌, ◌||◌, ◌+◌, ◌<◌, ◌∙◌, length, set, take, drop, refl, ap, sym, arith}
+use Rattle.std.proofs.Common.{Option, Some, ◌≡◌, ◌||◌, ◌+◌, ◌<◌, ◌∙◌, length, set, take, drop, refl, ap, sym, arith, rules}
 use Rattle.std.specs.List.{list_any}
 use Rattle.std.proofs.lemmas.List.{set-get_or}
 use Rattle.std.proofs.Math.ListN.{length-set}
@@ -56,18 +56,14 @@ loop-place-preserved g c =
           })
     ]
 
-pub returns-clause-items : goal.returns-clause-items
-returns-clause-items g c =
+pub returns : goal.returns
+returns g c =
     let so_far = c.loop-place.invariant in
     let initial = c.args.sources.now.items in
     let over : c.loop-place.place ≡ c.args.places.end = omega (arith, c.requires.ordered) in
     let none = rw (← over) at c.requires.none_behind in
-    all_asked (source_recounted c.args.recount) initial c.loop-place.sources.items c.loop-place.place so_far.made so_far.rest (sources_stay c.args.recount (drop c.loop-place.place initial) none)
-
-pub returns-clause-left : goal.returns-clause-left
-returns-clause-left g c =
-    let so_far = c.loop-place.invariant in
-    let initial = c.args.sources.now.items in
-    let over : c.loop-place.place ≡ c.args.places.end = omega (arith, c.requires.ordered) in
-    let none = rw (← over) at c.requires.none_behind in
-    so_far.left ∙ some_asked item_has_sendings c.loop-place.sources.items c.loop-place.place (ap (list_any item_has_sendings) so_far.rest ∙ none)
+    record {
+      items = all_asked (source_recounted c.args.recount) initial c.loop-place.sources.items c.loop-place.place so_far.made so_far.rest (sources_stay c.args.recount (drop c.loop-place.place initial) none);
+      left = so_far.left ∙ some_asked item_has_sendings c.loop-place.sources.items c.loop-place.place (ap (list_any item_has_sendings) so_far.rest ∙ none);
+      capacity = search rules;
+    }

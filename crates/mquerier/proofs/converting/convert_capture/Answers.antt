@@ -1,9 +1,14 @@
 use Rattle.std.proofs.Common.{Ok, Err, ◌∙◌}
-use Rattle.std.proofs.Math.Bool.{or-true}
+use Rattle.std.proofs.Math.Bool.{or-false, or-true}
 use Rattle.std.proofs.lemmas.Result.{err_from_is_err_and}
 use Rattle.mq_convert.specs.declared.fault.ConvertFault.TheVariants as answer
 use Rattle.mquerier.proofs.Conversions.{converted_kept}
 use Rattle.mquerier.proofs.converting.convert_capture.Goals as goal
+
+pub returns-in_ok-flush-in-Ok-clause-works : goal.returns-in_ok-flush-in-Ok-clause-works
+returns-in_ok-flush-in-Ok-clause-works g c =
+    let kept = converted_kept _ _ _ _ _ _ (Ok c.in-Ok.counts) (λ e. absurd (cc e)) c.in-Ok.ensures.converts c.in_ok-flush-in-Ok.ensures.bytes in
+    (c.in_ok-flush-in-Ok.ensures.failed ∙ or-false _ ∙ c.in-Ok.ensures.failed ∙ or-false _, kept)
 
 pub returns-in_err-flush-in-Ok-clause-works : goal.returns-in_err-flush-in-Ok-clause-works
 returns-in_err-flush-in-Ok-clause-works g c =

@@ -2,12 +2,13 @@
 use Rattle.std.proofs.Common.{◌≡◌}
 use Rattle.std.specs.Prelude.{fold, map as list_map}
 use Rattle.mq_check.specs.declared.asked.Asked.TheVariants.{Source}
-use Rattle.mq_check.specs.Checking.{with_seen}
+use Rattle.mq_check.specs.Checking.{one_seen}
 use Rattle.mq_check.specs.Numbered.{numbered_terms}
+use Rattle.mq_check.specs.Unheld.{unheld}
 use Rattle.mq_check.proofs.checking.Checking.see_sources.Given as goal
 
 abbrev pub invariant-loop-source : goal.invariant-loop-source
 invariant-loop-source g l =
     let number = g.F.Address.Key.number in
-    fold (with_seen l.moment (numbered_terms number l.terms)) l.fn.self (list_map (Source (number l.group)) l.fn.sources)
-    ≡ fold (with_seen l.moment (numbered_terms number l.terms)) l.self (list_map (Source (number l.group)) l.source-iterator)
+    fold (one_seen l.moment (numbered_terms number l.terms) (unheld g.F.Family.FAMILY l.fn.link.state.groups (numbered_terms number l.wanted))) l.fn.self (list_map (Source (number l.group)) l.fn.sources)
+    ≡ fold (one_seen l.moment (numbered_terms number l.terms) (unheld g.F.Family.FAMILY l.fn.link.state.groups (numbered_terms number l.wanted))) l.self (list_map (Source (number l.group)) l.source-iterator)

@@ -1,10 +1,7 @@
 use Rattle.std.proofs.Common.{ℕ, ◌+◌, true, refl, List}
-use Rattle.mq_wire.specs.Codes.{code_of}
-use Rattle.mq_wire.specs.Family.{Mld}
-use Rattle.mq_examples.specs.Links.{mld_limited, mld_from, link_local, a_group, a_source}
-use Rattle.mq_examples.specs.ManySources.{sources_from}
-use Rattle.mq_examples.proofs.Alike.{Ascend}
-use Rattle.mq_examples.proofs.AlikeLinks.{Suits}
+use Rattle.mq_wire.specs.{Codes.code_of, Family.Mld}
+use Rattle.mq_examples.specs.{Links.mld_limited, Links.mld_from, Links.link_local, Links.a_group, Links.a_source, ManySources.sources_from}
+use Rattle.mq_examples.proofs.{Alike.Ascend, AlikeLinks.Suits}
 use Rattle.mq_examples.proofs.SeveralMessages.{ascend_from, at_0, at_1000, at_2000, at_3000, at_4000}
 use Rattle.mq_examples.proofs.links.sendings.a_sending_in_two_messages_of_mld.Goals as goal
 
@@ -17,20 +14,12 @@ ascend = ascend_from a_source 90
 suits : Suits Mld (mld_limited 90).limits (mld_limited 90).own (mld_from (link_local 2) 1 true) a_group (sources_from a_source 90)
 suits = record { ascend = ascend; taken = λ r. refl; allow = refl; block = refl; unscheduled = refl; scheduled = refl }
 
-pub returns-clause-begins : goal.returns-clause-begins
+pub returns : goal.returns
 unfolding code_of
-returns-clause-begins c = at_0 Mld _ _ _ refl
-
-pub returns-clause-allowed : goal.returns-clause-allowed
-returns-clause-allowed c = at_1000 Mld _ _ _ _ a_source rest suits
-
-pub returns-clause-blocked : goal.returns-clause-blocked
-unfolding code_of
-returns-clause-blocked c = at_2000 Mld _ _ _ _ a_source rest _ _ _ suits refl refl refl
-
-pub returns-clause-asked_again : goal.returns-clause-asked_again
-unfolding code_of
-returns-clause-asked_again c = at_3000 Mld _ _ _ a_source rest _ _ 3 _ ascend refl refl refl
-
-pub returns-clause-gone : goal.returns-clause-gone
-returns-clause-gone c = at_4000 Mld _ _ _ a_source rest 5 ascend refl
+returns c = record {
+  begins = at_0 Mld _ _ _ refl;
+  allowed = at_1000 Mld _ _ _ _ a_source rest suits;
+  blocked = at_2000 Mld _ _ _ _ a_source rest _ _ _ suits refl refl refl;
+  asked_again = at_3000 Mld _ _ _ a_source rest _ _ 3 _ ascend refl refl refl;
+  gone = at_4000 Mld _ _ _ a_source rest 5 ascend refl;
+}

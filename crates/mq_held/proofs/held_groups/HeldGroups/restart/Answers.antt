@@ -1,196 +1,94 @@
-use Rattle.std.proofs.Common.{◌≡◌, Bool, true, false, if◌then◌else◌, refl, ◌+◌, ◌-◌, ◌<◌, ◌∙◌, [], length, length-set, get_or, set, List, arith, ap, sym, subst}
-use Rattle.std.proofs.lemmas.List.{get_or-set_same}
+use Rattle.std.proofs.Common.{◌≡◌, ℕ, Option, None, Some, is_some, Bool, true, false, if◌then◌else◌, refl, ◌+◌, ◌-◌, ◌∙◌, length, length-set, arith, ap, sym, subst}
 use Rattle.std.specs.Option.{unwrap_or}
+use Rattle.mq_count.specs.Spending.{Spends}
 use Rattle.mq_count.proofs.Spent.{Spends-join, Spends-join_within, Spends-within}
 use Rattle.mq_sets.specs.Ascending.{IsAscending}
-use Rattle.mq_sets.specs.Pools.{PoolState}
 use Rattle.mq_sets.specs.Search.{bitlen}
-use Rattle.mq_sets.proofs.OneCell.{set-same}
 use Rattle.mq_table.specs.Group.{IsWellFormed, timer_at}
 use Rattle.mq_table.specs.Stored.{number_in}
 use Rattle.mq_table.proofs.SourceLists.{get-absent}
 use Rattle.mq_sched.specs.Schedule.{ScheduledGroup}
-use Rattle.mq_held.specs.declared.scheduled_head.ScheduledHead.{ScheduledHead}
 use Rattle.mq_held.specs.Groups.{group_at}
-use Rattle.mq_held.specs.Held.{HeldState}
 use Rattle.mq_held.specs.Moments.{moments_of}
 use Rattle.mq_held.specs.Restarted.{restarted}
-use Rattle.mq_held.specs.Stored.{earliest_of, group_of, groups_by}
-use Rattle.mq_held.proofs.Inside.{ahead_is, group-of, numbered, running-held, size-of, state-set, within-rows}
-use Rattle.mq_held.proofs.RestartedTimers.{IsStored-restarted, formed_then, group-then, later_then, moment-held, timer-held, up_then}
+use Rattle.mq_held.specs.Stored.{earliest_of, group_of}
+use Rattle.mq_held.proofs.Located.{located, placed, row-inside, row-read, row-seen, row_of}
+use Rattle.mq_held.proofs.RestartedTimers.{formed_then, group-then, later_then, timer-held, up_then}
 use Rattle.mq_held.proofs.held_groups.HeldGroups.restart.Goals as goal
 
 pub index-requires : goal.index-requires
 index-requires g c =
-    let within = within-rows g.K.Key.number c.self.invariant.0 c.self.view_is c.args.number c.requires.number in
-    omega (arith, within, c.self.invariant.2, c.self.invariant.3, c.self.inside.heads.ok.0)
+    let l = located g.K.Key.number c.self.inside c.self.invariant c.self.view_is c.requires.number in
+    omega (arith, l.in_heads, c.self.inside.heads.ok.0)
 
 pub row-row-requires : goal.row-row-requires
-row-row-requires g c =
-    record { number = within-rows g.K.Key.number c.self.invariant.0 c.self.view_is c.args.number c.requires.number }
+row-row-requires g c = record { number = (located g.K.Key.number c.self.inside c.self.invariant c.self.view_is c.requires.number).in_rows }
 
 pub find-requires : goal.find-requires
 find-requires g c =
-    let known = c.self.invariant.0 in
-    record { ascending = subst (IsAscending (number_in g.K.Key.number)) (sym c.row-row.ensures.cells) (known.rows_ascend c.args.number [] (within-rows g.K.Key.number known c.self.view_is c.args.number c.requires.number)) }
+    let l = located g.K.Key.number c.self.inside c.self.invariant c.self.view_is c.requires.number in
+    record { ascending = subst (IsAscending (number_in g.K.Key.number)) (sym c.row-row.ensures.cells) l.up }
 
 pub returns-in_default-clause-before : goal.returns-in_default-clause-before
 returns-in_default-clause-before g c address has =
-    let number = g.K.Key.number in
-    let absent = rw c.row-row.ensures.cells at c.in_default.ensures.member in
-    sym (ap (λ (e : ScheduledGroup). timer_at e.group (number c.args.source)) (group-of number c.self.invariant.0 c.self.view_is has) ∙ get-absent number (get_or c.self.inside.sources.rows c.args.number []) (number c.args.source) absent)
+    let l = located g.K.Key.number c.self.inside c.self.invariant c.self.view_is c.requires.number in
+    let source = g.K.Key.number c.args.source in
+    let absent = get-absent g.K.Key.number (row_of c.self.inside c.args.number) source (rw c.row-row.ensures.cells at c.in_default.ensures.member) in
+    sym (ap (λ (e : ScheduledGroup). timer_at e.group source) (l.group has) ∙ absent)
 
 pub returns-in_default-clause-spent : goal.returns-in_default-clause-spent
 returns-in_default-clause-spent g c address has =
-    let size = ap length c.row-row.ensures.cells ∙ sym (size-of g.K.Key.number c.self.invariant.0 c.self.view_is has) in
+    let l = located g.K.Key.number c.self.inside c.self.invariant c.self.view_is c.requires.number in
+    let size = ap length c.row-row.ensures.cells ∙ sym (l.size has) in
     Spends-within _ _ c.find.ensures.spent (omega (arith, size)) (omega (arith, ap bitlen size))
 
 pub moment-earliest-requires : goal.moment-earliest-requires
 moment-earliest-requires g c =
-    let number = g.K.Key.number in
-    let known = c.self.invariant.0 in
-    let was = c.self.view_is in
-    let n = c.args.number in
-    let rows_within = within-rows number known was n c.requires.number in
-    let held = numbered number known was n c.requires.number in
-    let row = get_or c.self.inside.sources.rows n [] in
-    let place = c.in-Ok.place in
-    let x = c.index-row-place.result in
-    let cells = c.row-row.ensures.cells in
-    let within : place < length row = omega (arith, c.in-Ok.ensures.found_in, ap length cells) in
-    let here : x ≡ get_or row place x = c.index-row-place.is ∙ ap (λ xs. get_or xs place x) cells in
-    let is : number x.address ≡ number c.args.source = ap (number_in number) c.index-row-place.is ∙ c.in-Ok.ensures.found x in
-    record { there = moment-held number known n held rows_within place x within here }
+    let l = located g.K.Key.number c.self.inside c.self.invariant c.self.view_is c.requires.number in
+    record { there = l.moment (omega (arith, c.in-Ok.ensures.found_in, ap length c.row-row.ensures.cells)) }
 
 pub earliest_then-due-requires-clause-ascending : goal.earliest_then-due-requires-clause-ascending
 earliest_then-due-requires-clause-ascending g c =
-    let number = g.K.Key.number in
-    let known = c.self.invariant.0 in
-    let was = c.self.view_is in
-    let n = c.args.number in
-    let rows_within = within-rows number known was n c.requires.number in
-    let held = numbered number known was n c.requires.number in
-    let row = get_or c.self.inside.sources.rows n [] in
-    let place = c.in-Ok.place in
-    let x = c.index-row-place.result in
-    let cells = c.row-row.ensures.cells in
-    let within : place < length row = omega (arith, c.in-Ok.ensures.found_in, ap length cells) in
-    let here : x ≡ get_or row place x = c.index-row-place.is ∙ ap (λ xs. get_or xs place x) cells in
-    let is : number x.address ≡ number c.args.source = ap (number_in number) c.index-row-place.is ∙ c.in-Ok.ensures.found x in
-    let h = c.index.result.now in
-    let in_heads : n < length c.self.inside.heads.items = omega (arith, rows_within, c.self.invariant.2, c.self.invariant.3) in
-    let y = c.restarted-after.result in
-    let row_is : c.row-row-2.result.now ≡ set row place y = c.row-row-2.ensures.cells ∙ ap (λ (s : PoolState _). get_or s.rows n []) c.set.ensures.rows ∙ get_or-set_same c.self.inside.sources.rows n (set row place y) [] rows_within in
-    subst (IsAscending (number_in number)) (sym row_is) (up_then number known n held rows_within place x within here h in_heads c.index.ensures y c.args.deadline (number c.args.source) is c.restarted-after.ensures)
+    let l = located g.K.Key.number c.self.inside c.self.invariant c.self.view_is c.requires.number in
+    let f = placed g.K.Key.number c.row-row.ensures.cells c.in-Ok.ensures.found_in c.in-Ok.ensures.found c.index-row-place.is in
+    subst (IsAscending (number_in g.K.Key.number)) (sym (row-read l _ c.set.ensures.rows c.row-row-2.ensures.cells)) (up_then l f c.index.ensures c.restarted-after.ensures)
 
 pub earliest_then-due-requires-clause-held : goal.earliest_then-due-requires-clause-held
 earliest_then-due-requires-clause-held g c =
-    let number = g.K.Key.number in
-    let known = c.self.invariant.0 in
-    let was = c.self.view_is in
-    let n = c.args.number in
-    let rows_within = within-rows number known was n c.requires.number in
-    let held = numbered number known was n c.requires.number in
-    let row = get_or c.self.inside.sources.rows n [] in
-    let place = c.in-Ok.place in
-    let x = c.index-row-place.result in
-    let cells = c.row-row.ensures.cells in
-    let within : place < length row = omega (arith, c.in-Ok.ensures.found_in, ap length cells) in
-    let here : x ≡ get_or row place x = c.index-row-place.is ∙ ap (λ xs. get_or xs place x) cells in
-    let is : number x.address ≡ number c.args.source = ap (number_in number) c.index-row-place.is ∙ c.in-Ok.ensures.found x in
-    let h = c.index.result.now in
-    let in_heads : n < length c.self.inside.heads.items = omega (arith, rows_within, c.self.invariant.2, c.self.invariant.3) in
-    let y = c.restarted-after.result in
-    let row_is : c.row-row-2.result.now ≡ set row place y = c.row-row-2.ensures.cells ∙ ap (λ (s : PoolState _). get_or s.rows n []) c.set.ensures.rows ∙ get_or-set_same c.self.inside.sources.rows n (set row place y) [] rows_within in
-    subst (λ xs. IsWellFormed (group_of number h xs).group) (sym row_is) (formed_then number known n held rows_within place x within here h in_heads c.index.ensures y c.args.deadline (number c.args.source) is c.restarted-after.ensures)
+    let l = located g.K.Key.number c.self.inside c.self.invariant c.self.view_is c.requires.number in
+    let f = placed g.K.Key.number c.row-row.ensures.cells c.in-Ok.ensures.found_in c.in-Ok.ensures.found c.index-row-place.is in
+    subst (λ xs. IsWellFormed (group_of g.K.Key.number c.index.result.now xs).group) (sym (row-read l _ c.set.ensures.rows c.row-row-2.ensures.cells))
+    (formed_then l f c.index.ensures c.restarted-after.ensures)
 
 pub earliest_then-due-requires-clause-later : goal.earliest_then-due-requires-clause-later
 earliest_then-due-requires-clause-later g c was_later =
-    let number = g.K.Key.number in
-    let known = c.self.invariant.0 in
-    let was = c.self.view_is in
-    let n = c.args.number in
-    let rows_within = within-rows number known was n c.requires.number in
-    let held = numbered number known was n c.requires.number in
-    let row = get_or c.self.inside.sources.rows n [] in
-    let place = c.in-Ok.place in
-    let x = c.index-row-place.result in
-    let cells = c.row-row.ensures.cells in
-    let within : place < length row = omega (arith, c.in-Ok.ensures.found_in, ap length cells) in
-    let here : x ≡ get_or row place x = c.index-row-place.is ∙ ap (λ xs. get_or xs place x) cells in
-    let is : number x.address ≡ number c.args.source = ap (number_in number) c.index-row-place.is ∙ c.in-Ok.ensures.found x in
-    let h = c.index.result.now in
-    let in_heads : n < length c.self.inside.heads.items = omega (arith, rows_within, c.self.invariant.2, c.self.invariant.3) in
-    let y = c.restarted-after.result in
-    let row_is : c.row-row-2.result.now ≡ set row place y = c.row-row-2.ensures.cells ∙ ap (λ (s : PoolState _). get_or s.rows n []) c.set.ensures.rows ∙ get_or-set_same c.self.inside.sources.rows n (set row place y) [] rows_within in
-    ap (λ xs. earliest_of (moments_of (group_of number h xs))) row_is
-    ∙ later_then number known n held rows_within place x within here h in_heads c.index.ensures y c.args.deadline (number c.args.source) is c.restarted-after.ensures c.moment-earliest.result c.moment-earliest.ensures (c.is_later-was_later.ensures.later.0 was_later)
+    let l = located g.K.Key.number c.self.inside c.self.invariant c.self.view_is c.requires.number in
+    let f = placed g.K.Key.number c.row-row.ensures.cells c.in-Ok.ensures.found_in c.in-Ok.ensures.found c.index-row-place.is in
+    ap (λ xs. earliest_of (moments_of (group_of g.K.Key.number c.index.result.now xs))) (row-read l _ c.set.ensures.rows c.row-row-2.ensures.cells)
+    ∙ later_then l f c.index.ensures c.restarted-after.ensures c.moment-earliest.result c.moment-earliest.ensures (c.is_later-was_later.ensures.later.0 was_later)
 
 pub invariant_of-self : goal.invariant_of-self
 invariant_of-self g c =
-    let number = g.K.Key.number in
-    let known = c.self.invariant.0 in
-    let was = c.self.view_is in
-    let n = c.args.number in
-    let rows_within = within-rows number known was n c.requires.number in
-    let held = numbered number known was n c.requires.number in
-    let row = get_or c.self.inside.sources.rows n [] in
-    let place = c.in-Ok.place in
-    let x = c.index-row-place.result in
-    let cells = c.row-row.ensures.cells in
-    let within : place < length row = omega (arith, c.in-Ok.ensures.found_in, ap length cells) in
-    let here : x ≡ get_or row place x = c.index-row-place.is ∙ ap (λ xs. get_or xs place x) cells in
-    let is : number x.address ≡ number c.args.source = ap (number_in number) c.index-row-place.is ∙ c.in-Ok.ensures.found x in
-    let h = c.index.result.now in
-    let in_heads : n < length c.self.inside.heads.items = omega (arith, rows_within, c.self.invariant.2, c.self.invariant.3) in
-    let y = c.restarted-after.result in
-    let row_is : c.row-row-2.result.now ≡ set row place y = c.row-row-2.ensures.cells ∙ ap (λ (s : PoolState _). get_or s.rows n []) c.set.ensures.rows ∙ get_or-set_same c.self.inside.sources.rows n (set row place y) [] rows_within in
-    let first = ap (λ xs. earliest_of (moments_of (group_of number h xs))) (sym row_is) ∙ c.earliest_then-due.ensures.earliest in
-    let stored = IsStored-restarted number known n held rows_within place x within here h in_heads c.index.ensures y c.args.deadline (number c.args.source) is c.restarted-after.ensures (unwrap_or c.earliest_then-due.result c.moment-earliest.result) first in
-    let moments = c.change_moment.ensures.moments c.moment-earliest.result c.moment-earliest.ensures in
-    rw (c.set.ensures.rows, moments) (stored, c.self.invariant.1, length-set c.self.inside.sources.rows n (set row place y) ∙ c.self.invariant.2, c.self.invariant.3, c.self.invariant.4, c.self.invariant.5, c.self.invariant.6)
+    let l = located g.K.Key.number c.self.inside c.self.invariant c.self.view_is c.requires.number in
+    let f = placed g.K.Key.number c.row-row.ensures.cells c.in-Ok.ensures.found_in c.in-Ok.ensures.found c.index-row-place.is in
+    let row_is = row-read l _ c.set.ensures.rows c.row-row-2.ensures.cells in
+    let first = ap (λ xs. earliest_of (moments_of (group_of g.K.Key.number c.index.result.now xs))) (sym row_is) ∙ c.earliest_then-due.ensures.earliest in
+    row-inside l _ c.set.ensures.rows c.index.ensures (up_then l f c.index.ensures c.restarted-after.ensures) (formed_then l f c.index.ensures c.restarted-after.ensures) first
+    (c.change_moment.ensures.moments c.moment-earliest.result c.moment-earliest.ensures)
 
 pub returns-clause-before : goal.returns-clause-before
 returns-clause-before g c address has =
-    let number = g.K.Key.number in
-    let known = c.self.invariant.0 in
-    let was = c.self.view_is in
-    let n = c.args.number in
-    let rows_within = within-rows number known was n c.requires.number in
-    let held = numbered number known was n c.requires.number in
-    let row = get_or c.self.inside.sources.rows n [] in
-    let place = c.in-Ok.place in
-    let x = c.index-row-place.result in
-    let cells = c.row-row.ensures.cells in
-    let within : place < length row = omega (arith, c.in-Ok.ensures.found_in, ap length cells) in
-    let here : x ≡ get_or row place x = c.index-row-place.is ∙ ap (λ xs. get_or xs place x) cells in
-    let is : number x.address ≡ number c.args.source = ap (number_in number) c.index-row-place.is ∙ c.in-Ok.ensures.found x in
-    sym (ap (λ (e : ScheduledGroup). timer_at e.group (number c.args.source)) (group-of number known was has) ∙ timer-held number known n held rows_within place x within here (number c.args.source) is)
+    let l = located g.K.Key.number c.self.inside c.self.invariant c.self.view_is c.requires.number in
+    let f = placed g.K.Key.number c.row-row.ensures.cells c.in-Ok.ensures.found_in c.in-Ok.ensures.found c.index-row-place.is in
+    sym (ap (λ (e : ScheduledGroup). timer_at e.group (g.K.Key.number c.args.source)) (l.group has) ∙ timer-held l f)
 
 pub returns-clause-groups : goal.returns-clause-groups
 returns-clause-groups g c address has =
-    let number = g.K.Key.number in
-    let known = c.self.invariant.0 in
-    let was = c.self.view_is in
-    let n = c.args.number in
-    let rows_within = within-rows number known was n c.requires.number in
-    let held = numbered number known was n c.requires.number in
-    let row = get_or c.self.inside.sources.rows n [] in
-    let place = c.in-Ok.place in
-    let x = c.index-row-place.result in
-    let cells = c.row-row.ensures.cells in
-    let within : place < length row = omega (arith, c.in-Ok.ensures.found_in, ap length cells) in
-    let here : x ≡ get_or row place x = c.index-row-place.is ∙ ap (λ xs. get_or xs place x) cells in
-    let is : number x.address ≡ number c.args.source = ap (number_in number) c.index-row-place.is ∙ c.in-Ok.ensures.found x in
-    let h = c.index.result.now in
-    let in_heads : n < length c.self.inside.heads.items = omega (arith, rows_within, c.self.invariant.2, c.self.invariant.3) in
-    let y = c.restarted-after.result in
-    let source = number c.args.source in
-    let e = restarted c.args.deadline source (group_at c.args.self.now.groups address) in
-    let group_is : group_of number h (set row place y) ≡ e = group-then number known n held rows_within place x within here h in_heads c.index.ensures y c.args.deadline (number c.args.source) is c.restarted-after.ensures ∙ ap (restarted c.args.deadline source) (sym (group-of number known was has)) in
-    let all = state-set number known was h (set row place y) e c.self.inside.sources.ahead c.args.self.now.ahead has in_heads group_is (ahead_is number known was) in
-    let state : List ScheduledHead → HeldState = λ (hs : List ScheduledHead). record { groups = groups_by number c.self.inside.order.items hs (set c.self.inside.sources.rows n (set row place y)); order = c.self.inside.order; source_room = c.self.inside.source_room; ahead = c.self.inside.sources.ahead } in
-    rw c.set.ensures.rows (ap state (sym (set-same c.self.inside.heads.items n h in_heads c.index.ensures)) ∙ all)
+    let l = located g.K.Key.number c.self.inside c.self.invariant c.self.view_is c.requires.number in
+    let f = placed g.K.Key.number c.row-row.ensures.cells c.in-Ok.ensures.found_in c.in-Ok.ensures.found c.index-row-place.is in
+    let change = restarted c.args.deadline (g.K.Key.number c.args.source) in
+    row-seen l _ c.set.ensures.rows c.index.ensures (change (group_at c.args.self.now.groups address)) has
+    (group-then l f c.index.ensures c.restarted-after.ensures ∙ ap change (sym (l.group has)))
 
 -- one comparison tells whether the timer was later, or whether the deadline is
 one_of : (b : Bool) → (if b then 0 else 1) + (if b then 1 else 0) ≡ 1
@@ -199,25 +97,32 @@ one_of false = refl
 
 pub returns-clause-spent : goal.returns-clause-spent
 returns-clause-spent g c address has =
-    let number = g.K.Key.number in
-    let known = c.self.invariant.0 in
-    let was = c.self.view_is in
-    let n = c.args.number in
-    let rows_within = within-rows number known was n c.requires.number in
-    let row = get_or c.self.inside.sources.rows n [] in
-    let y = c.restarted-after.result in
-    let row_is = c.row-row-2.ensures.cells ∙ ap (λ (s : PoolState _). get_or s.rows n []) c.set.ensures.rows ∙ get_or-set_same c.self.inside.sources.rows n (set row c.in-Ok.place y) [] rows_within in
-    let size = ap length c.row-row.ensures.cells ∙ sym (size-of number known was has) in
-    let size_then = ap length row_is ∙ length-set row c.in-Ok.place y ∙ sym (size-of number known was has) in
-    let digits = ap bitlen size in
-    let others = ap (λ k. bitlen (k - 1)) (running-held number known was) in
-    let looked = Spends-join c.find.ensures.spent c.is_later-was_later.ensures.spent in
-    let told = Spends-join looked c.earliest_then-due.ensures.spent in
-    let two = one_of c.is_later-was_later.result in
-    let some = c.in-Ok.ensures.found_in in
-    Spends-join_within _ _ told c.change_moment.ensures.spent (omega (arith, some, two)) (omega (arith, size_then, digits, others))
+    let l = located g.K.Key.number c.self.inside c.self.invariant c.self.view_is c.requires.number in
+    let size = ap length c.row-row.ensures.cells ∙ sym (l.size has) in
+    let row_is = row-read l _ c.set.ensures.rows c.row-row-2.ensures.cells in
+    let size_then = ap length row_is ∙ length-set (row_of c.self.inside c.args.number) c.in-Ok.place c.restarted-after.result ∙ sym (l.size has) in
+    let told = Spends-join (Spends-join c.find.ensures.spent c.is_later-was_later.ensures.spent) c.earliest_then-due.ensures.spent in
+    let others = ap (λ k. bitlen (k - 1)) l.running in
+    Spends-join_within _ _ told c.change_moment.ensures.spent (omega (arith, c.in-Ok.ensures.found_in, one_of c.is_later-was_later.result)) (omega (arith, size_then, ap bitlen size, others))
 
 pub returns-clause-moved : goal.returns-clause-moved
 returns-clause-moved g c =
-    let others = ap (λ k. bitlen (k - 1)) (running-held g.K.Key.number c.self.invariant.0 c.self.view_is) in
+    let l = located g.K.Key.number c.self.inside c.self.invariant c.self.view_is c.requires.number in
+    let others = ap (λ k. bitlen (k - 1)) l.running in
     Spends-join_within _ _ c.set.ensures.moves c.change_moment.ensures.moved (omega arith) (omega (arith, others))
+
+-- where the earliest moment of the group changes, it is moved too
+moved_twice : (due : Option ℕ) (n : ℕ) {before after : Option ℕ} {earliest old mid new : ℕ} → before ≡ Some earliest → after ≡ Some (unwrap_or due earliest) → (after ≡ before → ⊥) → Spends 1 1 old mid → Spends (if is_some due then 1 else 0) (1 + n) mid new → Spends 2 (2 + n) old new
+moved_twice None n was is differs row moment = absurd (differs (is ∙ sym was))
+moved_twice (Some due) n was is differs row moment = Spends-join_within _ _ row moment (omega arith) (omega arith)
+
+pub returns-clause-moment_moved : goal.returns-clause-moment_moved
+returns-clause-moment_moved g c address has differs =
+    let l = located g.K.Key.number c.self.inside c.self.invariant c.self.view_is c.requires.number in
+    let f = placed g.K.Key.number c.row-row.ensures.cells c.in-Ok.ensures.found_in c.in-Ok.ensures.found c.index-row-place.is in
+    let change = restarted c.args.deadline (g.K.Key.number c.args.source) in
+    let group_is = ap change (l.group has) ∙ sym (group-then l f c.index.ensures c.restarted-after.ensures) ∙ ap (group_of g.K.Key.number c.index.result.now) (sym (row-read l _ c.set.ensures.rows c.row-row-2.ensures.cells)) in
+    let before = ap (λ (e : ScheduledGroup). earliest_of (moments_of e)) (l.group has) ∙ l.earliest c.moment-earliest.result c.moment-earliest.ensures in
+    let after = ap (λ (e : ScheduledGroup). earliest_of (moments_of e)) group_is ∙ c.earliest_then-due.ensures.earliest in
+    let others = ap (λ k. bitlen (k - 1)) l.running in
+    rw others (moved_twice c.earliest_then-due.result _ before after differs c.set.ensures.moves c.change_moment.ensures.moved)

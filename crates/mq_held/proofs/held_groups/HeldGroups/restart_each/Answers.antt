@@ -1,15 +1,14 @@
-use Rattle.std.proofs.Common.{◌≡◌, ◌+◌, ◌-◌, ◌*◌, ℕ, true, cond, List, length, Option, None, Some, is_some, refl, sym, ap, ◌∙◌, arith}
+use Rattle.std.proofs.Common.{◌+◌, ◌-◌, ◌*◌, cond, List, length, sym, ap, ◌∙◌, arith}
 use Rattle.std.specs.Prelude.{map as list_map}
 use Rattle.std.specs.FinMap as map
-use Rattle.std.specs.Option.{unwrap_or}
-use Rattle.std.proofs.lemmas.Bool.{eq-eqb, eqb-true, true≢false}
+use Rattle.std.proofs.lemmas.Bool.{eq-eqb, eqb-true}
 use Rattle.std.proofs.lemmas.List.{nil_from_length}
 use Rattle.mq_count.proofs.Spent.{Spends-within}
 use Rattle.mq_sets.specs.Search.{bitlen}
-use Rattle.mq_sched.specs.Schedule.{ScheduledGroup}
-use Rattle.mq_held.specs.Groups.{Groups, group_at, running_in, sources_of, unheld}
+use Rattle.mq_held.specs.Groups.{Groups, group_at, running_in, sources_of}
 use Rattle.mq_held.specs.Held.{HeldState}
 use Rattle.mq_held.specs.Restarted.{restarted_each}
+use Rattle.mq_held.proofs.Inside.{group_found}
 use Rattle.mq_held.proofs.RestartedTimers.{insert-same}
 use Rattle.mq_held.proofs.held_groups.HeldGroups.restart_each.Goals as goal
 
@@ -31,18 +30,11 @@ returns-in-None-clause-spent g c address has =
     Spends-within _ _ spent (omega arith) (omega (arith, most))
 
 -- the timers of no sources: the group is put where it is
-found : (groups : Groups) (address : ℕ) → map.contains_key groups address ≡ true → map.get groups address ≡ Some (group_at groups address)
-found groups address held = by_found (map.get groups address) held
-  where
-    by_found : (e : Option ScheduledGroup) → is_some e ≡ true → e ≡ Some (unwrap_or e unheld)
-    by_found None is = absurd (true≢false (sym is))
-    by_found (Some e) is = refl
-
 pub returns-then-is_empty-clause-groups : goal.returns-then-is_empty-clause-groups
 returns-then-is_empty-clause-groups g c address has =
     let self = c.args.self.now in
     let e = group_at self.groups address in
     let none = nil_from_length c.args.named.now (eqb-true (length c.args.named.now) 0 (sym c.is_empty.ensures ∙ c.if-is_empty.true)) in
-    let same = insert-same self.groups address e (found self.groups address (c.lemma_is_numbered.ensures.of_one address c.args.number has)) in
+    let same = insert-same self.groups address e (group_found self.groups address (c.lemma_is_numbered.ensures.of_one address c.args.number has)) in
     ap (λ (groups : Groups). let s : HeldState = record self { groups = groups } in s)
     (sym same ∙ ap (λ (named : List _). map.insert self.groups address (restarted_each c.args.deadline (list_map g.K.Key.number named) e)) (sym none))

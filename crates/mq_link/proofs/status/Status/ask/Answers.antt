@@ -16,7 +16,7 @@ use Rattle.mq_link.specs.declared.storage.Storage.{Storage}
 use Rattle.mq_link.specs.Family.{per_query}
 use Rattle.mq_link.proofs.KeptGroups.{group_found}
 use Rattle.mq_link.proofs.Moved.{spends_none}
-use Rattle.mq_link.proofs.PaidEdits.{few_running}
+use Rattle.mq_held.proofs.DueInOrder.{few-running}
 use Rattle.mq_link.proofs.status.Status.ask.Goals as goal
 
 -- a router that isn't querier asks for nothing, and one that is asks
@@ -51,7 +51,7 @@ returns-then-at-clause-absent g c absent =
 pub returns-then-at-clause-spent : goal.returns-then-at-clause-spent
 returns-then-at-clause-spent g c address has =
     let groups = c.args.storage.now.held.groups in
-    let all = few_running groups in
+    let all = few-running groups in
     let digits = bitlen-mono (running_in groups - 1) (map.len groups) (omega (arith, all)) in
     let size = sources_of (group_at groups address) in
     Spends-within _ _ (c.ask.ensures.spent address has) (omega arith) (wider c.ask.result size digits)
@@ -63,7 +63,7 @@ returns-then-at-clause-spent g c address has =
 pub returns-then-at-clause-moved : goal.returns-then-at-clause-moved
 returns-then-at-clause-moved g c address has =
     let groups = c.args.storage.now.held.groups in
-    let all = few_running groups in
+    let all = few-running groups in
     let digits = bitlen-mono (running_in groups - 1) (map.len groups) (omega (arith, all)) in
     Spends-within _ _ (c.ask.ensures.moved address has) (omega arith) (wider c.ask.result (sources_of (group_at groups address)) digits)
   where

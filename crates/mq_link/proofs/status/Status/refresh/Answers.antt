@@ -27,7 +27,8 @@ use Rattle.mq_link.specs.Refreshed.{is_restart}
 use Rattle.mq_link.proofs.Faultless.{few_groups}
 use Rattle.mq_link.proofs.KeptGroups.{is_number}
 use Rattle.mq_link.proofs.Moved.{paid_by, paid_none, paid_within}
-use Rattle.mq_link.proofs.PaidEdits.{few_digits, few_running}
+use Rattle.mq_held.proofs.DueInOrder.{few-running}
+use Rattle.mq_link.proofs.PaidEdits.{few_digits}
 use Rattle.mq_link.proofs.RefreshedCosts.{set-mono}
 use Rattle.mq_link.proofs.RefreshedEach.{filter-restarted_each, size-restarted_each}
 use Rattle.mq_link.proofs.RefreshedStates.{by_option, group_put, held_as, if_some, match_option, no_stopped, on_some, put_by_same, put_is, stated-each}
@@ -83,7 +84,7 @@ put_so g c there =
 digits_so : (g : Over) (c : After-restart_each g) → bitlen (running_in c.args.storage.now.held.groups - 1) ≤ bitlen (map.len c.args.storage.now.held.groups)
 digits_so g c =
     let groups = c.args.storage.now.held.groups in
-    bitlen-mono (running_in groups - 1) (map.len groups) (omega (arith, few_running groups))
+    bitlen-mono (running_in groups - 1) (map.len groups) (omega (arith, few-running groups))
 
 pub restart_each-requires-clause-number : goal.restart_each-requires-clause-number
 restart_each-requires-clause-number g c =

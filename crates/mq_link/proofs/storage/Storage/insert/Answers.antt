@@ -2,11 +2,12 @@ use Rattle.std.proofs.Common.{arith}
 use Rattle.mq_count.proofs.Spent.{Spends-within}
 use Rattle.mq_sets.proofs.Bitlen.{bitlen-mono}
 use Rattle.mq_link.proofs.KeptGroups.{spot_absent, absent_unheld}
-use Rattle.mq_link.proofs.PaidEdits.{few_running, made_paid}
+use Rattle.mq_held.proofs.DueInOrder.{few-running}
+use Rattle.mq_link.proofs.PaidEdits.{made_paid}
 use Rattle.mq_link.proofs.storage.Storage.insert.Goals as goal
 
 pub returns-clause-spent : goal.returns-clause-spent
-returns-clause-spent g c = Spends-within _ _ c.insert.ensures.spent (omega arith) (omega (arith, bitlen-mono _ _ (few_running c.args.self.now.held.groups)))
+returns-clause-spent g c = Spends-within _ _ c.insert.ensures.spent (omega arith) (omega (arith, bitlen-mono _ _ (few-running c.args.self.now.held.groups)))
 
 pub returns-clause-moved : goal.returns-clause-moved
 returns-clause-moved g c =

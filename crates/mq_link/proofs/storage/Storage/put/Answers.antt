@@ -5,14 +5,15 @@ use Rattle.mq_sets.specs.NumberedKeys.{key_in}
 use Rattle.mq_sets.proofs.Bitlen.{bitlen-mono}
 use Rattle.mq_held.specs.Groups.{group_at, one_if, running_in}
 use Rattle.mq_link.proofs.GroupNumbers.{number_found}
-use Rattle.mq_link.proofs.PaidEdits.{few_running, put_paid}
+use Rattle.mq_held.proofs.DueInOrder.{few-running}
+use Rattle.mq_link.proofs.PaidEdits.{put_paid}
 use Rattle.mq_link.proofs.storage.Storage.put.Goals as goal
 
 pub returns-clause-spent : goal.returns-clause-spent
 returns-clause-spent g c =
     let s = c.args.self.now.held in
     let has = number_found s c.args.number c.requires.number in
-    let all = few_running s.groups in
+    let all = few-running s.groups in
     Spends-within _ _ (c.put.ensures.spent _ has) (omega arith) (omega (arith, bitlen-mono (running_in s.groups - one_if (Rattle.std.specs.Prelude.not (Rattle.mq_table.specs.Group.is_vacant (group_at s.groups (key_in s.order.items c.args.number)).group))) (map.len s.groups) (omega (arith, all))))
 
 pub returns-clause-moved : goal.returns-clause-moved

@@ -34,17 +34,16 @@ absent_so g c =
           w.if-index-number.true (get_or_read numbers c.index.result.now w.index-else-leaf-len.result.now leaf w.index-else-leaf-len.ensures 0 ∙ ap (λ l. get_or numbers l 0) told ∙ is.has)
     ]
 
-pub returns-then-leaf-first-clause-due : goal.returns-then-leaf-first-clause-due
-returns-then-leaf-first-clause-due g c =
+pub returns-then-leaf-first : goal.returns-then-leaf-first
+returns-then-leaf-first g c =
     let known = c.self.invariant.0 in
-    sym (ap (λ (s : DeadlinesState). is_number_due s.moments c.args.now c.args.number) (sym c.self.view_is) ∙ due-none c.self.inside.tree.nodes c.self.inside.leaves.items c.self.inside.numbers.items c.self.inside.tree.count known c.args.now c.args.number (absent_so g c))
-
-pub returns-then-leaf-first-clause-spent : goal.returns-then-leaf-first-clause-spent
-returns-then-leaf-first-clause-spent g c =
-    let known = c.self.invariant.0 in
-    let none = there-none c.self.inside.tree.nodes c.self.inside.leaves.items c.self.inside.numbers.items c.self.inside.tree.count known c.args.number (absent_so g c) in
-    let told = ap (λ (s : DeadlinesState). map.contains_key s.moments c.args.number) (sym c.self.view_is) ∙ none in
-    rw told (Spends-none c.args.m.now)
+    record {
+      due = sym (ap (λ (s : DeadlinesState). is_number_due s.moments c.args.now c.args.number) (sym c.self.view_is) ∙ due-none c.self.inside.tree.nodes c.self.inside.leaves.items c.self.inside.numbers.items c.self.inside.tree.count known c.args.now c.args.number (absent_so g c));
+      spent =
+          let none = there-none c.self.inside.tree.nodes c.self.inside.leaves.items c.self.inside.numbers.items c.self.inside.tree.count known c.args.number (absent_so g c) in
+          let told = ap (λ (s : DeadlinesState). map.contains_key s.moments c.args.number) (sym c.self.view_is) ∙ none in
+          rw told (Spends-none c.args.m.now);
+    }
 
 -- the leaf of the number
 told_so : (g : Over) (c : goal.After-reached g) → c.index.result.now ≡ get_or c.self.inside.leaves.items c.args.number 0

@@ -10,25 +10,22 @@ use Rattle.mq_sets.proofs.pages.Pages.page_of.Goals as goal
 abbrev items_of : {A : Type 0} → Vec ℕ A → List ℕ
 items_of page = page.items
 
-pub search-requires-clause-ascending : goal.search-requires-clause-ascending
-search-requires-clause-ascending g c =
-    let key_of = key_at g.K.Key.number c.args.keys.now in
+pub search-requires : goal.search-requires
+search-requires g c =
     let later = slice-later items_of c.self.inside.used.items c.deref.result.now c.args.self.now.pages c.deref.ensures.value (ap (λ (s : PagesState). s.pages) c.self.view_is) in
-    IsAscending-unmap items_of (first_key key_of) (take (length c.deref.result.now - 1) (drop 1 c.deref.result.now))
-    (subst (IsAscending (first_key key_of)) (sym later) (ascending-later key_of c.args.self.now.pages c.requires.filled c.requires.ascending))
-
-pub search-requires-clause-some : goal.search-requires-clause-some
-search-requires-clause-some g c =
-    let later = slice-later items_of c.self.inside.used.items c.deref.result.now c.args.self.now.pages c.deref.ensures.value (ap (λ (s : PagesState). s.pages) c.self.view_is) in
-    All-unmap items_of (λ (page : List ℕ). 1 ≤ length page) (take (length c.deref.result.now - 1) (drop 1 c.deref.result.now))
-    (subst (All (λ (page : List ℕ). 1 ≤ length page)) (sym later) (some-later c.args.self.now.pages c.requires.filled))
-
-pub search-requires-clause-within : goal.search-requires-clause-within
-search-requires-clause-within g c =
-    let later = slice-later items_of c.self.inside.used.items c.deref.result.now c.args.self.now.pages c.deref.ensures.value (ap (λ (s : PagesState). s.pages) c.self.view_is) in
-    let P : List ℕ → Type 0 = λ page. get_or page 0 0 < length c.args.keys.now in
-    All-unmap items_of P (take (length c.deref.result.now - 1) (drop 1 c.deref.result.now))
-    (subst (All P) (sym later) (firsts-later (λ n. n < length c.args.keys.now) c.args.self.now.pages c.requires.filled c.requires.within))
+    record {
+      ascending =
+          let key_of = key_at g.K.Key.number c.args.keys.now in
+          IsAscending-unmap items_of (first_key key_of) (take (length c.deref.result.now - 1) (drop 1 c.deref.result.now))
+          (subst (IsAscending (first_key key_of)) (sym later) (ascending-later key_of c.args.self.now.pages c.requires.filled c.requires.ascending));
+      some =
+          All-unmap items_of (λ (page : List ℕ). 1 ≤ length page) (take (length c.deref.result.now - 1) (drop 1 c.deref.result.now))
+          (subst (All (λ (page : List ℕ). 1 ≤ length page)) (sym later) (some-later c.args.self.now.pages c.requires.filled));
+      within =
+          let P : List ℕ → Type 0 = λ page. get_or page 0 0 < length c.args.keys.now in
+          All-unmap items_of P (take (length c.deref.result.now - 1) (drop 1 c.deref.result.now))
+          (subst (All P) (sym later) (firsts-later (λ n. n < length c.args.keys.now) c.args.self.now.pages c.requires.filled c.requires.within));
+    }
 
 pub returns-in-Ok-clause-found : goal.returns-in-Ok-clause-found
 returns-in-Ok-clause-found g c =

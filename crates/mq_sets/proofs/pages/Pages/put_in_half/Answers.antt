@@ -1,4 +1,4 @@
-use Rattle.std.proofs.Common.{◌+◌, ◌-◌, [], ap, ◌∙◌, arith, length, length-take, length-drop, set, get_or}
+use Rattle.std.proofs.Common.{◌+◌, ◌-◌, [], ap, ◌∙◌, arith, length, length-take, length-drop, set, get_or, rules}
 use Rattle.std.specs.List.{insert}
 use Rattle.std.specs.Prelude.{cond}
 use Rattle.std.proofs.lemmas.Bool.{le-leb, lt-leb}
@@ -33,43 +33,35 @@ put_in-requires-else-spot-le-FIRST_HALF-clause-room g c =
     let at = ap (λ k. length (get_or c.split-second.new.self.pages k [])) c.split-second.ensures.second in
     omega (arith, is, at, second-room c.args.self.now.pages c.args.spot.page c.args.spot.place 0 [] c.requires.page c.requires.full c.requires.filled)
 
-pub returns-then-spot-le-FIRST_HALF-clause-numbers : goal.returns-then-spot-le-FIRST_HALF-clause-numbers
-returns-then-spot-le-FIRST_HALF-clause-numbers g c =
+pub returns-then-spot-le-FIRST_HALF : goal.returns-then-spot-le-FIRST_HALF
+returns-then-spot-le-FIRST_HALF g c =
     let halves = ap (λ (s : PagesState). s.pages) c.split-second.ensures.pages ∙ halved-is c.args.self.now.pages c.args.spot.page c.requires.page in
     let after = ap (λ (s : PagesState). s.pages) c.put_in.ensures.pages ∙ ap (λ xs. set xs c.args.spot.page (insert (get_or xs c.args.spot.page []) c.args.spot.place c.args.number)) halves in
-    numbers-first c.args.self.now.pages c.args.spot.page c.args.spot.place c.args.number c.put_in.new.self.pages c.requires.page c.requires.full c.requires.filled after c.if-spot-le-FIRST_HALF.true
+    record {
+      numbers = numbers-first c.args.self.now.pages c.args.spot.page c.args.spot.place c.args.number c.put_in.new.self.pages c.requires.page c.requires.full c.requires.filled after c.if-spot-le-FIRST_HALF.true;
+      filled = filled-first c.args.self.now.pages c.args.spot.page c.args.spot.place c.args.number c.put_in.new.self.pages c.requires.page c.requires.full c.requires.filled after c.if-spot-le-FIRST_HALF.true;
+      moved =
+          let is = ap (λ (s : PagesState). length (get_or s.pages c.args.spot.page [])) c.split-second.ensures.pages ∙ ap (λ xs. length (get_or xs c.args.spot.page [])) (halved-is c.args.self.now.pages c.args.spot.page c.requires.page) in
+          let size = ap length (first-halved c.args.self.now.pages c.args.spot.page c.requires.page) in
+          let branch = ap (λ b. cond b (moved_behind 255 c.args.spot.place) (moved_behind 256 (c.args.spot.place - 255))) (le-leb c.args.spot.place 255 c.if-spot-le-FIRST_HALF.true) in
+          let both = Spends-join c.split-second.ensures.moved c.put_in.ensures.moved in
+          Spends-within _ _ both (omega (arith, is, size, branch, length-take 255 (get_or c.args.self.now.pages c.args.spot.page []), c.requires.full)) (omega (arith, is, size, branch, length-take 255 (get_or c.args.self.now.pages c.args.spot.page []), c.requires.full));
+      limit = search rules;
+    }
 
-pub returns-then-spot-le-FIRST_HALF-clause-filled : goal.returns-then-spot-le-FIRST_HALF-clause-filled
-returns-then-spot-le-FIRST_HALF-clause-filled g c =
-    let halves = ap (λ (s : PagesState). s.pages) c.split-second.ensures.pages ∙ halved-is c.args.self.now.pages c.args.spot.page c.requires.page in
-    let after = ap (λ (s : PagesState). s.pages) c.put_in.ensures.pages ∙ ap (λ xs. set xs c.args.spot.page (insert (get_or xs c.args.spot.page []) c.args.spot.place c.args.number)) halves in
-    filled-first c.args.self.now.pages c.args.spot.page c.args.spot.place c.args.number c.put_in.new.self.pages c.requires.page c.requires.full c.requires.filled after c.if-spot-le-FIRST_HALF.true
-
-pub returns-else-spot-le-FIRST_HALF-clause-numbers : goal.returns-else-spot-le-FIRST_HALF-clause-numbers
-returns-else-spot-le-FIRST_HALF-clause-numbers g c =
-    let halves = ap (λ (s : PagesState). s.pages) c.split-second.ensures.pages ∙ halved-is c.args.self.now.pages c.args.spot.page c.requires.page in
-    let after = ap (λ (s : PagesState). s.pages) c.put_in-else-spot-le-FIRST_HALF.ensures.pages ∙ ap (λ xs. set xs c.split-second.result (insert (get_or xs c.split-second.result []) (c.args.spot.place - 255) c.args.number)) halves ∙ ap (λ k. set (halved c.args.self.now.pages c.args.spot.page) k (insert (get_or (halved c.args.self.now.pages c.args.spot.page) k []) (c.args.spot.place - 255) c.args.number)) c.split-second.ensures.second in
-    numbers-second c.args.self.now.pages c.args.spot.page c.args.spot.place c.args.number c.put_in-else-spot-le-FIRST_HALF.new.self.pages c.requires.page c.requires.full c.requires.filled after c.if-spot-le-FIRST_HALF.false c.requires.place
-
-pub returns-else-spot-le-FIRST_HALF-clause-filled : goal.returns-else-spot-le-FIRST_HALF-clause-filled
-returns-else-spot-le-FIRST_HALF-clause-filled g c =
+pub returns-else-spot-le-FIRST_HALF : goal.returns-else-spot-le-FIRST_HALF
+returns-else-spot-le-FIRST_HALF g c =
     let halves = ap (λ (s : PagesState). s.pages) c.split-second.ensures.pages ∙ halved-is c.args.self.now.pages c.args.spot.page c.requires.page in
     let after = ap (λ (s : PagesState). s.pages) c.put_in-else-spot-le-FIRST_HALF.ensures.pages ∙ ap (λ xs. set xs c.split-second.result (insert (get_or xs c.split-second.result []) (c.args.spot.place - 255) c.args.number)) halves ∙ ap (λ k. set (halved c.args.self.now.pages c.args.spot.page) k (insert (get_or (halved c.args.self.now.pages c.args.spot.page) k []) (c.args.spot.place - 255) c.args.number)) c.split-second.ensures.second in
-    filled-second c.args.self.now.pages c.args.spot.page c.args.spot.place c.args.number c.put_in-else-spot-le-FIRST_HALF.new.self.pages c.requires.page c.requires.full c.requires.filled after c.requires.place
-
-pub returns-then-spot-le-FIRST_HALF-clause-moved : goal.returns-then-spot-le-FIRST_HALF-clause-moved
-returns-then-spot-le-FIRST_HALF-clause-moved g c =
-    let is = ap (λ (s : PagesState). length (get_or s.pages c.args.spot.page [])) c.split-second.ensures.pages ∙ ap (λ xs. length (get_or xs c.args.spot.page [])) (halved-is c.args.self.now.pages c.args.spot.page c.requires.page) in
-    let size = ap length (first-halved c.args.self.now.pages c.args.spot.page c.requires.page) in
-    let branch = ap (λ b. cond b (moved_behind 255 c.args.spot.place) (moved_behind 256 (c.args.spot.place - 255))) (le-leb c.args.spot.place 255 c.if-spot-le-FIRST_HALF.true) in
-    let both = Spends-join c.split-second.ensures.moved c.put_in.ensures.moved in
-    Spends-within _ _ both (omega (arith, is, size, branch, length-take 255 (get_or c.args.self.now.pages c.args.spot.page []), c.requires.full)) (omega (arith, is, size, branch, length-take 255 (get_or c.args.self.now.pages c.args.spot.page []), c.requires.full))
-
-pub returns-else-spot-le-FIRST_HALF-clause-moved : goal.returns-else-spot-le-FIRST_HALF-clause-moved
-returns-else-spot-le-FIRST_HALF-clause-moved g c =
-    let is = ap (λ (s : PagesState). length (get_or s.pages (c.args.spot.page + 1) [])) c.split-second.ensures.pages ∙ ap (λ xs. length (get_or xs (c.args.spot.page + 1) [])) (halved-is c.args.self.now.pages c.args.spot.page c.requires.page) in
-    let at = ap (λ k. length (get_or c.split-second.new.self.pages k [])) c.split-second.ensures.second in
-    let size = ap length (second-halved c.args.self.now.pages c.args.spot.page c.requires.page) in
-    let branch = ap (λ b. cond b (moved_behind 255 c.args.spot.place) (moved_behind 256 (c.args.spot.place - 255))) (lt-leb c.args.spot.place 255 c.if-spot-le-FIRST_HALF.false) in
-    let both = Spends-join c.split-second.ensures.moved c.put_in-else-spot-le-FIRST_HALF.ensures.moved in
-    Spends-within _ _ both (omega (arith, is, at, size, branch, length-drop 255 (get_or c.args.self.now.pages c.args.spot.page []), c.requires.full)) (omega (arith, is, at, size, branch, length-drop 255 (get_or c.args.self.now.pages c.args.spot.page []), c.requires.full))
+    record {
+      numbers = numbers-second c.args.self.now.pages c.args.spot.page c.args.spot.place c.args.number c.put_in-else-spot-le-FIRST_HALF.new.self.pages c.requires.page c.requires.full c.requires.filled after c.if-spot-le-FIRST_HALF.false c.requires.place;
+      filled = filled-second c.args.self.now.pages c.args.spot.page c.args.spot.place c.args.number c.put_in-else-spot-le-FIRST_HALF.new.self.pages c.requires.page c.requires.full c.requires.filled after c.requires.place;
+      moved =
+          let is = ap (λ (s : PagesState). length (get_or s.pages (c.args.spot.page + 1) [])) c.split-second.ensures.pages ∙ ap (λ xs. length (get_or xs (c.args.spot.page + 1) [])) (halved-is c.args.self.now.pages c.args.spot.page c.requires.page) in
+          let at = ap (λ k. length (get_or c.split-second.new.self.pages k [])) c.split-second.ensures.second in
+          let size = ap length (second-halved c.args.self.now.pages c.args.spot.page c.requires.page) in
+          let branch = ap (λ b. cond b (moved_behind 255 c.args.spot.place) (moved_behind 256 (c.args.spot.place - 255))) (lt-leb c.args.spot.place 255 c.if-spot-le-FIRST_HALF.false) in
+          let both = Spends-join c.split-second.ensures.moved c.put_in-else-spot-le-FIRST_HALF.ensures.moved in
+          Spends-within _ _ both (omega (arith, is, at, size, branch, length-drop 255 (get_or c.args.self.now.pages c.args.spot.page []), c.requires.full)) (omega (arith, is, at, size, branch, length-drop 255 (get_or c.args.self.now.pages c.args.spot.page []), c.requires.full));
+      limit = search rules;
+    }

@@ -1,7 +1,8 @@
-use Rattle.std.proofs.Common.{◌<◌, ◌∙◌, ap, arith, length, set, []}
-use Rattle.std.proofs.lemmas.List.{length-map, length-set}
-use Rattle.mq_sets.specs.Pools.{cells_of, PoolState}
+use Rattle.std.proofs.Common.{◌∙◌, ap, arith, set, []}
+use Rattle.std.proofs.lemmas.List.{length-set}
+use Rattle.mq_sets.specs.Pools.{PoolState}
 use Rattle.mq_sets.proofs.RowEdits.{IsStored-emptied, emptied-placed, emptied-rows, with_parts}
+use Rattle.mq_sets.proofs.Stored.{shows}
 use Rattle.mq_sets.proofs.pools.Pool.remove_row.Goals as goal
 
 pub invariant_of-self : goal.invariant_of-self
@@ -11,13 +12,12 @@ invariant_of-self g c =
     let empty = c.extent_at.result in
     let size = c.extent_at.ensures.length in
     let first = c.extent_at.ensures.placed size in
-    let rows = ap (λ (s : PoolState _). length s.rows) c.self.view_is in
-    let in_list : c.args.number < length extents = omega (arith, rows, length-map extents (cells_of cells), c.requires.number) in
+    let is = shows cells extents c.args.number c.index-before.result.now c.self.view_is c.self.invariant.0 c.requires.number c.index-before.ensures in
     let here = c.index-before.ensures in
     let same = length-set extents c.args.number empty in
     let known = c.self.invariant in (
-      IsStored-emptied cells extents c.args.number c.index-before.result.now empty in_list here size first known.0,
-      emptied-placed cells extents c.args.number c.index-before.result.now empty in_list here size first known.1,
+      IsStored-emptied cells extents c.args.number c.index-before.result.now empty is.in_list here size first known.0,
+      emptied-placed cells extents c.args.number c.index-before.result.now empty is.in_list here size first known.1,
       known.2,
       omega (arith, same, known.3),
       omega (arith, same, known.4),
@@ -32,10 +32,8 @@ returns g c =
     let empty = c.extent_at.result in
     let size = c.extent_at.ensures.length in
     let first = c.extent_at.ensures.placed size in
-    let rows = ap (λ (s : PoolState _). length s.rows) c.self.view_is in
-    let in_list : c.args.number < length extents = omega (arith, rows, length-map extents (cells_of cells), c.requires.number) in
-    let ahead = ap (λ (s : PoolState _). s.ahead) c.self.view_is in
+    let is = shows cells extents c.args.number c.index-before.result.now c.self.view_is c.self.invariant.0 c.requires.number c.index-before.ensures in
     let was = ap (λ (s : PoolState _). set s.rows c.args.number []) c.self.view_is in
     with_parts c.args.self.now _ _ _ _ _ _ _ c.self.view_is
-    (emptied-rows cells extents c.args.number c.index-before.result.now empty in_list c.index-before.ensures size first ∙ was)
-    (omega (arith, ahead, length-set extents c.args.number empty))
+    (emptied-rows cells extents c.args.number c.index-before.result.now empty is.in_list c.index-before.ensures size first ∙ was)
+    (omega (arith, is.ahead_is, length-set extents c.args.number empty))

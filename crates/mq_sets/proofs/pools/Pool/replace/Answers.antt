@@ -1,9 +1,8 @@
-use Rattle.std.proofs.Common.{ℕ, ◌≡◌, sym, ◌<◌, ◌≤◌, arith, ap, ◌∙◌, length, map, set, get_or, [], ⊎_elim}
+use Rattle.std.proofs.Common.{ℕ, ◌≡◌, sym, ◌<◌, ◌≤◌, arith, ap, ◌∙◌, length, map, set, ⊎_elim}
 use Rattle.std.proofs.lemmas.Bool.{cases_lt, false≢true, eq-eqb}
 use Rattle.std.proofs.lemmas.List.{length-map, length-set}
-use Rattle.mq_sets.specs.Pools.{cells_of, cells_in, PoolState}
 use Rattle.mq_sets.specs.declared.extents.Extent.{Extent}
-use Rattle.mq_sets.proofs.Stored.{IsStored-over, whole_again, cells_in-rows_of, length-row}
+use Rattle.mq_sets.proofs.Stored.{IsStored-over, shows, whole_again}
 use Rattle.mq_sets.proofs.pools.Pool.replace.Goals as goal
 
 pub invariant_of-self : goal.invariant_of-self
@@ -17,14 +16,7 @@ invariant_of-self g c =
     let stored = known.0 in
     let here = c.index-before.ensures in
     let some : 0 < length row = ⊎_elim (λ (some : 0 < length row). some) (λ (none : length row ≤ 0). absurd (false≢true (sym c.if-is_empty.false ∙ c.is_empty.ensures ∙ eq-eqb (length row) 0 (omega (arith, none))))) (cases_lt 0 (length row)) in
-    let rows = ap (λ (s : PoolState _). length s.rows) c.self.view_is in
-    let count = length-map extents (cells_of cells) in
-    let in_list : c.args.number < length extents = omega (arith, rows, count, c.requires.number) in
-    let used = ap (λ (s : PoolState _). cells_in s.rows) c.self.view_is in
-    let limit = ap (λ (s : PoolState _). s.cell_limit) c.self.view_is in
-    let old_size = ap (λ (s : PoolState _). length (get_or s.rows c.args.number [])) c.self.view_is in
-    let said = cells_in-rows_of cells extents stored.within in
-    let size = length-row cells extents c.args.number _ in_list here stored.within in
+    let is = shows cells extents c.args.number _ c.self.view_is stored c.requires.number here in
     let lengths = over.lengths ∙ ap (λ (es : _). set (map l es) c.args.number (length row)) c.deref_mut.ensures.value in
     let placed = rw c.deref_mut.ensures.value at over.placed in
     let kept_cells : length c.write_over.new.cells ≡ length cells = over.len ∙ ap length c.deref_mut-then-row-before.ensures.value in
@@ -32,7 +24,7 @@ invariant_of-self g c =
     let all_rows = whole_again extents c.write_over.new.extents c.self.inside.extents.len kept_rows (omega (arith, c.self.inside.extents.ok.0)) in
     let all_cells = whole_again cells c.write_over.new.cells c.self.inside.cells.len kept_cells (omega (arith, c.self.inside.cells.ok.0)) in
     rw (all_rows, all_cells) (
-      IsStored-over cells c.write_over.new.cells (length row) extents c.write_over.new.extents c.args.number _ in_list here over.within over.apart lengths (omega (arith, used, limit, old_size, said, size, stored.used_is, c.requires.fits)) stored,
+      IsStored-over cells c.write_over.new.cells (length row) extents c.write_over.new.extents c.args.number _ is.in_list here over.within over.apart lengths (omega (arith, is.used, is.limit_is, is.size, stored.used_is, c.requires.fits)) stored,
       placed some known.1,
       known.2,
       omega (arith, kept_rows, known.3),

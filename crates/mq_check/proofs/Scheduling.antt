@@ -1,0 +1,36 @@
+-- What a query that was seen, or that is wanted, makes of the schedules.
+use Rattle.std.proofs.Common.{◌≡◌, ℕ, Bool, true, false, ap, ◌∙◌}
+use Rattle.std.specs.Prelude.{Option, ◌||◌}
+use Rattle.mq_check.specs.declared.asked.Asked.{Asked}
+use Rattle.mq_check.specs.declared.entry.Entry.{Entry}
+use Rattle.mq_check.specs.declared.entry.Entry.TheVariants.{Wanted}
+use Rattle.mq_check.specs.declared.terms.Terms.{Terms}
+use Rattle.mq_check.specs.declared.waiting.Side.TheVariants.{OfWanted}
+use Rattle.mq_check.specs.Schedules.{SchedulesValue, before_in, is_next, left_after, due_after, without_before, with_scheduled, schedules_seen, schedules_wanted}
+use Rattle.mq_check.specs.Waiting.{WaitingValue, with_entry, with_partner}
+
+pub seen_scheduled : (moment : ℕ) (terms : Terms ℕ) (asked : Asked ℕ) (has_partner : Bool) (viewed old taken new : SchedulesValue) (before : Option (Entry ℕ)) (follows is_scheduled : Bool) (left due : ℕ)
+    → viewed ≡ old → before ≡ before_in asked viewed → follows ≡ is_next viewed.repeats moment before → left ≡ left_after viewed.repeats moment before → due ≡ due_after viewed.repeats moment
+    → is_scheduled ≡ follows || has_partner → taken ≡ record old { sent = without_before follows terms asked old.sent } → new ≡ record taken { sent = with_scheduled left due is_scheduled terms asked taken.sent }
+    → new ≡ schedules_seen moment terms asked has_partner old
+unfolding schedules_seen
+seen_scheduled moment terms asked has_partner viewed old taken new before follows is_scheduled left due same is_before follow lefts is_due scheduled takes puts =
+    let follow_too : follows ≡ is_next viewed.repeats moment (before_in asked viewed) = follow ∙ ap (is_next viewed.repeats moment) is_before in
+    let lefts_too : left ≡ left_after viewed.repeats moment (before_in asked viewed) = lefts ∙ ap (left_after viewed.repeats moment) is_before in
+    let follow_old : follows ≡ is_next old.repeats moment (before_in asked old) =
+    follow_too ∙ ap (λ (v : SchedulesValue). is_next v.repeats moment (before_in asked v)) same in
+    let lefts_old : left ≡ left_after old.repeats moment (before_in asked old) =
+    lefts_too ∙ ap (λ (v : SchedulesValue). left_after v.repeats moment (before_in asked v)) same in
+    let due_old : due ≡ due_after old.repeats moment = is_due ∙ ap (λ (v : SchedulesValue). due_after v.repeats moment) same in
+    let scheduled_old : is_scheduled ≡ is_next old.repeats moment (before_in asked old) || has_partner = scheduled ∙ ap (λ (b : Bool). b || has_partner) follow_old in
+    puts ∙ ap (λ (v : SchedulesValue). record v { sent = with_scheduled left due is_scheduled terms asked v.sent }) takes
+    ∙ (λ i. record old { sent = with_scheduled (lefts_old i) (due_old i) (scheduled_old i) terms asked (without_before (follow_old i) terms asked old.sent) })
+
+pub wanted_scheduled : (moment : ℕ) (terms : Terms ℕ) (asked : Asked ℕ) (viewed old : SchedulesValue) (partnered put : WaitingValue) (due : ℕ)
+    → viewed ≡ old → due ≡ due_after viewed.repeats moment → partnered ≡ with_partner OfWanted asked terms viewed.sent → put ≡ with_entry (Wanted due asked terms true false) partnered
+    → record viewed { sent = put } ≡ schedules_wanted moment terms asked old
+unfolding schedules_wanted
+wanted_scheduled moment terms asked viewed old partnered put due same is_due joined is =
+    let here : record viewed { sent = put } ≡ schedules_wanted moment terms asked viewed =
+    λ i. record viewed { sent = (is ∙ (λ j. with_entry (Wanted (is_due j) asked terms true false) (joined j))) i } in
+    here ∙ ap (schedules_wanted moment terms asked) same

@@ -1,0 +1,33 @@
+use Rattle.std.proofs.Common.{not, ap, sym, ◌∙◌}
+use Rattle.mq_link.specs.Configuration.{Configuration}
+use Rattle.mq_check.specs.Basis.{with_other_querier}
+use Rattle.mq_check.specs.Basis as basis
+use Rattle.mq_check.specs.Checking.{role_changed}
+use Rattle.mq_check.specs.Wanting.{WantingValue}
+use Rattle.mq_check.proofs.Bases.{other_named}
+use Rattle.mq_check.proofs.Steppings.{received_at, received_is}
+use Rattle.mq_check.proofs.WantedMessages.{own_kept}
+use Rattle.mq_check.proofs.running_check.Check.receive.Goals as goal
+
+pub returns-clause-receives : goal.returns-clause-receives
+returns-clause-receives g c =
+    let is_family = sym c.is_faultless.ensures.family ∙ ap (λ (config : Configuration). config.family) c.config.ensures in
+    let now = c.moment-now.result in
+    let begins = c.begin.ensures ∙ (λ i. record c.args.self.now.queries { moment = now; is_returning = not (c.is_querier-was_querier.ensures i) }) in
+    let receives = c.receive.ensures.receives in
+    let configured = c.timing-configured.ensures ∙ ap (λ (config : Configuration). config.timing) c.config-2.ensures in
+    let role =
+    ap (λ (w : WantingValue). w.checking) c.name_other.ensures ∙ ap (λ (w : WantingValue). w.checking) c.change_role.ensures
+    ∙ (λ i. role_changed c.args.self.now.terms.within (configured i) (sym c.moment-now.ensures.same i) (c.is_querier-was_querier.ensures i) (c.is_querier-stays_querier.ensures i) c.receive.new.outlet.checking) in
+    let rests =
+    ap (λ (w : WantingValue). w.basis) c.name_other.ensures
+    ∙ other_named g.F.Family.FAMILY g.F.Address.Key.number c.receive.new.self.state.election.role _ c.change_role.new.queries.basis c.other_querier.ensures
+    ∙ ap (with_other_querier g.F.Family.FAMILY c.receive.new.self.state.election.role) (ap (λ (w : WantingValue). w.basis) c.change_role.ensures)
+    ∙ (λ i. with_other_querier (is_family i) c.receive.new.self.state.election.role
+    (basis.role_changed (sym c.moment-now.ensures.same i) (c.is_querier-was_querier.ensures i) (c.is_querier-stays_querier.ensures i) c.receive.new.outlet.basis)) in
+    received_at _ _ _ _ _ _ _ c.moment-now.ensures.same
+    (received_is g.F.Family.FAMILY c.args.self.now.terms.within now _ c.args.self.now.link c.receive.new.self c.args.self.now.queries c.begin.new.self c.receive.new.outlet c.name_other.new.self _ _ is_family c.args.self.now.own begins receives.receives.hands_out receives.handed role rests)
+
+pub invariant_of-self : goal.invariant_of-self
+invariant_of-self g c =
+    record { own = ap (λ (w : WantingValue). w.own) c.name_other.ensures ∙ ap (λ (w : WantingValue). w.own) c.change_role.ensures ∙ own_kept g.F.Family.FAMILY c.begin.new.self c.receive.new.outlet _ _ c.receive.ensures.receives.handed ∙ ap (λ (w : WantingValue). w.own) c.begin.ensures ∙ c.args.self.now.own ∙ sym (ap (λ (config : Configuration). config.own) c.receive.ensures.config) }

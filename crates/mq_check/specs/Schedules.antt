@@ -1,0 +1,125 @@
+-- Schedules that a querier may keep. A query for a group or a source is sent again after a Last Member Query Interval. If
+-- a new query becomes wanted in between, the link starts a new schedule in place of the earlier one. The standards' words
+-- allow a querier to keep both (RFC 3376 sections 6.4.2, 6.6.3.1 and 6.6.3.2, RFC 3810 sections 7.4.2, 7.6.3.1 and
+-- 7.6.3.2).
+use Rattle.std.specs.Prelude.{ℕ, ◌+◌, ◌-◌, ◌^◌, ◌&&◌, ◌||◌, nat_lt, nat_le, not, Bool, true, false, if◌then◌else◌, Option, None, Some}
+use Rattle.mq_table.specs.declared.timing.Timing.{Timing}
+use Rattle.mq_table.specs.Timing.{last_member_count}
+use Rattle.mq_check.specs.declared.asked.Asked.{Asked}
+use Rattle.mq_check.specs.declared.entry.Entry.{Entry}
+use Rattle.mq_check.specs.declared.entry.Entry.TheVariants.{Wanted, Seen}
+use Rattle.mq_check.specs.declared.entry.Unpaired.TheVariants.{Scheduled}
+use Rattle.mq_check.specs.declared.schedules.Repeats.{Repeats}
+use Rattle.mq_check.specs.declared.terms.Terms.{Terms}
+use Rattle.mq_check.specs.declared.terms.QuerierTerms.{QuerierTerms}
+use Rattle.mq_check.specs.declared.waiting.Side.TheVariants.{OfWanted, OfSeen}
+use Rattle.mq_check.specs.Entries.{moment_of, left_in, terms_in, first_entry, is_suppressed}
+use Rattle.mq_check.specs.Waiting.{WaitingValue, nothing, is_free, with_entry, with_partner, settled}
+
+-- The retransmission of queries, and the queries of schedules. `sent` has the seen queries after which one more may come,
+-- and for each subject the last wanted one. The moment of each is an interval later: then the next query is due.
+pub record SchedulesValue : Type 0 where
+  pub repeats : Repeats
+  pub sent : WaitingValue
+
+-- the retransmission of queries under this timing; a strict check accepts no second schedule
+abbrev pub more_in : Timing → (strict : Bool) → ℕ
+more_in timing true = 0
+more_in timing false = last_member_count timing - 1
+
+abbrev pub repeats_in : (within : ℕ) → Timing → (strict : Bool) → Repeats
+repeats_in within timing strict =
+    record { within = within; interval = timing.last_member_interval; more = more_in timing strict }
+
+abbrev pub schedules_at_start : (within : ℕ) → Timing → (strict : Bool) → SchedulesValue
+schedules_at_start within timing strict = record { repeats = repeats_in within timing strict; sent = nothing }
+
+-- The moment an interval after another. No moment of a capture exceeds 2^53.
+abbrev pub due_after : Repeats → (moment : ℕ) → ℕ
+due_after repeats moment = if nat_le moment (2 ^ 53) then moment + repeats.interval else moment
+
+-- a moment is more than the tolerance before another
+abbrev pub is_long_before : Repeats → (a b : ℕ) → Bool
+is_long_before repeats a b = nat_le a (2 ^ 53) && nat_lt (a + repeats.within) b
+
+-- a query is seen when the next one of a schedule is due
+abbrev pub is_due : Repeats → (due moment : ℕ) → Bool
+is_due repeats due moment = not (is_long_before repeats due moment) && not (is_long_before repeats moment due)
+
+-- The last wanted query replaced this schedule. It came more than the tolerance after the query before, and before the
+-- next one.
+abbrev pub is_replaced : Repeats → (due last : ℕ) → Bool
+is_replaced repeats due last = is_long_before repeats due last && is_long_before repeats last (due_after repeats due)
+
+-- the queries of schedules at a moment, without those after which none may come any more
+abbrev pub recent : (moment : ℕ) → SchedulesValue → SchedulesValue
+recent moment s =
+    if nat_le moment (2 ^ 53) then record s { sent = settled s.repeats.within moment s.sent } else s
+
+-- the query of an earlier schedule on the subject that waits for its next one, and the last wanted query
+abbrev pub before_in : Asked ℕ → SchedulesValue → Option (Entry ℕ)
+before_in asked s = first_entry (is_free OfSeen asked) s.sent.entries
+
+abbrev pub last_in : Asked ℕ → SchedulesValue → Option (Entry ℕ)
+last_in asked s = first_entry (is_free OfWanted asked) s.sent.entries
+
+-- the next query is seen after this one
+abbrev pub is_next : Repeats → (moment : ℕ) → Option (Entry ℕ) → Bool
+is_next repeats moment None = false
+is_next repeats moment (Some before) = is_due repeats (moment_of before) moment
+
+-- the number of queries that may come after a seen one, which starts a schedule or follows another query
+abbrev pub left_after : Repeats → (moment : ℕ) → Option (Entry ℕ) → ℕ
+left_after repeats moment None = repeats.more
+left_after repeats moment (Some before) =
+    if is_due repeats (moment_of before) moment then left_in before - 1 else repeats.more
+
+-- the fields of a wanted query, with S as seen: S depends on timers at that moment
+abbrev pub with_suppress : Bool → Option QuerierTerms → Option QuerierTerms
+with_suppress suppress None = None
+with_suppress suppress (Some wanted) = Some (record wanted { suppress = suppress })
+
+abbrev pub as_seen : (seen : Terms ℕ) → (wanted : Option (Terms ℕ)) → Option (Terms ℕ)
+as_seen seen None = None
+as_seen seen (Some wanted) =
+    Some (record wanted { querier = with_suppress (is_suppressed seen.querier) wanted.querier })
+
+-- The wanted fields of a seen query that belongs to an earlier schedule, which the link has replaced.
+abbrev pub of_earlier : Repeats → (moment : ℕ) → (seen : Terms ℕ) → (before last : Option (Entry ℕ)) → Option (Terms ℕ)
+of_earlier repeats moment seen None last = None
+of_earlier repeats moment seen (Some before) None = None
+of_earlier repeats moment seen (Some before) (Some last) =
+    if is_due repeats (moment_of before) moment && is_replaced repeats (moment_of before) (moment_of last)
+    then as_seen seen (terms_in last)
+    else None
+
+abbrev pub allowed_by : (moment : ℕ) → (seen : Terms ℕ) → Asked ℕ → SchedulesValue → Option (Terms ℕ)
+allowed_by moment seen asked s = of_earlier s.repeats moment seen (before_in asked s) (last_in asked s)
+
+-- The schedules after a query was seen. It goes on with a schedule, or starts one if it has a partner.
+abbrev pub without_before : (is_next : Bool) → Terms ℕ → Asked ℕ → WaitingValue → WaitingValue
+without_before true terms asked w = with_partner OfSeen asked terms w
+without_before false terms asked w = w
+
+abbrev pub with_scheduled : (left due : ℕ) → (is_scheduled : Bool) → Terms ℕ → Asked ℕ → WaitingValue → WaitingValue
+with_scheduled left due is_scheduled terms asked w =
+    if is_scheduled && nat_lt 0 left then with_entry (Seen due asked terms None (Scheduled left)) w else w
+
+unfoldable pub schedules_seen : (moment : ℕ) → Terms ℕ → Asked ℕ → (has_partner : Bool) → SchedulesValue → SchedulesValue
+schedules_seen moment terms asked has_partner s =
+    let before = before_in asked s in
+    let follows = is_next s.repeats moment before in
+    record s {
+      sent =
+          with_scheduled (left_after s.repeats moment before) (due_after s.repeats moment) (follows || has_partner) terms asked
+          (without_before follows terms asked s.sent);
+    }
+
+-- the schedules after a query became wanted
+unfoldable pub schedules_wanted : (moment : ℕ) → Terms ℕ → Asked ℕ → SchedulesValue → SchedulesValue
+schedules_wanted moment terms asked s =
+    record s {
+      sent =
+          with_entry (Wanted (due_after s.repeats moment) asked terms true false)
+          (with_partner OfWanted asked terms s.sent);
+    }

@@ -1,0 +1,304 @@
+//! Schedules that a querier may keep beside those of the link.
+
+ghost use Rattle.std.specs.Prelude.{◌≡◌, ◌≤◌, ◌^◌, ◌||◌, IfOk, is_ok};
+ghost use Rattle.mq_arena.specs.Vectors.{Takes};
+ghost use Rattle.mq_check.specs.Numbered.{numbered_asked, numbered_entry_if, numbered_terms, numbered_terms_if};
+ghost use Rattle.mq_check.specs.Schedules as spec;
+ghost use Rattle.mq_check.specs.Sizes.{bytes_of_waiting};
+ghost use Rattle.mq_check.specs.Entries as entries;
+ghost use Rattle.mq_check.specs.Waiting as waits;
+
+use crate::asked::Asked;
+use crate::entry::{Entry, Unpaired};
+use crate::terms::{QuerierTerms, Terms};
+use crate::waiting::{Side, Waiting, is_before};
+use mq_arena::VectorSource;
+use mq_count::{Moment, Span};
+use mq_link::Family;
+use mq_table::Timing;
+use mq_wire::WireKey;
+use std::alloc::{AllocError, Allocator};
+use std::marker::Model;
+
+/// The retransmission of queries: the tolerance, the Last Member Query Interval, and how many queries follow the first one.
+#[derive(Clone, Copy)]
+pub struct Repeats {
+    pub(crate) within: Span,
+    pub(crate) interval: Span,
+    pub(crate) more: u32,
+}
+
+/// The seen queries after which one more may come, and for each subject the last wanted one. `new` allocates all memory.
+#[derive(Drop)]
+pub(crate) struct Schedules<F: Family, A: Allocator> {
+    repeats: Repeats,
+    // Each entry has the moment at which the next query is due.
+    sent: Waiting<F, A>,
+}
+
+impl<F: Family, A: Allocator> Model for Schedules<F, A> {
+    ghost use Rattle.mq_check.specs.Schedules.{SchedulesValue};
+
+    ghost Value = { SchedulesValue };
+
+    ghost view = { λ s. record { repeats = s.repeats; sent = s.sent } };
+}
+
+/// Returns how many queries of a schedule follow the first one. A strict check accepts no second schedule.
+fn more_in(timing: Timing, strict: bool) -> u32
+    ensures { result ≡ spec.more_in timing strict }
+{
+    timing.is_in_range();
+    if strict {
+        0
+    } else {
+        timing.last_member_count() - 1
+    }
+}
+
+/// Returns the retransmission under this timing.
+fn repeats_in(within: u32, timing: Timing, strict: bool) -> Repeats
+    ensures { result ≡ spec.repeats_in within timing strict }
+{
+    Repeats {
+        within: Span::from_ms(within),
+        interval: timing.last_member_interval(),
+        more: more_in(timing, strict),
+    }
+}
+
+/// Returns the moment an interval after another.
+fn due_after(repeats: &Repeats, moment: Moment) -> Moment
+    ensures { result ≡ spec.due_after repeats.now moment }
+{
+    if moment.in_range() {
+        moment.after(repeats.interval)
+    } else {
+        moment
+    }
+}
+
+/// Returns whether a moment is more than the tolerance before another.
+fn is_long_before(repeats: &Repeats, a: Moment, b: Moment) -> bool
+    ensures { result ≡ spec.is_long_before repeats.now a b }
+{
+    a.in_range() && is_before(a.after(repeats.within), b)
+}
+
+/// Returns whether a query is seen when the next one of a schedule is due.
+fn is_due(repeats: &Repeats, due: Moment, moment: Moment) -> bool
+    ensures { result ≡ spec.is_due repeats.now due moment }
+{
+    !is_long_before(repeats, due, moment) && !is_long_before(repeats, moment, due)
+}
+
+/// Returns whether the last wanted query replaced a schedule.
+fn is_replaced(repeats: &Repeats, due: Moment, last: Moment) -> bool
+    ensures { result ≡ spec.is_replaced repeats.now due last }
+{
+    is_long_before(repeats, due, last) && is_long_before(repeats, last, due_after(repeats, due))
+}
+
+/// Returns whether the next query is seen after this one.
+fn is_next<K: WireKey>(repeats: &Repeats, moment: Moment, before: &Option<Entry<K>>) -> bool
+    ensures { result ≡ spec.is_next repeats.now moment (numbered_entry_if K.number before.now) }
+{
+    match before {
+        Some(before) => is_due(repeats, before.moment(), moment),
+        None => false,
+    }
+}
+
+/// Returns how many queries may come after a seen one.
+fn left_after<K: WireKey>(repeats: &Repeats, moment: Moment, before: &Option<Entry<K>>) -> u32
+    ensures { result ≡ spec.left_after repeats.now moment (numbered_entry_if K.number before.now) }
+{
+    match before {
+        Some(before) => {
+            if is_due(repeats, before.moment(), moment) {
+                let left = before.left();
+                left.saturating_sub(1)
+            } else {
+                repeats.more
+            }
+        }
+        None => repeats.more,
+    }
+}
+
+/// Returns whether a query belongs to a schedule: it follows another one, or has a partner.
+fn is_either(follows: bool, has_partner: bool) -> bool
+    ensures { result ≡ follows || has_partner }
+{
+    follows || has_partner
+}
+
+/// Returns whether the S flag is set.
+fn is_suppressed(querier: Option<QuerierTerms>) -> bool
+    ensures { result ≡ entries.is_suppressed querier }
+{
+    match querier {
+        Some(querier) => querier.suppress,
+        None => false,
+    }
+}
+
+/// Returns the fields with this S flag.
+fn with_suppress(suppress: bool, wanted: Option<QuerierTerms>) -> Option<QuerierTerms>
+    ensures { result ≡ spec.with_suppress suppress wanted }
+{
+    match wanted {
+        Some(wanted) => Some(QuerierTerms {
+            suppress,
+            robustness: wanted.robustness,
+            interval: wanted.interval,
+        }),
+        None => None,
+    }
+}
+
+/// Returns the terms of a wanted query, with the S flag of a seen one.
+fn as_seen<K: WireKey>(seen: Terms<K>, wanted: Option<Terms<K>>) -> Option<Terms<K>>
+    ensures { numbered_terms_if K.number result
+        ≡ spec.as_seen (numbered_terms K.number seen) (numbered_terms_if K.number wanted) }
+{
+    match wanted {
+        Some(wanted) => Some(Terms {
+            version: wanted.version,
+            response: wanted.response,
+            querier: with_suppress(is_suppressed(seen.querier), wanted.querier),
+            to: wanted.to,
+        }),
+        None => None,
+    }
+}
+
+/// Returns the wanted terms of a seen query that belongs to an earlier schedule, which the link has replaced.
+fn of_earlier<K: WireKey>(
+    repeats: &Repeats,
+    moment: Moment,
+    seen: Terms<K>,
+    before: Option<Entry<K>>,
+    last: Option<Entry<K>>,
+) -> Option<Terms<K>>
+    ensures { numbered_terms_if K.number result
+        ≡ spec.of_earlier repeats.now moment (numbered_terms K.number seen) (numbered_entry_if K.number before) (numbered_entry_if K.number last) }
+{
+    let Some(before) = before else {
+        return None;
+    };
+    let Some(last) = last else {
+        return None;
+    };
+    if !is_due(repeats, before.moment(), moment) {
+        return None;
+    }
+    if is_replaced(repeats, before.moment(), last.moment()) {
+        as_seen(seen, last.terms())
+    } else {
+        None
+    }
+}
+
+impl<F: Family, A: Allocator> Schedules<F, A> {
+    /// Returns the schedules at the start of a capture, with all memory allocated from `memory`.
+    pub(crate) fn new<M: VectorSource<A>>(
+        memory: &mut M,
+        within: u32,
+        timing: Timing,
+        strict: bool,
+    ) -> Result<Schedules<F, A>, AllocError>
+        ensures starts { IfOk result (λ s. s ≡ spec.schedules_at_start within timing strict) }
+        ensures memory { Takes (bytes_of_waiting F.Address.row) (M.less_than memory.old) (M.less_than memory.new) (is_ok result) }
+    {
+        let sent = Waiting::new(memory)?;
+        Ok(Schedules {
+            repeats: repeats_in(within, timing, strict),
+            sent,
+        })
+    }
+
+    /// Removes the queries after which none may come any more.
+    pub(crate) fn forget(&mut self, moment: Moment)
+        ensures { self.new ≡ spec.recent moment self.old }
+    {
+        if !moment.in_range() {
+            return;
+        }
+        self.sent.forget(self.repeats.within, moment);
+    }
+
+    /// Returns the wanted terms of a seen query that belongs to an earlier schedule.
+    pub(crate) fn allowed(
+        &self,
+        moment: Moment,
+        seen: Terms<F::Address>,
+        asked: Asked<F::Address>,
+    ) -> Option<Terms<F::Address>>
+        ensures { numbered_terms_if F.Address.number result
+            ≡ spec.allowed_by moment (numbered_terms F.Address.number seen) (numbered_asked F.Address.number asked) self.now }
+    {
+        let before = self.sent.first(Side::OfSeen, asked);
+        let last = self.sent.first(Side::OfWanted, asked);
+        of_earlier(&self.repeats, moment, seen, before, last)
+    }
+
+    /// Handles a query that is seen. It goes on with a schedule, or starts one if it has a partner.
+    pub(crate) fn see(
+        &mut self,
+        moment: Moment,
+        terms: Terms<F::Address>,
+        asked: Asked<F::Address>,
+        has_partner: bool,
+    )
+        ensures { self.new ≡ spec.schedules_seen moment (numbered_terms F.Address.number terms) (numbered_asked F.Address.number asked) has_partner self.old }
+    {
+        let before = self.sent.first(Side::OfSeen, asked);
+        let follows = is_next(&self.repeats, moment, &before);
+        let left = left_after(&self.repeats, moment, &before);
+        let due = due_after(&self.repeats, moment);
+        let is_scheduled = is_either(follows, has_partner);
+        self.take_before(follows, terms, asked);
+        self.put_scheduled(left, due, is_scheduled, terms, asked);
+    }
+
+    /// Marks the first query on a subject that waits for its next one, if that one is seen.
+    fn take_before(&mut self, follows: bool, terms: Terms<F::Address>, asked: Asked<F::Address>)
+        ensures { self.new ≡ record self.old { sent = spec.without_before follows (numbered_terms F.Address.number terms) (numbered_asked F.Address.number asked) self.old.sent } }
+    {
+        if follows {
+            self.sent.join(Side::OfSeen, asked, terms);
+        }
+    }
+
+    /// Adds a seen query of a schedule, if more may come after it.
+    fn put_scheduled(
+        &mut self,
+        left: u32,
+        due: Moment,
+        is_scheduled: bool,
+        terms: Terms<F::Address>,
+        asked: Asked<F::Address>,
+    )
+        ensures { self.new ≡ record self.old { sent = spec.with_scheduled left due is_scheduled (numbered_terms F.Address.number terms) (numbered_asked F.Address.number asked) self.old.sent } }
+    {
+        if is_scheduled && 0 < left {
+            let alone = Unpaired::Scheduled(left);
+            self.sent.put(Entry::Seen(due, asked, terms, None, alone));
+        }
+    }
+
+    /// Handles a query that becomes wanted.
+    pub(crate) fn want(
+        &mut self,
+        moment: Moment,
+        terms: Terms<F::Address>,
+        asked: Asked<F::Address>,
+    )
+        ensures { self.new ≡ spec.schedules_wanted moment (numbered_terms F.Address.number terms) (numbered_asked F.Address.number asked) self.old }
+    {
+        let due = due_after(&self.repeats, moment);
+        self.sent.join(Side::OfWanted, asked, terms);
+        self.sent.put(Entry::Wanted(due, asked, terms, true, false));
+    }
+}

@@ -1,0 +1,100 @@
+//! Walks over captures.
+
+ghost use Rattle.std.specs.Prelude.{◌≡◌, ◌≤◌, length};
+ghost use Rattle.mq_pcap.specs.declared.reader_state.Progress.TheVariants.{Reading};
+ghost use Rattle.mq_pcap.specs.Capture.{most_bytes};
+ghost use Rattle.mq_pcap.specs.Filling.{input_of};
+ghost use Rattle.mq_pcap.specs.Reading.{form_of, number_of, progress_of};
+ghost use Rattle.mq_replay.specs.Walking.{Walks, WalksBehind};
+
+use crate::numbered_packet::NumberedPacket;
+use crate::stamp::Stamp;
+use crate::stamps::Stamps;
+use mq_count::Watched;
+use mq_pcap::{PcapFault, PcapReader, Supply};
+use std::io::Read;
+
+/// The end of a walk over a capture.
+#[derive(Clone, Copy)]
+pub struct Walked {
+    /// The number of packets.
+    pub packets: u64,
+    /// The moment of the last packet, or 0.
+    pub last: Stamp,
+}
+
+/// A receiver of the packets of a capture, in order, with an output.
+pub trait Step<O> {
+    ghost use Rattle.std.specs.Prelude.{Result};
+    ghost use Rattle.mq_replay.specs.PlacedPackets.{PlacedPacket};
+
+    /// The reason why a walk ends early.
+    type Fault: From<PcapFault>;
+
+    // The effect of one packet: the states before, the states afterwards, and the result.
+    ghost takes: { PlacedPacket → Self × O → Self × O → Result Unit Self.Fault → Type 0 };
+
+    /// Takes a packet. The walk ends if this fails.
+    fn packet(&mut self, packet: &NumberedPacket<'_>, output: &mut O) -> Result<(), Self::Fault>
+        ensures { takes (record {
+          number = packet.now.number;
+          before = packet.now.before;
+          moment = packet.now.moment;
+          link = packet.now.link;
+          frame = packet.now.frame.now;
+        }) (self.old, output.old) (self.new, output.new) result };
+}
+
+/// Hands each packet of a capture to a step, in order, with caller-provided memory for a packet. `supply` says whether a
+/// read may wait.
+pub fn walk<O, T: Step<O>, S: Supply, R: Read>(
+    steps: &mut T,
+    packet: &mut [u8],
+    supply: &S,
+    reader: &mut Watched<R>,
+    output: &mut O,
+) -> Result<Walked, T::Fault>
+    requires { most_bytes ≤ length packet.old }
+    ensures { Walks T.takes T.Fault.from_gives
+        (input_of R.remaining reader.old) (input_of R.remaining reader.new)
+        (steps.old, output.old) (steps.new, output.new) result }
+{
+    let mut capture = PcapReader::open(reader)?;
+    walk_packets(&mut capture, steps, packet, supply, reader, output)
+}
+
+/// Hands each packet of a capture whose header has been read to a step.
+fn walk_packets<O, T: Step<O>, S: Supply, R: Read>(
+    capture: &mut PcapReader,
+    steps: &mut T,
+    packet: &mut [u8],
+    supply: &S,
+    reader: &mut Watched<R>,
+    output: &mut O,
+) -> Result<Walked, T::Fault>
+    requires room { most_bytes ≤ length packet.old }
+    requires first { number_of capture.old ≡ 1 }
+    requires reading { progress_of capture.old ≡ Reading }
+    ensures { WalksBehind T.takes T.Fault.from_gives (form_of capture.old)
+        (input_of R.remaining reader.old) (input_of R.remaining reader.new)
+        (steps.old, output.old) (steps.new, output.new) result }
+{
+    let mut packets = 0;
+    let mut stamps = Stamps::new();
+    let mut last = Stamp::of(0);
+    while let Some(read) = capture.next(reader, packet)? {
+        packets += 1;
+        let moment = Stamp::of(stamps.moment_of_next(read.stamp_ms));
+        let next = NumberedPacket {
+            number: packets,
+            before: last,
+            moment,
+            link: capture.link(),
+            frame: &packet[..read.length],
+            may_wait: capture.may_wait(supply),
+        };
+        last = moment;
+        steps.packet(&next, output)?;
+    }
+    Ok(Walked { packets, last })
+}

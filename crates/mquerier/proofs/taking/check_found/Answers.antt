@@ -1,0 +1,28 @@
+use Rattle.std.proofs.Common.{ap, ◌∙◌}
+use Rattle.std.proofs.lemmas.Result.{err_from_is_err_and}
+use Rattle.mq_check.specs.Numbered.{numbered_announced}
+use Rattle.mq_text.specs.Printing.{output_of}
+use Rattle.mq_wire.specs.Family.{Family}
+use Rattle.mquerier.specs.Changes.{input_by, output_by}
+use Rattle.mquerier.specs.Taking.{taken_line}
+use Rattle.mquerier.proofs.Takings.{found_done, found_unwritten}
+use Rattle.mquerier.proofs.taking.check_found.Goals as goal
+
+pub returns-in_err-print_whole : goal.returns-in_err-print_whole
+returns-in_err-print_whole g c =
+    let p = err_from_is_err_and c.from_residual-in_err-print_whole.result c.from_residual-in_err-print_whole.ensures.1 in
+    let found = numbered_announced g.F.Address.Key.number c.args.found.now in
+    let input = input_by g.R.Read.remaining c.args.input.now c.check_at.new.input in
+    let output = output_by g.W.Write.contents c.args.output.now c.print_whole.new.output in
+    let mid = output_of g.W.Write.contents c.check_at.new.output in
+    let line = c.as_slice.ensures ∙ c.taken_line_of-line.ensures ∙ ap (λ (f : Family). taken_line f c.args.taking.now.settings found) g.met.F.CapturedFamily.same_family in
+    rw (p.1, p.2) (found_unwritten g.F.Family.FAMILY c.args.taking.now found _ input output mid _ _ _ c.with_variables-settings.ensures line c.in_ok-totals.ensures.works c.in_err-print_whole.ensures)
+
+pub returns : goal.returns
+returns g c =
+    let found = numbered_announced g.F.Address.Key.number c.args.found.now in
+    let input = input_by g.R.Read.remaining c.args.input.now c.check_at.new.input in
+    let output = output_by g.W.Write.contents c.args.output.now c.print_whole.new.output in
+    let mid = output_of g.W.Write.contents c.check_at.new.output in
+    let line = c.as_slice.ensures ∙ c.taken_line_of-line.ensures ∙ ap (λ (f : Family). taken_line f c.args.taking.now.settings found) g.met.F.CapturedFamily.same_family in
+    found_done g.F.Family.FAMILY c.args.taking.now found _ input output mid _ _ c.with_variables-settings.ensures line c.in_ok-totals.ensures.works c.in_ok-print_whole.ensures

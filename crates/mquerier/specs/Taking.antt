@@ -1,0 +1,143 @@
+-- Checks whose querier and variables come from the capture itself.
+use Rattle.std.specs.Prelude.{◌≡◌, ◌⊎◌, ◌≤◌, ℕ, Bool, if◌then◌else◌, List, [], ◌++◌, codes, Option, None, Some, Result, Ok, Err}
+use Rattle.std.specs.Fmt.{decimal}
+use Rattle.std.specs.Str.{bytes_eq}
+use Rattle.std.specs.Option.{option_or}
+use Rattle.clap.specs.declared.error.Error.{Error}
+use Rattle.mq_check.specs.declared.announced.Announced.{Announced}
+use Rattle.mq_check.specs.declared.check_fault.CheckFault.{CheckFault}
+use Rattle.mq_check.specs.declared.check_fault.CheckFault.TheVariants as answer
+use Rattle.mq_check.specs.declared.totals.Totals.{Totals}
+use Rattle.mq_check.specs.declared.unjudged.Unjudged.{Unjudged}
+use Rattle.mq_check.specs.Announced.{Announces}
+use Rattle.mq_check.specs.Basis.{unjudged_by}
+use Rattle.mq_command.specs.declared.Request.{Request}
+use Rattle.mq_command.specs.declared.Request.TheVariants.{Message, Convert, Show, Replay, Check}
+use Rattle.mq_command.specs.declared.replay.Settings.{Settings}
+use Rattle.mq_lines.specs.Text.{address_text}
+use Rattle.mq_text.specs.Printing.{OutputState}
+use Rattle.mq_wire.specs.Family.{Family}
+use Rattle.mquerier.specs.declared.failure.Failure.{Failure}
+use Rattle.mquerier.specs.declared.failure.Failure.TheVariants.{Capture, Memory, Write}
+use Rattle.mquerier.specs.declared.taking.Taking.{Taking}
+use Rattle.mquerier.specs.Changes.{BreaksOff, Input, Output, Writes}
+use Rattle.mquerier.specs.CheckRuns.{IsCheckBrokenAt, IsCheckDoneAt, asked_terms}
+use Rattle.mquerier.specs.Failures.{no_querier_line, status_of, unjudged_line}
+use Rattle.mquerier.specs.Replays.{IsRefusedAt, family_of}
+use Rattle.mquerier.specs.Status.{IsJudged, IsTold, Told}
+
+-- the request for a check whose querier is the word `auto`
+abbrev pub taking_in : Request → Option Taking
+taking_in (Message protocol hex from to) = None
+taking_in (Convert interface vlan once file) = None
+taking_in (Show file) = None
+taking_in (Replay protocol own settings until changes file) = None
+taking_in (Check protocol querier settings within cite strict until file) =
+    if bytes_eq querier.now (codes "auto")
+    then Some (record { protocol = protocol; settings = settings; terms = asked_terms within until cite strict })
+    else None
+
+abbrev pub taking_of : Result Request Error → Option Taking
+taking_of (Ok request) = taking_in request
+taking_of (Err error) = None
+
+-- the settings, with the announced variables for those that aren't given
+abbrev pub with_variables : Settings → Announced ℕ → Settings
+with_variables s found = record s {
+  robustness = option_or s.robustness found.robustness;
+  query_seconds = option_or s.query_seconds found.query_seconds;
+  response_interval = option_or s.response_interval found.response_interval;
+  last_member_interval = option_or s.last_member_interval found.last_member_interval;
+}
+
+-- a variable that isn't given and that the capture has
+abbrev pub taken_text : (name : List ℕ) → (given found : Option ℕ) → List ℕ
+taken_text name (Some value) found = []
+taken_text name None None = []
+taken_text name None (Some value) = name ++ decimal value
+
+-- the line for the querier and the variables that come from the capture
+abbrev pub taken_line : Family → Settings → Announced ℕ → List ℕ
+taken_line family s found =
+    codes "taken from the capture: querier " ++ address_text family found.querier
+    ++ taken_text (codes " rv ") s.robustness found.robustness ++ taken_text (codes " qi ") s.query_seconds found.query_seconds
+    ++ taken_text (codes " qri ") s.response_interval found.response_interval
+    ++ taken_text (codes " lmqi ") s.last_member_interval found.last_member_interval ++ codes "\n"
+
+-- The check of this querier reached its end. Then the line of what comes from the capture was written.
+abbrev pub IsFoundDone : Family → Taking → Announced ℕ → Input → Output → Totals → Type 0
+IsFoundDone family taking found input output totals =
+    (mid : OutputState)
+    × IsCheckDoneAt family found.querier (with_variables taking.settings found) taking.terms input (record { old = output.old; new = mid }) totals
+    × Writes (record { old = mid; new = output.new }) (taken_line family taking.settings found)
+
+-- the check ended early, or the output failed at that line
+abbrev pub IsFoundBroken : Family → Taking → Announced ℕ → Input → Output → Failure → Type 0
+IsFoundBroken family taking found input output failure =
+    IsCheckBrokenAt family found.querier (with_variables taking.settings found) taking.terms input output failure
+    ⊎ ((failure ≡ Write) × (mid : OutputState) × (totals : Totals)
+    × IsCheckDoneAt family found.querier (with_variables taking.settings found) taking.terms input (record { old = output.old; new = mid }) totals
+    × BreaksOff (record { old = mid; new = output.new }) (taken_line family taking.settings found))
+
+-- nothing was read again, and nothing was written
+abbrev pub IsUntouched : Input → Output → Type 0
+IsUntouched input output = (input.new ≡ input.old) × (output.new ≡ output.old)
+
+-- the result of the check of a querier that announces these variables
+abbrev pub ChecksFound : Family → Taking → Announced ℕ → Input → Output → Result Totals Failure → Type 0
+ChecksFound family taking found input output (Ok totals) = IsFoundDone family taking found input output totals
+ChecksFound family taking found input output (Err failure) =
+    (status_of failure ≡ 2 → IsUntouched input output
+    × IsRefusedAt family found.querier (with_variables taking.settings found) taking.terms.until failure)
+    × (status_of failure ≡ 1 → IsFoundBroken family taking found input output failure)
+
+-- the failure of the first reading: a fault of the capture, or else refused memory
+abbrev pub first_failure : CheckFault → Failure
+first_failure (answer.Pcap f) = Capture f
+first_failure fault = Memory
+
+-- the result by what the first reading of the capture found
+abbrev pub ChecksBy : Family → Taking → Input → Output → Result (Option (Announced ℕ)) CheckFault → Result (Option Totals) Failure → Type 0
+ChecksBy family taking input output (Ok (Some found)) (Ok (Some totals)) =
+    ChecksFound family taking found input output (Ok totals)
+ChecksBy family taking input output (Ok (Some found)) (Ok None) = ⊥
+ChecksBy family taking input output (Ok (Some found)) (Err failure) =
+    ChecksFound family taking found input output (Err failure)
+ChecksBy family taking input output (Ok None) r = (r ≡ Ok None) × IsUntouched input output
+ChecksBy family taking input output (Err fault) r = (r ≡ Err (first_failure fault)) × IsUntouched input output
+
+pub record ChecksTaking (family : Family) (taking : Taking) (first input : Input) (output : Output) (r : Result (Option Totals) Failure) : Type 0 where
+  pub found : Result (Option (Announced ℕ)) CheckFault
+  pub announces : Announces family first.old first.new found
+  pub checks : ChecksBy family taking input output found r
+
+-- A check of this querier reached its end, with or without findings, or without anything to judge. Or it was refused or
+-- ended early, with a reported reason.
+pub record PerformsFound (family : Family) (taking : Taking) (found : Announced ℕ) (in_words : Bool) (input : Input) (output errors : Output) (status : ℕ) : Type 0 where
+  pub at_most_four : status ≤ 4
+  pub done : status ≡ 0 → (totals : Totals) × (totals.findings ≡ 0) × IsJudged totals
+      × IsFoundDone family taking found input output totals × (errors.new ≡ errors.old)
+  pub faulty : status ≡ 1 → (failure : Failure)
+      × IsFoundBroken family taking found input output failure × Told in_words errors failure
+  pub refused : status ≡ 2 → IsUntouched input output × (failure : Failure)
+      × IsRefusedAt family found.querier (with_variables taking.settings found) taking.terms.until failure × Told in_words errors failure
+  pub differs : status ≡ 3 → (totals : Totals) × (1 ≤ totals.findings) × IsJudged totals
+      × IsFoundDone family taking found input output totals × (errors.new ≡ errors.old)
+  pub unjudged : status ≡ 4 → (totals : Totals) × (why : Unjudged) × (unjudged_by totals ≡ Some why)
+      × IsFoundDone family taking found input output totals × IsTold errors (unjudged_line why)
+
+-- the outcome by what the first reading of the capture found
+abbrev pub PerformsBy : Family → Taking → (in_words : Bool) → Input → (output errors : Output) → (status : ℕ) → Result (Option (Announced ℕ)) CheckFault → Type 0
+PerformsBy family taking in_words input output errors status (Ok (Some found)) =
+    PerformsFound family taking found in_words input output errors status
+PerformsBy family taking in_words input output errors status (Ok None) =
+    (status ≡ 4) × IsUntouched input output × IsTold errors no_querier_line
+PerformsBy family taking in_words input output errors status (Err fault) =
+    (status ≡ 1) × IsUntouched input output × Told in_words errors (first_failure fault)
+
+-- A check of the querier that the capture names was performed with this status. The capture was read once for what is
+-- announced, and then again for the check.
+pub record PerformsTaking (taking : Taking) (in_words : Bool) (first input : Input) (output errors : Output) (status : ℕ) : Type 0 where
+  pub found : Result (Option (Announced ℕ)) CheckFault
+  pub announces : Announces (family_of taking.protocol) first.old first.new found
+  pub performs : PerformsBy (family_of taking.protocol) taking in_words input output errors status found

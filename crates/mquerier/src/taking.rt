@@ -1,0 +1,197 @@
+//! Checks whose querier and variables come from the capture itself.
+
+ghost use Rattle.std.specs.Prelude.{◌≡◌};
+ghost use Rattle.mq_check.specs.Numbered.{numbered_announced};
+ghost use Rattle.mquerier.specs.Changes.{input_by, output_by};
+ghost use Rattle.mquerier.specs.Replays.{family_of};
+ghost use Rattle.mquerier.specs.Taking as spec;
+
+use crate::checking::check_at;
+use crate::failure::{Failure, UNJUDGED};
+use crate::program::{print_whole, status_of_totals, terms_of, told};
+use crate::taken_line::taken_line_of;
+use crate::unopened::tell_no_querier;
+use clap::Error;
+use mq_check::{Announced, CheckFault, CheckTerms, CheckedFamily, Totals, announced_variables};
+use mq_command::{Protocol, Request, Settings};
+use mq_count::Watched;
+use mq_lines::LineKey;
+use mq_link::{Igmp, Mld};
+use mq_pcap::Supply;
+use mq_wire::WireKey;
+use std::alloc::Global;
+use std::io::{Read, Write};
+
+/// The request for a check of the querier that the capture names.
+#[derive(Clone, Copy)]
+pub struct Taking {
+    /// The querier's protocol.
+    pub protocol: Protocol,
+    /// The settings that are given.
+    pub settings: Settings,
+    /// The terms of the check.
+    pub terms: CheckTerms,
+}
+
+/// Returns the request for a check whose querier is `auto`, if this is one.
+pub fn taking_of(asked: &Result<Request<'_>, Error>) -> Option<Taking>
+    ensures { result ≡ spec.taking_of asked.now }
+{
+    match asked {
+        Ok(
+            Request::Check {
+                protocol,
+                querier,
+                settings,
+                within,
+                cite,
+                strict,
+                until,
+                ..
+            },
+        ) if *querier == "auto" => Some(Taking {
+            protocol: *protocol,
+            settings: *settings,
+            terms: terms_of(*within, *until, *cite, *strict),
+        }),
+        _ => None,
+    }
+}
+
+/// Performs a check of the querier that the capture names, and returns its status, as `perform` does.
+///
+/// The variables are those that its queries announce, and given settings decide over them. `first` and `input` are the
+/// same capture, which is read twice. After the totals a line names the querier and the variables that come from the
+/// capture. Without a general query of the family nothing is judged.
+pub fn perform_taking<S: Supply, Q: Read, R: Read, W: Write, E: Write>(
+    alloc: Global,
+    taking: &Taking,
+    in_words: bool,
+    first: &mut Watched<Q>,
+    supply: &S,
+    input: &mut Watched<R>,
+    output: &mut Watched<W>,
+    errors: &mut Watched<E>,
+) -> u8
+    ensures { spec.PerformsTaking taking.now in_words
+        (input_by Q.remaining first.old first.new)
+        (input_by R.remaining input.old input.new)
+        (output_by W.contents output.old output.new)
+        (output_by E.contents errors.old errors.new)
+        result }
+{
+    match check_named(alloc, taking, first, supply, input, output) {
+        Ok(Some(totals)) => status_of_totals(&totals, errors),
+        Ok(None) => {
+            tell_no_querier(errors);
+            UNJUDGED
+        }
+        Err(failure) => told(failure, in_words, errors),
+    }
+}
+
+/// Checks the querier that the capture names. Returns None if there is no general query.
+fn check_named<S: Supply, Q: Read, R: Read, W: Write>(
+    alloc: Global,
+    taking: &Taking,
+    first: &mut Watched<Q>,
+    supply: &S,
+    input: &mut Watched<R>,
+    output: &mut Watched<W>,
+) -> Result<Option<Totals>, Failure>
+    ensures { spec.ChecksTaking (family_of taking.now.protocol) taking.now
+        (input_by Q.remaining first.old first.new)
+        (input_by R.remaining input.old input.new)
+        (output_by W.contents output.old output.new)
+        result }
+{
+    match taking.protocol {
+        Protocol::Igmp => {
+            check_taking::<Igmp, S, Q, R, W>(alloc, taking, first, supply, input, output)
+        }
+        Protocol::Mld => {
+            check_taking::<Mld, S, Q, R, W>(alloc, taking, first, supply, input, output)
+        }
+    }
+}
+
+/// Checks the querier of the family `F` that the capture names. Returns None if there is no general query.
+fn check_taking<F: CheckedFamily, S: Supply, Q: Read, R: Read, W: Write>(
+    alloc: Global,
+    taking: &Taking,
+    first: &mut Watched<Q>,
+    supply: &S,
+    input: &mut Watched<R>,
+    output: &mut Watched<W>,
+) -> Result<Option<Totals>, Failure>
+where
+    F::Address: LineKey,
+    ensures { spec.ChecksTaking F.FAMILY taking.now
+        (input_by Q.remaining first.old first.new)
+        (input_by R.remaining input.old input.new)
+        (output_by W.contents output.old output.new)
+        result }
+{
+    match announced_variables::<F, Global, Q>(alloc, first) {
+        Ok(Some(found)) => {
+            let totals = check_found::<F, S, R, W>(alloc, taking, &found, supply, input, output)?;
+            Ok(Some(totals))
+        }
+        Ok(None) => Ok(None),
+        Err(fault) => Err(first_failure(fault)),
+    }
+}
+
+/// Returns the failure of the first reading: a fault of the capture, or else refused memory.
+fn first_failure(fault: CheckFault) -> Failure
+    ensures { result ≡ spec.first_failure fault }
+{
+    match fault {
+        CheckFault::Pcap(fault) => Failure::Capture(fault),
+        _ => Failure::Memory,
+    }
+}
+
+/// Checks the querier that announces these variables, and prints the line of what comes from the capture.
+fn check_found<F: CheckedFamily, S: Supply, R: Read, W: Write>(
+    alloc: Global,
+    taking: &Taking,
+    found: &Announced<F::Address>,
+    supply: &S,
+    input: &mut Watched<R>,
+    output: &mut Watched<W>,
+) -> Result<Totals, Failure>
+where
+    F::Address: LineKey,
+    ensures { spec.ChecksFound F.FAMILY taking.now (numbered_announced F.Address.number found.now)
+        (input_by R.remaining input.old input.new)
+        (output_by W.contents output.old output.new)
+        result }
+{
+    let settings = with_variables(&taking.settings, found);
+    let totals = check_at::<F, S, R, W>(
+        alloc,
+        found.querier,
+        &settings,
+        taking.terms,
+        supply,
+        input,
+        output,
+    )?;
+    let line = taken_line_of(&taking.settings, found);
+    print_whole(line.as_slice(), output)?;
+    Ok(totals)
+}
+
+/// Returns the settings with the announced variables for those that aren't given.
+fn with_variables<K: WireKey>(settings: &Settings, found: &Announced<K>) -> Settings
+    ensures { result ≡ spec.with_variables settings.now (numbered_announced K.number found.now) }
+{
+    Settings {
+        robustness: settings.robustness.or(found.robustness),
+        query_seconds: settings.query_seconds.or(found.query_seconds),
+        response_interval: settings.response_interval.or(found.response_interval),
+        last_member_interval: settings.last_member_interval.or(found.last_member_interval),
+        ..*settings
+    }
+}
