@@ -2,7 +2,7 @@
 
 - An answer that lost its goal moves to a new goal, in each way to match them.
 - A new goal of a return gets the answers of the other returns of its clause.
-- A missing field gets the name of a new field.
+- A missing field gets the name of a new field, and a missing place that of a place after a new call.
 - If an edit swaps the two sides of a symmetric operator, the answers swap them too.
 - If an edit only moves words, the answers exchange a first and a second call.
 """
@@ -18,10 +18,10 @@ MOST_PLACES, MOST_WAYS = 3, 8
 NAME = re.compile(r"(.?)(?<![^\s(){}\[\],;:←∙.])([^\s(){}\[\],;:←∙.]+)")
 # The answer to a goal, down to the next declaration.
 ANSWER = re.compile(r"(?ms)^pub (\S+) : goal\.\1(?=\s).*?(?=^(?:--|pub |abbrev |[^\s]+ : )|\Z)")
-# A field that a record lacks, and the fields that it has.
-MISSING = re.compile(r"has no field `([^`]+)`")
+# A field that a record lacks, or a place that the function lacks, and those that there are.
+MISSING = re.compile(r"has no (?:field `|`(?=After-))([^`]+)`")
 NEAREST = re.compile(r"\(nearest: ([^)]*)\)")
-OTHERS = re.compile(r"the fields that can be named here are ([^\n]*)")
+OTHERS = re.compile(r"(?:the fields that can be named here are|names in it that begin alike:) ([^\n]*)")
 
 
 # The sides of a symmetric operator in code and in terms, and these operators.
@@ -73,7 +73,8 @@ def with_fields(texts, fields):
 
 
 def fields_of(heard, texts):
-    """Returns the fields that answers lack, each with its candidates: new fields of the same call that differ in a local's name."""
+    """Returns the fields and places that answers lack, each with its candidates. These are new fields of the same call that differ in a
+    local's name, or places after a new call."""
     known, found = {at[2] for text in texts.values() for at in NAME.finditer(text)}, {}
     for note in [it for notes in heard.unfit.values() for it in notes]:
         missing = MISSING.search(note)
@@ -82,7 +83,7 @@ def fields_of(heard, texts):
         named = [it.strip(" .") for at in NEAREST.finditer(note) for it in at[1].split(",")]
         named += [it for at in OTHERS.finditer(note) for it in re.findall("`([^`]+)`", at[1])]
         head = missing[1].split("-")[0]
-        found[missing[1]] = [it for it in dict.fromkeys(named) if it not in known and it.split("-")[0] == head]
+        found[missing[1]] = [it for it in dict.fromkeys(named) if it not in known and it.split("-")[0] == head and "-arg-" not in it]
     return found
 
 

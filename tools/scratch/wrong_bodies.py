@@ -9,6 +9,7 @@ PATH = "./proofs/{}/Answers.antt:3:1: error: "
 CITES = "./proofs/renamed/Answers.antt:9:5: error: 1 declaration that depends on `cell-requires`, which was rejected, was not checked: returns\n"
 LOST = PATH + "`{}`: `goal.{}`: module `low.renamed.Goals` has no `{}` that can be named\n"
 FALSE = PATH + "`{}`: the goal does not follow\n"
+PLACE = PATH + "`it`: `goal.{}`: module `low.{}.Goals` has no `{}` that can be named from here (names in it that begin alike: `After-x-arg-1`, `After-y`)\n"
 FIELD = PATH + "`{}`: record `low.{}.Lts` (nearest: .{}, .other)\n  has no field `{}`\n"
 OPEN = "note: src/lib.rt:{}:1: it is not proved that it holds (`{}`){}\n"
 NOT_PROVED, VALUES = "fn low::{}: not proved\n", "; the facts known there allow values at which this goal is false"
@@ -27,7 +28,7 @@ def lost(function, goals):
 
 FUNCTIONS = (
     "callee caller single mentions right held loop renamed moved turned vanished folded unchecked unwritten uncited untold unsaid bare_name early early_false early_holds early_first "
-    "searched limits stranger fields fields_fit fields_old sits sides sides_false calls calls_false smaller order".split()
+    "searched limits stranger fields fields_fit fields_old places sits sides sides_false calls calls_false smaller order".split()
 )
 CELL, EXCHANGED = {"cell-requires": "slot-requires"}, {"a-requires": "c-requires", "b-requires": "d-requires"}
 EARLY, TWO = "returns-then-x-clause-it", "returns-clause-it,returns-in-y-clause-it"
@@ -80,6 +81,8 @@ SAYS = {
     "fields": {"returns:x-it": FIELD.format("fields", "returns", "fields", "x-now", "x-it"), "returns:x-now": FALSE.format("fields", "returns")},
     "fields_fit": {"returns:x-it": FIELD.format("fields_fit", "returns", "fields_fit", "x-now", "x-it"), "returns:x-now": ""},
     "fields_old": {"returns:x-it:x-now": FIELD.format("fields_old", "returns", "fields_old", "x-now", "x-it"), "returns:x-now:x-now": FALSE.format("fields_old", "returns")},
+    # The place after a call that another call now follows.
+    "places": {"it:After-x": PLACE.format("places", "After-x", "places", "After-x"), "it:After-y": FALSE.format("places", "it")},
     # A sum with swapped sides, whose answer with swapped sides holds or does not. Then two exchanged calls, with the same two results.
     "sides": {"returns:left:right": FALSE.format("sides", "returns"), "returns:right:left": ""},
     "sides_false": {it: FALSE.format("sides_false", "returns") for it in ("returns:left:right", "returns:right:left")},
@@ -104,9 +107,9 @@ BODIES = {it: (f"{it} body", f"{it} wrong") for it in SAYS} | {
 PAIRS = {"order": [("f(1);", "f(2) ;"), ("f(2);", "f(1);")]}
 OF_EDITS = "wrong-bodies", "edits.py", "answers.py", "verdicts.py", "stubs.py", "items.py", "closure.py", "passing.py"
 # The edits that a contract refuses, those that it lets through, and the refused ones whose answers are first renamed or moved.
-REFUSED = "callee", "caller", "single", "held", "renamed", "early_false", "searched", "fields", "calls_false"
+REFUSED = "callee", "caller", "single", "held", "renamed", "early_false", "searched", "fields", "places", "calls_false"
 HOLDS = "right", "moved", "turned", "early_holds", "early_first", "fields_fit", "sides", "calls"
-MOVED = "renamed", "early_false", "fields", "calls_false"
+MOVED = "renamed", "early_false", "fields", "places", "calls_false"
 
 
 def answers(says):
