@@ -129,7 +129,7 @@ def impl_of(head):
         if not depth:
             declared, rest = text[: at + 1], text[at + 1 :]
             break
-    trait, _, of = re.sub(r"\w+::", "", rest).rpartition(" for ")
+    trait, _, of = re.sub(r"\w+::", "", rest).replace("()", "Unit").rpartition(" for ")
     params = {*re.findall(r"[<,] *(?:const )?('?\w+)", declared)}
     words_of = [[it for it in re.findall(r"(?<!')\b\w+", part) if it not in (*params, "dyn", "mut")] for part in (of, trait)]
     scope = "".join(it[0].upper() + it[1:] for it in (words_of[0] or ["Any"]) + words_of[1])
