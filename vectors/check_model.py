@@ -5,6 +5,7 @@ the two at the end. It pairs whole lists, for each group or source apart, and st
 and `check_taking` that about the querier which the capture names.
 """
 
+import copy
 import dataclasses
 
 from model import DAY, Options, Querier
@@ -43,6 +44,9 @@ class Asked:
     def text(self):
         return text_of(self.group) + (f" {text_of(self.source)}" if self.source is not None else "")
 
+
+# The latest moment.
+LATEST = 2**53
 
 # Types of Ethernet behind which an IP packet may stand that no check looks into: tags, MPLS, PPPoE, MACsec; and that of `convert`
 # for a link type that it doesn't read.
@@ -317,7 +321,13 @@ class Check:
         return [f"{it.at} differs {it.text()}: {name} {one}, wanted {other}" for name, one, other in named if one != other]
 
     def judge(self, end):
-        """All lines, where the capture ends at a moment: of what has no partner by then nothing is said, if one may come."""
+        """All lines, where the capture ends at a moment. The partner of a wanted query may come after the end: then it isn't missing. The
+        partner of a seen query is wanted at most the tolerance later, and no report can come before that. So the link is asked
+        what it will send by then. The silence and the basis are those of the end."""
+        if self.link.other is None:
+            self.silence(end, self.link.next_order())
+        basis = copy.copy(self.basis)
+        self.tick_to(min(end + self.within, LATEST))
         self.pair()
         if not self.strict:
             self.schedules()
@@ -328,15 +338,13 @@ class Check:
             if it.partner:
                 for line in self.differences(it):
                     self.find(it.order, line)
-            elif it.at + self.within < end and not any(self.is_near(it.at, change) for change in self.changes):
+            elif not any(self.is_near(it.at, change) for change in self.changes):
                 for line in self.differences(it) if it.allowed else [f"{it.at} extra {it.text()}"]:
                     self.find(it.order, line)
-        if self.link.other is None:
-            self.silence(end, self.link.next_order())
         lines = [line for _, line in sorted(self.findings, key=lambda it: it[0])]
         totals = f"checked general {self.general} specific {self.specific}: {len(lines)} findings"
-        unjudged = self.basis.unjudged(self.general, self.specific, len(lines))
-        return Verdict([*lines, totals, *self.basis.lines()], lines, unjudged)
+        unjudged = basis.unjudged(self.general, self.specific, len(lines))
+        return Verdict([*lines, totals, *basis.lines()], lines, unjudged)
 
 
 def ip_in(kind, frame):

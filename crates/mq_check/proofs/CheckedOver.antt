@@ -26,11 +26,11 @@ use Rattle.mq_check.specs.declared.check_terms.CheckTerms.{CheckTerms}
 use Rattle.mq_check.specs.declared.entry.Entry.{Entry}
 use Rattle.mq_check.specs.declared.finding.Finding.{Finding}
 use Rattle.mq_check.specs.declared.totals.Totals.{Totals}
-use Rattle.mq_check.specs.Check.{Checked, Course, Outcome, Verdict, at_the_start, broken_off, check_of, concluded, ended_at, ticked_through, totals_of, verdict_behind, with_all_packets, with_packet, with_packets}
+use Rattle.mq_check.specs.Check.{Checked, Course, Outcome, Verdict, at_the_start, broken_off, check_of, concluded, ended_at, looked_ahead, settled_through, totals_of, verdict_behind, with_all_packets, with_packet, with_packets}
 use Rattle.mq_check.specs.CheckedCaptures.{IsEndedBy, is_failed_write, packets_text, verdict_of}
-use Rattle.mq_check.specs.Checking.{CheckingValue, counted_up, found_of_last, settled, silence_found, told, told_at_end}
+use Rattle.mq_check.specs.Checking.{CheckingValue, counted_up, told_at_end}
 use Rattle.mq_check.specs.Coming.{CheckState, ChecksPacket, Comes, TakesChecked, checked_in}
-use Rattle.mq_check.specs.Ending.{IsRestPut, IsVerdictPut, PutsVerdict, counted_behind, end_text, ended_behind, last_findings, rest_behind}
+use Rattle.mq_check.specs.Ending.{IsRestPut, IsVerdictPut, PutsVerdict, counted_behind, end_text, ended_behind, rest_behind}
 use Rattle.mq_check.specs.FindingLines.{finding_lines, last_lines}
 use Rattle.mq_check.specs.General.{silence_up_to}
 use Rattle.mq_check.specs.Telling.{ToldState, Tells, counted_times}
@@ -52,72 +52,64 @@ totals_are c rests found rest count counts =
     let findings = sym (counted_to (length (found ++ rest))) ∙ ap (λ (n : ℕ). counted_times n 0) (length-append found rest) ∙ times_more (length found) (length rest) 0 ∙ ap (counted_times (length rest)) (sym counts) in
     λ i. record { general = c.general; specific = c.specific; findings = findings i; basis = rests }
 
--- what no longer waits leaves it as full as it was
-full_still : (within moment : ℕ) (w : WaitingValue) → (waits.settled within moment w).is_full ≡ w.is_full
-unfolding waits.settled
-full_still within moment w = by_room w.entries w.is_full
-  where
-    by_room : (entries : List (Entry ℕ)) (b : Bool) → (waits.settled within moment (record { entries = entries; is_full = b })).is_full ≡ b
-    by_room entries true = refl
-    by_room entries false = refl
-
 -- the end of a check behind what was found before
 ended_joined : (config : Configuration) (within : ℕ) (cite : Bool) (moment number count : ℕ) (found : List (Finding ℕ)) (r : Checked) → count ≡ counted_times (length found) 0
     → ended_at config within cite moment number found r ≡ verdict_after (finding_lines config.family cite found) (ended_behind config within cite moment count number r)
-unfolding ended_at ended_behind told_at_end
-ended_joined config within cite moment number count found r counts = by_room c.waiting.is_full ∙ ap (verdict_after lines) (ap behind (sym (full_still within moment c.waiting)))
+unfolding ended_at ended_behind
+ended_joined config within cite moment number count found r counts = by_room c.waiting.is_full
   where
     done : Outcome
-    done = ticked_through config within moment r
+    done = settled_through config within moment r
+
+    ahead : Outcome
+    ahead = looked_ahead config within moment done.checked
 
     c : CheckingValue
-    c = done.checked.checking
+    c = ahead.checked.checking
 
-    left : CheckingValue
-    left = settled within moment c
+    rests : Basis
+    rests = done.checked.basis
 
     lines : List ℕ
     lines = finding_lines config.family cite found
 
     more : List (Finding ℕ)
-    more = done.found ++ told within moment c
+    more = done.found ++ ahead.found
 
     last : List (Finding ℕ)
-    last = last_findings within config.timing moment left
+    last = told_at_end within config.timing moment (silence_up_to within config.timing moment done.checked.checking.phase) c
 
     part : List (Finding ℕ)
-    part = found ++ done.found ++ told within moment c
+    part = found ++ done.found ++ ahead.found
 
     all : List (Finding ℕ)
-    all = found ++ done.found ++ (told within moment c ++ flat_map found_of_last left.waiting.entries ++ silence_found config.timing moment (silence_up_to within config.timing moment left.phase))
+    all = part ++ last
 
     at : Bool → Verdict
-    at b = if b then broken_off config cite (answer.Waiting number) part else concluded config cite c done.checked.basis all
+    at b = if b then broken_off config cite (answer.Waiting number) part else concluded config cite c rests all
 
     behind : Bool → Verdict
     behind b =
         if b
         then record { text = finding_lines config.family cite more; answer = Err (answer.Waiting number) }
-        else record { text = end_text config.family cite (more ++ last) (counted_behind count left done.checked.basis (more ++ last)); answer = Ok (counted_behind count left done.checked.basis (more ++ last)) }
+        else record { text = end_text config.family cite (more ++ last) (counted_behind count c rests (more ++ last)); answer = Ok (counted_behind count c rests (more ++ last)) }
 
     parts : part ≡ found ++ more
-    parts = append_assoc found done.found (told within moment c)
+    parts = append_assoc found done.found ahead.found
 
     same : all ≡ found ++ (more ++ last)
-    same = ap (λ (fs : List (Finding ℕ)). found ++ done.found ++ fs) (append_assoc (told within moment c) (flat_map found_of_last left.waiting.entries) (silence_found config.timing moment (silence_up_to within config.timing moment left.phase)))
-        ∙ append_assoc found done.found (told within moment c ++ last)
-        ∙ ap (λ (fs : List (Finding ℕ)). found ++ fs) (sym (append_assoc done.found (told within moment c) last))
+    same = ap (λ (fs : List (Finding ℕ)). fs ++ last) parts ∙ append_assoc found more last
 
-    totals : totals_of c done.checked.basis all ≡ counted_behind count left done.checked.basis (more ++ last)
-    totals = ap (totals_of c done.checked.basis) same ∙ totals_are c done.checked.basis found (more ++ last) count counts
+    totals : totals_of c rests all ≡ counted_behind count c rests (more ++ last)
+    totals = ap (totals_of c rests) same ∙ totals_are c rests found (more ++ last) count counts
 
     by_room : (b : Bool) → at b ≡ verdict_after lines (behind b)
     by_room true = λ i. record { text = (ap (finding_lines config.family cite) parts ∙ lines_of_both config.family cite found more) i; answer = Err (answer.Waiting number) }
     by_room false = λ i. record {
       text = (ap (λ (t : Totals). finding_lines config.family cite all ++ last_lines t) totals
-          ∙ ap (λ (fs : List (Finding ℕ)). finding_lines config.family cite fs ++ last_lines (counted_behind count left done.checked.basis (more ++ last))) same
-          ∙ ap (λ (t : List ℕ). t ++ last_lines (counted_behind count left done.checked.basis (more ++ last))) (lines_of_both config.family cite found (more ++ last))
-          ∙ append_assoc lines (finding_lines config.family cite (more ++ last)) (last_lines (counted_behind count left done.checked.basis (more ++ last)))) i;
+          ∙ ap (λ (fs : List (Finding ℕ)). finding_lines config.family cite fs ++ last_lines (counted_behind count c rests (more ++ last))) same
+          ∙ ap (λ (t : List ℕ). t ++ last_lines (counted_behind count c rests (more ++ last))) (lines_of_both config.family cite found (more ++ last))
+          ∙ append_assoc lines (finding_lines config.family cite (more ++ last)) (last_lines (counted_behind count c rests (more ++ last)))) i;
       answer = Ok (totals i);
     }
 

@@ -19,10 +19,11 @@ use Rattle.mq_check.specs.declared.check_fault.CheckFault.TheVariants as answer
 use Rattle.mq_check.specs.declared.check_terms.CheckTerms.{CheckTerms}
 use Rattle.mq_check.specs.declared.finding.Finding.{Finding}
 use Rattle.mq_check.specs.declared.totals.Totals.{Totals}
-use Rattle.mq_check.specs.Check.{Checked, Course, Verdict, broken_off, check_of, concluded, ended_at, last_moment, ticked_through, verdict_behind, with_all_packets}
+use Rattle.mq_check.specs.Check.{Checked, Course, Outcome, Verdict, broken_off, check_of, concluded, ended_at, last_moment, looked_ahead, settled_through, verdict_behind, with_all_packets}
 use Rattle.mq_check.specs.CheckedCaptures.{Checks, IsBrokenOffAt, IsEndedBy, IsEndedByFault, IsWrittenBy, is_failed_write, packets_text, so_far, text_by, verdict_of}
-use Rattle.mq_check.specs.Checking.{CheckingValue, told, told_at_end}
+use Rattle.mq_check.specs.Checking.{told_at_end}
 use Rattle.mq_check.specs.Ending.{IsPutBy, PutsVerdict}
+use Rattle.mq_check.specs.General.{silence_up_to}
 use Rattle.mq_check.specs.FindingLines.{finding_lines}
 
 -- what a buffer that held nothing passed on whole was written, or a beginning of it
@@ -80,16 +81,21 @@ IsFaultText number end packets v e = (v.text ≡ packets) ⊎ ((end ≡ None) ×
 fault_of_end : (config : Configuration) (within : ℕ) (cite : Bool) (moment number : ℕ) (found : List (Finding ℕ)) (r : Checked) (packets : List ℕ) (e : CheckFault) → (ended_at config within cite moment number found r).answer ≡ Err e
     → IsFaultText number None packets (ended_at config within cite moment number found r) e
 unfolding ended_at
-fault_of_end config within cite moment number found r packets e is = by_room c.waiting.is_full is
+fault_of_end config within cite moment number found r packets e is = by_room ahead.checked.checking.waiting.is_full is
   where
-    c : CheckingValue
-    c = (ticked_through config within moment r).checked.checking
+    done : Outcome
+    done = settled_through config within moment r
+
+    ahead : Outcome
+    ahead = looked_ahead config within moment done.checked
 
     broken : Verdict
-    broken = broken_off config cite (answer.Waiting number) (found ++ (ticked_through config within moment r).found ++ told within moment c)
+    broken = broken_off config cite (answer.Waiting number) (found ++ done.found ++ ahead.found)
 
     whole : Verdict
-    whole = concluded config cite c (ticked_through config within moment r).checked.basis (found ++ (ticked_through config within moment r).found ++ told_at_end within config.timing moment c)
+    whole =
+        concluded config cite ahead.checked.checking done.checked.basis
+        (found ++ done.found ++ ahead.found ++ told_at_end within config.timing moment (silence_up_to within config.timing moment done.checked.checking.phase) ahead.checked.checking)
 
     by_room : (b : Bool) → (either b broken whole).answer ≡ Err e → IsFaultText number None packets (either b broken whole) e
     by_room true is = inr (refl, sym (cc is))

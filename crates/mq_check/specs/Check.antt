@@ -28,8 +28,9 @@ use Rattle.mq_check.specs.declared.headers.Headers.{Headers}
 use Rattle.mq_check.specs.declared.totals.Totals.{Totals}
 use Rattle.mq_check.specs.Basis.{basis_at_start, named, with_frame, with_other_querier}
 use Rattle.mq_check.specs.Basis as basis
-use Rattle.mq_check.specs.Checking.{CheckingValue, checking_at_start, told, settled, faults_seen, with_messages, role_changed, role_after_tick, query_came, told_at_end}
+use Rattle.mq_check.specs.Checking.{CheckingValue, checking_at_start, told, settled, faults_seen, with_all_excused, with_messages, role_changed, role_after_tick, query_came, told_at_end}
 use Rattle.mq_check.specs.FindingLines.{finding_lines, last_lines}
+use Rattle.mq_check.specs.General.{silence_up_to}
 use Rattle.mq_check.specs.Headers.{faults_if, faults_of, has_reserved_bits, headers4_in, is_broken_query, is_own_query}
 use Rattle.mq_check.specs.Queries.{query_seen}
 
@@ -99,6 +100,22 @@ ticked_within (suc most) config within limit r =
 -- All ticks up to and including a moment. After each, the link's next moment is later.
 abbrev pub ticked_through : Configuration → (within moment : ℕ) → Checked → Outcome
 ticked_through config within moment r = ticked_within (moment + 1) config within (moment + 1) r
+
+-- all ticks up to and including a moment, and the removal of the entries that have expired then
+abbrev pub settled_through : Configuration → (within moment : ℕ) → Checked → Outcome
+settled_through config within moment r =
+    let done = ticked_through config within moment r in
+    record {
+      checked = settled_at within moment done.checked;
+      found = done.found ++ told within moment done.checked.checking;
+    }
+
+-- The ticks after the end of a capture, as long as a query that the link sends may be the partner of a seen one: up to
+-- the tolerance after the end, and at most 2^53. A pending wanted query may be left out, since its partner may come after
+-- the end.
+abbrev pub looked_ahead : Configuration → (within moment : ℕ) → Checked → Outcome
+looked_ahead config within moment r =
+    ticked_through config within (min (moment + within) (2 ^ 53)) (record r { checking = with_all_excused r.checking })
 
 -- the IP packet of a frame, after an Ethernet header and at most one tag
 abbrev pub packet_in : LinkType → (frame : List ℕ) → List ℕ
@@ -234,15 +251,17 @@ concluded config cite c basis found = record {
   answer = Ok (totals_of c basis found);
 }
 
--- The verdict after a check up to and including a moment, with the earlier findings first.
+-- The verdict after a check up to and including a moment, with the earlier findings first. The link is ticked further,
+-- so that each seen query can find its partner. The basis and the silence are those of the moment.
 unfoldable pub ended_at : Configuration → (within : ℕ) → (cite : Bool) → (moment number : ℕ) → (found : List (Finding ℕ)) → Checked → Verdict
 ended_at config within cite moment number found r =
-    let done = ticked_through config within moment r in
-    let checking = done.checked.checking in
-    if checking.waiting.is_full
-    then broken_off config cite (Waiting number) (found ++ done.found ++ told within moment checking)
-    else concluded config cite checking done.checked.basis
-    (found ++ done.found ++ told_at_end within config.timing moment checking)
+    let done = settled_through config within moment r in
+    let ahead = looked_ahead config within moment done.checked in
+    let silence = silence_up_to within config.timing moment done.checked.checking.phase in
+    if ahead.checked.checking.waiting.is_full
+    then broken_off config cite (Waiting number) (found ++ done.found ++ ahead.found)
+    else concluded config cite ahead.checked.checking done.checked.basis
+    (found ++ done.found ++ ahead.found ++ told_at_end within config.timing moment silence ahead.checked.checking)
 
 -- the moment at which a check ends: that of the last packet, or the requested one if that is later
 abbrev pub last_moment : (until : Option ℕ) → Course → ℕ

@@ -18,7 +18,7 @@ use Rattle.mq_check.specs.declared.phase.Phase.{Phase}
 use Rattle.mq_check.specs.declared.phase.Phase.TheVariants.{Starting, Heard, Returned, NotQuerier}
 use Rattle.mq_check.specs.declared.terms.Terms.{Terms}
 use Rattle.mq_check.specs.declared.waiting.Side.TheVariants.{OfWanted, OfSeen}
-use Rattle.mq_check.specs.Entries.{first_terms, may_be_left_out, differences_found}
+use Rattle.mq_check.specs.Entries.{first_terms, may_be_left_out, excused, findings_of}
 use Rattle.mq_check.specs.General.{phase_at_start, wrong_interval, phase_behind, silence_up_to, phase_again}
 use Rattle.mq_check.specs.Unheld.{specific_terms, unheld}
 use Rattle.mq_check.specs.Schedules.{SchedulesValue, schedules_at_start, schedules_seen, schedules_wanted, recent, allowed_by}
@@ -239,25 +239,21 @@ role_after_tick within moment true is_querier c = c
 role_after_tick within moment false true c = role_returned within moment c
 role_after_tick within moment false false c = c
 
--- The findings of an entry that is pending at the end of a capture. A query without a partner isn't reported: its
--- partner may come later.
-abbrev pub found_of_last : Entry ℕ → List (Finding ℕ)
-found_of_last (Wanted moment asked terms is_optional is_found) = []
-found_of_last (Seen moment asked terms None alone) = []
-found_of_last (Seen moment asked terms (Some wanted) alone) = differences_found moment asked terms wanted
-found_of_last (Interval moment after wanted) = finding.Interval moment after wanted ∷ []
-found_of_last (Silence moment after wanted) = finding.Silence moment after wanted ∷ []
-found_of_last (Packet moment number fault) = finding.Packet moment number fault ∷ []
+-- the check at the end of a capture, after which the partners of wanted queries may come
+abbrev pub with_all_excused : CheckingValue → CheckingValue
+with_all_excused c = record c { waiting = waits.all_excused c.waiting }
+
+-- The findings of an entry that is pending after the end of a capture, if the role changed last at `changed`. A wanted
+-- query isn't reported.
+abbrev pub found_of_last : (within : ℕ) → (changed : Option ℕ) → Entry ℕ → List (Finding ℕ)
+found_of_last within changed entry = findings_of within changed (excused entry)
 
 abbrev pub silence_found : (configured : Timing) → (moment : ℕ) → Option ℕ → List (Finding ℕ)
 silence_found configured moment None = []
 silence_found configured moment (Some passed) =
     finding.Silence moment passed (query_interval configured) ∷ []
 
--- the findings at the end of a check, in order: expired entries, pending ones, and a silence that is too long
-unfoldable pub told_at_end : (within : ℕ) → (configured : Timing) → (moment : ℕ) → CheckingValue → List (Finding ℕ)
-told_at_end within configured moment c =
-    let left = settled within moment c in
-    told within moment c
-    ++ flat_map found_of_last left.waiting.entries
-    ++ silence_found configured moment (silence_up_to within configured moment left.phase)
+-- the last findings: those of the pending entries, and a silence up to the end that is too long
+abbrev pub told_at_end : (within : ℕ) → (configured : Timing) → (moment : ℕ) → (silence : Option ℕ) → CheckingValue → List (Finding ℕ)
+told_at_end within configured moment silence c =
+    flat_map (found_of_last within c.changed) c.waiting.entries ++ silence_found configured moment silence

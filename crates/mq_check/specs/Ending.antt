@@ -1,10 +1,9 @@
 -- Outcomes of the parts of a check that go to a writer through a buffer.
-use Rattle.std.specs.Prelude.{◌≡◌, ◌⊎◌, ℕ, max, Bool, true, false, if◌then◌else◌, List, [], ◌++◌, length, flat_map, Option, None, Result, Ok, Err, unwrap_or}
+use Rattle.std.specs.Prelude.{◌≡◌, ◌⊎◌, ℕ, max, Bool, true, false, if◌then◌else◌, List, [], ◌++◌, length, Option, None, Result, Ok, Err, unwrap_or}
 use Rattle.std.specs.Io.KnownBytes.{IsAtEnd}
 use Rattle.mq_pcap.specs.Capture.{Captures}
 use Rattle.mq_pcap.specs.Filling.{InputState, Takes}
 use Rattle.mq_wire.specs.Family.{Family}
-use Rattle.mq_table.specs.declared.timing.Timing.{Timing}
 use Rattle.mq_link.specs.Configuration.{Configuration}
 use Rattle.mq_text.specs.Printing.{GrowsByBeginning, Passes}
 use Rattle.mq_replay.specs.Replaying.{ReadCapture}
@@ -15,9 +14,9 @@ use Rattle.mq_check.specs.declared.check_fault.CheckFault.TheVariants as answer
 use Rattle.mq_check.specs.declared.check_terms.CheckTerms.{CheckTerms}
 use Rattle.mq_check.specs.declared.finding.Finding.{Finding}
 use Rattle.mq_check.specs.declared.totals.Totals.{Totals}
-use Rattle.mq_check.specs.Check.{Checked, Verdict, ticked_through}
+use Rattle.mq_check.specs.Check.{Checked, Verdict, looked_ahead, settled_through}
 use Rattle.mq_check.specs.CheckedCaptures.{IsEndedBy, is_failed_write, packets_text, text_by, verdict_of}
-use Rattle.mq_check.specs.Checking.{CheckingValue, found_of_last, settled, silence_found, told}
+use Rattle.mq_check.specs.Checking.{CheckingValue, told_at_end}
 use Rattle.mq_check.specs.FindingLines.{finding_lines, last_lines}
 use Rattle.mq_check.specs.General.{silence_up_to}
 use Rattle.mq_check.specs.Telling.{counted_times}
@@ -41,11 +40,6 @@ pub record PutsVerdict (config : Configuration) (terms : CheckTerms) (old new : 
   pub capture : Captures read.bytes read.header read.packets read.end
   pub ended : IsEndedBy config terms read old new r
   pub put : IsVerdictPut config terms read new before after held left r
-
--- the findings at the end, after the expired entries
-abbrev pub last_findings : (within : ℕ) → (configured : Timing) → (moment : ℕ) → CheckingValue → List (Finding ℕ)
-last_findings within configured moment c =
-    flat_map found_of_last c.waiting.entries ++ silence_found configured moment (silence_up_to within configured moment c.phase)
 
 -- the totals, after `count` earlier findings
 abbrev pub counted_behind : (count : ℕ) → CheckingValue → Basis → List (Finding ℕ) → Totals
@@ -72,10 +66,11 @@ end_behind family cite count number c basis found last =
 
 unfoldable pub ended_behind : Configuration → (within : ℕ) → (cite : Bool) → (moment count number : ℕ) → Checked → Verdict
 ended_behind config within cite moment count number r =
-    let done = ticked_through config within moment r in
-    let left = settled within moment done.checked.checking in
-    end_behind config.family cite count number left done.checked.basis (done.found ++ told within moment done.checked.checking)
-    (last_findings within config.timing moment left)
+    let done = settled_through config within moment r in
+    let ahead = looked_ahead config within moment done.checked in
+    let silence = silence_up_to within config.timing moment done.checked.checking.phase in
+    end_behind config.family cite count number ahead.checked.checking done.checked.basis (done.found ++ ahead.found)
+    (told_at_end within config.timing moment silence ahead.checked.checking)
 
 -- The verdict on the time after the packets of a file that has ended, after `count` earlier findings. `last` is the
 -- moment of the last packet, and `number` is that of the next packet.

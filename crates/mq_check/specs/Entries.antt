@@ -166,6 +166,15 @@ findings_of_seen within changed moment asked terms None alone =
     if is_near_change within moment changed then [] else findings_alone moment asked terms alone
 findings_of_seen within changed moment asked terms (Some wanted) alone = differences_found moment asked terms wanted
 
+-- The entry at the end of a capture. The partner of a wanted query may come after the end, so the query may be left
+-- out.
+abbrev pub excused : Entry ℕ → Entry ℕ
+excused (Wanted moment asked terms is_optional is_found) = Wanted moment asked terms true is_found
+excused (Seen moment asked terms partner alone) = Seen moment asked terms partner alone
+excused (Interval moment after wanted) = Interval moment after wanted
+excused (Silence moment after wanted) = Silence moment after wanted
+excused (Packet moment number fault) = Packet moment number fault
+
 -- the findings of an expired entry, if the role changed last at `changed`
 abbrev pub findings_of : (within : ℕ) → (changed : Option ℕ) → Entry ℕ → List (Finding ℕ)
 findings_of within changed (Wanted moment asked terms is_optional is_found) =

@@ -572,16 +572,31 @@ where
         self.want_all(moment, terms_of(to, query), query);
     }
 
-    /// Removes all pending entries at the end of a capture, and reports their findings.
+    /// Handles the end of the capture, after which the partners of wanted queries may come.
+    pub(crate) fn excuse_all(&mut self)
+        ensures { self.new ≡ spec.with_all_excused self.old }
+    {
+        self.waiting.excuse();
+    }
+
+    /// Removes all pending entries after the end of a capture, and reports the findings of those that aren't wanted
+    /// queries.
     pub(crate) fn tell_rest<W: Write>(
         &mut self,
+        within: u32,
         told: &mut Told,
         writer: &mut Watched<W>,
     ) -> Result<(), LineFault>
-        ensures { Tells F.Address.family (flat_map spec.found_of_last self.old.waiting.entries) told.old told.new
+        ensures { Tells F.Address.family (flat_map (spec.found_of_last within self.old.changed) self.old.waiting.entries) told.old told.new
             (output_of W.contents writer.old) (output_of W.contents writer.new) result }
     {
-        tell_rest::<F, A, W>(&mut self.waiting, told, writer)
+        tell_rest::<F, A, W>(
+            &mut self.waiting,
+            Span::from_ms(within),
+            &self.changed,
+            told,
+            writer,
+        )
     }
 
     /// Removes the entries that have expired at a moment, and reports their findings.

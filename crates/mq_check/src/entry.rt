@@ -70,6 +70,18 @@ impl<K: WireKey> Entry<K> {
         }
     }
 
+    /// Returns the entry at the end of a capture, after which the partner of a wanted query may come.
+    pub(crate) fn excused(self) -> Entry<K>
+        ensures { numbered_entry K.number result ≡ spec.excused (numbered_entry K.number self) }
+    {
+        match self {
+            Entry::Wanted(moment, asked, terms, _, is_found) => {
+                Entry::Wanted(moment, asked, terms, true, is_found)
+            }
+            other => other,
+        }
+    }
+
     /// Returns the entry with a partner that has these terms.
     pub(crate) fn joined(self, other: Terms<K>) -> Entry<K>
         ensures { numbered_entry K.number result

@@ -3,7 +3,6 @@
 ghost use Rattle.std.specs.Prelude.{◌≡◌, ◌≤◌, ◌^◌, ◌==◌, [], ◌∷◌, IfSome, not};
 ghost use Rattle.mq_text.specs.Printing.{output_of};
 ghost use Rattle.mq_check.specs.declared.finding.Difference.TheVariants as field;
-ghost use Rattle.mq_check.specs.Checking.{found_of_last};
 ghost use Rattle.mq_check.specs.Entries as spec;
 ghost use Rattle.mq_check.specs.Numbered.{difference_list, numbered_asked, numbered_entry, numbered_finding, numbered_terms, numbered_unpaired};
 ghost use Rattle.mq_check.specs.Telling.{Tells};
@@ -22,7 +21,6 @@ use std::io::Write;
 
 /// Returns whether the role changed within the tolerance of a moment.
 fn is_near_change(within: Span, moment: Moment, changed: &Option<Moment>) -> bool
-    requires in_range { moment ≤ 2 ^ 53 }
     requires changed_in_range { IfSome changed.now (λ at. at ≤ 2 ^ 53) }
     ensures { result ≡ spec.is_near_change within moment changed.now }
 {
@@ -30,7 +28,10 @@ fn is_near_change(within: Span, moment: Moment, changed: &Option<Moment>) -> boo
         return false;
     };
     let mut meter = Meter::new();
-    meter.reached(moment, changed.after(within)) && meter.reached(changed, moment.after(within))
+    if !meter.reached(moment, changed.after(within)) {
+        return false;
+    }
+    !moment.in_range() || meter.reached(changed, moment.after(within))
 }
 
 /// Reports one finding.
@@ -57,7 +58,6 @@ pub(crate) fn tell_entry<F: Family, W: Write>(
 ) -> Result<(), LineFault>
 where
     F::Address: LineKey,
-    requires in_range { spec.moment_of (numbered_entry F.Address.number entry.now) ≤ 2 ^ 53 }
     requires changed_in_range { IfSome changed.now (λ at. at ≤ 2 ^ 53) }
     ensures { Tells F.Address.family (spec.findings_of within changed.now (numbered_entry F.Address.number entry.now)) told.old told.new
         (output_of W.contents writer.old) (output_of W.contents writer.new) result }
@@ -118,37 +118,6 @@ where
             tell_differences::<F, W>(moment, asked, terms, wanted, told, writer)
         }
         Unpaired::Scheduled(_) => Ok(()),
-    }
-}
-
-/// Reports the findings of an entry that is pending at the end of a capture.
-pub(crate) fn tell_last<F: Family, W: Write>(
-    entry: &Entry<F::Address>,
-    told: &mut Told,
-    writer: &mut Watched<W>,
-) -> Result<(), LineFault>
-where
-    F::Address: LineKey,
-    ensures { Tells F.Address.family (found_of_last (numbered_entry F.Address.number entry.now)) told.old told.new
-        (output_of W.contents writer.old) (output_of W.contents writer.new) result }
-{
-    match entry {
-        Entry::Wanted(..) => Ok(()),
-        Entry::Seen(moment, asked, terms, partner, _) => match partner {
-            Some(wanted) => {
-                tell_differences::<F, W>(*moment, *asked, terms, wanted, told, writer)
-            }
-            None => Ok(()),
-        },
-        Entry::Interval(moment, passed, wanted) => {
-            tell_finding::<F, W>(Finding::Interval(*moment, *passed, *wanted), told, writer)
-        }
-        Entry::Silence(moment, passed, wanted) => {
-            tell_finding::<F, W>(Finding::Silence(*moment, *passed, *wanted), told, writer)
-        }
-        Entry::Packet(moment, number, fault) => {
-            tell_finding::<F, W>(Finding::Packet(*moment, *number, *fault), told, writer)
-        }
     }
 }
 

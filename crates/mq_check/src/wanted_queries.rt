@@ -145,17 +145,26 @@ where
         self.checking.settle(within, now, told, writer)
     }
 
-    /// Removes all pending entries at the end of a capture, and reports their findings.
+    /// Handles the end of the capture, after which the partners of wanted queries may come.
+    pub(crate) fn excuse_all(&mut self)
+        ensures { self.new ≡ record self.old { checking = spec.with_all_excused self.old.checking } }
+    {
+        self.checking.excuse_all();
+    }
+
+    /// Removes all pending entries after the end of a capture, and reports the findings of those that aren't wanted
+    /// queries.
     pub(crate) fn tell_rest<W: Write>(
         &mut self,
+        within: u32,
         told: &mut Told,
         writer: &mut Watched<W>,
     ) -> Result<(), LineFault>
         ensures own { self.new.own ≡ self.old.own }
-        ensures tells { Tells F.Address.family (flat_map spec.found_of_last self.old.checking.waiting.entries) told.old told.new
+        ensures tells { Tells F.Address.family (flat_map (spec.found_of_last within self.old.checking.changed) self.old.checking.waiting.entries) told.old told.new
             (output_of W.contents writer.old) (output_of W.contents writer.new) result }
     {
-        self.checking.tell_rest(told, writer)
+        self.checking.tell_rest(within, told, writer)
     }
 
     /// Handles the return of the role, by a tick or a datagram.
