@@ -23,6 +23,7 @@ mod unopened;
 mod unread;
 mod work;
 
+pub use checking::CheckOptions;
 use clap::Error;
 use failure::FAULTY;
 use foreign::tell_kind;
@@ -35,7 +36,7 @@ use std::fs::File;
 use std::io::{BufReader, ErrorKind, IsTerminal, Read, Write};
 use std::process::ExitCode;
 use std::{env, io};
-pub use taking::{Taking, perform_taking, taking_of};
+pub use taking::{perform_taking, taking_of};
 pub use unopened::{refuse_file, refuse_stream};
 
 /// The number of bytes that are read at once.
@@ -107,7 +108,7 @@ fn run_on_host(rt: &HostRuntime) -> io::Result<u8> {
 /// Runs a check of the querier that the capture names. `reader` and `again` read the same file.
 fn run_twice<R: Read + Drop, W: Write, E: Write>(
     alloc: Global,
-    taking: &Taking,
+    options: &CheckOptions,
     in_words: bool,
     reader: BufReader<Beginning<R>>,
     again: BufReader<Beginning<R>>,
@@ -118,7 +119,7 @@ fn run_twice<R: Read + Drop, W: Write, E: Write>(
     let mut beginning = Watched::new(&first);
     let status = run_again(
         alloc,
-        taking,
+        options,
         in_words,
         &mut beginning,
         again,
@@ -153,7 +154,7 @@ fn run_on<R: Read + Drop, W: Write, E: Write>(
 /// Runs a check of the querier that the capture names, after the first reader of the file.
 fn run_again<Q: Read, R: Read + Drop, W: Write, E: Write>(
     alloc: Global,
-    taking: &Taking,
+    options: &CheckOptions,
     in_words: bool,
     first: &mut Watched<Q>,
     again: BufReader<Beginning<R>>,
@@ -163,7 +164,7 @@ fn run_again<Q: Read, R: Read + Drop, W: Write, E: Write>(
     let source = Source::new(again);
     let mut input = Watched::new(&source);
     perform_taking(
-        alloc, taking, in_words, first, &source, &mut input, output, errors,
+        alloc, options, in_words, first, &source, &mut input, output, errors,
     )
 }
 

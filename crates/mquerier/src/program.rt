@@ -9,7 +9,7 @@ ghost use Rattle.mquerier.specs.Choosing.{choice_of as asked_choice};
 ghost use Rattle.mquerier.specs.Failures.{status_of, unjudged_line, version_line};
 ghost use Rattle.mquerier.specs.Status.{Concludes, IsCheck, IsConversion, IsOfMessage, IsTold, IsWordless, PrintsVersion, TellsLines, TellsCounts, Told, Performs, PerformsCheck, PerformsConversion, Runs};
 
-use crate::checking::check_capture;
+use crate::checking::{CheckOptions, check_capture};
 use crate::converting::convert_capture;
 use crate::counts::counts_lines_of;
 use crate::failure::{DONE, FAULTY, FOUND, Failure, REFUSED, UNJUDGED, line_of, status_of_failure};
@@ -17,7 +17,7 @@ use crate::work::{flush, work};
 use clap::Error;
 use clap::error::ErrorKind;
 use mq_check::{CheckTerms, Totals, Unjudged};
-use mq_command::{Interface, Protocol, Request, Settings, VERSION};
+use mq_command::{Interface, Request, VERSION};
 use mq_convert::{Choice, ConvertCounts, Which, name_of};
 use mq_count::Watched;
 use mq_pcap::Supply;
@@ -170,10 +170,16 @@ pub fn perform<S: Supply, R: Read, W: Write, E: Write>(
             strict,
             until,
             ..
-        } => perform_check(
-            alloc, *protocol, querier, settings, *within, *until, *cite, *strict, in_words, supply,
-            input, output, errors,
-        ),
+        } => {
+            let options = CheckOptions {
+                protocol: *protocol,
+                settings: *settings,
+                terms: terms_of(*within, *until, *cite, *strict),
+            };
+            perform_check(
+                alloc, &options, querier, in_words, supply, input, output, errors,
+            )
+        }
         _ => perform_work(alloc, request, in_words, supply, input, output, errors),
     }
 }
@@ -270,20 +276,15 @@ pub(crate) fn terms_of(
 /// Performs a check.
 fn perform_check<S: Supply, R: Read, W: Write, E: Write>(
     alloc: Global,
-    protocol: Protocol,
+    options: &CheckOptions,
     querier: &str,
-    settings: &Settings,
-    within: Option<u32>,
-    until: Option<u64>,
-    cite: bool,
-    strict: bool,
     in_words: bool,
     supply: &S,
     input: &mut Watched<R>,
     output: &mut Watched<W>,
     errors: &mut Watched<E>,
 ) -> u8
-    ensures performs { PerformsCheck protocol querier.now settings.now within until cite strict in_words
+    ensures performs { PerformsCheck options.now querier.now in_words
         (input_by R.remaining input.old input.new)
         (output_by W.contents output.old output.new)
         (output_by E.contents errors.old errors.new)
@@ -291,10 +292,7 @@ fn perform_check<S: Supply, R: Read, W: Write, E: Write>(
     ensures refused { result ≡ 2 → output.new ≡ output.old }
     ensures unasked { result ≡ 2 → input.new ≡ input.old }
 {
-    let terms = terms_of(within, until, cite, strict);
-    match check_capture(
-        alloc, protocol, querier, settings, terms, supply, input, output,
-    ) {
+    match check_capture(alloc, options, querier, supply, input, output) {
         Ok(totals) => status_of_totals(&totals, errors),
         Err(failure) => told(failure, in_words, errors),
     }

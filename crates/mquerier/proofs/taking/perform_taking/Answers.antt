@@ -8,7 +8,7 @@ returns-in-Ok-Some g c =
     let input = input_by g.R.Read.remaining c.args.input.now c.check_named.new.input in
     let output = output_by g.W.Write.contents c.args.output.now c.check_named.new.output in
     let errors = output_by g.E.Write.contents c.args.errors.now c.status_of_totals.new.errors in
-    taking_done c.args.taking.now c.args.in_words first input output errors _ _ (as_result _ _ _ _ _ _ _ c.in-Ok-Some.field-0-is c.in-Ok-Some.ensures) c.status_of_totals.ensures
+    taking_done c.args.options.now c.args.in_words first input output errors _ _ (as_result _ _ _ _ _ _ _ c.in-Ok-Some.field-0-is c.in-Ok-Some.ensures) c.status_of_totals.ensures
 
 pub returns-in-Ok-None : goal.returns-in-Ok-None
 returns-in-Ok-None g c =
@@ -16,7 +16,7 @@ returns-in-Ok-None g c =
     let input = input_by g.R.Read.remaining c.args.input.now c.check_named.new.input in
     let output = output_by g.W.Write.contents c.args.output.now c.check_named.new.output in
     let errors = output_by g.E.Write.contents c.args.errors.now c.tell_no_querier.new.errors in
-    taking_nothing c.args.taking.now c.args.in_words first input output errors (as_result _ _ _ _ _ _ _ c.in-Ok-None.field-0-is c.in-Ok-None.ensures) c.tell_no_querier.ensures
+    taking_nothing c.args.options.now c.args.in_words first input output errors (as_result _ _ _ _ _ _ _ c.in-Ok-None.field-0-is c.in-Ok-None.ensures) c.tell_no_querier.ensures
 
 pub returns-in-Err : goal.returns-in-Err
 returns-in-Err g c =
@@ -24,4 +24,4 @@ returns-in-Err g c =
     let input = input_by g.R.Read.remaining c.args.input.now c.check_named.new.input in
     let output = output_by g.W.Write.contents c.args.output.now c.check_named.new.output in
     let errors = output_by g.E.Write.contents c.args.errors.now c.told.new.errors in
-    taking_failed c.args.taking.now c.args.in_words first input output errors _ _ c.in-Err.ensures c.told.ensures.status c.told.ensures.line
+    taking_failed c.args.options.now c.args.in_words first input output errors _ _ c.in-Err.ensures c.told.ensures.status c.told.ensures.line
