@@ -7,6 +7,7 @@ ghost use Rattle.mquerier.specs.Replays.{family_of};
 ghost use Rattle.mquerier.specs.Taking as spec;
 
 use crate::checking::{CheckOptions, check_at};
+use crate::console::Console;
 use crate::failure::{Failure, UNJUDGED};
 use crate::program::{print_whole, status_of_totals, terms_of, told};
 use crate::taken_line::taken_line_of;
@@ -55,27 +56,26 @@ pub fn taking_of(asked: &Result<Request<'_>, Error>) -> Option<CheckOptions>
 pub fn perform_taking<S: Supply, Q: Read, R: Read, W: Write, E: Write>(
     alloc: Global,
     options: &CheckOptions,
-    in_words: bool,
     first: &mut Watched<Q>,
     supply: &S,
     input: &mut Watched<R>,
-    output: &mut Watched<W>,
-    errors: &mut Watched<E>,
+    console: &mut Console<W, E>,
 ) -> u8
-    ensures { spec.PerformsTaking options.now in_words
+    ensures performs { spec.PerformsTaking options.now console.old.in_words
         (input_by Q.remaining first.old first.new)
         (input_by R.remaining input.old input.new)
-        (output_by W.contents output.old output.new)
-        (output_by E.contents errors.old errors.new)
+        (output_by W.contents console.old.output console.new.output)
+        (output_by E.contents console.old.errors console.new.errors)
         result }
+    ensures in_words { console.new.in_words ≡ console.old.in_words }
 {
-    match check_named(alloc, options, first, supply, input, output) {
-        Ok(Some(totals)) => status_of_totals(&totals, errors),
+    match check_named(alloc, options, first, supply, input, &mut console.output) {
+        Ok(Some(totals)) => status_of_totals(&totals, &mut console.errors),
         Ok(None) => {
-            tell_no_querier(errors);
+            tell_no_querier(&mut console.errors);
             UNJUDGED
         }
-        Err(failure) => told(failure, in_words, errors),
+        Err(failure) => told(failure, console.in_words, &mut console.errors),
     }
 }
 
