@@ -9,7 +9,7 @@ pub struct Console<W, E> {
     pub output: Watched<W>,
     /// Standard error.
     pub errors: Watched<E>,
-    /// Whether a person reads standard error. Then a second line explains the number of a failure; a script gets one line
+    /// Set if a person reads standard error. Then a second line explains the number of a failure. A script gets one line
     /// for each failure.
     pub in_words: bool,
 }
