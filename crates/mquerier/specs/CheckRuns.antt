@@ -8,6 +8,7 @@ use Rattle.mq_check.specs.CheckedCaptures.{Checks}
 use Rattle.mq_command.specs.declared.Protocol.{Protocol}
 use Rattle.mq_command.specs.declared.replay.Settings.{Settings}
 use Rattle.mq_wire.specs.Family.{Family}
+use Rattle.mquerier.specs.declared.checking.CheckOptions.{CheckOptions}
 use Rattle.mquerier.specs.declared.failure.Failure.{Failure}
 use Rattle.mquerier.specs.declared.failure.Failure.TheVariants.{Capture, Gap, Waiting, Memory, Write}
 use Rattle.mquerier.specs.Changes.{Input, Output}
@@ -17,6 +18,10 @@ use Rattle.mquerier.specs.Replays.{SpellsAddress, IsAcceptedAt, asked_configurat
 abbrev pub asked_terms : (within until : Option ℕ) → (cite strict : Bool) → CheckTerms
 asked_terms within until cite strict =
     record { within = unwrap_or within 100; until = until; cite = cite; strict = strict }
+
+abbrev pub asked_options : Protocol → Settings → (within until : Option ℕ) → (cite strict : Bool) → CheckOptions
+asked_options protocol settings within until cite strict =
+    record { protocol = protocol; settings = settings; terms = asked_terms within until cite strict }
 
 -- the capture was checked as requested, with this result
 abbrev pub IsCheckedAt : Family → (querier : ℕ) → Settings → CheckTerms → Input → Output → Result Totals CheckFault → Type 0
