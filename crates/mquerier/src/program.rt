@@ -16,7 +16,7 @@ use crate::failure::{DONE, FAULTY, FOUND, Failure, REFUSED, UNJUDGED, line_of, s
 use crate::work::{flush, work};
 use clap::Error;
 use clap::error::ErrorKind;
-use mq_check::{CheckTerms, Totals, Unjudged};
+use mq_check::{Additions, CheckTerms, Totals, Unjudged};
 use mq_command::{Interface, Protocol, Request, Settings, VERSION};
 use mq_convert::{Choice, ConvertCounts, Which, name_of};
 use mq_count::Watched;
@@ -167,12 +167,13 @@ pub fn perform<S: Supply, R: Read, W: Write, E: Write>(
             settings,
             within,
             cite,
+            packets,
             strict,
             until,
             ..
         } => perform_check(
-            alloc, *protocol, querier, settings, *within, *until, *cite, *strict, in_words, supply,
-            input, output, errors,
+            alloc, *protocol, querier, settings, *within, *until, *cite, *packets, *strict,
+            in_words, supply, input, output, errors,
         ),
         _ => perform_work(alloc, request, in_words, supply, input, output, errors),
     }
@@ -255,14 +256,15 @@ pub(crate) fn terms_of(
     within: Option<u32>,
     until: Option<u64>,
     cite: bool,
+    packets: bool,
     strict: bool,
 ) -> CheckTerms
-    ensures { result ≡ asked_terms within until cite strict }
+    ensures { result ≡ asked_terms within until cite packets strict }
 {
     CheckTerms {
         within: within.unwrap_or(WITHIN),
         until,
-        cite,
+        additions: Additions { packets, cite },
         strict,
     }
 }
@@ -276,6 +278,7 @@ fn perform_check<S: Supply, R: Read, W: Write, E: Write>(
     within: Option<u32>,
     until: Option<u64>,
     cite: bool,
+    packets: bool,
     strict: bool,
     in_words: bool,
     supply: &S,
@@ -283,7 +286,7 @@ fn perform_check<S: Supply, R: Read, W: Write, E: Write>(
     output: &mut Watched<W>,
     errors: &mut Watched<E>,
 ) -> u8
-    ensures performs { PerformsCheck protocol querier.now settings.now within until cite strict in_words
+    ensures performs { PerformsCheck protocol querier.now settings.now within until cite packets strict in_words
         (input_by R.remaining input.old input.new)
         (output_by W.contents output.old output.new)
         (output_by E.contents errors.old errors.new)
@@ -291,7 +294,7 @@ fn perform_check<S: Supply, R: Read, W: Write, E: Write>(
     ensures refused { result ≡ 2 → output.new ≡ output.old }
     ensures unasked { result ≡ 2 → input.new ≡ input.old }
 {
-    let terms = terms_of(within, until, cite, strict);
+    let terms = terms_of(within, until, cite, packets, strict);
     match check_capture(
         alloc, protocol, querier, settings, terms, supply, input, output,
     ) {

@@ -45,6 +45,7 @@ pub fn taking_of(asked: &Result<Request<'_>, Error>) -> Option<Taking>
                 settings,
                 within,
                 cite,
+                packets,
                 strict,
                 until,
                 ..
@@ -52,7 +53,7 @@ pub fn taking_of(asked: &Result<Request<'_>, Error>) -> Option<Taking>
         ) if *querier == "auto" => Some(Taking {
             protocol: *protocol,
             settings: *settings,
-            terms: terms_of(*within, *until, *cite, *strict),
+            terms: terms_of(*within, *until, *cite, *packets, *strict),
         }),
         _ => None,
     }

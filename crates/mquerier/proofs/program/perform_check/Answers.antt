@@ -11,7 +11,7 @@ returns-in-Ok-clause-performs g c =
     let input = input_by g.R.Read.remaining c.args.input.now c.check_capture.new.input in
     let output = output_by g.W.Write.contents c.args.output.now c.check_capture.new.output in
     let errors = output_by g.E.Write.contents c.args.errors.now c.status_of_totals.new.errors in
-    check_concluded _ _ _ c.args.within c.args.until c.args.cite c.args.strict c.args.in_words c.terms_of-terms.result input output errors _ _ c.terms_of-terms.ensures c.in-Ok.ensures.works c.status_of_totals.ensures
+    check_concluded _ _ _ c.args.within c.args.until c.args.cite c.args.packets c.args.strict c.args.in_words c.terms_of-terms.result input output errors _ _ c.terms_of-terms.ensures c.in-Ok.ensures.works c.status_of_totals.ensures
 
 pub returns-in-Ok-clause-refused : goal.returns-in-Ok-clause-refused
 returns-in-Ok-clause-refused g c = λ two. not_two _ _ _ c.status_of_totals.ensures two

@@ -9,5 +9,5 @@ use Rattle.mq_check.proofs.told.Told.tell.Goals as goal
 pub returns-in_err-make_room-clause-text : goal.returns-in_err-make_room-clause-text
 returns-in_err-make_room-clause-text g c =
     let p = err_from_is_err_and c.from_residual.result c.from_residual.ensures.1 in
-    let line = finding_line g.F.Address.LineKey.family c.self.inside.cite (numbered_finding g.F.Address.Key.number c.args.finding) in
+    let line = finding_line g.F.Address.LineKey.family c.self.inside.additions (numbered_finding g.F.Address.Key.number c.args.finding) in
     rw (p.1, ← c.self.view_is) (broken_within _ _ _ [] line c.in_err-make_room.ensures.text)
