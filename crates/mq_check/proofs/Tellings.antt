@@ -70,20 +70,20 @@ one_told family x old new a b r additions count text failed =
     record { additions = additions; count = count; text = put_as a.held b.held old.held new.held _ _ r (sym (append-nil (finding_line family old.additions x))) text; failed = failed }
 
 -- fields that differ were told, and then others; or a write failed and others were not told
-pub fields_told : {S T E E' : Type 0} (family : Family) (moment : ℕ) (asked : Asked ℕ) (xs ys : List (Difference ℕ)) (old mid new : ToldState) (a b c : OutputState) (x : S) (r : Result T E)
-    → Tells {E = E'} family (differ_at moment asked xs) old mid a b (Ok x) → Tells family (differ_at moment asked ys) mid new b c r → Tells family (differ_at moment asked (xs ++ ys)) old new a c r
-fields_told {S} {T} {E} family moment asked xs ys old mid new a b c x r first second =
-    subst (λ (fs : List (Finding ℕ)). Tells {T = T} {E = E} family fs old new a c r) (sym (map-append (Differs moment asked) xs ys)) (then_told family _ _ old mid new a b c x r first second)
+pub fields_told : {S T E E' : Type 0} (family : Family) (moment packet : ℕ) (asked : Asked ℕ) (xs ys : List (Difference ℕ)) (old mid new : ToldState) (a b c : OutputState) (x : S) (r : Result T E)
+    → Tells {E = E'} family (differ_at moment packet asked xs) old mid a b (Ok x) → Tells family (differ_at moment packet asked ys) mid new b c r → Tells family (differ_at moment packet asked (xs ++ ys)) old new a c r
+fields_told {S} {T} {E} family moment packet asked xs ys old mid new a b c x r first second =
+    subst (λ (fs : List (Finding ℕ)). Tells {T = T} {E = E} family fs old new a c r) (sym (map-append (Differs moment packet asked) xs ys)) (then_told family _ _ old mid new a b c x r first second)
 
-pub fields_broken : {T E : Type 0} (family : Family) (moment : ℕ) (asked : Asked ℕ) (xs ys : List (Difference ℕ)) (old new : ToldState) (a b : OutputState) (e : E)
-    → Tells {T = T} family (differ_at moment asked xs) old new a b (Err e) → Tells {T = T} family (differ_at moment asked (xs ++ ys)) old new a b (Err e)
-fields_broken {T} {E} family moment asked xs ys old new a b e first =
-    subst (λ (fs : List (Finding ℕ)). Tells {T = T} {E = E} family fs old new a b (Err e)) (sym (map-append (Differs moment asked) xs ys)) (told_broken family _ _ old new a b e first)
+pub fields_broken : {T E : Type 0} (family : Family) (moment packet : ℕ) (asked : Asked ℕ) (xs ys : List (Difference ℕ)) (old new : ToldState) (a b : OutputState) (e : E)
+    → Tells {T = T} family (differ_at moment packet asked xs) old new a b (Err e) → Tells {T = T} family (differ_at moment packet asked (xs ++ ys)) old new a b (Err e)
+fields_broken {T} {E} family moment packet asked xs ys old new a b e first =
+    subst (λ (fs : List (Finding ℕ)). Tells {T = T} {E = E} family fs old new a b (Err e)) (sym (map-append (Differs moment packet asked) xs ys)) (told_broken family _ _ old new a b e first)
 
 -- the same with the fields as they are named otherwise
-pub fields_as : {T E : Type 0} (family : Family) (moment : ℕ) (asked : Asked ℕ) (xs ys : List (Difference ℕ)) (old new : ToldState) (a b : OutputState) (r : Result T E)
-    → xs ≡ ys → Tells family (differ_at moment asked xs) old new a b r → Tells family (differ_at moment asked ys) old new a b r
-fields_as {T} {E} family moment asked xs ys old new a b r same tells = subst (λ (ds : List (Difference ℕ)). Tells {T = T} {E = E} family (differ_at moment asked ds) old new a b r) same tells
+pub fields_as : {T E : Type 0} (family : Family) (moment packet : ℕ) (asked : Asked ℕ) (xs ys : List (Difference ℕ)) (old new : ToldState) (a b : OutputState) (r : Result T E)
+    → xs ≡ ys → Tells family (differ_at moment packet asked xs) old new a b r → Tells family (differ_at moment packet asked ys) old new a b r
+fields_as {T} {E} family moment packet asked xs ys old new a b r same tells = subst (λ (ds : List (Difference ℕ)). Tells {T = T} {E = E} family (differ_at moment packet asked ds) old new a b r) same tells
 
 -- the same with the findings as they are named otherwise
 pub tells_as : {T E : Type 0} (family : Family) (xs ys : List (Finding ℕ)) (old new : ToldState) (a b : OutputState) (r : Result T E) → xs ≡ ys → Tells family xs old new a b r → Tells family ys old new a b r
