@@ -145,7 +145,7 @@ abbrev pub packet_text : (packets : Bool) → Finding ℕ → List ℕ
 packet_text packets finding =
     if packets && not (packet_in finding == 0) then number_text (packet_in finding) else []
 
--- what follows the text of a finding on its line: the number of the packet, then the section
+-- the additions to the line of a finding: the number of the packet, then the section
 abbrev pub additions_text : Family → Additions → Finding ℕ → List ℕ
 additions_text family additions finding =
     packet_text additions.packets finding ++ citation_text family additions.cite finding

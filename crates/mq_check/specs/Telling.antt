@@ -7,7 +7,7 @@ use Rattle.mq_check.specs.declared.finding.Finding.{Finding}
 use Rattle.mq_check.specs.Checking.{counted_up}
 use Rattle.mq_check.specs.FindingLines.{finding_lines}
 
--- the text that isn't written yet, what their lines have besides, and the number of reported findings
+-- the text that isn't written yet, the additions to lines of findings, and the number of reported findings
 pub record ToldState : Type 0 where
   pub held : List ℕ
   pub additions : Additions

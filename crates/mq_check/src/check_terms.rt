@@ -1,6 +1,6 @@
 //! Terms of a check.
 
-/// What the line of a finding has besides the finding.
+/// Additions to the line of a finding.
 #[derive(Clone, Copy)]
 pub struct Additions {
     /// True if it has the number of the packet.
@@ -16,7 +16,7 @@ pub struct CheckTerms {
     pub within: u32,
     /// The end of the capture if it is later than the last packet, in milliseconds from the first packet; at most 2^53.
     pub until: Option<u64>,
-    /// What the line of each finding has besides the finding.
+    /// The additions to the line of each finding.
     pub additions: Additions,
     /// True if only this project's own readings of the standard are accepted.
     pub strict: bool,

@@ -20,7 +20,7 @@ use mq_text::LineFault;
 use mq_wire::WireKey;
 use std::io::Write;
 
-/// Where a query was seen: its moment, the number of its packet, and its subject.
+/// The moment of a seen query, the number of its packet, and its subject.
 #[derive(Clone, Copy)]
 struct SeenAt<K: WireKey> {
     moment: Moment,

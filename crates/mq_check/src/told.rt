@@ -21,7 +21,7 @@ use mq_text::{LineFault, Text, flush, make_room};
 use std::io::Write;
 use std::marker::Model;
 
-/// The text of findings that isn't written yet, what their lines have besides, and the number of reported findings.
+/// The text of findings that isn't written yet, the additions to their lines, and the number of reported findings.
 #[derive(Drop)]
 pub(crate) struct Told {
     buffer: Text,
@@ -97,7 +97,7 @@ impl Told {
         Ok(())
     }
 
-    /// Puts what the line of a finding has besides, and its end.
+    /// Puts the additions to the line of a finding, and its end.
     fn put_rest<F: Family, W: Write>(
         &mut self,
         finding: Finding<F::Address>,

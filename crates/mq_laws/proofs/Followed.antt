@@ -4,6 +4,7 @@ use Rattle.std.specs.Prelude.{Option, None, Some, Result, Ok, Err, if◌then◌e
 use Rattle.std.proofs.lemmas.Bool.{ltb-true, ltb-false, lt-ltb, le-ltb}
 use Rattle.mq_pcap.specs.declared.link_type.LinkType.{LinkType}
 use Rattle.mq_pcap.specs.Frame.{Carried, carried_in}
+use Rattle.mq_pcap.specs.Frame as carried
 use Rattle.mq_wire.specs.declared.message.Message.{Message}
 use Rattle.mq_wire.specs.declared.message.WireFault.{WireFault}
 use Rattle.mq_wire.specs.declared.message.WireFault.TheVariants.{Truncated, Checksum, UnknownType, QueryLength}
@@ -165,11 +166,11 @@ unread_packets b true = refl
 unread_packets b false = refl
 
 without_packets : (link : LinkType) (frame : List ℕ) (content : Carried) (b : Basis) → (basis.with_other link frame content b).packets ≡ b.packets
-without_packets link frame Cut b = refl
-without_packets link frame Fragment b = refl
-without_packets link frame NoDatagram b = unread_packets b (basis.is_wrapped (basis.type_in link frame))
-without_packets link frame (Igmp source body) b = refl
-without_packets link frame (Mld source destination hop_limit alert body) b = refl
+without_packets link frame carried.Cut b = refl
+without_packets link frame carried.Fragment b = refl
+without_packets link frame carried.Other b = unread_packets b (basis.is_wrapped (basis.type_in link frame))
+without_packets link frame (carried.Igmp source body) b = refl
+without_packets link frame (carried.Mld source destination hop_limit alert body) b = refl
 
 frame_packets : (family : Family) (link : LinkType) (frame : List ℕ) (content : Carried) (datagram : Option Datagram) (b : Basis)
     → (basis.with_frame family link frame content datagram b).packets ≡ counted_up b.packets
